@@ -1,0 +1,8 @@
+use Rattle.std.proofs.Common.{◌≡◌, ◌-◌}
+use Rattle.route_model.specs.Codec.{repeat}
+use Rattle.route_model.specs.Codec.{peer_at}
+use Rattle.route_model.proofs.Loop.{with_front}
+use Rattle.route_model.proofs.admission_reading.read_peers.Given as goal
+
+abbrev pub invariant-loop : goal.invariant-loop
+invariant-loop l = with_front l.items.items (repeat peer_at (l.count - l.counter) l.rest) ≡ repeat peer_at l.count l.bytes

@@ -1,0 +1,13 @@
+pub mod Octets
+pub mod Sequence
+pub mod Reading
+pub mod Address
+pub mod Prefix
+pub mod Spelling
+pub mod Tables
+pub mod Admission
+pub mod Keys
+pub mod KeyWords
+pub mod Codec
+pub mod Widths
+pub mod PrefixFields

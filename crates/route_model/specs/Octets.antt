@@ -1,0 +1,16 @@
+-- Octets: numbers among them, and the one spelling of a value.
+use Rattle.std.specs.Prelude.{◌≡◌, ℕ, ◌<◌, List, drop, slice_index}
+use Rattle.byteorder.specs.Endian.{big_number}
+
+-- each of the list is an octet
+abbrev pub AreOctets : List ℕ → Type 0
+AreOctets octets = (i : ℕ) → slice_index octets i < 256
+
+-- the number in the size octets from the place on, in network order: the first is the highest
+abbrev pub number_at : ℕ → ℕ → List ℕ → ℕ
+number_at size place octets = big_number size (drop place octets)
+
+-- the octets are the one spelling of a value of its type
+pub record Spells {A : Type 0} (IsValue : A → Type 0) (spelling : A → List ℕ) (value : A) (octets : List ℕ) : Type 0 where
+  pub valid : IsValue value
+  pub spelled : octets ≡ spelling value

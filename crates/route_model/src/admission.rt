@@ -1,0 +1,183 @@
+//! Admissions: what a collector's record said at one time.
+
+ghost use Rattle.std.specs.Prelude.{◌≡◌, ◌<◌, false, IfOk, IfSome, IfNone, IsTrue, Any};
+ghost use Rattle.std.specs.List.{AllByRecursion};
+ghost use Rattle.route_model.specs.Admission.{IsChange, IsLarge, SpellsAdmission};
+
+use crate::admission_measuring::measure;
+use crate::admission_reading::read_admission;
+use crate::admission_writing::spell;
+use crate::change::Change;
+use crate::fault::ReadError;
+use crate::moment::Moment;
+use crate::peer::peer_len;
+use std::alloc::{AllocError, Global};
+use std::marker::Model;
+use thiserror::Error;
+
+/// The most octets that the spelling of a route of an admission has.
+pub const MAX_ROUTE_LEN: usize = 3_072;
+
+/// The most octets that an admission's spelling has.
+pub const MAX_ADMISSION_LEN: usize = 131_072;
+
+/// Why changes aren't an admission.
+#[derive(Clone, Copy, Debug, PartialEq, Eq, Error)]
+pub enum AdmissionError {
+    /// A route's spelling has more than [`MAX_ROUTE_LEN`] octets.
+    #[error("a route is larger than 3072 octets")]
+    RouteTooLarge,
+    /// The spelling of all has more than [`MAX_ADMISSION_LEN`] octets.
+    #[error("an admission is larger than 131072 octets")]
+    AdmissionTooLarge,
+}
+
+/// What a collector's record said at one time: changes in their order.
+#[derive(Debug, Drop)]
+pub struct Admission {
+    time: Moment,
+    changes: Vec<Change>,
+    encoded_len: usize,
+}
+
+impl Model for Admission {
+    ghost use Rattle.std.specs.Prelude.{◌≡◌, length};
+    ghost use Rattle.route_model.specs.Admission.{Admitted};
+
+    ghost Value = { Admitted };
+
+    ghost use Rattle.route_model.specs.Admission.{admission_octets, IsAdmission};
+
+    ghost view = { λ a. record { time = a.time; changes = a.changes.items } };
+
+    ghost invariant = { λ a. IsAdmission (record { time = a.time; changes = a.changes.items }) × (a.encoded_len ≡ length (admission_octets (record { time = a.time; changes = a.changes.items }))) };
+}
+
+impl Admission {
+    ghost use Rattle.std.specs.Prelude.{◌≡◌, ◌<◌, ◌≤◌, ◌↔◌, IfOk, IfSome, Some, Any, length};
+    ghost use Rattle.route_model.specs.Admission.{Admitted, IsAdmission, IsLarge, IsTooLarge, admission_octets, SpellsAdmission};
+
+    /// These changes at this time. A route of more than [`MAX_ROUTE_LEN`] octets is told before an
+    /// admission of more than [`MAX_ADMISSION_LEN`]. No memory is needed, so nothing else is refused.
+    pub fn new(time: Moment, changes: Vec<Change>) -> Result<Admission, AdmissionError>
+        ensures admission { IfOk result (λ a. a ≡ record { time = time; changes = changes.items }) }
+        ensures valid { IfOk result IsAdmission }
+        ensures route_too_large { (result ≡ Err AdmissionError.RouteTooLarge) ↔ Any IsLarge changes.items }
+        ensures admission_too_large { (result ≡ Err AdmissionError.AdmissionTooLarge) ↔ IsTooLarge (record { time = time; changes = changes.items }) }
+    {
+        if !all_fit(changes.as_slice()) {
+            return Err(AdmissionError::RouteTooLarge);
+        }
+        let Some(encoded_len) = measure(changes.as_slice()) else {
+            return Err(AdmissionError::AdmissionTooLarge);
+        };
+        Ok(Admission {
+            time,
+            changes,
+            encoded_len,
+        })
+    }
+
+    /// When it was said.
+    pub fn time(&self) -> Moment
+        ensures time { result ≡ self.now.time }
+    {
+        self.time
+    }
+
+    /// What was said, in order.
+    pub fn changes(&self) -> &[Change]
+        ensures changes { result.now ≡ self.now.changes }
+        ensures valid { IsAdmission self.now }
+    {
+        self.changes.as_slice()
+    }
+
+    /// How many octets the spelling has, at most [`MAX_ADMISSION_LEN`]. It is known beforehand.
+    pub fn encoded_len(&self) -> usize
+        ensures len { result ≡ length (admission_octets self.now) }
+        ensures few { result ≤ 131072 }
+    {
+        self.encoded_len
+    }
+
+    /// The one spelling of the admission.
+    pub fn encode(&self, alloc: Global) -> Result<Vec<u8>, AllocError>
+        ensures spelling { IfOk result (λ v. SpellsAdmission self.now v.items) }
+    {
+        let time = self.time.seconds();
+        let spelling = spell(alloc, self.encoded_len, time, self.changes.as_slice())?;
+        Ok(spelling)
+    }
+
+    /// The admission that these octets spell, or none.
+    pub fn decode(alloc: Global, octets: &[u8]) -> Result<Option<Admission>, AllocError>
+        ensures found { IfOk result (λ o. IfSome o (λ a. SpellsAdmission a octets.now)) }
+        ensures only { (a : Admitted) → SpellsAdmission a octets.now → IfOk result (λ o. o ≡ Some a) }
+    {
+        match read_admission(alloc, octets) {
+            Ok((time, changes)) => spelled_so(alloc, time, changes, octets),
+            Err(ReadError::Unspelled) => Ok(None),
+            Err(ReadError::Memory) => Err(AllocError),
+        }
+    }
+}
+
+/// The admission, where the octets are its spelling.
+fn spelled_so(
+    alloc: Global,
+    time: u64,
+    changes: Vec<Change>,
+    octets: &[u8],
+) -> Result<Option<Admission>, AllocError>
+    ensures found { IfOk result (λ o. IfSome o (λ a. SpellsAdmission a octets.now)) }
+    ensures same { IfOk result (λ o. IfSome o (λ a. a ≡ record { time = time; changes = changes.items })) }
+    ensures none { IfOk result (λ o. IfNone o (SpellsAdmission (record { time = time; changes = changes.items }) octets.now → ⊥)) }
+{
+    let Some(time) = Moment::new(time) else {
+        return Ok(None);
+    };
+    if octets.len() > MAX_ADMISSION_LEN || !all_fit(changes.as_slice()) {
+        return Ok(None);
+    }
+    let spelling = spell(alloc, octets.len(), time.seconds(), changes.as_slice())?;
+    if spelling.as_slice() != octets {
+        return Ok(None);
+    }
+    Ok(Some(Admission {
+        time,
+        changes,
+        encoded_len: octets.len(),
+    }))
+}
+
+/// Whether the change's route is within an admission's limit.
+fn fits(c: &Change) -> bool
+    ensures valid { IsTrue result → IsChange c.now }
+    ensures large { result ≡ false → IsLarge c.now }
+{
+    let _peer = peer_len(&c.peer());
+    match c {
+        Change::Announce(_, prefix, route) => {
+            let _prefix = prefix.front();
+            route.spelling().len() <= MAX_ROUTE_LEN
+        }
+        Change::Withdraw(_, prefix) => {
+            let _prefix = prefix.front();
+            true
+        }
+        Change::Down(_) => true,
+    }
+}
+
+fn all_fit(changes: &[Change]) -> bool
+    ensures valid { IsTrue result → AllByRecursion IsChange changes.now }
+    ensures large { result ≡ false → Any IsLarge changes.now }
+{
+    for c in changes {
+        if !fits(c) {
+            return false;
+        }
+    }
+    true
+}

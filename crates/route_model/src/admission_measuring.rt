@@ -1,0 +1,128 @@
+//! How many octets the spelling of an admission has, found without memory.
+
+ghost use Rattle.std.specs.Prelude.{◌≡◌, ◌+◌, ◌∷◌, ◌++◌, ◌<◌, ◌≤◌, ℕ, List, [], IfSome, IfNone, length, map, if◌then◌else◌};
+ghost use Rattle.std.specs.List.{flat_map, AllByRecursion};
+ghost use Rattle.route_model.specs.Spelling.{peer_octets, route_octets};
+ghost use Rattle.route_model.specs.Tables.{has_row};
+ghost use Rattle.route_model.specs.Admission.{peer_of, announced, change_octets, admission_octets, IsChange};
+
+use crate::address::slice_of;
+use crate::admission::MAX_ADMISSION_LEN;
+use crate::change::Change;
+use crate::shared::SharedRoute;
+
+/// How many octets an admission without changes has: its time and three counts.
+const EMPTY_LEN: usize = 14;
+
+/// How many octets stand before a route in its table: its length.
+const ROUTE_ROW_HEAD: usize = 2;
+
+/// Whether a change before is about the peer of this spelling. It looks from the end on, since
+/// neighbours mostly share their peer.
+fn has_peer(before: &[Change], row: &[u8]) -> bool
+    ensures { result ≡ has_row (map peer_octets (map peer_of before.now)) row.now }
+{
+    let mut left = before.len();
+    while left > 0 {
+        left -= 1;
+        if before[left].peer().encode().as_slice() == row {
+            return true;
+        }
+    }
+    false
+}
+
+/// Whether the change announces the route of this spelling.
+fn announces(c: &Change, row: &[u8]) -> bool
+    ensures { result ≡ has_row (map route_octets (announced c.now)) row.now }
+{
+    match c {
+        Change::Announce(_, _, route) => route.spelling() == row,
+        Change::Withdraw(_, _) => false,
+        Change::Down(_) => false,
+    }
+}
+
+/// Whether a change before announces the route of this spelling, looking from the end on.
+fn has_route(before: &[Change], row: &[u8]) -> bool
+    ensures { result ≡ has_row (map route_octets (flat_map announced before.now)) row.now }
+{
+    let mut left = before.len();
+    while left > 0 {
+        left -= 1;
+        if announces(&before[left], row) {
+            return true;
+        }
+    }
+    false
+}
+
+/// How many octets the change's peer adds to the table of peers.
+fn peer_row_len(before: &[Change], c: &Change) -> usize
+    ensures len { result ≡ if has_row (map peer_octets (map peer_of before.now)) (peer_octets (peer_of c.now)) then 0 else length (peer_octets (peer_of c.now)) }
+    ensures few { result ≤ 22 }
+{
+    let row = c.peer().encode();
+    if has_peer(before, &row) {
+        0
+    } else {
+        slice_of(&row).len()
+    }
+}
+
+/// How many octets a route adds to the table of routes.
+fn route_row_len(before: &[Change], route: &SharedRoute) -> usize
+    requires { length (route_octets route.now) ≤ 3072 }
+    ensures { result ≡ if has_row (map route_octets (flat_map announced before.now)) (route_octets route.now) then 0 else length (route_octets route.now) + 2 }
+{
+    let row = route.spelling();
+    if has_route(before, row) {
+        0
+    } else {
+        ROUTE_ROW_HEAD + row.len()
+    }
+}
+
+/// How many octets a change has behind the tables.
+fn change_len(c: &Change) -> usize
+    ensures len { (peers routes : List (List ℕ)) → result ≡ length (change_octets peers routes c.now) }
+    ensures few { result ≤ 24 }
+{
+    match c {
+        Change::Announce(_, x, _) => 5 + x.encoded_len(),
+        Change::Withdraw(_, x) => 3 + x.encoded_len(),
+        Change::Down(_) => 3,
+    }
+}
+
+/// How many octets one more change adds to an admission of the changes before it.
+fn added_len(before: &[Change], c: &Change) -> usize
+    requires { IsChange c.now }
+    ensures len { (time : ℕ) → length (admission_octets (record { time = time; changes = before.now ++ c.now ∷ [] })) ≡ length (admission_octets (record { time = time; changes = before.now })) + result }
+    ensures few { result ≤ 4096 }
+{
+    let rest = peer_row_len(before, c) + change_len(c);
+    match c {
+        Change::Announce(_, _, route) => rest + route_row_len(before, route),
+        Change::Withdraw(_, _) => rest,
+        Change::Down(_) => rest,
+    }
+}
+
+/// How many octets the spelling of an admission with these changes has, or none where they are more
+/// than [`MAX_ADMISSION_LEN`].
+pub(crate) fn measure(changes: &[Change]) -> Option<usize>
+    requires { AllByRecursion IsChange changes.now }
+    ensures len { IfSome result (λ n. (time : ℕ) → n ≡ length (admission_octets (record { time = time; changes = changes.now }))) }
+    ensures few { IfSome result (λ n. n ≤ 131072) }
+    ensures large { IfNone result ((time : ℕ) → 131072 < length (admission_octets (record { time = time; changes = changes.now }))) }
+{
+    let mut len = EMPTY_LEN;
+    for i in 0..changes.len() {
+        len += added_len(&changes[..i], &changes[i]);
+        if len > MAX_ADMISSION_LEN {
+            return None;
+        }
+    }
+    Some(len)
+}

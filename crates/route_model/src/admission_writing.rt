@@ -1,0 +1,119 @@
+//! The spelling of an admission.
+
+ghost use Rattle.std.specs.Prelude.{◌≡◌, ◌++◌, ◌∷◌, IfOk, OnOk};
+ghost use Rattle.std.specs.List.{flat_map};
+ghost use Rattle.std.specs.Int.{w16, w64, to_be_bytes};
+ghost use Rattle.route_model.specs.Spelling.{peer_octets, route_octets};
+ghost use Rattle.route_model.specs.Tables.{place_of};
+ghost use Rattle.route_model.specs.Admission.{change_octets, sized, admission_octets};
+
+use crate::change::Change;
+use crate::peer::Peer;
+use crate::prefix::put_prefix;
+use crate::shared::SharedRoute;
+use crate::tables::{RouteRow, peer_place, peer_table, route_place, route_table};
+use std::alloc::{AllocError, Global};
+
+fn put_u16(out: &mut Vec<u8>, n: usize) -> Result<(), AllocError>
+    ensures { OnOk result (out.new.items ≡ out.old.items ++ to_be_bytes w16 n) }
+{
+    let octets = n.to_be_bytes();
+    out.extend_from_slice(&octets[6..])
+}
+
+/// Writes the kind of a change and the place of its peer.
+fn put_head(out: &mut Vec<u8>, kind: u8, peers: &[[u8; 22]], p: &Peer) -> Result<(), AllocError>
+    ensures { OnOk result (out.new.items ≡ out.old.items ++ kind ∷ to_be_bytes w16 (place_of peers.now (peer_octets p.now))) }
+{
+    let row = p.encode();
+    let place = peer_place(peers, &row).to_be_bytes();
+    out.extend_from_slice(&[kind, place[6], place[7]])
+}
+
+fn put_route_place(
+    out: &mut Vec<u8>,
+    routes: &[RouteRow<'_>],
+    r: &SharedRoute,
+) -> Result<(), AllocError>
+    ensures { OnOk result (out.new.items ≡ out.old.items ++ to_be_bytes w16 (place_of routes.now (route_octets r.now))) }
+{
+    put_u16(out, route_place(routes, r.spelling()))
+}
+
+fn put_change(
+    out: &mut Vec<u8>,
+    peers: &[[u8; 22]],
+    routes: &[RouteRow<'_>],
+    c: &Change,
+) -> Result<(), AllocError>
+    ensures { OnOk result (out.new.items ≡ out.old.items ++ change_octets peers.now routes.now c.now) }
+{
+    match c {
+        Change::Announce(p, x, r) => {
+            put_head(out, 1, peers, p)?;
+            put_prefix(out, x)?;
+            put_route_place(out, routes, r)
+        }
+        Change::Withdraw(p, x) => {
+            put_head(out, 2, peers, p)?;
+            put_prefix(out, x)
+        }
+        Change::Down(p) => put_head(out, 3, peers, p),
+    }
+}
+
+fn put_peer_rows(out: &mut Vec<u8>, rows: &[[u8; 22]]) -> Result<(), AllocError>
+    ensures { OnOk result (out.new.items ≡ out.old.items ++ flat_map (λ row. row) rows.now) }
+{
+    for row in rows {
+        out.extend_from_slice(row)?;
+    }
+    Ok(())
+}
+
+fn put_route_rows(out: &mut Vec<u8>, rows: &[RouteRow<'_>]) -> Result<(), AllocError>
+    ensures { OnOk result (out.new.items ≡ out.old.items ++ flat_map sized rows.now) }
+{
+    for row in rows {
+        put_u16(out, row.as_slice().len())?;
+        out.extend_from_slice(row.as_slice())?;
+    }
+    Ok(())
+}
+
+fn put_changes(
+    out: &mut Vec<u8>,
+    peers: &[[u8; 22]],
+    routes: &[RouteRow<'_>],
+    changes: &[Change],
+) -> Result<(), AllocError>
+    ensures { OnOk result (out.new.items ≡ out.old.items ++ flat_map (change_octets peers.now routes.now) changes.now) }
+{
+    for c in changes {
+        put_change(out, peers, routes, c)?;
+    }
+    Ok(())
+}
+
+/// The one spelling of an admission, in a vector that was made for so many octets.
+#[tactic(auto, unfolding(crate::specs::Admission::admission_octets))]
+pub(crate) fn spell(
+    alloc: Global,
+    capacity: usize,
+    time: u64,
+    changes: &[Change],
+) -> Result<Vec<u8>, AllocError>
+    ensures { IfOk result (λ v. v.items ≡ admission_octets (record { time = time; changes = changes.now })) }
+{
+    let peers = peer_table(alloc, changes)?;
+    let routes = route_table(alloc, changes)?;
+    let mut out = Vec::with_capacity(alloc, capacity)?;
+    out.extend_from_slice(&time.to_be_bytes())?;
+    put_u16(&mut out, peers.len())?;
+    put_peer_rows(&mut out, peers.as_slice())?;
+    put_u16(&mut out, routes.len())?;
+    put_route_rows(&mut out, routes.as_slice())?;
+    put_u16(&mut out, changes.len())?;
+    put_changes(&mut out, peers.as_slice(), routes.as_slice(), changes)?;
+    Ok(out)
+}

@@ -1,0 +1,73 @@
+//! Peers.
+
+ghost use Rattle.std.specs.Prelude.{◌≡◌, IfSome, Some, length};
+ghost use Rattle.route_model.specs.Spelling.{peer_octets, IsPeer, SpellsPeer};
+
+use crate::address::Address;
+use crate::reading::read_peer;
+
+/// A peer of a route collector.
+#[derive(Clone, Copy, Debug, PartialEq, Eq, PartialOrd, Ord)]
+pub struct Peer {
+    /// The number of the collector, from 0.
+    pub collector: u8,
+    /// The address of the peer.
+    pub address: Address,
+    /// The peer's AS number, of four octets (RFC 6793).
+    pub as_number: u32,
+}
+
+impl Peer {
+    ghost use Rattle.route_model.specs.declared.peer.Peer.{Peer};
+
+    /// How many octets the spelling of a peer has.
+    pub const ENCODED_LEN: usize = 22;
+
+    /// How many octets the spelling of the peer has: [`Peer::ENCODED_LEN`].
+    pub fn encoded_len(&self) -> usize
+        ensures len { result ≡ length (peer_octets self.now) }
+        ensures valid { IsPeer self.now }
+    {
+        peer_len(self)
+    }
+
+    /// The one spelling of the peer: collector, family, address (an IPv4 address followed by twelve
+    /// zeros), AS number.
+    pub fn encode(&self) -> [u8; 22]
+        ensures spelling { SpellsPeer self.now result }
+    {
+        let _len = peer_len(self);
+        let mut octets = [0u8; 22];
+        octets[18..22].copy_from_slice(&self.as_number.to_be_bytes());
+        octets[0] = self.collector;
+        octets[1] = self.address.family();
+        octets[2..18].copy_from_slice(&self.address.wide());
+        octets
+    }
+
+    /// The peer that these octets spell, or none.
+    pub fn decode(octets: &[u8]) -> Option<Peer>
+        ensures found { IfSome result (λ p. SpellsPeer p octets.now) }
+        ensures only { (p : Peer) → SpellsPeer p octets.now → result ≡ Some p }
+    {
+        let Ok((peer, _)) = read_peer(octets) else {
+            return None;
+        };
+        if peer.encode().as_slice() == octets {
+            Some(peer)
+        } else {
+            None
+        }
+    }
+}
+
+/// How many octets the spelling of a peer has.
+pub(crate) fn peer_len(p: &Peer) -> usize
+    ensures len { result ≡ length (peer_octets p.now) }
+    ensures valid { IsPeer p.now }
+{
+    let _collector = p.collector;
+    let _address = p.address.as_slice();
+    let _number = p.as_number;
+    Peer::ENCODED_LEN
+}

@@ -1,0 +1,70 @@
+//! Routes that several changes share.
+
+ghost use Rattle.std.specs.Prelude.{◌≡◌, IfOk, length};
+ghost use Rattle.route_model.specs.Spelling.{route_octets, SpellsRoute};
+
+use crate::route::Route;
+use std::alloc::{AllocError, Global};
+use std::marker::Model;
+use std::sync::Arc;
+
+/// A route with its spelling.
+#[derive(Debug, Drop)]
+struct Spelled {
+    route: Route,
+    octets: Vec<u8>,
+}
+
+/// A route that is kept once, with its spelling, however many changes announce it.
+#[derive(Debug, Drop)]
+pub struct SharedRoute {
+    shared: Arc<Spelled>,
+}
+
+impl Model for SharedRoute {
+    ghost use Rattle.route_model.specs.declared.route.Route.{Route};
+
+    ghost Value = { Route };
+
+    ghost use Rattle.route_model.specs.Spelling.{SpellsRoute};
+
+    ghost view = { λ a. a.shared.value.route };
+
+    ghost invariant = { λ a. SpellsRoute a.shared.value.route a.shared.value.octets.items };
+}
+
+impl SharedRoute {
+    /// The route, to be shared from now on.
+    pub fn new(alloc: Global, route: Route) -> Result<SharedRoute, AllocError>
+        ensures route { IfOk result (λ r. r ≡ route) }
+    {
+        let octets = route.encode(alloc)?;
+        let shared = Arc::new(alloc, Spelled { route, octets })?;
+        Ok(SharedRoute { shared })
+    }
+
+    /// The same route once more: nothing is copied. (Memory is refused only where the count of owners
+    /// would pass its limit.)
+    pub fn share(&self) -> Result<SharedRoute, AllocError>
+        ensures route { IfOk result (λ r. r ≡ self.now) }
+    {
+        let shared = self.shared.clone()?;
+        Ok(SharedRoute { shared })
+    }
+
+    /// The route.
+    pub fn route(&self) -> &Route
+        ensures route { result.now ≡ self.now }
+    {
+        let shared: &Spelled = &self.shared;
+        &shared.route
+    }
+
+    /// The one spelling of the route, which is kept with it.
+    pub fn spelling(&self) -> &[u8]
+        ensures spelling { SpellsRoute self.now result.now }
+    {
+        let shared: &Spelled = &self.shared;
+        shared.octets.as_slice()
+    }
+}
