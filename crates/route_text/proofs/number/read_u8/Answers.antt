@@ -1,0 +1,8 @@
+use Rattle.std.proofs.Common.{ap, sym, ◌∙◌, arith, Ok}
+use Rattle.std.proofs.lemmas.Fmt.{decimal_injective}
+use Rattle.route_text.proofs.number.read_u8.Goals as goal
+
+pub returns : goal.returns
+returns c = record {
+  only = λ n fits e. ap Ok (decimal_injective c.in_ok-number.number n (let most = c.in_ok-number.ensures.in_range in omega (arith, c.from.ensures)) (omega arith) (sym c.in_ok-number.ensures.found ∙ e));
+}

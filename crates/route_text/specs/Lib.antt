@@ -1,0 +1,9 @@
+pub mod Fields
+pub mod NormalPath
+pub mod Octets
+pub mod AddressText
+pub mod PrefixText
+pub mod MomentText
+pub mod Reads
+pub mod RouteText
+pub mod Steps
