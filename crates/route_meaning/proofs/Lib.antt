@@ -1,0 +1,16 @@
+pub mod Sorting
+pub mod OneOrder
+pub mod Merging
+pub mod Settling
+pub mod Agreeing
+pub mod Ranges
+pub mod Beginning
+pub mod Front
+pub mod Holding
+pub mod Stable
+pub mod Placing
+pub mod Spots
+pub mod Replays
+pub mod Answering
+pub mod Told
+pub mod Growing

@@ -1,0 +1,5 @@
+use Rattle.route_meaning.proofs.Ranges.{AreRows-joined}
+use Rattle.route_meaning.proofs.laws.ranges_join.Goals as goal
+
+pub returns : goal.returns
+returns c = record { rows = AreRows-joined }

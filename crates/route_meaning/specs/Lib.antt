@@ -1,0 +1,6 @@
+pub mod Merged
+pub mod Holds
+pub mod Rows
+pub mod Events
+pub mod History
+pub mod Replay

@@ -1,0 +1,89 @@
+//! Questions of a history, and the rows and events of their answers.
+
+use route_model::{Address, Change, Moment, Peer, Prefix, SharedRoute};
+
+/// Which rows are wanted.
+#[derive(Clone, Copy, Debug, PartialEq, Eq)]
+pub enum Select {
+    /// The route of one peer for one prefix.
+    Route(Peer, Prefix),
+    /// Every peer's route for the prefix.
+    ByPrefix(Prefix),
+    /// Every peer's route for each prefix that contains the address.
+    Covering(Address),
+    /// All routes of the peer.
+    PeerTable(Peer),
+    /// All routes of all peers.
+    All,
+}
+
+/// A prefix of a peer: the place of a row.
+#[derive(Clone, Copy, Debug, PartialEq, Eq, PartialOrd, Ord)]
+pub struct Spot {
+    pub peer: Peer,
+    pub prefix: Prefix,
+}
+
+/// A question of one moment: the rows that lie strictly above a spot, or all where there is none.
+#[derive(Clone, Copy, Debug, PartialEq, Eq)]
+pub struct RowsQuestion {
+    pub moment: Moment,
+    pub select: Select,
+    pub after: Option<Spot>,
+}
+
+/// A range of rows: those that a question selects which lie strictly above one spot and not above
+/// another.
+#[derive(Clone, Copy, Debug, PartialEq, Eq)]
+pub struct RowsRange {
+    pub select: Select,
+    /// From strictly above this spot, or from the first.
+    pub low: Option<Spot>,
+    /// Up to this spot, itself included, or to the last.
+    pub high: Option<Spot>,
+}
+
+/// A question of what a peer told of a prefix from one moment to another, both included, without
+/// the first `skip` events.
+#[derive(Clone, Copy, Debug, PartialEq, Eq)]
+pub struct EventsQuestion {
+    pub from: Moment,
+    pub to: Moment,
+    pub peer: Peer,
+    pub prefix: Prefix,
+    pub skip: u64,
+}
+
+/// An answer has at most so many rows, or events.
+pub const MAX_ROWS: usize = 256;
+
+/// A row of an answer: the route that holds for the prefix of the peer.
+#[derive(Debug, Drop)]
+pub struct Row {
+    pub peer: Peer,
+    pub prefix: Prefix,
+    pub route: SharedRoute,
+}
+
+/// A change that a peer told, and when, in seconds since 1970-01-01T00:00:00Z.
+#[derive(Debug, Drop)]
+pub struct Event {
+    pub time: Moment,
+    pub change: Change,
+}
+
+/// The answer to a question of a moment: at most [`MAX_ROWS`] rows.
+#[derive(Debug, Drop)]
+pub struct RowsAnswer {
+    pub rows: Vec<Row>,
+    /// Do more rows follow? They are above the last of these.
+    pub more: bool,
+}
+
+/// The answer to a question of a history: at most [`MAX_ROWS`] events.
+#[derive(Debug, Drop)]
+pub struct EventsAnswer {
+    pub events: Vec<Event>,
+    /// Do more events follow? They come where these are skipped too.
+    pub more: bool,
+}

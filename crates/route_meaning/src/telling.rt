@@ -1,0 +1,107 @@
+//! The events of a history question over a list of admissions.
+
+ghost use Rattle.std.specs.Prelude.{◌≡◌, ◌++◌, ◌&&◌, nat_le, map, filter, drop, IfOk, OnOk};
+ghost use Rattle.route_meaning.specs.declared.question.Event.{Event};
+ghost use Rattle.route_meaning.specs.Holds.{concerns, time_of};
+ghost use Rattle.route_meaning.specs.Events.{all_events, between, IsEventsAnswer};
+
+use crate::placed::PlacedAdmission;
+use crate::question::{Event, EventsAnswer, EventsQuestion, MAX_ROWS};
+use route_model::{Admission, Change, Peer, Prefix};
+use std::alloc::{AllocError, Global};
+
+// Is the change about the prefix of the peer?
+fn concerns(peer: &Peer, prefix: &Prefix, change: &Change) -> bool
+    ensures { result ≡ concerns peer.now prefix.now change.now }
+{
+    match change {
+        Change::Announce(p, x, _) => p == peer && x == prefix,
+        Change::Withdraw(p, x) => p == peer && x == prefix,
+        Change::Down(p) => p == peer,
+    }
+}
+
+// The change once more; a route is shared.
+fn copy_of(change: &Change) -> Result<Change, AllocError>
+    ensures { IfOk result (λ copy. copy ≡ change.now) }
+{
+    Ok(match change {
+        Change::Announce(peer, prefix, route) => Change::Announce(*peer, *prefix, route.share()?),
+        Change::Withdraw(peer, prefix) => Change::Withdraw(*peer, *prefix),
+        Change::Down(peer) => Change::Down(*peer),
+    })
+}
+
+// Adds what the admission tells of the prefix of the peer.
+fn add_told(
+    told: &mut Vec<Event>,
+    admission: &Admission,
+    peer: &Peer,
+    prefix: &Prefix,
+) -> Result<(), AllocError>
+    ensures { OnOk result (told.new.items ≡ told.old.items ++ map (λ change. record { time = admission.now.time; change = change }) (filter (concerns peer.now prefix.now) admission.now.changes)) }
+{
+    let time = admission.time();
+    for change in admission.changes() {
+        if concerns(peer, prefix, change) {
+            told.push(Event {
+                time,
+                change: copy_of(change)?,
+            })?;
+        }
+    }
+    Ok(())
+}
+
+// Is it of a moment of the question's span?
+fn is_in_span(placed: &PlacedAdmission, question: &EventsQuestion) -> bool
+    ensures { result ≡ (nat_le question.now.from (time_of placed.now) && nat_le (time_of placed.now) question.now.to) }
+{
+    question.from <= placed.time() && placed.counts_at(question.to)
+}
+
+// All that was told of the prefix of the peer in the span.
+fn all_told(
+    alloc: Global,
+    list: &[PlacedAdmission],
+    question: &EventsQuestion,
+) -> Result<Vec<Event>, AllocError>
+    ensures { IfOk result (λ told. told.items ≡ all_events question.now.peer question.now.prefix (between question.now.from question.now.to list.now)) }
+{
+    let mut told = Vec::new(alloc);
+    for placed in list {
+        if is_in_span(placed, question) {
+            add_told(
+                &mut told,
+                placed.admission(),
+                &question.peer,
+                &question.prefix,
+            )?;
+        }
+    }
+    Ok(told)
+}
+
+// Takes the first `count` events away, or all where there are fewer.
+fn skip(events: &mut Vec<Event>, count: u64)
+    ensures { events.new.items ≡ drop count events.old.items }
+{
+    let count = events.len().min(count as usize);
+    events.drain(..count);
+}
+
+/// The answer to the question: its events in the order of the history, at most [`MAX_ROWS`], and
+/// whether more follow. The list is in the one order of the collectors, as [`crate::merge`] gives it.
+pub fn answer_events(
+    alloc: Global,
+    list: &[PlacedAdmission],
+    question: &EventsQuestion,
+) -> Result<EventsAnswer, AllocError>
+    ensures answer { IfOk result (λ answer. IsEventsAnswer list.now question.now answer.events.items answer.more) }
+{
+    let mut events = all_told(alloc, list, question)?;
+    skip(&mut events, question.skip);
+    let more = events.len() > MAX_ROWS;
+    events.truncate(MAX_ROWS);
+    Ok(EventsAnswer { events, more })
+}
