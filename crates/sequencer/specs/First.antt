@@ -1,0 +1,20 @@
+-- The collector whose first time goes before each other's: what the search for it keeps.
+use Rattle.std.specs.Prelude.{ℕ, List, ◌∷◌, ◌≡◌, ◌<◌, ◌≤◌, Some, None, Option, if◌then◌else◌, nat_le, slice_get}
+use Rattle.sequencer.specs.declared.first.Candidate.{Candidate}
+use Rattle.sequencer.specs.Lanes.{Waiting, waiting_times}
+
+-- the collector's first time goes before each other's, by time and then by number
+pub record IsFirstLane (lanes : List Waiting) (c t : ℕ) : Type 0 where
+  pub rest : List ℕ
+  pub here : slice_get (waiting_times lanes) c ≡ Some (t ∷ rest)
+  pub before : (k u : ℕ) (us : List ℕ) → slice_get (waiting_times lanes) k ≡ Some (u ∷ us) → (k < c → t < u) × (c ≤ k → t ≤ u)
+
+-- no time waits
+abbrev pub NoneWaits : List Waiting → Type 0
+NoneWaits lanes = (k u : ℕ) (us : List ℕ) → slice_get (waiting_times lanes) k ≡ Some (u ∷ us) → ⊥
+
+-- the earlier of what was found and a new first time
+abbrev pub better_of : Option Candidate → ℕ → Option ℕ → Option Candidate
+better_of found number None = found
+better_of None number (Some time) = Some (record { number = number; time = time })
+better_of (Some best) number (Some time) = if nat_le best.time time then Some best else Some (record { number = number; time = time })

@@ -1,0 +1,4 @@
+pub mod Late
+pub mod Lanes
+pub mod First
+pub mod Taking

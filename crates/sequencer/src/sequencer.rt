@@ -1,0 +1,134 @@
+//! The lanes of all collectors: what is released, and what is settled.
+
+ghost use Rattle.std.specs.Prelude.{◌≡◌, ◌<◌, ◌≤◌, ◌++◌, [], ℕ, List, IfOk, IfSome, IfNone, OnOk, OnErr, Some, IsErr, slice_get, length, replicate, ◌↔◌};
+ghost use Rattle.std.specs.List.{AllByRecursion};
+ghost use Rattle.sequencer.specs.Lanes.{Waiting, Releases, NoneOpen, SameLanes, Raises, IsAbove, marks, waiting_times, least};
+ghost use Rattle.sequencer.specs.Taking.{IsSieved, MayTakeIn, TakesIn};
+
+use crate::first::{first_lane, is_open, least_bound};
+use crate::lane::Lane;
+use crate::late::{Sieved, sieve};
+use route_model::{Mark, Moment};
+use std::alloc::{AllocError, Global};
+use std::marker::Model;
+use thiserror::Error;
+
+/// The new mark is below the collector's mark.
+#[derive(Clone, Copy, Debug, PartialEq, Eq, Error)]
+#[error("the mark is below the collector's mark")]
+pub struct MarkBack;
+
+/// For each collector its mark, and the times of its admitted records that wait to be applied.
+#[derive(Drop)]
+pub struct Sequencer {
+    lanes: Vec<Lane>,
+}
+
+impl Model for Sequencer {
+    ghost use Rattle.std.specs.Prelude.{List};
+    ghost use Rattle.std.specs.List.{AllByRecursion};
+    ghost use Rattle.sequencer.specs.Lanes.{Waiting, IsLane};
+
+    ghost Value = { List Waiting };
+
+    ghost view = { λ s. s.lanes.items };
+
+    ghost invariant = { λ s. AllByRecursion IsLane s.lanes.items };
+}
+
+impl Sequencer {
+    /// So many collectors, of which none gave anything: each mark is 0.
+    pub fn new(alloc: Global, collectors: u8) -> Result<Sequencer, AllocError>
+        ensures marks { IfOk result (λ s. marks s ≡ replicate collectors 0) }
+        ensures times { IfOk result (λ s. waiting_times s ≡ replicate collectors []) }
+    {
+        let mut lanes = Vec::with_capacity(alloc, collectors as usize)?;
+        for _ in 0..collectors {
+            lanes.push(Lane::new(alloc, Mark::at(Moment::from(0u32))))?;
+        }
+        Ok(Sequencer { lanes })
+    }
+
+    /// How many collectors there are.
+    pub fn collectors(&self) -> usize
+        ensures count { result ≡ length self.now }
+    {
+        self.lanes.len()
+    }
+
+    /// The mark of a collector.
+    pub fn mark(&self, collector: usize) -> Mark
+        requires { collector < length self.now }
+        ensures mark { slice_get (marks self.now) collector ≡ Some result }
+    {
+        self.lanes[collector].mark()
+    }
+
+    /// Sieves the times of a batch that the collector offers, and makes room for those that aren't late, so that
+    /// they can be taken in without memory. Nothing is admitted yet.
+    pub fn sieve(
+        &mut self,
+        alloc: Global,
+        collector: usize,
+        times: &[Moment],
+    ) -> Result<Sieved, AllocError>
+        requires { collector < length self.old }
+        ensures same { SameLanes self.old self.new }
+        ensures sieved { IfOk result (λ s. (mark : ℕ) → slice_get (marks self.old) collector ≡ Some mark → IsSieved mark times.now s) }
+        ensures ready { IfOk result (λ s. MayTakeIn self.new collector s) }
+    {
+        let lane = &mut self.lanes[collector];
+        lane.reserve(times.len())?;
+        sieve(alloc, lane.mark(), times)
+    }
+
+    /// Takes in what was sieved of a collector at its present mark. It takes no memory.
+    pub fn take_in(&mut self, collector: usize, sieved: &Sieved)
+        requires present { MayTakeIn self.old collector sieved.now }
+        ensures taken { TakesIn self.old collector sieved.now self.new }
+    {
+        let lane = &mut self.lanes[collector];
+        lane.push_all(sieved.timely.as_slice());
+        lane.set_mark(sieved.mark);
+    }
+
+    /// Raises the mark of a collector, or answers that it isn't lower than the present one.
+    pub fn raise(&mut self, collector: usize, mark: Mark) -> Result<(), MarkBack>
+        requires { collector < length self.old }
+        ensures raised { OnOk result (Raises self.old collector mark self.new) }
+        ensures back { IsErr result ↔ IsAbove self.old collector mark }
+        ensures same { OnErr result (self.new ≡ self.old) }
+    {
+        let lane = &mut self.lanes[collector];
+        if mark.seconds() < lane.mark().seconds() {
+            return Err(MarkBack);
+        }
+        lane.set_mark(mark);
+        Ok(())
+    }
+
+    /// Takes the first time of all that waits, where it is below every mark, and tells its collector. Of equal
+    /// times that of the lowest collector goes first.
+    pub fn release(&mut self) -> Option<usize>
+        ensures some { IfSome result (λ c. Releases self.old c self.new) }
+        ensures none { IfNone result (NoneOpen self.old) }
+        ensures same { IfNone result (self.new ≡ self.old) }
+    {
+        let Some(first) = first_lane(&self.lanes) else {
+            return None;
+        };
+        if !is_open(&self.lanes, first.time) {
+            return None;
+        }
+        self.lanes[first.number].pop();
+        Some(first.number)
+    }
+
+    /// The settled watermark: the least of the first times that wait, and of the marks where none waits.
+    pub fn settled(&self) -> Mark
+        requires { 0 < length self.now }
+        ensures least { result ≡ least self.now }
+    {
+        least_bound(&self.lanes)
+    }
+}
