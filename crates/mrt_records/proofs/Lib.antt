@@ -1,0 +1,7 @@
+pub mod EntryFields
+pub mod Peers
+pub mod Bodies
+pub mod OneItem
+pub mod SomeItem
+pub mod Streams
+pub mod Pieces

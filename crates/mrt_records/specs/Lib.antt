@@ -1,0 +1,12 @@
+pub mod Records
+pub mod Entries
+pub mod Places
+pub mod Shown
+pub mod Values
+pub mod Sessions
+pub mod PeerTables
+pub mod Ribs
+pub mod Bodies
+pub mod Streams
+pub mod Feeding
+pub mod Front

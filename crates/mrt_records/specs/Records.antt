@@ -1,0 +1,43 @@
+-- Records of a stream (RFC 6396 section 2): a header of 12 octets, and as many octets as its Length says.
+use Rattle.std.specs.Prelude.{◌≡◌, ℕ, ◌+◌, ◌<◌, ◌≤◌, ◌==◌, if◌then◌else◌, List, ◌++◌, length, drop}
+use Rattle.std.specs.List.{AllByRecursion}
+use Rattle.route_model.specs.Octets.{number_at}
+use Rattle.route_model.specs.Sequence.{joined}
+
+-- the header's fields
+abbrev pub timestamp : List ℕ → ℕ
+timestamp bytes = number_at 4 0 bytes
+
+abbrev pub kind : List ℕ → ℕ
+kind bytes = number_at 2 4 bytes
+
+abbrev pub subtype : List ℕ → ℕ
+subtype bytes = number_at 2 6 bytes
+
+abbrev pub body_length : List ℕ → ℕ
+body_length bytes = number_at 4 8 bytes
+
+-- the octets behind the header, and behind the microseconds that type 17 has there (section 3)
+abbrev pub body : List ℕ → List ℕ
+body bytes = if kind bytes == 17 then drop 16 bytes else drop 12 bytes
+
+-- a whole record, whose Length is within the profile's limit
+pub record IsRecord (bytes : List ℕ) : Type 0 where
+  pub header : 12 ≤ length bytes
+  pub limit : body_length bytes ≤ 131072
+  pub whole : length bytes ≡ 12 + body_length bytes
+
+-- a header whose Length is above the limit stands at the front
+pub record Over (bytes : List ℕ) : Type 0 where
+  pub header : 12 ≤ length bytes
+  pub above : 131072 < body_length bytes
+
+-- a whole record stands at the front
+abbrev pub BeginsWithRecord : List ℕ → Type 0
+BeginsWithRecord bytes = (first more : List ℕ) × IsRecord first × (bytes ≡ first ++ more)
+
+-- the octets are the records one after another, then a rest that begins with no record
+pub record Frames (bytes : List ℕ) (records : List (List ℕ)) (rest : List ℕ) : Type 0 where
+  pub whole : bytes ≡ joined records ++ rest
+  pub each : AllByRecursion IsRecord records
+  pub ended : BeginsWithRecord rest → ⊥

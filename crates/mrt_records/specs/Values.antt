@@ -1,0 +1,30 @@
+-- What an item is to a clause: its fields, with lists for what it owns.
+use Rattle.std.specs.Prelude.{ℕ, List}
+use Rattle.route_model.specs.Prefix.{IpPrefix}
+use Rattle.mrt_records.specs.declared.neighbor.Neighbor.{Neighbor}
+use Rattle.route_model.specs.declared.wire.AsWidth.{AsWidth}
+use Rattle.mrt_records.specs.Entries.{Entry}
+use Rattle.mrt_records.specs.declared.item.Item.{Item}
+use Rattle.mrt_records.specs.declared.item.Item.TheVariants as items
+
+-- what a listed record's body reads as
+pub data Reading : Type 0 where
+  Message : (time : ℕ) (peer : Neighbor) (width : AsWidth) (octets : List ℕ) → Reading
+  StateChange : (time : ℕ) (peer : Neighbor) (state : ℕ) → Reading
+  PeerTable : (peers : List Neighbor) → Reading
+  Rib : (time : ℕ) (prefix : IpPrefix) (entries : List Entry) → Reading
+
+-- what a record is told as
+pub data Told : Type 0 where
+  Read : (reading : Reading) → Told
+  Skipped : (kind subtype : ℕ) → Told
+  Malformed : (kind subtype : ℕ) → Told
+
+-- what an item tells
+abbrev pub told : Item → Told
+told (items.Message time peer width octets) = Read (Message time peer width octets.items)
+told (items.StateChange time peer state) = Read (StateChange time peer state)
+told (items.PeerTable peers) = Read (PeerTable peers.items)
+told (items.Rib time prefix entries) = Read (Rib time prefix entries)
+told (items.Skipped kind subtype) = Skipped kind subtype
+told (items.Malformed kind subtype) = Malformed kind subtype

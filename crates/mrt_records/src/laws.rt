@@ -1,0 +1,17 @@
+//! Laws of the definitions, which each contract of this crate rests on.
+
+ghost use Rattle.std.specs.Prelude.{◌≡◌, ℕ, List};
+ghost use Rattle.mrt_records.specs.Records.{Frames};
+ghost use Rattle.mrt_records.specs.Values.{Told};
+ghost use Rattle.mrt_records.specs.Bodies.{Body};
+
+/// Octets of a stream are one list of records and one rest.
+pub fn frames_law()
+    ensures one { (bytes : List ℕ) (rs ss : List (List ℕ)) (x y : List ℕ) → Frames bytes rs x → Frames bytes ss y → (rs ≡ ss) × (x ≡ y) }
+{}
+
+/// Each record is told as an item, and as no other.
+pub fn body_law()
+    ensures some { (bytes : List ℕ) → (told : Told) × Body bytes told }
+    ensures one { (bytes : List ℕ) (a b : Told) → Body bytes a → Body bytes b → a ≡ b }
+{}
