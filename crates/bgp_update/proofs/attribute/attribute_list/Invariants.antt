@@ -1,0 +1,13 @@
+use Rattle.std.proofs.Common.{length}
+use Rattle.bgp_update.specs.AttributeFields.{IsAttributeField, NoneTwice}
+use Rattle.route_model.proofs.Sequences.{ReadSoFar}
+use Rattle.bgp_update.proofs.attribute.attribute_list.Given as goal
+
+abbrev pub invariant-loop-rest : goal.invariant-loop-rest
+invariant-loop-rest l = record {
+  reads : ReadSoFar IsAttributeField l.fn.bytes l.rest l.attributes.items;
+  distinct : NoneTwice l.attributes.items;
+}
+
+abbrev pub decreases-loop-rest : goal.decreases-loop-rest
+decreases-loop-rest l = length l.rest

@@ -1,0 +1,11 @@
+pub mod AttributeFields
+pub mod Paths
+pub mod Joining
+pub mod Values
+pub mod Readings
+pub mod Parts
+pub mod NextHops
+pub mod Routes
+pub mod Messages
+pub mod Faults
+pub mod Entries

@@ -1,0 +1,25 @@
+//! Laws of what octets read as.
+
+ghost use Rattle.std.specs.Prelude.{◌≡◌, ◌≤◌, ℕ, List};
+ghost use Rattle.route_model.specs.declared.path.Segment.{Segment};
+ghost use Rattle.route_model.specs.declared.wire.AsWidth.{AsWidth};
+ghost use Rattle.bgp_update.specs.declared.reading.PathAttributes.{PathAttributes};
+ghost use Rattle.bgp_update.specs.Joining.{Joined, NoneEmpty, count, joined_path};
+ghost use Rattle.bgp_update.specs.Readings.{AreAttributes};
+ghost use Rattle.bgp_update.specs.Messages.{Told, IsMessage};
+
+/// AS4_PATH that counts no more can be laid over AS_PATH in one way, which `joined_path` computes.
+pub fn joined_paths_are_one()
+    ensures is { (own longer : List Segment) → NoneEmpty own → count longer ≤ count own → Joined own longer (joined_path own longer) }
+    ensures one { (own longer path : List Segment) → NoneEmpty own → Joined own longer path → path ≡ joined_path own longer }
+{}
+
+/// Octets are one list of attributes, which reads in one way.
+pub fn attributes_are_one()
+    ensures one { (width : AsWidth) (bytes : List ℕ) (x y : PathAttributes) → AreAttributes width bytes x → AreAttributes width bytes y → x ≡ y }
+{}
+
+/// Octets are one message.
+pub fn messages_are_one()
+    ensures one { (width : AsWidth) (bytes : List ℕ) (x y : Told) → IsMessage width bytes x → IsMessage width bytes y → x ≡ y }
+{}

@@ -1,0 +1,102 @@
+//! The reader of messages (RFC 4271 section 4).
+
+ghost use Rattle.std.specs.Prelude.{◌≡◌, ◌==◌, ℕ, IfSome, IfNone, IsTrue, ◌↔◌};
+ghost use Rattle.std.specs.List.{list_all};
+ghost use Rattle.route_model.specs.Reading.{Exactly};
+ghost use Rattle.bgp_update.specs.Messages.{IsHeader, IsMessage, IsLarge, HasLarge, Reads, told, option_told};
+
+use crate::fault::MessageFault;
+use crate::message::Message;
+use crate::update::Announcement;
+use crate::updating::read_update;
+use route_model::MAX_ROUTE_LEN;
+use route_model::octets::{ReadFault, u16_at};
+use route_model::wire::AsWidth;
+use std::alloc::Global;
+
+/// How many octets a header has, and the most that a message has.
+const HEADER: usize = 19;
+
+const LONGEST: usize = 4096;
+
+const UPDATE: u8 = 2;
+
+const NOTIFICATION: u8 = 3;
+
+const KEEPALIVE: u8 = 4;
+
+/// Whether each octet has all bits set.
+fn all_ones(bytes: &[u8]) -> bool
+    ensures { result ≡ list_all (λ b. b == 255) bytes.now }
+{
+    bytes.iter().all(|b| *b == 255)
+}
+
+/// The type that the header tells, or none where it is no header of these octets.
+fn kind_of(bytes: &[u8]) -> Option<u8>
+    ensures found { IfSome result (λ kind. IsHeader bytes.now kind) }
+    ensures none { IfNone result ((kind : ℕ) → IsHeader bytes.now kind → ⊥) }
+{
+    if bytes.len() < HEADER || bytes.len() > LONGEST {
+        return None;
+    }
+    if !all_ones(bytes.split_at(16).0) {
+        return None;
+    }
+    if u16_at(bytes, 16) as usize != bytes.len() {
+        return None;
+    }
+    Some(bytes[18])
+}
+
+/// The message that all of the octets are, however large its routes.
+fn message_of(alloc: Global, bytes: &[u8], width: AsWidth) -> Result<Message, ReadFault>
+    ensures { Exactly told (IsMessage width bytes.now) result }
+{
+    let Some(kind) = kind_of(bytes) else {
+        return Err(ReadFault::Malformed);
+    };
+    if kind == UPDATE {
+        let update = read_update(alloc, bytes.split_at(HEADER).1, width)?;
+        return Ok(Message::Update(update));
+    }
+    if kind == NOTIFICATION {
+        return Ok(Message::Notification);
+    }
+    if kind == KEEPALIVE && bytes.len() != HEADER {
+        return Err(ReadFault::Malformed);
+    }
+    Ok(Message::Other(kind))
+}
+
+/// Whether a route is too large for an admission.
+fn is_large(announcement: &Option<Announcement>) -> bool
+    ensures { IsTrue result ↔ IsLarge (option_told announcement.now) }
+{
+    match announcement {
+        None => false,
+        Some(announcement) => announcement.route.encoded_len() > MAX_ROUTE_LEN,
+    }
+}
+
+fn has_large(message: &Message) -> bool
+    ensures { IsTrue result ↔ HasLarge (told message.now) }
+{
+    match message {
+        Message::Update(update) => is_large(&update.announced) || is_large(&update.reachable),
+        Message::Notification => false,
+        Message::Other(_) => false,
+    }
+}
+
+/// The message that all of the octets are, at the width of AS numbers that the session had (RFC 4271 section 4,
+/// RFC 4760, RFC 6793). `RouteTooLarge` where it announces a route whose spelling has more than 3,072 octets.
+pub fn read_message(alloc: Global, bytes: &[u8], width: AsWidth) -> Result<Message, MessageFault>
+    ensures message { Reads width bytes.now result }
+{
+    let message = message_of(alloc, bytes, width)?;
+    if has_large(&message) {
+        return Err(MessageFault::RouteTooLarge);
+    }
+    Ok(message)
+}
