@@ -1,0 +1,6 @@
+pub mod OctetLemmas
+pub mod Moments
+pub mod Overlay
+pub mod Pairs
+pub mod PageLemmas
+pub mod BlockLemmas
