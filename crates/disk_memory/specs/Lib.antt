@@ -1,0 +1,13 @@
+pub mod Writing
+pub mod Torn
+pub mod Failure
+pub mod Replay
+pub mod Sound
+pub mod Memory
+pub mod Burning
+pub mod OnceFailure
+pub mod Pen
+pub mod Seen
+pub mod OnceSound
+pub mod Once
+pub mod Both

@@ -1,0 +1,63 @@
+-- What contracts say of an erasable disk in memory.
+use Rattle.std.specs.Prelude.{◌≡◌, ℕ, ◌+◌, min, List, Option, IsTrue}
+use Rattle.std.specs.List.{list_any}
+use Rattle.disk_memory.specs.declared.call.Call.{Call}
+use Rattle.disk_memory.specs.declared.failure.Failure.{Failure}
+use Rattle.disk_memory.specs.declared.torn.Torn.{Torn}
+use Rattle.disk_memory.specs.Failure.{is_read_failure, is_sync_failure, write_failure_at}
+use Rattle.disk_memory.specs.declared.erase.MemErase.{MemErase}
+
+-- how many octets it has
+abbrev pub size_of : MemErase → ℕ
+size_of disk = disk.size
+
+-- the writes and the syncs that left something, the oldest first
+abbrev pub calls_of : MemErase → List Call
+calls_of disk = disk.calls.items
+
+-- how often it has failed
+abbrev pub faults_of : MemErase → ℕ
+faults_of disk = disk.faults
+
+-- which calls fail
+abbrev pub script_of : MemErase → List Failure
+script_of disk = disk.script.items
+
+-- the number of the next read, write and sync, by which the script names them
+pub record IsAtCall (disk : MemErase) (next_read next_write next_sync : ℕ) : Type 0 where
+  pub read : disk.reads ≡ next_read
+  pub write : disk.writes ≡ next_write
+  pub sync : disk.syncs ≡ next_sync
+
+-- what fails next is the same
+pub record KeepsScript (old new : MemErase) : Type 0 where
+  pub script : script_of new ≡ script_of old
+  pub next : IsAtCall new old.reads old.writes old.syncs
+
+-- the number behind this one; the last one of 64 bits stays
+abbrev pub next_number : ℕ → ℕ
+next_number n = min (n + 1) 18446744073709551615
+
+-- the script has the next read fail, or the next sync
+abbrev pub IsReadToFail : MemErase → Type 0
+IsReadToFail disk = IsTrue (list_any (λ failure. is_read_failure disk.reads failure) (script_of disk))
+
+abbrev pub IsSyncToFail : MemErase → Type 0
+IsSyncToFail disk = IsTrue (list_any (λ failure. is_sync_failure disk.syncs failure) (script_of disk))
+
+-- what the next write leaves, where the script has it fail
+abbrev pub write_to_fail : MemErase → Option Torn
+write_to_fail disk = write_failure_at disk.writes (script_of disk)
+
+-- the script is the same, and one call of a kind more was made: a read, a write, a sync
+pub record CalledRead (old new : MemErase) : Type 0 where
+  pub script : script_of new ≡ script_of old
+  pub next : IsAtCall new (next_number old.reads) old.writes old.syncs
+
+pub record CalledWrite (old new : MemErase) : Type 0 where
+  pub script : script_of new ≡ script_of old
+  pub next : IsAtCall new old.reads (next_number old.writes) old.syncs
+
+pub record CalledSync (old new : MemErase) : Type 0 where
+  pub script : script_of new ≡ script_of old
+  pub next : IsAtCall new old.reads old.writes (next_number old.syncs)

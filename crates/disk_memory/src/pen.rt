@@ -1,0 +1,299 @@
+// The pen of a write-once disk in memory, in which its state is.
+ghost use Rattle.std.specs.Prelude.{
+  ◌≡◌,
+  ◌+◌,
+  ◌++◌,
+  ◌∷◌,
+  ◌⊎◌,
+  [],
+  ℕ,
+  List,
+  length,
+  min,
+  true,
+  Option,
+  None,
+  Some,
+  IfOk,
+  OnOk,
+  OnErr,
+  IsErr,
+  IsSome,
+  option_copied,
+  not,
+  IsTrue,
+  ◌↔◌,
+};
+ghost use Rattle.std.specs.List.{list_any};
+ghost use Rattle.disk_models.specs.Erase.{Counts};
+ghost use Rattle.disk_memory.specs.Burning.{Burning, LeavesFailed, once_state_of, torn_burning, torn_burnings};
+ghost use Rattle.disk_memory.specs.OnceFailure.{
+  burn_failure_at,
+  failing_reads_of,
+  is_blank_failure,
+  is_look_failure,
+  is_settle_failure,
+};
+
+use crate::burn::{Burn, copies, is_tried};
+use crate::once_failure::{OnceFailure, burn_failure, failing_reads};
+use crate::seen::MemSeen;
+use crate::torn::Torn;
+use disk_models::{Block, Fault};
+use std::alloc::{AllocError, Global};
+
+/// The one pen of a write-once disk in memory: all its burns, and which of them are settled.
+#[derive(Drop)]
+pub struct MemPen {
+    alloc: Global,
+    settled: Vec<Burn>,
+    waiting: Vec<Burn>,
+    script: Vec<OnceFailure>,
+    blanks: u64,
+    burns: u64,
+    settles: u64,
+    looks: u64,
+    faults: u64,
+}
+
+// What a crash leaves of these burns by a choice, behind those that are there.
+fn tear(
+    alloc: Global,
+    into: &mut Vec<Burn>,
+    burns: &[Burn],
+    choice: &[Torn],
+) -> Result<(), AllocError>
+    ensures { OnOk result (into.new.items ≡ into.old.items ++ torn_burnings choice.now burns.now) }
+{
+    for (k, burn) in burns.iter().enumerate() {
+        into.push(burn.left(alloc, choice.get(k))?)?;
+    }
+    Ok(())
+}
+
+impl MemPen {
+    ghost use Rattle.disk_memory.specs.Pen.{
+      IsAtOnceCall,
+      KeepsBurns,
+      KeepsOnceScript,
+      once_faults_of,
+      once_script_of,
+      settled_of,
+      waiting_of,
+    };
+    ghost use Rattle.disk_memory.specs.Seen.{failing_of, known_burns_of, seen_faults_of, seen_reads_of};
+
+    // The pen of a blank disk.
+    pub(crate) fn new(alloc: Global) -> Self
+        ensures settled { settled_of result ≡ [] }
+        ensures waiting { waiting_of result ≡ [] }
+        ensures faults { once_faults_of result ≡ 0 }
+        ensures script { once_script_of result ≡ [] }
+        ensures next { IsAtOnceCall result 0 0 0 0 }
+    {
+        MemPen {
+            alloc,
+            settled: Vec::new(alloc),
+            waiting: Vec::new(alloc),
+            script: Vec::new(alloc),
+            blanks: 0,
+            burns: 0,
+            settles: 0,
+            looks: 0,
+            faults: 0,
+        }
+    }
+
+    /// Says which calls fail. They are numbered from here on.
+    pub fn set_script(&mut self, script: Vec<OnceFailure>)
+        ensures script { once_script_of self.new ≡ script.items }
+        ensures next { IsAtOnceCall self.new 0 0 0 0 }
+        ensures burns { KeepsBurns self.old self.new }
+        ensures faults { once_faults_of self.new ≡ once_faults_of self.old }
+    {
+        self.script = script;
+        self.blanks = 0;
+        self.burns = 0;
+        self.settles = 0;
+        self.looks = 0;
+    }
+
+    /// The burns that a settle has fixed, the oldest first.
+    pub fn settled(&self) -> &[Burn]
+        ensures { result.now ≡ settled_of self.now }
+    {
+        &self.settled
+    }
+
+    /// The burns since then, failed ones too.
+    pub fn waiting(&self) -> &[Burn]
+        ensures { result.now ≡ waiting_of self.now }
+    {
+        &self.waiting
+    }
+
+    // How often it has failed.
+    pub(crate) fn faults(&self) -> u64
+        ensures { result ≡ once_faults_of self.now }
+    {
+        self.faults
+    }
+
+    // Counts a failure.
+    fn fault(&mut self) -> Fault
+        ensures { self.new ≡ record self.old { faults = min (self.old.faults + 1) 18446744073709551615 } }
+    {
+        self.faults = self.faults.saturating_add(1);
+        Fault
+    }
+
+    // Counts a look for a blank block, and says whether it fails.
+    fn blank_fails(&mut self) -> bool
+        ensures scripted { result ≡ list_any (λ failure. is_blank_failure self.old.blanks failure) (once_script_of self.old) }
+        ensures next { self.new ≡ record self.old { blanks = min (self.old.blanks + 1) 18446744073709551615 } }
+    {
+        let number = self.blanks;
+        self.blanks = number.saturating_add(1);
+        self.script.iter().any(|failure| failure.is_blank(number))
+    }
+
+    // Counts a settle, and says whether it fails.
+    fn settle_fails(&mut self) -> bool
+        ensures scripted { result ≡ list_any (λ failure. is_settle_failure self.old.settles failure) (once_script_of self.old) }
+        ensures next { self.new ≡ record self.old { settles = min (self.old.settles + 1) 18446744073709551615 } }
+    {
+        let number = self.settles;
+        self.settles = number.saturating_add(1);
+        self.script.iter().any(|failure| failure.is_settle(number))
+    }
+
+    // Counts a look, and says whether it fails.
+    fn look_fails(&mut self) -> bool
+        ensures scripted { result ≡ list_any (λ failure. is_look_failure self.old.looks failure) (once_script_of self.old) }
+        ensures next { self.new ≡ record self.old { looks = min (self.old.looks + 1) 18446744073709551615 } }
+    {
+        let number = self.looks;
+        self.looks = number.saturating_add(1);
+        self.script.iter().any(|failure| failure.is_look(number))
+    }
+
+    // Whether no burn of this block was begun.
+    #[tactic(auto, using(crate::proofs::Burnings::tried_append))]
+    pub(crate) fn blank(&mut self, n: u64) -> Result<bool, Fault>
+        ensures blank { IfOk result (λ blank. blank ≡ not ((once_state_of (settled_of self.old) (waiting_of self.old)).tried n)) }
+        ensures scripted { IsErr result ↔ IsTrue (list_any (λ failure. is_blank_failure self.old.blanks failure) (once_script_of self.old)) }
+        ensures burns { KeepsBurns self.old self.new }
+        ensures script { once_script_of self.new ≡ once_script_of self.old }
+        ensures next { IsAtOnceCall self.new (min (self.old.blanks + 1) 18446744073709551615) self.old.burns self.old.settles self.old.looks }
+        ensures counts { Counts (once_faults_of self.old) (once_faults_of self.new) result }
+    {
+        if self.blank_fails() {
+            return Err(self.fault());
+        }
+        let spent = is_tried(&self.settled, n) || is_tried(&self.waiting, n);
+        Ok(!spent)
+    }
+
+    // Burns a block, or leaves what the script has for this burn. Nothing is burnt for want of memory.
+    pub(crate) fn burn(&mut self, n: u64, block: &Block) -> Result<(), Fault>
+        ensures ok { OnOk result (waiting_of self.new ≡ waiting_of self.old ++ record { number = n; block = block.now; whole = true } ∷ []) }
+        ensures err { OnErr result (LeavesFailed n block.now (burn_failure_at self.old.burns (once_script_of self.old)) (waiting_of self.old) (waiting_of self.new)) }
+        ensures scripted { IsSome (burn_failure_at self.old.burns (once_script_of self.old)) → IsErr result }
+        ensures settled { settled_of self.new ≡ settled_of self.old }
+        ensures script { once_script_of self.new ≡ once_script_of self.old }
+        ensures next { IsAtOnceCall self.new self.old.blanks (min (self.old.burns + 1) 18446744073709551615) self.old.settles self.old.looks }
+        ensures counts { Counts (once_faults_of self.old) (once_faults_of self.new) result }
+    {
+        let number = self.burns;
+        self.burns = number.saturating_add(1);
+        let failure = burn_failure(&self.script, number);
+        let fails = failure.is_some();
+        let burn = match failure {
+            None => Burn::whole(self.alloc, n, block),
+            Some(torn) => Burn::failed(self.alloc, n, block, torn),
+        };
+        let burn = match burn {
+            Ok(burn) => burn,
+            Err(_) => return Err(self.fault()),
+        };
+        if self.waiting.push(burn).is_err() || fails {
+            return Err(self.fault());
+        }
+        Ok(())
+    }
+
+    // Settles all burns.
+    pub(crate) fn settle(&mut self) -> Result<(), Fault>
+        ensures ok { OnOk result (settled_of self.new ≡ settled_of self.old ++ waiting_of self.old) }
+        ensures none { OnOk result (waiting_of self.new ≡ []) }
+        ensures err { OnErr result (KeepsBurns self.old self.new) }
+        ensures scripted { IsTrue (list_any (λ failure. is_settle_failure self.old.settles failure) (once_script_of self.old)) → IsErr result }
+        ensures script { once_script_of self.new ≡ once_script_of self.old }
+        ensures next { IsAtOnceCall self.new self.old.blanks self.old.burns (min (self.old.settles + 1) 18446744073709551615) self.old.looks }
+        ensures counts { Counts (once_faults_of self.old) (once_faults_of self.new) result }
+    {
+        if self.settle_fails() || self.settled.append(&mut self.waiting).is_err() {
+            return Err(self.fault());
+        }
+        Ok(())
+    }
+
+    // What is settled now, to be read.
+    pub(crate) fn look(&mut self) -> Result<MemSeen, Fault>
+        ensures known { IfOk result (λ seen. known_burns_of seen ≡ settled_of self.old) }
+        ensures fresh { IfOk result (λ seen. seen_faults_of seen ≡ 0) }
+        ensures reads { IfOk result (λ seen. seen_reads_of seen ≡ 0) }
+        ensures reads_to_fail { IfOk result (λ seen. failing_of seen ≡ failing_reads_of (once_script_of self.old)) }
+        ensures script { once_script_of self.new ≡ once_script_of self.old }
+        ensures next { IsAtOnceCall self.new self.old.blanks self.old.burns self.old.settles (min (self.old.looks + 1) 18446744073709551615) }
+        ensures scripted { IsTrue (list_any (λ failure. is_look_failure self.old.looks failure) (once_script_of self.old)) → IsErr result }
+        ensures burns { KeepsBurns self.old self.new }
+        ensures counts { Counts (once_faults_of self.old) (once_faults_of self.new) result }
+    {
+        if self.look_fails() {
+            return Err(self.fault());
+        }
+        match self.seen() {
+            Ok(seen) => Ok(seen),
+            Err(_) => Err(self.fault()),
+        }
+    }
+
+    // What a reader knows now.
+    fn seen(&self) -> Result<MemSeen, AllocError>
+        ensures known { IfOk result (λ seen. known_burns_of seen ≡ settled_of self.now) }
+        ensures fresh { IfOk result (λ seen. seen_faults_of seen ≡ 0) }
+        ensures reads { IfOk result (λ seen. seen_reads_of seen ≡ 0) }
+        ensures script { IfOk result (λ seen. failing_of seen ≡ failing_reads_of (once_script_of self.now)) }
+    {
+        let burns = copies(self.alloc, &self.settled)?;
+        let failing = failing_reads(self.alloc, &self.script)?;
+        Ok(MemSeen::new(burns, failing))
+    }
+
+    // The same pen once more, with no failure to come.
+    pub(crate) fn copy(&self) -> Result<MemPen, AllocError>
+        ensures burns { IfOk result (λ pen. KeepsBurns self.now pen) }
+        ensures faults { IfOk result (λ pen. once_faults_of pen ≡ once_faults_of self.now) }
+        ensures script { IfOk result (λ pen. once_script_of pen ≡ []) }
+    {
+        let mut pen = MemPen::new(self.alloc);
+        pen.settled = copies(self.alloc, &self.settled)?;
+        pen.waiting = copies(self.alloc, &self.waiting)?;
+        pen.faults = self.faults;
+        Ok(pen)
+    }
+
+    // The pen that begins again after a crash.
+    pub(crate) fn crash(&self, choice: &[Torn]) -> Result<MemPen, AllocError>
+        ensures settled { IfOk result (λ pen. settled_of pen ≡ settled_of self.now ++ torn_burnings choice.now (waiting_of self.now)) }
+        ensures none { IfOk result (λ pen. waiting_of pen ≡ []) }
+        ensures faults { IfOk result (λ pen. once_faults_of pen ≡ 0) }
+        ensures script { IfOk result (λ pen. once_script_of pen ≡ []) }
+    {
+        let mut pen = MemPen::new(self.alloc);
+        pen.settled = copies(self.alloc, &self.settled)?;
+        tear(self.alloc, &mut pen.settled, &self.waiting, choice)?;
+        Ok(pen)
+    }
+}
