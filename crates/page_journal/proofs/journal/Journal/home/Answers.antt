@@ -1,0 +1,57 @@
+use Rattle.std.proofs.Common.{◌≡◌, ◌∙◌, ◌<◌, List, ap, sym, subst, refl, true≢false}
+use Rattle.std.specs.List.{AllByRecursion}
+use Rattle.disk_models.specs.Octets.{octets}
+use Rattle.page_journal.specs.Layout.{home_place}
+use Rattle.page_journal.specs.Recovers.{IsListed}
+use Rattle.page_journal.specs.Bookkeeping.{unhomed_numbers, open_slots}
+use Rattle.page_journal.specs.declared.unhomed.Unhomed.{Unhomed}
+use Rattle.page_journal.proofs.Placing.{numbers_others, few_others, none_listed}
+use Rattle.page_journal.proofs.Keeping.{ShownAt, CoveredIn, whole_page, home_crash, home_carries, home_covered, home_shown}
+use Rattle.page_journal.proofs.journal.Journal.home.Goals as goal
+
+pub returns-then-not-is_unhomed-clause-unhomed : goal.returns-then-not-is_unhomed-clause-unhomed
+returns-then-not-is_unhomed-clause-unhomed g c =
+    let numbers : unhomed_numbers c.deref.result.now ≡ unhomed_numbers c.args.self.now.unhomed.items = ap unhomed_numbers c.deref.ensures.value in
+    none_listed (unhomed_numbers c.args.self.now.unhomed.items) c.args.n
+    (λ listed. true≢false (sym (c.if-not-is_unhomed.ensures.1 (subst (IsListed c.args.n) (sym numbers) listed))))
+
+pub returns-in_err-write_at-clause-crash : goal.returns-in_err-write_at-clause-crash
+returns-in_err-write_at-clause-crash g c h pages keeps =
+    let self = c.args.self.now in
+    let s0 = g.D.EraseDisk.model self.disk in
+    let s1 = g.D.EraseDisk.model c.write_at.new.self in
+    let listed : IsListed c.args.n (unhomed_numbers self.unhomed.items) = subst (IsListed c.args.n) (ap unhomed_numbers c.deref.ensures.value) (c.if-not-is_unhomed.ensures.0 refl) in
+    home_crash self.homes self.note (open_slots self.closed) c.args.n s0 s1 self.unhomed.items pages
+    (whole_page (home_place c.args.n) _ s0 s1 c.octets.ensures.size (c.write_at.ensures.within h)) keeps.carries keeps.covered listed
+
+pub returns-clause-crash : goal.returns-clause-crash
+returns-clause-crash g c h pages keeps =
+    let self = c.args.self.now in
+    let s0 = g.D.EraseDisk.model self.disk in
+    let s1 = g.D.EraseDisk.model c.write_at.new.self in
+    let listed : IsListed c.args.n (unhomed_numbers self.unhomed.items) = subst (IsListed c.args.n) (ap unhomed_numbers c.deref.ensures.value) (c.if-not-is_unhomed.ensures.0 refl) in
+    home_crash self.homes self.note (open_slots self.closed) c.args.n s0 s1 self.unhomed.items pages
+    (whole_page (home_place c.args.n) _ s0 s1 c.octets.ensures.size (c.write_at.ensures.within h)) keeps.carries keeps.covered listed
+
+pub returns-clause-keeps : goal.returns-clause-keeps
+returns-clause-keeps g c h pages keeps is =
+    let self = c.args.self.now in
+    let s0 = g.D.EraseDisk.model self.disk in
+    let s1 = g.D.EraseDisk.model c.write_at.new.self in
+    let listed : IsListed c.args.n (unhomed_numbers self.unhomed.items) = subst (IsListed c.args.n) (ap unhomed_numbers c.deref.ensures.value) (c.if-not-is_unhomed.ensures.0 refl) in
+    let writes = whole_page (home_place c.args.n) _ s0 s1 c.octets.ensures.size (c.write_at.ensures.within h) in
+    let entries = c.forget.ensures in
+    let now : octets s1.octet (home_place c.args.n) 16384 ≡ c.args.page.now =
+    ap (λ m. octets s1.octet (home_place c.args.n) m) (sym c.octets.ensures.size) ∙ c.in_ok-write_at.ensures.octets h ∙ c.octets.ensures.value in
+    record {
+      usable = refl;
+      carries = home_carries self.homes self.note (open_slots self.closed) c.args.n s0 s1 self.unhomed.items pages writes keeps.carries keeps.covered listed;
+      shown = subst (λ (l : List Unhomed). ShownAt self.homes l s1.octet pages) (sym entries)
+          (home_shown self.homes self.note (open_slots self.closed) c.args.n s0 s1 self.unhomed.items pages writes keeps.carries keeps.covered listed c.args.page.now now is keeps.few keeps.shown);
+      covered = subst (λ (l : List Unhomed). CoveredIn (open_slots self.closed) l s1) (sym entries)
+          (home_covered self.homes self.note (open_slots self.closed) c.args.n s0 s1 self.unhomed.items pages writes keeps.carries keeps.covered listed);
+      few = subst (AllByRecursion (λ u. u.image < 31)) (sym entries) (few_others self.unhomed.items c.args.n keeps.few);
+    }
+
+pub returns-clause-unhomed : goal.returns-clause-unhomed
+returns-clause-unhomed g c = ap unhomed_numbers c.forget.ensures ∙ numbers_others c.args.self.now.unhomed.items c.args.n

@@ -1,0 +1,43 @@
+//! Gates of slots are closed.
+ghost use Rattle.std.specs.Prelude.{◌≡◌, ◌≤◌, ◌<◌, ◌∷◌, ◌↔◌, ℕ, List, OnOk};
+ghost use Rattle.disk_models.specs.Erase.{Counts, Leaves, WritesWithin};
+ghost use Rattle.page_journal.specs.Layout.{gate_place};
+ghost use Rattle.page_journal.specs.Recovers.{Recovers};
+ghost use Rattle.page_journal.specs.Laying.{StandsHome};
+
+use disk_models::{EraseDisk, Fault};
+
+const PAGE: u64 = 16_384;
+
+const SLOTS: u64 = 8;
+
+// Closes the gate of the oldest open slot, whose images are home.
+pub fn close<D: EraseDisk>(disk: &mut D, slot: u64) -> Result<(), Fault>
+    requires slot { slot < 8 }
+    requires room { 4341760 ≤ D.octet_count disk.old }
+    ensures size { D.octet_count disk.new ≡ D.octet_count disk.old }
+    ensures counts { Counts (D.fault_count disk.old) (D.fault_count disk.new) result }
+    ensures honest { D.honest disk.old ↔ D.honest disk.new }
+    ensures crash { D.honest disk.old → (homes : ℕ) (note rest : List ℕ) (pages : List (List ℕ)) → StandsHome homes note (slot ∷ rest) (D.model disk.old) pages
+        → Leaves (D.model disk.old) (D.model disk.new) (λ c. Recovers homes note c pages) }
+    ensures closed { D.honest disk.old → (homes : ℕ) (note rest : List ℕ) (pages : List (List ℕ)) → StandsHome homes note (slot ∷ rest) (D.model disk.old) pages
+        → OnOk result (StandsHome homes note rest (D.model disk.new) pages) }
+{
+    disk.write_at(PAGE * (1 + 33 * slot), &[0])?;
+    disk.sync()
+}
+
+// Closes the gates of all slots, without a sync.
+pub fn close_all<D: EraseDisk>(disk: &mut D) -> Result<(), Fault>
+    requires { 4341760 ≤ D.octet_count disk.old }
+    ensures size { D.octet_count disk.new ≡ D.octet_count disk.old }
+    ensures counts { Counts (D.fault_count disk.old) (D.fault_count disk.new) result }
+    ensures honest { D.honest disk.old ↔ D.honest disk.new }
+    ensures within { D.honest disk.old → WritesWithin 16384 4325376 (D.model disk.old) (D.model disk.new) }
+    ensures closed { D.honest disk.old → OnOk result ((slot : ℕ) → slot < 8 → (D.model disk.new).octet (gate_place slot) ≡ 0) }
+{
+    for slot in 0..SLOTS {
+        disk.write_at(PAGE * (1 + 33 * slot), &[0])?;
+    }
+    Ok(())
+}

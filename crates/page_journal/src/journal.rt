@@ -1,0 +1,346 @@
+//! The journal, with one slot.
+ghost use Rattle.std.specs.Prelude.{◌≡◌, ◌≢◌, ◌≤◌, ◌<◌, ◌^◌, ◌+◌, ◌*◌, ◌↔◌, ◌==◌, [], ℕ, List, length, OnOk, OnErr, IfOk, IfErr, IsOk, IsErr, IsErrOf, true, false, not, filter, Some, slice_get, replicate};
+ghost use Rattle.disk_models.specs.Erase.{Leaves, Stays};
+ghost use Rattle.page_journal.specs.Layout.{homes_from, pages_of};
+ghost use Rattle.page_journal.specs.Recovers.{laid, AreBelow, AreDistinct, IsListed, Recovers, RecoversEither};
+
+use crate::error::JournalError;
+use crate::refused::Refused;
+use crate::unhomed::Unhomed;
+use crate::{create, examine, gate, slot, unhomed};
+use disk_models::{EraseDisk, Page};
+use std::alloc::Global;
+
+const PAGE: u64 = 16_384;
+
+const IMAGES: usize = 31;
+
+/// Home pages on an erasable disk, some of which are replaced at once by a post, whatever a crash tears.
+///
+/// At this stage it uses the first of its eight slots. After a write or a sync that failed each call but those that
+/// only tell something answers [`JournalError::NeedsRecovery`], until the disk is opened again.
+#[derive(Drop)]
+pub struct Journal<D: EraseDisk + Drop> {
+    disk: D,
+    homes: u64,
+    note: [u8; 11],
+    closed: usize,
+    unhomed: Vec<Unhomed>,
+    needs_recovery: bool,
+    ghost room: { 16384 * (265 + homes) ≤ D.octet_count disk },
+    ghost small: { 265 + homes < 2 ^ 50 },
+    ghost one: { closed ≤ 1 },
+}
+
+impl<D: EraseDisk + Drop> Journal<D> {
+    ghost use Rattle.page_journal.specs.Journal.{
+      Keeps,
+      closed_slots,
+      disk_of,
+      home_pages,
+      needs_recovery,
+      note_of,
+      unhomed_pages,
+    };
+    ghost use Rattle.page_journal.specs.Refusals.{CountsFault, CreateRefusal, PostRefusal, PostsAt, UseRefusal, IsOpening};
+    ghost use Rattle.page_journal.specs.Survey.{OpenRefusal};
+    ghost use Rattle.page_journal.specs.SameJournal.{SameButDisk};
+    ghost use Rattle.page_journal.specs.Outcome.{disk_after, outcome};
+
+    /// Makes a disk a journal's with so many home pages, which keep what the disk holds.
+    ///
+    /// The note is of zeros. See [`Journal::create_with`].
+    pub fn create(alloc: Global, disk: D, homes: u64) -> Result<Self, Refused<D>>
+        ensures created { D.honest disk → IfOk result (λ journal. Keeps D.EraseDisk journal (homes_from (D.model disk).octet 0 homes)) }
+        ensures homes { IfOk result (λ journal. home_pages journal ≡ homes) }
+        ensures note { IfOk result (λ journal. note_of journal ≡ replicate 11 0) }
+        ensures closed { IfOk result (λ journal. closed_slots journal ≡ 1) }
+        ensures unhomed { IfOk result (λ journal. unhomed_pages journal ≡ []) }
+        ensures usable { IfOk result (λ journal. needs_recovery journal ≡ false) }
+        ensures room { OnOk result (16384 * (265 + homes) ≤ D.octet_count disk) }
+        ensures refused { IfErr (outcome result) (CreateRefusal homes (D.octet_count disk)) }
+        ensures untouched { IfErr result (λ refused. refused.error ≢ JournalError.Fault → refused.disk ≡ disk) }
+        ensures counts { CountsFault (D.fault_count disk) (D.fault_count (disk_after result)) (outcome result) }
+        ensures honest { D.honest disk ↔ D.honest (disk_after result) }
+        ensures size { D.octet_count (disk_after result) ≡ D.octet_count disk }
+    {
+        Journal::create_with(alloc, disk, homes, [0; 11], &[])
+    }
+
+    /// Makes a disk a journal's with so many home pages. The first pages are written, and the others keep what the
+    /// disk holds.
+    ///
+    /// The identity page is written last, with a note for the layers above. A crash before the end may leave a disk
+    /// that holds no journal.
+    pub fn create_with(
+        alloc: Global,
+        mut disk: D,
+        homes: u64,
+        note: [u8; 11],
+        first: &[(u64, Page)],
+    ) -> Result<Self, Refused<D>>
+        requires { AreBelow homes (pages_of first.now) }
+        ensures created { D.honest disk → IfOk result (λ journal. Keeps D.EraseDisk journal (laid first.now (homes_from (D.model disk).octet 0 homes))) }
+        ensures homes { IfOk result (λ journal. home_pages journal ≡ homes) }
+        ensures note { IfOk result (λ journal. note_of journal ≡ note) }
+        ensures closed { IfOk result (λ journal. closed_slots journal ≡ 1) }
+        ensures unhomed { IfOk result (λ journal. unhomed_pages journal ≡ []) }
+        ensures usable { IfOk result (λ journal. needs_recovery journal ≡ false) }
+
+        // The disk is refused exactly where it is too small, and isn't written then, nor for want of memory.
+        ensures room { OnOk result (16384 * (265 + homes) ≤ D.octet_count disk) }
+        ensures refused { IfErr (outcome result) (CreateRefusal homes (D.octet_count disk)) }
+        ensures untouched { IfErr result (λ refused. refused.error ≢ JournalError.Fault → refused.disk ≡ disk) }
+
+        ensures counts { CountsFault (D.fault_count disk) (D.fault_count (disk_after result)) (outcome result) }
+        ensures honest { D.honest disk ↔ D.honest (disk_after result) }
+        ensures size { D.octet_count (disk_after result) ≡ D.octet_count disk }
+    {
+        match create::prepare(alloc, &mut disk, homes, &note, first) {
+            Ok(()) => Ok(Journal {
+                disk,
+                homes,
+                note,
+                closed: 1,
+                unhomed: Vec::new(alloc),
+                needs_recovery: false,
+            }),
+            Err(error) => Err(Refused { disk, error }),
+        }
+    }
+
+    /// Opens the journal of a disk, and recovers it: what open slots hold is written home, and they are closed.
+    ///
+    /// All slots are looked at before anything is written. A disk that only this journal wrote is refused for want of
+    /// memory or by the device alone, whatever a crash left of it.
+    pub fn open(alloc: Global, mut disk: D) -> Result<Self, Refused<D>>
+        // What a read gives before the call is what the journal keeps, and each crash leaves it too.
+        ensures opened { D.honest disk → IfOk result (λ journal. (pages : List (List ℕ)) → Recovers (home_pages journal) (note_of journal) (D.model disk).octet pages
+            → Keeps D.EraseDisk journal pages) }
+        ensures found { D.honest disk → IfOk result (λ journal. (pages : List (List ℕ)) × Recovers (home_pages journal) (note_of journal) (D.model disk).octet pages) }
+        ensures crash { D.honest disk → (homes : ℕ) (note : List ℕ) (pages : List (List ℕ)) → Recovers homes note (D.model disk).octet pages
+            → Leaves (D.model disk) (D.model (disk_after result)) (λ c. Recovers homes note c pages) }
+
+        ensures closed { IfOk result (λ journal. closed_slots journal ≡ 1) }
+        ensures unhomed { IfOk result (λ journal. unhomed_pages journal ≡ []) }
+        ensures usable { IfOk result (λ journal. needs_recovery journal ≡ false) }
+
+        // A disk is refused for what stands on it alone, and isn't written then.
+        ensures kinds { IfErr (outcome result) IsOpening }
+        ensures refused { D.honest disk → IfErr (outcome result) (OpenRefusal (D.octet_count disk) (D.model disk).octet) }
+        ensures untouched { D.honest disk → IfErr result (λ refused. refused.error ≢ JournalError.Fault → (D.model refused.disk).octet ≡ (D.model disk).octet) }
+
+        ensures counts { CountsFault (D.fault_count disk) (D.fault_count (disk_after result)) (outcome result) }
+        ensures honest { D.honest disk ↔ D.honest (disk_after result) }
+        ensures size { D.octet_count (disk_after result) ≡ D.octet_count disk }
+    {
+        match examine::recover(alloc, &mut disk) {
+            Ok(identity) => {
+                let note = identity.note;
+                Ok(Journal {
+                    disk,
+                    homes: identity.homes,
+                    note,
+                    closed: 1,
+                    unhomed: Vec::new(alloc),
+                    needs_recovery: false,
+                })
+            }
+            Err(error) => Err(Refused { disk, error }),
+        }
+    }
+
+    /// How many home pages it has. They are numbered from 0.
+    pub fn home_pages(&self) -> u64
+        ensures homes { result ≡ home_pages self.now }
+    {
+        self.homes
+    }
+
+    /// The note of its identity page.
+    pub fn note(&self) -> [u8; 11]
+        ensures note { result ≡ note_of self.now }
+    {
+        self.note
+    }
+
+    /// How many pages were posted and aren't written home.
+    pub fn unhomed(&self) -> usize
+        ensures count { result ≡ length (unhomed_pages self.now) }
+    {
+        self.unhomed.len()
+    }
+
+    /// How many of the slots that it uses are closed. A post takes one.
+    pub fn closed(&self) -> usize
+        ensures closed { result ≡ closed_slots self.now }
+    {
+        self.closed
+    }
+
+    /// Gives its disk up.
+    pub fn into_disk(self) -> D
+        ensures disk { result ≡ disk_of self }
+    {
+        self.disk
+    }
+
+    /// Reads a page of the map. After a failure `into` holds any octets.
+    pub fn read(&mut self, n: u64, into: &mut Page) -> Result<(), JournalError>
+        requires { n < home_pages self.old }
+
+        ensures page { D.honest (disk_of self.old) → (pages : List (List ℕ)) → Keeps D.EraseDisk self.old pages
+            → OnOk result (slice_get pages n ≡ Some into.new) }
+
+        // Done or failed, it writes nothing, and the journal keeps what it kept.
+        ensures keeps { D.honest (disk_of self.old) → (pages : List (List ℕ)) → Keeps D.EraseDisk self.old pages
+            → Keeps D.EraseDisk self.new pages }
+        ensures stays { D.honest (disk_of self.old) → Stays (D.model (disk_of self.old)) (D.model (disk_of self.new)) }
+        ensures crash { D.honest (disk_of self.old) → (pages : List (List ℕ)) → Keeps D.EraseDisk self.old pages
+            → Leaves (D.model (disk_of self.old)) (D.model (disk_of self.new)) (λ c. Recovers (home_pages self.old) (note_of self.old) c pages) }
+        ensures same { SameButDisk D.EraseDisk self.old self.new }
+
+        ensures ok { OnOk result (needs_recovery self.old ≡ false) }
+        ensures refused { IfErr result (UseRefusal (needs_recovery self.old)) }
+        ensures down { needs_recovery self.old ≡ true → self.new ≡ self.old }
+        ensures counts { CountsFault (D.fault_count (disk_of self.old)) (D.fault_count (disk_of self.new)) result }
+        ensures honest { D.honest (disk_of self.old) ↔ D.honest (disk_of self.new) }
+        ensures size { D.octet_count (disk_of self.new) ≡ D.octet_count (disk_of self.old) }
+    {
+        if self.needs_recovery {
+            return Err(JournalError::NeedsRecovery);
+        }
+        let place = unhomed::place(&self.unhomed, n);
+        into.read_from(&mut self.disk, place)?;
+        Ok(())
+    }
+
+    /// Replaces pages, all of them or none. A post of no page does nothing.
+    ///
+    /// At most 31 pages go into one post. It takes a slot, and asks for memory before it writes anything.
+    pub fn post(&mut self, alloc: Global, images: &[(u64, Page)]) -> Result<(), JournalError>
+        requires below { AreBelow (home_pages self.old) (pages_of images.now) }
+        requires distinct { AreDistinct (pages_of images.now) }
+
+        // Each crash from the call's start on leaves the pages from before it or those with all the images.
+        ensures crash { D.honest (disk_of self.old) → (pages : List (List ℕ)) → Keeps D.EraseDisk self.old pages
+            → Leaves (D.model (disk_of self.old)) (D.model (disk_of self.new))
+            (RecoversEither (home_pages self.old) (note_of self.old) pages (laid images.now pages)) }
+        ensures posted { D.honest (disk_of self.old) → (pages : List (List ℕ)) → Keeps D.EraseDisk self.old pages
+            → OnOk result (Keeps D.EraseDisk self.new (laid images.now pages)) }
+
+        ensures accepted { OnOk result (PostsAt (needs_recovery self.old) (length images.now) (closed_slots self.old)) }
+        ensures refused { IfErr result (PostRefusal (needs_recovery self.old) (length images.now) (closed_slots self.old)) }
+
+        // A refusal before the first write leaves all as it was. After another the disk must be opened again.
+        ensures unchanged { IfErr result (λ e. e ≢ JournalError.Fault → self.new ≡ self.old) }
+        ensures failed { IsErrOf result JournalError.Fault → needs_recovery self.new ≡ true }
+
+        ensures empty { length images.now ≡ 0 → self.new ≡ self.old }
+        ensures closed { 0 < length images.now → OnOk result (closed_slots self.new + 1 ≡ closed_slots self.old) }
+        ensures unhomed { 0 < length images.now → OnOk result (unhomed_pages self.new ≡ pages_of images.now) }
+        ensures usable { OnOk result (needs_recovery self.new ≡ false) }
+        ensures homes { home_pages self.new ≡ home_pages self.old }
+        ensures note { note_of self.new ≡ note_of self.old }
+        ensures counts { CountsFault (D.fault_count (disk_of self.old)) (D.fault_count (disk_of self.new)) result }
+        ensures honest { D.honest (disk_of self.old) ↔ D.honest (disk_of self.new) }
+        ensures size { D.octet_count (disk_of self.new) ≡ D.octet_count (disk_of self.old) }
+    {
+        if self.needs_recovery {
+            return Err(JournalError::NeedsRecovery);
+        }
+        if images.len() > IMAGES {
+            return Err(JournalError::TooManyImages);
+        }
+        if images.is_empty() {
+            return Ok(());
+        }
+        if self.closed == 0 {
+            return Err(JournalError::JournalFull);
+        }
+        let header = slot::header(alloc, 1, images)?;
+        let posted = unhomed::posted(alloc, images)?;
+        self.needs_recovery = true;
+        slot::fill(&mut self.disk, 0, &header, images)?;
+        slot::open_gate(&mut self.disk, 0)?;
+        self.needs_recovery = false;
+        self.closed = 0;
+        self.unhomed = posted;
+        Ok(())
+    }
+
+    /// Writes a page of the map home, as the map has it. Where the page wasn't posted, or is home, it does nothing.
+    pub fn home(&mut self, n: u64, page: &Page) -> Result<(), JournalError>
+        requires { n < home_pages self.old }
+
+        // Each crash leaves the same map, whatever the page, since an open slot covers it.
+        ensures crash { D.honest (disk_of self.old) → (pages : List (List ℕ)) → Keeps D.EraseDisk self.old pages
+            → Leaves (D.model (disk_of self.old)) (D.model (disk_of self.new)) (λ c. Recovers (home_pages self.old) (note_of self.old) c pages) }
+        ensures keeps { D.honest (disk_of self.old) → (pages : List (List ℕ)) → Keeps D.EraseDisk self.old pages
+            → slice_get pages n ≡ Some page.now → OnOk result (Keeps D.EraseDisk self.new pages) }
+
+        ensures ok { OnOk result (needs_recovery self.old ≡ false) }
+        ensures refused { IfErr result (UseRefusal (needs_recovery self.old)) }
+        ensures unchanged { IfErr result (λ e. e ≢ JournalError.Fault → self.new ≡ self.old) }
+        ensures failed { IsErrOf result JournalError.Fault → needs_recovery self.new ≡ true }
+
+        ensures elsewhere { ¬ IsListed n (unhomed_pages self.old) → self.new ≡ self.old }
+        ensures unhomed { OnOk result (unhomed_pages self.new ≡ filter (λ m. not (m == n)) (unhomed_pages self.old)) }
+        ensures usable { OnOk result (needs_recovery self.new ≡ false) }
+        ensures closed { closed_slots self.new ≡ closed_slots self.old }
+        ensures homes { home_pages self.new ≡ home_pages self.old }
+        ensures note { note_of self.new ≡ note_of self.old }
+        ensures counts { CountsFault (D.fault_count (disk_of self.old)) (D.fault_count (disk_of self.new)) result }
+        ensures honest { D.honest (disk_of self.old) ↔ D.honest (disk_of self.new) }
+        ensures size { D.octet_count (disk_of self.new) ≡ D.octet_count (disk_of self.old) }
+    {
+        if self.needs_recovery {
+            return Err(JournalError::NeedsRecovery);
+        }
+        if !unhomed::is_unhomed(&self.unhomed, n) {
+            return Ok(());
+        }
+        self.needs_recovery = true;
+        self.disk.write_at(PAGE * (265 + n), page.octets())?;
+        self.needs_recovery = false;
+        unhomed::forget(&mut self.unhomed, n);
+        Ok(())
+    }
+
+    /// Closes the open slot, once all pages are home. Where no slot is open it does nothing.
+    pub fn checkpoint(&mut self) -> Result<(), JournalError>
+        requires { length (unhomed_pages self.old) ≡ 0 }
+
+        ensures crash { D.honest (disk_of self.old) → (pages : List (List ℕ)) → Keeps D.EraseDisk self.old pages
+            → Leaves (D.model (disk_of self.old)) (D.model (disk_of self.new)) (λ c. Recovers (home_pages self.old) (note_of self.old) c pages) }
+        ensures keeps { D.honest (disk_of self.old) → (pages : List (List ℕ)) → Keeps D.EraseDisk self.old pages
+            → OnOk result (Keeps D.EraseDisk self.new pages) }
+
+        ensures ok { OnOk result (needs_recovery self.old ≡ false) }
+        ensures refused { IfErr result (UseRefusal (needs_recovery self.old)) }
+        ensures unchanged { IfErr result (λ e. e ≢ JournalError.Fault → self.new ≡ self.old) }
+        ensures failed { IsErrOf result JournalError.Fault → needs_recovery self.new ≡ true }
+
+        ensures closed { OnOk result (closed_slots self.new ≡ 1) }
+        ensures unhomed { unhomed_pages self.new ≡ unhomed_pages self.old }
+        ensures usable { OnOk result (needs_recovery self.new ≡ false) }
+        ensures homes { home_pages self.new ≡ home_pages self.old }
+        ensures note { note_of self.new ≡ note_of self.old }
+        ensures counts { CountsFault (D.fault_count (disk_of self.old)) (D.fault_count (disk_of self.new)) result }
+        ensures honest { D.honest (disk_of self.old) ↔ D.honest (disk_of self.new) }
+        ensures size { D.octet_count (disk_of self.new) ≡ D.octet_count (disk_of self.old) }
+    {
+        if self.needs_recovery {
+            return Err(JournalError::NeedsRecovery);
+        }
+        if self.closed == 1 {
+            return Ok(());
+        }
+        self.needs_recovery = true;
+        self.disk.sync()?;
+        gate::close(&mut self.disk, 0)?;
+        self.needs_recovery = false;
+        self.closed = 1;
+        Ok(())
+    }
+}
