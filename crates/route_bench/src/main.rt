@@ -1,0 +1,117 @@
+//! Measures what the spelling of admissions costs. With the word `measure` it prints times, and else
+//! only how to ask for them, so that its stored run is the same everywhere.
+#![tactic(auto)]
+
+use route_model::{
+    Address, Admission, AsNumbers, Attributes, Change, Moment, NextHop, Origin, Path, Peer, Prefix,
+    Route, Segment, SharedRoute,
+};
+use std::alloc::Global;
+use std::rt::CpuClock;
+use std::time::Duration;
+use std::{env, io};
+
+fn peer() -> Peer {
+    Peer {
+        collector: 0,
+        address: Address::V4([192, 0, 2, 1]),
+        as_number: 65001,
+    }
+}
+
+/// A route by three systems, which has 25 octets.
+fn route(alloc: Global) -> io::Result<Option<SharedRoute>> {
+    let items = vec![in alloc; 65001u32; 3]?;
+    if items.is_empty() || items.len() > 255 {
+        return Ok(None);
+    }
+    let segments = vec![in alloc; Segment::Sequence(AsNumbers::new(items))]?;
+    if segments.len() > 1 {
+        return Ok(None);
+    }
+    let Some(others) = Attributes::try_new(Vec::new(alloc)) else {
+        return Ok(None);
+    };
+    let route = Route {
+        origin: Origin::Igp,
+        path: Path::new(segments),
+        next_hop: NextHop::One(Address::V4([192, 0, 2, 1])),
+        med: None,
+        local_pref: None,
+        atomic_aggregate: false,
+        aggregator: None,
+        others,
+    };
+    Ok(Some(SharedRoute::new(alloc, route)?))
+}
+
+/// Announcements of one route for so many prefixes.
+fn changes(alloc: Global, count: u32) -> io::Result<Vec<Change>> {
+    let mut changes = Vec::with_capacity(alloc, count as usize)?;
+    let Some(route) = route(alloc)? else {
+        return Ok(changes);
+    };
+    for i in 0..count {
+        let prefix = Prefix::containing(Address::V4(i.to_be_bytes()), 32);
+        changes.push(Change::Announce(peer(), prefix, route.share()?))?;
+    }
+    Ok(changes)
+}
+
+fn spent(rt: &impl CpuClock, began: Duration) -> io::Result<u64> {
+    let now = rt.process_cpu_time()?;
+    Ok(u64::try_from(now.saturating_sub(began).as_nanos()).unwrap_or(u64::MAX))
+}
+
+fn encode_all(alloc: Global, admission: &Admission, rounds: u32) -> io::Result<u64> {
+    let mut octets = 0u64;
+    for _ in 0..rounds {
+        octets = octets.wrapping_add(admission.encode(alloc)?.len() as u64);
+    }
+    Ok(octets)
+}
+
+fn decode_all(alloc: Global, octets: &[u8], rounds: u32) -> io::Result<u64> {
+    let mut changes = 0u64;
+    for _ in 0..rounds {
+        if let Some(admission) = Admission::decode(alloc, octets)? {
+            changes = changes.wrapping_add(admission.changes().len() as u64);
+        }
+    }
+    Ok(changes)
+}
+
+/// Prints the nanoseconds for an admission of so many changes.
+fn measure(rt: &HostRuntime, count: u32, rounds: u32) -> io::Result<()> {
+    let alloc = rt.alloc();
+    let made = Admission::new(Moment::from(1_704_067_200u32), changes(alloc, count)?);
+    let Ok(admission) = made else {
+        return println!(rt; "{count} changes are no admission");
+    };
+    let octets = admission.encode(alloc)?;
+    let began = rt.process_cpu_time()?;
+    let written = encode_all(alloc, &admission, rounds)?;
+    let encoding = spent(rt, began)? / u64::from(rounds.max(1));
+    let began = rt.process_cpu_time()?;
+    let read = decode_all(alloc, octets.as_slice(), rounds)?;
+    let decoding = spent(rt, began)? / u64::from(rounds.max(1));
+    let len = admission.encoded_len();
+    println!(rt;
+        "{count} changes, {len} octets: encode {encoding} ns, decode {decoding} ns [{written} {read}]"
+    )
+}
+
+fn main(rt: HostRuntime) -> io::Result<()> {
+    let mut words = env::args(&rt)?;
+    let _program = words.next();
+    if words.next().is_none() {
+        return println!(rt;
+            "route_bench measure: prints what encoding and decoding of admissions cost"
+        );
+    }
+    measure(&rt, 1, 200_000)?;
+    measure(&rt, 10, 100_000)?;
+    measure(&rt, 100, 10_000)?;
+    measure(&rt, 1_000, 1_000)?;
+    measure(&rt, 10_000, 100)
+}
