@@ -124,9 +124,9 @@ HasLarge (Update changes) = IsLarge changes.announced ⊎ IsLarge changes.reacha
 HasLarge Notification = ⊥
 HasLarge (Other kind) = ⊥
 
--- a message whose routes all fit; or why there is none
+-- a message whose routes all fit; or why there is none. Only an UPDATE wants memory
 abbrev pub Reads : AsWidth → List ℕ → Result Message MessageFault → Type 0
 Reads width bytes (Ok message) = IsMessage width bytes (told message) × (HasLarge (told message) → ⊥)
 Reads width bytes (Err faults.Malformed) = (m : Told) → IsMessage width bytes m → ⊥
 Reads width bytes (Err faults.RouteTooLarge) = (m : Told) × IsMessage width bytes m × HasLarge m
-Reads width bytes (Err faults.OutOfMemory) = Unit {0}
+Reads width bytes (Err faults.OutOfMemory) = IsHeader bytes 2

@@ -1,5 +1,5 @@
 -- The values of single attributes (RFC 4271 section 4.3), and which of the two-octet era's attributes count (RFC 6793).
-use Rattle.std.specs.Prelude.{◌≡◌, ℕ, Bool, true, false, ◌&&◌, ◌||◌, ◌==◌, if◌then◌else◌, nat_lt, bit_and, List, [], ◌∷◌, length, drop, Option, Some, None, ◌⊎◌}
+use Rattle.std.specs.Prelude.{◌≡◌, ℕ, Bool, true, false, not, ◌&&◌, ◌||◌, ◌==◌, if◌then◌else◌, nat_lt, bit_and, List, [], ◌∷◌, length, drop, Option, Some, None, ◌⊎◌}
 use Rattle.route_model.specs.Octets.{number_at}
 use Rattle.route_model.specs.Spelling.{origin_octet}
 use Rattle.route_model.specs.declared.route.Origin.{Origin}
@@ -82,6 +82,10 @@ is_read k = (nat_lt 0 k && nat_lt k 8) || ((k == 14) || ((k == 15) || ((k == 17)
 -- an attribute that is kept unread, with its optional, transitive and partial flags
 abbrev pub kept : PathAttribute → Attribute
 kept a = record { kind = a.kind; flags = bit_and a.flags 224; value = a.value }
+
+-- whether an attribute is kept unread
+abbrev pub is_kept : PathAttribute → Bool
+is_kept a = not (is_read a.kind)
 
 -- the attribute put among others by ascending type
 abbrev pub put : Attribute → List Attribute → List Attribute

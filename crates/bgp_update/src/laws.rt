@@ -1,9 +1,14 @@
 //! Laws of what octets read as.
 
-ghost use Rattle.std.specs.Prelude.{◌≡◌, ◌≤◌, ℕ, List};
+ghost use Rattle.std.specs.Prelude.{◌≡◌, ◌≤◌, ℕ, List, filter, map, IsTrue};
+ghost use Rattle.std.specs.List.Sorted.{IsPermutation};
+ghost use Rattle.route_model.specs.Spelling.{is_ascending};
 ghost use Rattle.route_model.specs.declared.path.Segment.{Segment};
 ghost use Rattle.route_model.specs.declared.wire.AsWidth.{AsWidth};
+ghost use Rattle.bgp_update.specs.declared.attribute.PathAttribute.{PathAttribute};
 ghost use Rattle.bgp_update.specs.declared.reading.PathAttributes.{PathAttributes};
+ghost use Rattle.bgp_update.specs.AttributeFields.{NoneTwice};
+ghost use Rattle.bgp_update.specs.Values.{is_kept, kept, others_of};
 ghost use Rattle.bgp_update.specs.Joining.{Joined, NoneEmpty, count, joined_path};
 ghost use Rattle.bgp_update.specs.Readings.{AreAttributes};
 ghost use Rattle.bgp_update.specs.Messages.{Told, IsMessage};
@@ -12,6 +17,12 @@ ghost use Rattle.bgp_update.specs.Messages.{Told, IsMessage};
 pub fn joined_paths_are_one()
     ensures is { (own longer : List Segment) → NoneEmpty own → count longer ≤ count own → Joined own longer (joined_path own longer) }
     ensures one { (own longer path : List Segment) → NoneEmpty own → Joined own longer path → path ≡ joined_path own longer }
+{}
+
+/// Of a list of attributes exactly those are kept unread whose types aren't read, by ascending type.
+pub fn others_are_kept()
+    ensures kept { (list : List PathAttribute) → IsPermutation (map kept (filter is_kept list)) (others_of list) }
+    ensures ascending { (list : List PathAttribute) → NoneTwice list → IsTrue (is_ascending (others_of list)) }
 {}
 
 /// Octets are one list of attributes, which reads in one way.

@@ -26,7 +26,7 @@ pub use attribute::ValueOctets;
 pub use attributes::read_attributes;
 pub use entry::entry_route;
 pub use fault::MessageFault;
-pub use laws::{attributes_are_one, joined_paths_are_one, messages_are_one};
+pub use laws::{attributes_are_one, joined_paths_are_one, messages_are_one, others_are_kept};
 pub use message::Message;
 pub use messages::read_message;
 pub use reading::PathAttributes;

@@ -1,8 +1,9 @@
 //! The reader of messages (RFC 4271 section 4).
 
-ghost use Rattle.std.specs.Prelude.{◌≡◌, ◌==◌, ℕ, IfSome, IfNone, IsTrue, ◌↔◌};
+ghost use Rattle.std.specs.Prelude.{◌≡◌, ◌==◌, ℕ, IfSome, IfNone, IfErr, IsTrue, ◌↔◌};
 ghost use Rattle.std.specs.List.{list_all};
 ghost use Rattle.route_model.specs.Reading.{Exactly};
+ghost use Rattle.route_model.specs.declared.octets.ReadFault.TheVariants.{OutOfMemory};
 ghost use Rattle.bgp_update.specs.Messages.{IsHeader, IsMessage, IsLarge, HasLarge, Reads, told, option_told};
 
 use crate::fault::MessageFault;
@@ -51,7 +52,8 @@ fn kind_of(bytes: &[u8]) -> Option<u8>
 
 /// The message that all of the octets are, however large its routes.
 fn message_of(alloc: Global, bytes: &[u8], width: AsWidth) -> Result<Message, ReadFault>
-    ensures { Exactly told (IsMessage width bytes.now) result }
+    ensures message { Exactly told (IsMessage width bytes.now) result }
+    ensures memory { IfErr result (λ e. e ≡ OutOfMemory → IsHeader bytes.now 2) }
 {
     let Some(kind) = kind_of(bytes) else {
         return Err(ReadFault::Malformed);
