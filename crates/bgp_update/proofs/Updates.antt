@@ -1,6 +1,9 @@
 -- Laws of the parts of an UPDATE.
-use Rattle.std.proofs.Common.{◌≡◌, ℕ, List, Option, sym, subst, ◌∙◌}
+use Rattle.std.proofs.Common.{◌≡◌, ℕ, List, ◌++◌, length, take, drop, Option, sym, ap, subst, ◌∙◌, arith}
 use Rattle.std.specs.Prelude.{Result, Ok, Err}
+use Rattle.std.proofs.Math.Seq.{drop-append_seam, take-append_seam}
+use Rattle.route_model.specs.Octets.{number_at}
+use Rattle.route_model.proofs.Fronts.{number_at-append}
 use Rattle.route_model.specs.Reading.{Exactly}
 use Rattle.route_model.specs.Sequence.{Sequence}
 use Rattle.route_model.specs.Prefix.{IpPrefix}
@@ -18,15 +21,39 @@ use Rattle.bgp_update.specs.Messages.{Changes, Announced, IsAnnounced, IsCounted
 use Rattle.bgp_update.proofs.OneReading.{attributes_one}
 use Rattle.bgp_update.proofs.Reached.{reached_one, prefixes_one, ipv4_one}
 
+-- where the size, the field and the rest stand
+tells_size : (size more field : List ℕ) → length size ≡ 2 → number_at 2 0 size ≡ length field → number_at 2 0 (size ++ more) ≡ length field
+tells_size size more field two tells = number_at-append 2 0 size more (omega (arith, two)) ∙ tells
+
+behind_size : (size more : List ℕ) → length size ≡ 2 → drop 2 (size ++ more) ≡ more
+behind_size size more two = subst (λ (n : ℕ). drop n (size ++ more) ≡ more) two (drop-append_seam size more)
+
+size_of : (bytes f r : List ℕ) → IsCounted bytes f r → number_at 2 0 bytes ≡ length f
+size_of bytes f r p = sym (sym (tells_size p.size (f ++ r) f p.two p.tells) ∙ ap (λ (t : List ℕ). number_at 2 0 t) (sym p.parts))
+
+behind_of : (bytes f r : List ℕ) → IsCounted bytes f r → drop 2 bytes ≡ f ++ r
+behind_of bytes f r p = ap (λ (t : List ℕ). drop 2 t) p.parts ∙ behind_size p.size (f ++ r) p.two
+
+field_of : (bytes f r : List ℕ) → IsCounted bytes f r → take (number_at 2 0 bytes) (drop 2 bytes) ≡ f
+field_of bytes f r p = rw (size_of bytes f r p, behind_of bytes f r p) (take-append_seam f r)
+
+rest_of : (bytes f r : List ℕ) → IsCounted bytes f r → drop (number_at 2 0 bytes) (drop 2 bytes) ≡ r
+rest_of bytes f r p = rw (size_of bytes f r p, behind_of bytes f r p) (drop-append_seam f r)
+
 -- the octets are one counted field and one rest
 pub counted_one : (bytes f g r s : List ℕ) → IsCounted bytes f r → IsCounted bytes g s → (f ≡ g) × (r ≡ s)
-counted_one bytes f g r s p q = (p.is_field ∙ sym q.is_field, p.is_rest ∙ sym q.is_rest)
+counted_one bytes f g r s p q = (sym (field_of bytes f r p) ∙ field_of bytes g s q, sym (rest_of bytes f r p) ∙ rest_of bytes g s q)
+
+-- the second counted field stands behind the first
+pub second_of : (width : AsWidth) (bytes w m : List ℕ) (u : Changes) → IsCounted bytes w m → (up : IsUpdate width bytes u) → IsCounted m up.attribute_field up.announced_field
+second_of width bytes w m u p up =
+    subst (λ (t : List ℕ). IsCounted t up.attribute_field up.announced_field) (counted_one bytes up.withdrawn_field w up.more m up.first p).1 up.second
 
 -- an UPDATE's fields are those that were read
 pub same_parts : (width : AsWidth) (bytes w m a n : List ℕ) (u : Changes) → IsCounted bytes w m → IsCounted m a n → IsUpdate width bytes u → IsUpdateOf width w a n u
 same_parts width bytes w m a n u p q up =
     let one = counted_one bytes up.withdrawn_field w up.more m up.first p in
-    let two = counted_one m up.attribute_field a up.announced_field n (subst (λ (t : List ℕ). IsCounted t up.attribute_field up.announced_field) one.1 up.second) q in
+    let two = counted_one m up.attribute_field a up.announced_field n (second_of width bytes w m u p up) q in
     subst (λ (t : List ℕ). IsUpdateOf width w a t u) two.1
     (subst (λ (t : List ℕ). IsUpdateOf width w t up.announced_field u) two.0
     (subst (λ (t : List ℕ). IsUpdateOf width t up.attribute_field up.announced_field u) one.0 up.parts))

@@ -1,5 +1,5 @@
 -- BGP messages (RFC 4271 section 4), and what a reader of them answers.
-use Rattle.std.specs.Prelude.{◌≡◌, ◌≢◌, ℕ, ◌+◌, ◌<◌, ◌≤◌, ◌==◌, ◌⊎◌, true, List, [], ◌∷◌, length, take, drop, slice_index, Option, Some, None, Result, Ok, Err}
+use Rattle.std.specs.Prelude.{◌≡◌, ◌≢◌, ℕ, ◌<◌, ◌≤◌, ◌==◌, ◌⊎◌, true, List, [], ◌∷◌, ◌++◌, length, take, drop, slice_index, Option, Some, None, Result, Ok, Err}
 use Rattle.std.specs.List.{list_all}
 use Rattle.route_model.specs.Octets.{number_at}
 use Rattle.route_model.specs.Sequence.{Sequence}
@@ -70,11 +70,12 @@ pub record IsHeader (bytes : List ℕ) (kind : ℕ) : Type 0 where
   pub size : number_at 2 16 bytes ≡ length bytes
   pub is_kind : kind ≡ slice_index bytes 18
 
--- two octets tell how many octets the field behind them has
+-- two octets that tell how many octets the field has, the field, and the rest
 pub record IsCounted (bytes field rest : List ℕ) : Type 0 where
-  pub room : 2 + number_at 2 0 bytes ≤ length bytes
-  pub is_field : field ≡ take (number_at 2 0 bytes) (drop 2 bytes)
-  pub is_rest : rest ≡ drop (number_at 2 0 bytes) (drop 2 bytes)
+  pub size : List ℕ
+  pub two : length size ≡ 2
+  pub tells : number_at 2 0 size ≡ length field
+  pub parts : bytes ≡ size ++ (field ++ rest)
 
 -- where there are prefixes there is a route, which all of them share; else nothing is announced
 abbrev pub IsAnnounced : List IpPrefix → Option Route → Option Announced → Type 0
