@@ -15,9 +15,10 @@ use route_model::octets::{ReadFault, u16_at};
 use route_model::wire::AsWidth;
 use std::alloc::Global;
 
-/// How many octets a header has, and the most that a message has.
+/// How many octets a header has.
 const HEADER: usize = 19;
 
+/// The most octets that a message has, its header counted.
 const LONGEST: usize = 4096;
 
 const UPDATE: u8 = 2;
@@ -92,7 +93,8 @@ fn has_large(message: &Message) -> bool
 }
 
 /// The message that all of the octets are, at the width of AS numbers that the session had (RFC 4271 section 4,
-/// RFC 4760, RFC 6793). `RouteTooLarge` where it announces a route whose spelling has more than 3,072 octets.
+/// RFC 4760, RFC 6793). `Malformed` where they are none; `RouteTooLarge` where they are one that announces a route
+/// whose spelling has more than 3,072 octets; `OutOfMemory` where a growth was refused, which only an UPDATE wants.
 pub fn read_message(alloc: Global, bytes: &[u8], width: AsWidth) -> Result<Message, MessageFault>
     ensures message { Reads width bytes.now result }
 {

@@ -148,6 +148,58 @@ fn an_announcement_needs_its_attributes(rt: HostRuntime) -> Result<(), Fail> {
     Ok(())
 }
 
+/// 2001:db8::1 and fe80::1.
+const TWO_HOPS: &str = "20010DB8000000000000000000000001 FE800000000000000000000000000001";
+
+#[test]
+fn attributes_of_many_protocols_have_their_faults(rt: HostRuntime) -> Result<(), Fail> {
+    for fault in [
+        "800E00",
+        "800E02 0001",
+        "800E03 0001 01",
+        "800E05 0001 01 00 00",
+        "800E08 0001 01 04 C0000201",
+        "800E09 0002 01 04 C0000201 00",
+        "800E0D 0001 01 08 C0000201C0000202 00",
+        "800E0A 0001 01 04 C0000201 00 08",
+        "800E0F 0001 01 04 C0000201 00 210A00000000",
+        "800F00",
+        "800F02 0001",
+        "800F04 0002 01 08",
+        "800F15 0002 01 81 20010DB8000000000000000000000001 80",
+    ] {
+        let attributes = format!(in rt.alloc(); "{PLAIN} {fault}")?;
+        assert!(rt; is_malformed(rt.alloc(), &attributes, "")?, "{fault}");
+    }
+    Ok(())
+}
+
+#[test]
+fn attributes_of_many_protocols_are_read(rt: HostRuntime) -> Result<(), Fail> {
+    for text in [
+        "800E03 0001 80",
+        "800E05 0019 41 0102",
+        "800F03 0001 02",
+        "800E09 0001 01 04 C0000201 FF",
+        "800E15 0001 01 10 20010DB8000000000000000000000001 00",
+        "800F03 0002 01",
+    ] {
+        let attributes = format!(in rt.alloc(); "{PLAIN} {text}")?;
+        let update = told(rt.alloc(), &attributes, "080A", AsWidth::Two)?;
+        assert!(rt;
+            update.unreachable.is_empty() && update.reachable.is_none(),
+            "{text}"
+        );
+        assert!(rt; update.announced.is_some(), "{text}");
+    }
+    let attributes = format!(in rt.alloc(); "{PLAIN} 800E27 0001 01 20 {TWO_HOPS} 00 080B")?;
+    let update = told(rt.alloc(), &attributes, "", AsWidth::Two)?;
+    let reachable = update.reachable.ok_or("nothing reachable")?;
+    let route = format!(in rt.alloc(); "00 0001 0202 0000FDE9 0000FDEA 20 {TWO_HOPS} 00 0000")?;
+    assert!(rt; is_spelled(rt.alloc(), &reachable.route, &route)?);
+    Ok(())
+}
+
 #[test]
 fn a_message_is_its_length(rt: HostRuntime) -> Result<(), Fail> {
     let bytes = update(rt.alloc(), &octets(rt.alloc(), PLAIN)?, "080A")?;
