@@ -1,6 +1,6 @@
 //! Prefixes that stand one after another.
 
-ghost use Rattle.std.specs.Prelude.{◌≡◌, Option, List};
+ghost use Rattle.std.specs.Prelude.{◌≡◌, ◌≤◌, length, Option, List};
 ghost use Rattle.route_model.specs.Prefix.{IpPrefix};
 ghost use Rattle.route_model.specs.PrefixFields.{IsPrefixField};
 ghost use Rattle.route_model.specs.Reading.{Exactly};
@@ -16,7 +16,9 @@ use route_model::wire::{Family, prefix_at};
 use std::alloc::Global;
 
 /// How many prefixes stand one after another, as far as the octets hold them: room is made for so many.
-fn count_of(bytes: &[u8]) -> usize {
+fn count_of(bytes: &[u8]) -> usize
+    ensures { result ≤ length bytes.now }
+{
     let mut count = 0;
     let mut left = bytes;
     while !left.is_empty() {

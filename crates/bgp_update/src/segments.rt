@@ -83,7 +83,9 @@ fn push_segment(path: &mut Vec<Segment>, part: Part) -> Result<(), AllocError>
 }
 
 /// How many segments stand one after another, as far as the octets hold them: room is made for so many.
-fn count_of(bytes: &[u8], width: AsWidth) -> usize {
+fn count_of(bytes: &[u8], width: AsWidth) -> usize
+    ensures { 2 * result ≤ length bytes.now }
+{
     let mut count = 0;
     let mut left = bytes;
     while 2 <= left.len() {
