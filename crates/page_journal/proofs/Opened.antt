@@ -1,12 +1,12 @@
 -- What was found of the slots is what recovery lays.
-use Rattle.std.proofs.Common.{◌≡◌, ◌<◌, inl, inr, ⊎_elim, ℕ, zero, suc, ◌+◌, List, [], ◌∷◌, ◌++◌, length, get_or, take, flat_map, refl, sym, ◌∙◌, ap, subst, arith, append-nil}
+use Rattle.std.proofs.Common.{◌≡◌, ◌≢◌, ◌<◌, ◌≤◌, inl, inr, ⊎_elim, ℕ, zero, suc, ◌+◌, ◌*◌, List, [], ◌∷◌, ◌++◌, length, get_or, take, flat_map, refl, sym, ◌∙◌, ap, subst, arith, append-nil}
 use Rattle.std.proofs.lemmas.Grind.{flat_map-append}
 use Rattle.std.specs.List.{AllByRecursion}
 use Rattle.disk_models.specs.Octets.{octets}
 use Rattle.page_journal.specs.Layout.{Image, IsOpen, transaction, image_at, images_from, images, pages_of, homes_from}
 use Rattle.page_journal.specs.Identity.{Names}
 use Rattle.page_journal.specs.Recovers.{laid, IsWhole, AreRising, IsListed, AreOpen, RecoversBy, Recovers}
-use Rattle.page_journal.specs.Survey.{slots_of, AreRanked, IsRankOf, Ranks, HoldsPost, BadIn, SharedIn, OpenRefusal, relocations, moved}
+use Rattle.page_journal.specs.Survey.{slots_of, AreRanked, IsRankOf, Ranks, HoldsPost, IsBadHeader, BadIn, SharedIn, OpenRefusal, relocations, moved}
 use Rattle.page_journal.specs.Refusals.{HeaderRefusal, IsWant}
 use Rattle.page_journal.specs.declared.error.JournalError.{JournalError}
 use Rattle.page_journal.specs.declared.error.JournalError.TheVariants.{Fault, TooManyImages, JournalFull, NotAJournal, NeedsRecovery, PagesFull, BadNode, OutOfMemory}
@@ -101,36 +101,81 @@ open_listed f slot (r ∷ ranks) each listed = ⊎_elim
     listed
 
 -- the refusals of the two steps, as those of an opening
-pub shared_refusal : (size : ℕ) (f : ℕ → ℕ) (e : JournalError) → SharedIn f e → OpenRefusal size f e
-shared_refusal size f Fault h = tt
-shared_refusal size f OutOfMemory h = tt
-shared_refusal size f TooManyImages h = h
-shared_refusal size f JournalFull h = h
-shared_refusal size f NotAJournal h = absurd h
-shared_refusal size f NeedsRecovery h = h
-shared_refusal size f PagesFull h = h
-shared_refusal size f (BadNode page) h = λ homes note names. record { slot = h.0; below = h.1; is_page = h.2; is_open = h.3.is_open; bad = inr h.3.shares }
+pub shared_refusal : (size homes : ℕ) (note : List ℕ) (f : ℕ → ℕ) (e : JournalError) → Names homes note f → 16384 * (265 + homes) ≤ size → SharedIn f e → OpenRefusal size f e
+shared_refusal size homes note f Fault names room h = tt
+shared_refusal size homes note f OutOfMemory names room h = tt
+shared_refusal size homes note f TooManyImages names room h = h
+shared_refusal size homes note f JournalFull names room h = h
+shared_refusal size homes note f NotAJournal names room h = absurd h
+shared_refusal size homes note f NeedsRecovery names room h = h
+shared_refusal size homes note f PagesFull names room h = h
+shared_refusal size homes note f (BadNode page) names room h = record {
+  homes = homes;
+  note = note;
+  names = names;
+  room = room;
+  bad = record { slot = h.0; below = h.1; is_page = h.2; is_open = h.3.is_open; bad = inr h.3.shares };
+}
 
-pub bad_refusal : (size homes : ℕ) (note : List ℕ) (f : ℕ → ℕ) (ranks : List Rank) (e : JournalError) → Names homes note f → Ranks f 8 ranks → BadIn homes f (slots_of ranks) e → OpenRefusal size f e
-bad_refusal size homes note f ranks Fault names found h = tt
-bad_refusal size homes note f ranks OutOfMemory names found h = tt
-bad_refusal size homes note f ranks TooManyImages names found h = h
-bad_refusal size homes note f ranks JournalFull names found h = h
-bad_refusal size homes note f ranks NotAJournal names found h = absurd h
-bad_refusal size homes note f ranks NeedsRecovery names found h = h
-bad_refusal size homes note f ranks PagesFull names found h = h
-bad_refusal size homes note f ranks (BadNode page) names found h = λ other more others.
-    let same = one_name homes other note more f names others in
+pub bad_refusal : (size homes : ℕ) (note : List ℕ) (f : ℕ → ℕ) (ranks : List Rank) (e : JournalError) → Names homes note f → 16384 * (265 + homes) ≤ size → Ranks f 8 ranks → BadIn homes f (slots_of ranks) e → OpenRefusal size f e
+bad_refusal size homes note f ranks Fault names room found h = tt
+bad_refusal size homes note f ranks OutOfMemory names room found h = tt
+bad_refusal size homes note f ranks TooManyImages names room found h = h
+bad_refusal size homes note f ranks JournalFull names room found h = h
+bad_refusal size homes note f ranks NotAJournal names room found h = absurd h
+bad_refusal size homes note f ranks NeedsRecovery names room found h = h
+bad_refusal size homes note f ranks PagesFull names room found h = h
+bad_refusal size homes note f ranks (BadNode page) names room found h =
     let open_now = open_listed f h.0 ranks found.each h.1 in
     record {
-      slot = h.0;
-      below = open_now.0;
-      is_page = h.2;
-      is_open = open_now.1;
-      bad = inl (λ (w : IsWhole other f h.0).
-          let v : IsWhole homes f h.0 = subst (λ n. IsWhole n f h.0) (sym same.0) w in
-          h.3 (record { some = v.some; few = v.few; inside = v.inside; distinct = v.distinct }));
+      homes = homes;
+      note = note;
+      names = names;
+      room = room;
+      bad = record {
+        slot = h.0;
+        below = open_now.0;
+        is_page = h.2;
+        is_open = open_now.1;
+        bad = inl (λ (w : IsWhole homes f h.0). h.3 (record { some = w.some; few = w.few; inside = w.inside; distinct = w.distinct }));
+      };
     }
+
+-- no two of the open slots have one number
+apart : (f : ℕ → ℕ) (order : List ℕ) (t u : ℕ) → AreRising f order → IsListed t order → IsListed u order → t ≢ u → transaction f t ≢ transaction f u
+apart f [] t u rising a b other = absurd a
+apart f (v ∷ order) t u rising a b other = λ same. ⊎_elim
+    (λ (e : t ≡ v). ⊎_elim
+    (λ (d : u ≡ v). other (e ∙ sym d))
+    (λ there. let below = after f v order u rising.0 there in absurd (omega (arith, below, same, ap (transaction f) e)))
+    b)
+    (λ here. ⊎_elim
+    (λ (d : u ≡ v). let below = after f v order t rising.0 here in absurd (omega (arith, below, same, ap (transaction f) d)))
+    (λ there. apart f order t u rising.1 here there other same)
+    b)
+    a
+
+-- where the disk means something, each open slot is whole and has a number of its own
+no_bad_header : (homes : ℕ) (f : ℕ → ℕ) (order : List ℕ) (page : ℕ) → AreOpen homes f order → IsBadHeader homes f page → ⊥
+no_bad_header homes f order page slots h =
+    let listed = slots.all_open h.slot h.below h.is_open in
+    ⊎_elim
+    (λ broken. broken (whole_of homes f h.slot order listed slots.whole))
+    (λ shares. apart f order shares.other h.slot slots.rising (slots.all_open shares.other shares.below shares.is_open) listed shares.apart shares.same)
+    h.bad
+
+-- a disk that means something, and has room for it, is refused for want alone
+pub want_alone : (size homes : ℕ) (note : List ℕ) (f : ℕ → ℕ) (pages : List (List ℕ)) (e : JournalError) → Recovers homes note f pages → 16384 * (265 + homes) ≤ size → OpenRefusal size f e → IsWant e
+want_alone size homes note f pages Fault r room h = tt
+want_alone size homes note f pages OutOfMemory r room h = tt
+want_alone size homes note f pages TooManyImages r room h = h
+want_alone size homes note f pages JournalFull r room h = h
+want_alone size homes note f pages NotAJournal r room h = absurd (omega (arith, room, h homes note r.1.identity))
+want_alone size homes note f pages NeedsRecovery r room h = h
+want_alone size homes note f pages PagesFull r room h = h
+want_alone size homes note f pages (BadNode page) r room h =
+    let same = one_name h.homes homes h.note note f h.names r.1.identity in
+    no_bad_header h.homes f r.0 page (subst (λ n. AreOpen n f r.0) (sym same.0) r.1.slots) h.bad
 
 -- the refusal of one slot, as that of several
 pub bad_in : (homes : ℕ) (f : ℕ → ℕ) (slot : ℕ) (slots : List ℕ) (e : JournalError) → HeaderRefusal slot e → (¬ IsWant e → ¬ HoldsPost homes f slot) → IsListed slot slots → BadIn homes f slots e

@@ -6,7 +6,7 @@ ghost use Rattle.page_journal.specs.Layout.{images};
 ghost use Rattle.page_journal.specs.Identity.{Names};
 ghost use Rattle.page_journal.specs.Recovers.{AreOpen, Recovers};
 ghost use Rattle.page_journal.specs.Laying.{StandsHome};
-ghost use Rattle.page_journal.specs.Refusals.{CountsFault, IsOpening};
+ghost use Rattle.page_journal.specs.Refusals.{CountsFault, IsOpening, IsWant};
 ghost use Rattle.page_journal.specs.Survey.{IsHomeward, OpenRefusal, moved, slots_of};
 
 use crate::error::JournalError;
@@ -77,6 +77,8 @@ pub fn recover<D: EraseDisk>(alloc: Global, disk: &mut D) -> Result<Identity, Jo
     ensures small { IfOk result (λ identity. 265 + identity.homes < 2 ^ 50) }
     ensures kinds { IfErr result IsOpening }
     ensures refused { D.honest disk.old → IfErr result (OpenRefusal (D.octet_count disk.old) (D.model disk.old).octet) }
+    ensures undamaged { D.honest disk.old → (homes : ℕ) (note : List ℕ) (pages : List (List ℕ)) → Recovers homes note (D.model disk.old).octet pages
+        → 16384 * (265 + homes) ≤ D.octet_count disk.old → IfErr result IsWant }
     ensures untouched { D.honest disk.old → IfErr result (λ e. e ≢ JournalError.Fault → (D.model disk.new).octet ≡ (D.model disk.old).octet) }
     ensures found { D.honest disk.old → IfOk result (λ identity. (pages : List (List ℕ)) × Recovers identity.homes identity.note (D.model disk.old).octet pages) }
     ensures opened { D.honest disk.old → IfOk result (λ identity. (pages : List (List ℕ)) → Recovers identity.homes identity.note (D.model disk.old).octet pages

@@ -1,7 +1,7 @@
 //! The journal, with one slot.
 ghost use Rattle.std.specs.Prelude.{◌≡◌, ◌≢◌, ◌≤◌, ◌<◌, ◌^◌, ◌+◌, ◌*◌, ◌↔◌, ◌==◌, [], ℕ, List, length, OnOk, OnErr, IfOk, IfErr, IsOk, IsErr, IsErrOf, true, false, not, filter, Some, slice_get, replicate};
 ghost use Rattle.disk_models.specs.Erase.{Leaves, Stays};
-ghost use Rattle.page_journal.specs.Layout.{homes_from, pages_of};
+ghost use Rattle.page_journal.specs.Layout.{homes_from, pages_of, transaction};
 ghost use Rattle.page_journal.specs.Recovers.{laid, AreBelow, AreDistinct, IsListed, Recovers, RecoversEither};
 
 use crate::error::JournalError;
@@ -42,7 +42,7 @@ impl<D: EraseDisk + Drop> Journal<D> {
       note_of,
       unhomed_pages,
     };
-    ghost use Rattle.page_journal.specs.Refusals.{CountsFault, CreateRefusal, PostRefusal, PostsAt, UseRefusal, IsOpening};
+    ghost use Rattle.page_journal.specs.Refusals.{CountsFault, CreateRefusal, PostRefusal, PostsAt, UseRefusal, IsOpening, IsWant};
     ghost use Rattle.page_journal.specs.Survey.{OpenRefusal};
     ghost use Rattle.page_journal.specs.SameJournal.{SameButDisk};
     ghost use Rattle.page_journal.specs.Outcome.{disk_after, outcome};
@@ -124,10 +124,13 @@ impl<D: EraseDisk + Drop> Journal<D> {
         ensures closed { IfOk result (λ journal. closed_slots journal ≡ 1) }
         ensures unhomed { IfOk result (λ journal. unhomed_pages journal ≡ []) }
         ensures usable { IfOk result (λ journal. needs_recovery journal ≡ false) }
+        ensures room { IfOk result (λ journal. 16384 * (265 + home_pages journal) ≤ D.octet_count disk) }
 
-        // A disk is refused for what stands on it alone, and isn't written then.
+        // A disk is refused for what stands on it alone, and isn't written then. One that means a map is never damaged.
         ensures kinds { IfErr (outcome result) IsOpening }
         ensures refused { D.honest disk → IfErr (outcome result) (OpenRefusal (D.octet_count disk) (D.model disk).octet) }
+        ensures undamaged { D.honest disk → (homes : ℕ) (note : List ℕ) (pages : List (List ℕ)) → Recovers homes note (D.model disk).octet pages
+            → 16384 * (265 + homes) ≤ D.octet_count disk → IfErr (outcome result) IsWant }
         ensures untouched { D.honest disk → IfErr result (λ refused. refused.error ≢ JournalError.Fault → (D.model refused.disk).octet ≡ (D.model disk).octet) }
 
         ensures counts { CountsFault (D.fault_count disk) (D.fault_count (disk_after result)) (outcome result) }
@@ -235,6 +238,11 @@ impl<D: EraseDisk + Drop> Journal<D> {
         // A refusal before the first write leaves all as it was. After another the disk must be opened again.
         ensures unchanged { IfErr result (λ e. e ≢ JournalError.Fault → self.new ≡ self.old) }
         ensures failed { IsErrOf result JournalError.Fault → needs_recovery self.new ≡ true }
+        ensures as_closed { OnErr result (closed_slots self.new ≡ closed_slots self.old) }
+        ensures as_unhomed { OnErr result (unhomed_pages self.new ≡ unhomed_pages self.old) }
+
+        // The first transaction since an opening or a checkpoint has number 1.
+        ensures numbered { D.honest (disk_of self.old) → 0 < length images.now → OnOk result (transaction (D.model (disk_of self.new)).octet 0 ≡ 1) }
 
         ensures empty { length images.now ≡ 0 → self.new ≡ self.old }
         ensures closed { 0 < length images.now → OnOk result (closed_slots self.new + 1 ≡ closed_slots self.old) }
@@ -283,6 +291,7 @@ impl<D: EraseDisk + Drop> Journal<D> {
         ensures refused { IfErr result (UseRefusal (needs_recovery self.old)) }
         ensures unchanged { IfErr result (λ e. e ≢ JournalError.Fault → self.new ≡ self.old) }
         ensures failed { IsErrOf result JournalError.Fault → needs_recovery self.new ≡ true }
+        ensures as_unhomed { OnErr result (unhomed_pages self.new ≡ unhomed_pages self.old) }
 
         ensures elsewhere { ¬ IsListed n (unhomed_pages self.old) → self.new ≡ self.old }
         ensures unhomed { OnOk result (unhomed_pages self.new ≡ filter (λ m. not (m == n)) (unhomed_pages self.old)) }
@@ -320,7 +329,9 @@ impl<D: EraseDisk + Drop> Journal<D> {
         ensures refused { IfErr result (UseRefusal (needs_recovery self.old)) }
         ensures unchanged { IfErr result (λ e. e ≢ JournalError.Fault → self.new ≡ self.old) }
         ensures failed { IsErrOf result JournalError.Fault → needs_recovery self.new ≡ true }
+        ensures as_closed { OnErr result (closed_slots self.new ≡ closed_slots self.old) }
 
+        ensures idle { closed_slots self.old ≡ 1 → self.new ≡ self.old }
         ensures closed { OnOk result (closed_slots self.new ≡ 1) }
         ensures unhomed { unhomed_pages self.new ≡ unhomed_pages self.old }
         ensures usable { OnOk result (needs_recovery self.new ≡ false) }

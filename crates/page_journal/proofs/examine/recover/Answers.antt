@@ -1,10 +1,11 @@
 use Rattle.std.proofs.Common.{◌≡◌, ◌∙◌, ℕ, List, flat_map, ap, sym, subst}
+use Rattle.std.proofs.lemmas.Result.{err_from_is_err_and}
 use Rattle.page_journal.specs.Layout.{images}
 use Rattle.page_journal.specs.Identity.{Names}
 use Rattle.page_journal.specs.Recovers.{AreOpen, RecoversBy}
-use Rattle.page_journal.specs.Survey.{moved, slots_of}
+use Rattle.page_journal.specs.Survey.{OpenRefusal, moved, slots_of}
 use Rattle.page_journal.specs.declared.rank.Rank.{Rank}
-use Rattle.page_journal.proofs.Opened.{recover_crash, recovers_by, still_settled, some_meaning}
+use Rattle.page_journal.proofs.Opened.{recover_crash, recovers_by, still_settled, some_meaning, want_alone}
 use Rattle.page_journal.proofs.examine.recover.Goals as goal
 
 pub returns-in_err-finish-clause-crash : goal.returns-in_err-finish-clause-crash
@@ -33,6 +34,18 @@ returns-in_err-finish-clause-crash g c h homes note pages r =
     ∙ ap (λ (l : List Rank). flat_map (images s2.octet) (slots_of l)) (sym c.deref.ensures.value) in
     recover_crash homes id.homes note id.note order pages s0 s1 s2 synced stays names slots r s3 (g.met.D.EraseDisk.sound c.args.disk.now h) (c.sync.ensures.lingers h).crash
     (c.finish.ensures.crash h2 id.note pages (still_settled homes id.homes note id.note order pages s0 s1 s2 synced stays names slots r) by are)
+
+pub returns-in_err-survey-clause-undamaged : goal.returns-in_err-survey-clause-undamaged
+returns-in_err-survey-clause-undamaged g c h homes note pages r room =
+    let f = (g.D.EraseDisk.model c.args.disk.now).octet in
+    let size = g.D.EraseDisk.octet_count c.args.disk.now in
+    let e = c.in_err-survey.field-0.0 in
+    let refused = c.in_err-survey.ensures.refused (c.sync.ensures.honest.0 h) in
+    let now : OpenRefusal size f e =
+    subst (λ n. OpenRefusal n f e) c.sync.ensures.size
+    (subst (λ (k : ℕ → ℕ). OpenRefusal (g.D.EraseDisk.octet_count c.sync.new.self) k e) (c.in_ok-sync.ensures.syncs h).same refused) in
+    let p = err_from_is_err_and c.from_residual-in_err-survey.result c.from_residual-in_err-survey.ensures.1 in
+    rw (p.1, p.2) (want_alone size homes note f pages e r room now)
 
 pub returns-clause-found : goal.returns-clause-found
 returns-clause-found g c h =
