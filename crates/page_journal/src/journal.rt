@@ -18,7 +18,7 @@ const IMAGES: usize = 31;
 /// Home pages on an erasable disk, some of which are replaced at once by a post, whatever a crash tears.
 ///
 /// At this stage it uses the first of its eight slots. After a write or a sync that failed each call but those that
-/// only tell something answers [`JournalError::NeedsRecovery`], until the disk is opened again.
+/// only tell something, or give the disk up, answers [`JournalError::NeedsRecovery`], until the disk is opened again.
 #[derive(Drop)]
 pub struct Journal<D: EraseDisk + Drop> {
     disk: D,
@@ -71,7 +71,7 @@ impl<D: EraseDisk + Drop> Journal<D> {
     /// disk holds.
     ///
     /// The identity page is written last, with a note for the layers above. A crash before the end may leave a disk
-    /// that holds no journal.
+    /// that holds no journal. A disk of fewer than `homes` and 265 pages of 16,384 octets is refused as too small.
     pub fn create_with(
         alloc: Global,
         mut disk: D,
@@ -220,7 +220,8 @@ impl<D: EraseDisk + Drop> Journal<D> {
 
     /// Replaces pages, all of them or none. A post of no page does nothing.
     ///
-    /// At most 31 pages go into one post. It takes a slot, and asks for memory before it writes anything.
+    /// At most 31 pages go into one post, and a slot must be closed. It takes that slot, and asks for memory before it
+    /// writes anything.
     pub fn post(&mut self, alloc: Global, images: &[(u64, Page)]) -> Result<(), JournalError>
         requires below { AreBelow (home_pages self.old) (pages_of images.now) }
         requires distinct { AreDistinct (pages_of images.now) }
@@ -278,6 +279,8 @@ impl<D: EraseDisk + Drop> Journal<D> {
     }
 
     /// Writes a page of the map home, as the map has it. Where the page wasn't posted, or is home, it does nothing.
+    ///
+    /// Another page than the map's would stand in the map after the next checkpoint.
     pub fn home(&mut self, n: u64, page: &Page) -> Result<(), JournalError>
         requires { n < home_pages self.old }
 
