@@ -98,6 +98,17 @@ module _ (homes : ℕ) (note order : List ℕ) (slot next : ℕ) (below : slot <
     pub posted_images : (s2 : DiskState) → OpensGate slot s1 s2 → ReadsAs s2.octet slot next named
     posted_images s2 opens = same_reading s2.octet s1.octet slot (λ i w. opens.outside i (λ v. absurd (omega (arith, w.0, v.1)))) next named few reads
 
+-- what is posted into the first slot has the number of its header
+pub posted_number : (homes : ℕ) (named : List Image) (header : List ℕ) (s0 s1 s2 : DiskState) → length named ≤ 31 → 265 + homes < 2 ^ 50 → AreBelow homes (pages_of named)
+    → header ≡ header_octets 1 named → Fills 0 header named s0 s1 → OpensGate 0 s1 s2 → transaction s2.octet 0 ≡ 1
+posted_number homes named header s0 s1 s2 few small inside is_header fills opens =
+    let long : length header ≡ 9 + 8 * length named = ap length is_header ∙ length-header_octets 1 named in
+    let reads : ReadsAs s1.octet 0 1 named = staged s1.octet 0 1 homes named (omega arith) (omega (arith, small)) inside (record {
+      header = ap (λ n. octets s1.octet (header_place 0) n) (sym long) ∙ fills.header_stands ∙ is_header;
+      stand = fills.images_stand;
+    }) in
+    (same_reading s2.octet s1.octet 0 (λ i w. opens.outside i (λ v. absurd (omega (arith, w.0, v.1)))) 1 named few reads).transaction_is
+
 -- where no slot is open, the first is free
 pub shut_free : (homes : ℕ) (note : List ℕ) (f : ℕ → ℕ) (pages : List (List ℕ)) → RecoversBy homes note [] f pages → IsFree 0 1 [] f
 shut_free homes note f pages r = record {

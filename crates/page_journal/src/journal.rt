@@ -1,7 +1,7 @@
 //! The journal, with one slot.
 ghost use Rattle.std.specs.Prelude.{◌≡◌, ◌≢◌, ◌≤◌, ◌<◌, ◌^◌, ◌+◌, ◌*◌, ◌↔◌, ◌==◌, [], ℕ, List, length, OnOk, OnErr, IfOk, IfErr, IsOk, IsErr, IsErrOf, true, false, not, filter, Some, slice_get, replicate};
 ghost use Rattle.disk_models.specs.Erase.{Leaves, Stays};
-ghost use Rattle.page_journal.specs.Layout.{homes_from, pages_of};
+ghost use Rattle.page_journal.specs.Layout.{homes_from, pages_of, transaction};
 ghost use Rattle.page_journal.specs.Recovers.{laid, AreBelow, AreDistinct, IsListed, Recovers, RecoversEither};
 
 use crate::error::JournalError;
@@ -18,7 +18,7 @@ const IMAGES: usize = 31;
 /// Home pages on an erasable disk, some of which are replaced at once by a post, whatever a crash tears.
 ///
 /// At this stage it uses the first of its eight slots. After a write or a sync that failed each call but those that
-/// only tell something answers [`JournalError::NeedsRecovery`], until the disk is opened again.
+/// only tell something, or give the disk up, answers [`JournalError::NeedsRecovery`], until the disk is opened again.
 #[derive(Drop)]
 pub struct Journal<D: EraseDisk + Drop> {
     disk: D,
@@ -42,7 +42,7 @@ impl<D: EraseDisk + Drop> Journal<D> {
       note_of,
       unhomed_pages,
     };
-    ghost use Rattle.page_journal.specs.Refusals.{CountsFault, CreateRefusal, PostRefusal, PostsAt, UseRefusal, IsOpening};
+    ghost use Rattle.page_journal.specs.Refusals.{CountsFault, CreateRefusal, PostRefusal, PostsAt, UseRefusal, IsOpening, IsWant};
     ghost use Rattle.page_journal.specs.Survey.{OpenRefusal};
     ghost use Rattle.page_journal.specs.SameJournal.{SameButDisk};
     ghost use Rattle.page_journal.specs.Outcome.{disk_after, outcome};
@@ -71,7 +71,7 @@ impl<D: EraseDisk + Drop> Journal<D> {
     /// disk holds.
     ///
     /// The identity page is written last, with a note for the layers above. A crash before the end may leave a disk
-    /// that holds no journal.
+    /// that holds no journal. A disk of fewer than `homes` and 265 pages of 16,384 octets is refused as too small.
     pub fn create_with(
         alloc: Global,
         mut disk: D,
@@ -124,10 +124,13 @@ impl<D: EraseDisk + Drop> Journal<D> {
         ensures closed { IfOk result (λ journal. closed_slots journal ≡ 1) }
         ensures unhomed { IfOk result (λ journal. unhomed_pages journal ≡ []) }
         ensures usable { IfOk result (λ journal. needs_recovery journal ≡ false) }
+        ensures room { IfOk result (λ journal. 16384 * (265 + home_pages journal) ≤ D.octet_count disk) }
 
-        // A disk is refused for what stands on it alone, and isn't written then.
+        // A disk is refused for what stands on it alone, and isn't written then. One that means a map is never damaged.
         ensures kinds { IfErr (outcome result) IsOpening }
         ensures refused { D.honest disk → IfErr (outcome result) (OpenRefusal (D.octet_count disk) (D.model disk).octet) }
+        ensures undamaged { D.honest disk → (homes : ℕ) (note : List ℕ) (pages : List (List ℕ)) → Recovers homes note (D.model disk).octet pages
+            → 16384 * (265 + homes) ≤ D.octet_count disk → IfErr (outcome result) IsWant }
         ensures untouched { D.honest disk → IfErr result (λ refused. refused.error ≢ JournalError.Fault → (D.model refused.disk).octet ≡ (D.model disk).octet) }
 
         ensures counts { CountsFault (D.fault_count disk) (D.fault_count (disk_after result)) (outcome result) }
@@ -217,7 +220,8 @@ impl<D: EraseDisk + Drop> Journal<D> {
 
     /// Replaces pages, all of them or none. A post of no page does nothing.
     ///
-    /// At most 31 pages go into one post. It takes a slot, and asks for memory before it writes anything.
+    /// At most 31 pages go into one post, and a slot must be closed. It takes that slot, and asks for memory before it
+    /// writes anything.
     pub fn post(&mut self, alloc: Global, images: &[(u64, Page)]) -> Result<(), JournalError>
         requires below { AreBelow (home_pages self.old) (pages_of images.now) }
         requires distinct { AreDistinct (pages_of images.now) }
@@ -235,6 +239,11 @@ impl<D: EraseDisk + Drop> Journal<D> {
         // A refusal before the first write leaves all as it was. After another the disk must be opened again.
         ensures unchanged { IfErr result (λ e. e ≢ JournalError.Fault → self.new ≡ self.old) }
         ensures failed { IsErrOf result JournalError.Fault → needs_recovery self.new ≡ true }
+        ensures as_closed { OnErr result (closed_slots self.new ≡ closed_slots self.old) }
+        ensures as_unhomed { OnErr result (unhomed_pages self.new ≡ unhomed_pages self.old) }
+
+        // The first transaction since an opening or a checkpoint has number 1.
+        ensures numbered { D.honest (disk_of self.old) → 0 < length images.now → OnOk result (transaction (D.model (disk_of self.new)).octet 0 ≡ 1) }
 
         ensures empty { length images.now ≡ 0 → self.new ≡ self.old }
         ensures closed { 0 < length images.now → OnOk result (closed_slots self.new + 1 ≡ closed_slots self.old) }
@@ -270,6 +279,8 @@ impl<D: EraseDisk + Drop> Journal<D> {
     }
 
     /// Writes a page of the map home, as the map has it. Where the page wasn't posted, or is home, it does nothing.
+    ///
+    /// Another page than the map's would stand in the map after the next checkpoint.
     pub fn home(&mut self, n: u64, page: &Page) -> Result<(), JournalError>
         requires { n < home_pages self.old }
 
@@ -283,6 +294,7 @@ impl<D: EraseDisk + Drop> Journal<D> {
         ensures refused { IfErr result (UseRefusal (needs_recovery self.old)) }
         ensures unchanged { IfErr result (λ e. e ≢ JournalError.Fault → self.new ≡ self.old) }
         ensures failed { IsErrOf result JournalError.Fault → needs_recovery self.new ≡ true }
+        ensures as_unhomed { OnErr result (unhomed_pages self.new ≡ unhomed_pages self.old) }
 
         ensures elsewhere { ¬ IsListed n (unhomed_pages self.old) → self.new ≡ self.old }
         ensures unhomed { OnOk result (unhomed_pages self.new ≡ filter (λ m. not (m == n)) (unhomed_pages self.old)) }
@@ -320,7 +332,9 @@ impl<D: EraseDisk + Drop> Journal<D> {
         ensures refused { IfErr result (UseRefusal (needs_recovery self.old)) }
         ensures unchanged { IfErr result (λ e. e ≢ JournalError.Fault → self.new ≡ self.old) }
         ensures failed { IsErrOf result JournalError.Fault → needs_recovery self.new ≡ true }
+        ensures as_closed { OnErr result (closed_slots self.new ≡ closed_slots self.old) }
 
+        ensures idle { closed_slots self.old ≡ 1 → self.new ≡ self.old }
         ensures closed { OnOk result (closed_slots self.new ≡ 1) }
         ensures unhomed { unhomed_pages self.new ≡ unhomed_pages self.old }
         ensures usable { OnOk result (needs_recovery self.new ≡ false) }

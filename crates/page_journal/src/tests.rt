@@ -5,7 +5,7 @@ ghost use Rattle.page_journal.specs.Recovers.{AreBelow, AreDistinct};
 
 use crate::error::JournalError;
 use crate::journal::Journal;
-use disk_memory::{Failure, MemErase, Torn};
+use disk_memory::{Call, Failure, MemErase, Torn};
 use disk_models::{EraseDisk, Page};
 use std::alloc::{AllocError, Global};
 use std::test::Fail;
@@ -229,6 +229,28 @@ fn a_post_that_is_done_stays(rt: HostRuntime) -> Result<(), Fail> {
 }
 
 #[test]
+fn an_opening_whose_read_fails_loses_nothing(rt: HostRuntime) -> Result<(), Fail> {
+    let alloc = rt.alloc();
+    // The identity page, eight gates, a number, a count, two page numbers, two images: 15 reads.
+    for n in 0..15u64 {
+        let mut journal = opened(alloc, made(alloc)?)?;
+        post(alloc, &mut journal)?;
+        let disk = scripted(alloc, journal.into_disk(), Failure::Read(n))?;
+        let disk = match Journal::open(alloc, disk) {
+            Ok(_) => return Err(JournalError::NotAJournal.into()),
+            Err(refused) => {
+                assert_eq!(rt; refused.error, JournalError::Fault);
+                refused.disk
+            }
+        };
+        for choice in 0..KINDS {
+            assert_eq!(rt; after_crash(alloc, &disk, choice)?, NEW, "{n}, {choice}");
+        }
+    }
+    Ok(())
+}
+
+#[test]
 fn an_opening_that_is_stopped_loses_nothing(rt: HostRuntime) -> Result<(), Fail> {
     let alloc = rt.alloc();
     for n in 0..7u64 {
@@ -249,6 +271,149 @@ fn an_opening_that_is_stopped_loses_nothing(rt: HostRuntime) -> Result<(), Fail>
             }
         }
     }
+    Ok(())
+}
+
+#[test]
+fn a_creation_that_is_stopped_hands_the_disk_back(rt: HostRuntime) -> Result<(), Fail> {
+    let alloc = rt.alloc();
+    // Eight gates and the identity page, each synced.
+    for n in 0..11u64 {
+        let failure = if n < 9 {
+            Failure::Write(n, Torn::Half)
+        } else {
+            Failure::Sync(n - 9)
+        };
+        let disk = scripted(alloc, MemErase::new(alloc, 269 * PAGE), failure)?;
+        let disk = match Journal::create(alloc, disk, 4) {
+            Ok(_) => return Err(JournalError::NotAJournal.into()),
+            Err(refused) => {
+                assert_eq!(rt; refused.error, JournalError::Fault);
+                refused.disk
+            }
+        };
+        assert_eq!(rt; disk.faults(), 1);
+        let mut journal = match Journal::create(alloc, disk, 4) {
+            Ok(journal) => journal,
+            Err(refused) => return Err(refused.error.into()),
+        };
+        assert_eq!(rt; journal.note(), [0; 11]);
+        assert_eq!(rt; shown(alloc, &mut journal)?, [0; 4]);
+    }
+    Ok(())
+}
+
+// A call that left something on a disk.
+#[derive(Clone, Copy, Debug, PartialEq)]
+enum Step {
+    // A write: where it begins, its size, and its first octet.
+    Write { at: u64, size: u64, first: u8 },
+    Sync,
+}
+
+fn write(at: u64, size: u64, first: u8) -> Step {
+    Step::Write { at, size, first }
+}
+
+// What a disk's calls were, but for so many first ones.
+fn steps(alloc: Global, disk: &MemErase, skipped: usize) -> Result<Vec<Step>, AllocError> {
+    let mut steps = Vec::new(alloc);
+    for call in disk.calls().iter().skip(skipped) {
+        steps.push(match call {
+            Call::Write(written) => write(
+                written.at(),
+                written.length(),
+                written.octets().first().copied().unwrap_or(0),
+            ),
+            Call::Sync => Step::Sync,
+        })?;
+    }
+    Ok(steps)
+}
+
+// The octets of a disk's call, where that is a write.
+fn written(disk: &MemErase, n: usize) -> &[u8] {
+    match disk.calls().get(n) {
+        Some(Call::Write(written)) => written.octets(),
+        _ => &[],
+    }
+}
+
+#[test]
+fn a_creation_writes_the_identity_page_last(rt: HostRuntime) -> Result<(), Fail> {
+    let alloc = rt.alloc();
+    let disk = made(alloc)?;
+    let calls = [
+        write(16_384, 1, 0),
+        write(34 * PAGE, 1, 0),
+        write(67 * PAGE, 1, 0),
+        write(100 * PAGE, 1, 0),
+        write(133 * PAGE, 1, 0),
+        write(166 * PAGE, 1, 0),
+        write(199 * PAGE, 1, 0),
+        write(232 * PAGE, 1, 0),
+        write(265 * PAGE, PAGE, 10),
+        write(266 * PAGE, PAGE, 11),
+        write(267 * PAGE, PAGE, 12),
+        write(268 * PAGE, PAGE, 13),
+        Step::Sync,
+        write(0, PAGE, b'R'),
+        Step::Sync,
+    ];
+    assert_eq!(rt; steps(alloc, &disk, 0)?.as_slice(), calls.as_slice());
+    let page = written(&disk, 13);
+    assert!(rt; page.starts_with(b"RHAPAGE1\0\0\0\0\0\0\0\x04eleven here"));
+    assert!(rt; page.iter().skip(27).all(|octet| *octet == 0));
+    Ok(())
+}
+
+#[test]
+fn each_call_writes_and_syncs_in_its_order(rt: HostRuntime) -> Result<(), Fail> {
+    let alloc = rt.alloc();
+    let mut journal = opened(alloc, made(alloc)?)?;
+    post(alloc, &mut journal)?;
+    let disk = journal.into_disk();
+    // The opening has nothing to do but for its two syncs.
+    let calls = [
+        Step::Sync,
+        Step::Sync,
+        write(2 * PAGE, 25, 0),
+        write(3 * PAGE, PAGE, 21),
+        write(4 * PAGE, PAGE, 22),
+        Step::Sync,
+        write(PAGE, 1, 0xa5),
+        Step::Sync,
+    ];
+    assert_eq!(rt; steps(alloc, &disk, 15)?.as_slice(), calls.as_slice());
+    let header = b"\0\0\0\0\0\0\0\x01\x02\0\0\0\0\0\0\0\x01\0\0\0\0\0\0\0\x02";
+    assert_eq!(rt; written(&disk, 17), header.as_slice());
+    let mut journal = opened(alloc, disk)?;
+    post(alloc, &mut journal)?;
+    home(alloc, &mut journal, 2, 22)?;
+    home(alloc, &mut journal, 1, 21)?;
+    checkpoint(&mut journal)?;
+    let calls = [
+        Step::Sync,
+        write(266 * PAGE, PAGE, 21),
+        write(267 * PAGE, PAGE, 22),
+        Step::Sync,
+        write(PAGE, 1, 0),
+        Step::Sync,
+        write(2 * PAGE, 25, 0),
+        write(3 * PAGE, PAGE, 21),
+        write(4 * PAGE, PAGE, 22),
+        Step::Sync,
+        write(PAGE, 1, 0xa5),
+        Step::Sync,
+        write(267 * PAGE, PAGE, 22),
+        write(266 * PAGE, PAGE, 21),
+        Step::Sync,
+        write(PAGE, 1, 0),
+        Step::Sync,
+    ];
+    let disk = journal.into_disk();
+    assert_eq!(rt; steps(alloc, &disk, 23)?.as_slice(), calls.as_slice());
+    assert_eq!(rt; written(&disk, 29), header.as_slice());
     Ok(())
 }
 

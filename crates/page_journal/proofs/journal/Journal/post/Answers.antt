@@ -4,7 +4,7 @@ use Rattle.std.specs.List.{AllByRecursion}
 use Rattle.page_journal.specs.Bookkeeping.{unhomed_numbers}
 use Rattle.page_journal.specs.declared.unhomed.Unhomed.{Unhomed}
 use Rattle.page_journal.proofs.Staging.{length-header_octets}
-use Rattle.page_journal.proofs.Posting.{fill_crash, gate_crash, post_carries, post_reads, post_stand}
+use Rattle.page_journal.proofs.Posting.{fill_crash, gate_crash, post_carries, post_reads, post_stand, posted_number}
 use Rattle.page_journal.proofs.Placing.{numbers_posted, few_posted}
 use Rattle.page_journal.proofs.Keeping.{ShownAt, CoveredIn, post_shown, post_covered}
 use Rattle.page_journal.proofs.journal.Journal.post.Goals as goal
@@ -60,3 +60,9 @@ returns-clause-posted g c h pages keeps =
 
 pub returns-clause-unhomed : goal.returns-clause-unhomed
 returns-clause-unhomed g c some = ap unhomed_numbers c.in_ok-posted.ensures ∙ numbers_posted c.args.images.now 0
+
+pub returns-clause-numbered : goal.returns-clause-numbered
+returns-clause-numbered g c h some =
+    let self = c.args.self.now in
+    posted_number self.homes c.args.images.now c.deref.result.now (g.D.EraseDisk.model self.disk) (g.D.EraseDisk.model c.fill.new.disk) (g.D.EraseDisk.model c.open_gate.new.disk)
+    (omega arith) self.small c.requires.below (c.deref.ensures.value ∙ c.in_ok-header.ensures) (c.in_ok-fill.ensures.filled h) (c.in_ok-open_gate.ensures.opened (c.fill.ensures.honest.0 h))
