@@ -1,0 +1,4 @@
+pub mod Reading
+pub mod Announcing
+pub mod Admitting
+pub mod Tables

@@ -1,0 +1,9 @@
+use Rattle.std.proofs.Common.{length, ◌-◌}
+use Rattle.resolve.proofs.Announcing.{Announced}
+use Rattle.resolve.proofs.entries.entry_changes.Given as goal
+
+abbrev pub invariant-loop-entry : goal.invariant-loop-entry
+invariant-loop-entry l = Announced l.collector l.peers l.prefix l.entries l.changes.items
+
+abbrev pub decreases-loop-entry : goal.decreases-loop-entry
+decreases-loop-entry l = length l.entries - length l.changes.items

@@ -1,0 +1,5 @@
+pub mod Tables
+pub mod Changes
+pub mod Entries
+pub mod Records
+pub mod Faults

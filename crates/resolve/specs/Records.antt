@@ -1,0 +1,74 @@
+-- What a record means: an admission, nothing, or why it is refused.
+use Rattle.std.specs.Prelude.{◌≡◌, ℕ, ◌<◌, ◌⊎◌, ◌==◌, if◌then◌else◌, List, [], ◌∷◌, length, Option, Some, None, Result, Ok, Err}
+use Rattle.route_model.specs.Admission.{Admitted, admission_octets}
+use Rattle.route_model.specs.Prefix.{IpPrefix}
+use Rattle.route_model.specs.declared.peer.Peer.{Peer}
+use Rattle.route_model.specs.declared.change.Change.{Change}
+use Rattle.route_model.specs.declared.change.Change.TheVariants as changes
+use Rattle.route_model.specs.declared.wire.AsWidth.{AsWidth}
+use Rattle.mrt_records.specs.Entries.{Entry}
+use Rattle.mrt_records.specs.Values as records
+use Rattle.mrt_records.specs.declared.neighbor.Neighbor.{Neighbor}
+use Rattle.bgp_update.specs.Messages.{Told, IsMessage, HasLarge}
+use Rattle.resolve.specs.Changes.{peer_of, message_changes}
+use Rattle.resolve.specs.Entries.{AreChangesOf, IsFirstFault}
+use Rattle.resolve.specs.declared.fault.ResolveFault.{ResolveFault}
+use Rattle.resolve.specs.declared.fault.ResolveFault.TheVariants as faults
+
+-- these changes at this time
+abbrev pub admitted : ℕ → List Change → Admitted
+admitted time list = record { time = time; changes = list }
+
+-- more octets than an admission may have
+abbrev pub IsLong : Admitted → Type 0
+IsLong a = 131072 < length (admission_octets a)
+
+-- the changes of a message, at the time of its record
+abbrev pub MessageGives : Peer → ℕ → AsWidth → List ℕ → Result (Option Admitted) ResolveFault → Type 0
+MessageGives peer time width octets (Ok None) = ⊥
+MessageGives peer time width octets (Ok (Some a)) = (m : Told) × IsMessage width octets m × (HasLarge m → ⊥) × (a ≡ admitted time (message_changes peer m)) × (IsLong a → ⊥)
+MessageGives peer time width octets (Err faults.Malformed) = (m : Told) → IsMessage width octets m → ⊥
+MessageGives peer time width octets (Err faults.RouteTooLarge) = (m : Told) × IsMessage width octets m × HasLarge m
+MessageGives peer time width octets (Err faults.AdmissionTooLarge) = (m : Told) × IsMessage width octets m × (HasLarge m → ⊥) × IsLong (admitted time (message_changes peer m))
+MessageGives peer time width octets (Err faults.NoPeerTable) = ⊥
+MessageGives peer time width octets (Err faults.BadPeerIndex) = ⊥
+MessageGives peer time width octets (Err faults.OutOfMemory) = Unit {0}
+
+-- a state change to another state than 6, Established, ends the peer's routes (RFC 4271 section 8.2.2)
+abbrev pub state_changes : Peer → ℕ → List Change
+state_changes peer state = if state == 6 then [] else changes.Down peer ∷ []
+
+abbrev pub StateGives : Peer → ℕ → ℕ → Result (Option Admitted) ResolveFault → Type 0
+StateGives peer time state (Ok None) = ⊥
+StateGives peer time state (Ok (Some a)) = (a ≡ admitted time (state_changes peer state)) × (IsLong a → ⊥)
+StateGives peer time state (Err faults.AdmissionTooLarge) = IsLong (admitted time (state_changes peer state))
+StateGives peer time state (Err faults.Malformed) = ⊥
+StateGives peer time state (Err faults.RouteTooLarge) = ⊥
+StateGives peer time state (Err faults.NoPeerTable) = ⊥
+StateGives peer time state (Err faults.BadPeerIndex) = ⊥
+StateGives peer time state (Err faults.OutOfMemory) = Unit {0}
+
+-- one announcement for each entry, under the peers of the feed's peer table
+abbrev pub RibGives : ℕ → List Neighbor → ℕ → IpPrefix → List Entry → Result (Option Admitted) ResolveFault → Type 0
+RibGives c peers time prefix entries (Ok None) = ⊥
+RibGives c peers time prefix entries (Ok (Some a)) = (list : List Change) × AreChangesOf c peers prefix entries list × (a ≡ admitted time list) × (IsLong a → ⊥)
+RibGives c peers time prefix entries (Err faults.BadPeerIndex) = IsFirstFault c peers prefix entries faults.BadPeerIndex
+RibGives c peers time prefix entries (Err faults.Malformed) = IsFirstFault c peers prefix entries faults.Malformed
+RibGives c peers time prefix entries (Err faults.RouteTooLarge) = IsFirstFault c peers prefix entries faults.RouteTooLarge
+RibGives c peers time prefix entries (Err faults.AdmissionTooLarge) = (list : List Change) × AreChangesOf c peers prefix entries list × IsLong (admitted time list)
+RibGives c peers time prefix entries (Err faults.NoPeerTable) = ⊥
+RibGives c peers time prefix entries (Err faults.OutOfMemory) = Unit {0}
+
+-- a RIB record in a feed with this peer table, or with none
+abbrev pub RibGivesUnder : ℕ → Option (List Neighbor) → ℕ → IpPrefix → List Entry → Result (Option Admitted) ResolveFault → Type 0
+RibGivesUnder c None time prefix entries result = result ≡ Err faults.NoPeerTable
+RibGivesUnder c (Some peers) time prefix entries result = RibGives c peers time prefix entries result
+
+-- what a record gives, for the collector c, in a feed with this peer table
+abbrev pub Gives : ℕ → Option (List Neighbor) → records.Told → Result (Option Admitted) ResolveFault → Type 0
+Gives c table (records.Read (records.Message time peer width octets)) result = MessageGives (peer_of c peer) time width octets result
+Gives c table (records.Read (records.StateChange time peer state)) result = StateGives (peer_of c peer) time state result
+Gives c table (records.Read (records.Rib time prefix entries)) result = RibGivesUnder c table time prefix entries result
+Gives c table (records.Read (records.PeerTable peers)) result = (result ≡ Ok None) ⊎ (result ≡ Err faults.OutOfMemory)
+Gives c table (records.Skipped kind subtype) result = result ≡ Ok None
+Gives c table (records.Malformed kind subtype) result = result ≡ Err faults.Malformed

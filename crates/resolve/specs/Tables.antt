@@ -1,0 +1,41 @@
+-- The peer table of a feed: the last one that came.
+use Rattle.std.specs.Prelude.{◌≡◌, ◌⊎◌, ℕ, List, ◌∷◌, ◌++◌, Option, Some, None, Vec}
+use Rattle.std.specs.declared.alloc.Global.{Global}
+use Rattle.std.specs.List.{AllByRecursion}
+use Rattle.mrt_records.specs.declared.neighbor.Neighbor.{Neighbor}
+use Rattle.mrt_records.specs.Values.{Told, Read, Skipped, Malformed, PeerTable, Message, StateChange, Rib}
+
+-- the record is of type 13 and subtype 1, whether it can be read or not (RFC 6396 section 4.3.1)
+abbrev pub IsPeerTable : Told → Type 0
+IsPeerTable (Read (PeerTable peers)) = Unit {0}
+IsPeerTable (Read (Message time peer width octets)) = ⊥
+IsPeerTable (Read (StateChange time peer state)) = ⊥
+IsPeerTable (Read (Rib time prefix entries)) = ⊥
+IsPeerTable (Skipped kind subtype) = ⊥
+IsPeerTable (Malformed kind subtype) = (kind ≡ 13) × (subtype ≡ 1)
+
+-- the peers of a record that is a peer table: none where it is malformed
+abbrev pub peers_of : Told → Option (List Neighbor)
+peers_of (Read (PeerTable peers)) = Some peers
+peers_of (Read (Message time peer width octets)) = None
+peers_of (Read (StateChange time peer state)) = None
+peers_of (Read (Rib time prefix entries)) = None
+peers_of (Skipped kind subtype) = None
+peers_of (Malformed kind subtype) = None
+
+-- behind these records the feed has this peer table: that of the last peer table of them; none where that one is
+-- malformed, or none came
+abbrev pub LastTable : List Told → Option (List Neighbor) → Type 0
+LastTable records table =
+    (AllByRecursion (λ r. IsPeerTable r → ⊥) records × (table ≡ None))
+    ⊎ ((before after : List Told) × (last : Told) × (records ≡ before ++ last ∷ after) × IsPeerTable last
+    × AllByRecursion (λ r. IsPeerTable r → ⊥) after × (table ≡ peers_of last))
+
+-- what a resolver keeps of a feed: its collector and its peer table
+pub record Feed : Type 0 where
+  pub collector : ℕ
+  pub table : Option (List Neighbor)
+
+abbrev pub table_told : Option (Vec Neighbor Global) → Option (List Neighbor)
+table_told None = None
+table_told (Some peers) = Some peers.items

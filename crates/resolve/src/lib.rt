@@ -1,0 +1,13 @@
+//! What the records of a feed mean: admissions, under the feed's peer table (RFC 4271, RFC 6396).
+#![tactic(auto)]
+
+mod entries;
+mod fault;
+mod messages;
+mod resolver;
+
+pub use fault::ResolveFault;
+pub use resolver::Resolver;
+
+#[cfg(test)]
+mod tests;

@@ -1,0 +1,121 @@
+//! What messages change.
+
+ghost use Rattle.std.specs.Prelude.{◌≡◌, ◌∷◌, ◌++◌, [], not, map, filter, IfOk, OnOk};
+ghost use Rattle.bgp_update.specs.Messages.{option_told, changes_told, told};
+ghost use Rattle.resolve.specs.Changes.{is_among, withdrawals, announcements, update_changes, message_changes};
+
+use bgp_update::{Announcement, Message, Update};
+use route_model::{Change, Peer, Prefix, SharedRoute};
+use std::alloc::{AllocError, Global};
+
+/// Is the prefix among those that are announced?
+fn is_among(announced: &Option<Announcement>, prefix: &Prefix) -> bool
+    ensures { result ≡ is_among (option_told announced.now) prefix.now }
+{
+    match announced {
+        None => false,
+        Some(announcement) => announcement.prefixes.contains(prefix),
+    }
+}
+
+/// Adds a change.
+pub(crate) fn add(changes: &mut Vec<Change>, change: Change) -> Result<(), AllocError>
+    ensures { OnOk result (changes.new.items ≡ changes.old.items ++ change ∷ []) }
+{
+    changes.push(change)?;
+    Ok(())
+}
+
+/// Adds a withdrawal of each of the prefixes.
+fn withdraw(changes: &mut Vec<Change>, peer: &Peer, prefixes: &[Prefix]) -> Result<(), AllocError>
+    ensures { OnOk result (changes.new.items ≡ changes.old.items ++ withdrawals peer.now prefixes.now) }
+{
+    for prefix in prefixes {
+        add(changes, Change::Withdraw(*peer, *prefix))?;
+    }
+    Ok(())
+}
+
+/// Adds a withdrawal of each of the prefixes that isn't announced too.
+fn withdraw_others(
+    changes: &mut Vec<Change>,
+    peer: &Peer,
+    prefixes: &[Prefix],
+    announced: &Option<Announcement>,
+) -> Result<(), AllocError>
+    ensures { OnOk result (changes.new.items ≡ changes.old.items ++ withdrawals peer.now (filter (λ x. not (is_among (option_told announced.now) x)) prefixes.now)) }
+{
+    for prefix in prefixes {
+        if !is_among(announced, prefix) {
+            add(changes, Change::Withdraw(*peer, *prefix))?;
+        }
+    }
+    Ok(())
+}
+
+/// Adds an announcement of each of the prefixes; they share one route.
+fn announce_all(
+    changes: &mut Vec<Change>,
+    peer: &Peer,
+    prefixes: &[Prefix],
+    route: &SharedRoute,
+) -> Result<(), AllocError>
+    ensures { OnOk result (changes.new.items ≡ changes.old.items ++ map (λ x. Change.Announce peer.now x route.now) prefixes.now) }
+{
+    for prefix in prefixes {
+        add(changes, Change::Announce(*peer, *prefix, route.share()?))?;
+    }
+    Ok(())
+}
+
+fn announce(
+    alloc: Global,
+    changes: &mut Vec<Change>,
+    peer: &Peer,
+    announced: Option<Announcement>,
+) -> Result<(), AllocError>
+    ensures { OnOk result (changes.new.items ≡ changes.old.items ++ announcements peer.now (option_told announced)) }
+{
+    let Some(announcement) = announced else {
+        return Ok(());
+    };
+    let route = SharedRoute::new(alloc, announcement.route)?;
+    announce_all(changes, peer, &announcement.prefixes, &route)
+}
+
+/// How many prefixes are announced.
+fn count(announced: &Option<Announcement>) -> usize {
+    match announced {
+        None => 0,
+        Some(announcement) => announcement.prefixes.len(),
+    }
+}
+
+/// The changes of an UPDATE, in the order of its parts.
+fn update_changes(alloc: Global, peer: &Peer, update: Update) -> Result<Vec<Change>, AllocError>
+    ensures { IfOk result (λ v. v.items ≡ update_changes peer.now (changes_told update)) }
+{
+    let mut changes = Vec::new(alloc);
+    withdraw_others(&mut changes, peer, &update.withdrawn, &update.announced)?;
+    withdraw(&mut changes, peer, &update.unreachable)?;
+    announce(alloc, &mut changes, peer, update.announced)?;
+    announce(alloc, &mut changes, peer, update.reachable)?;
+    Ok(changes)
+}
+
+/// The changes of a message.
+pub(crate) fn message_changes(
+    alloc: Global,
+    peer: &Peer,
+    message: Message,
+) -> Result<Vec<Change>, AllocError>
+    ensures { IfOk result (λ v. v.items ≡ message_changes peer.now (told message)) }
+{
+    let mut changes = Vec::new(alloc);
+    match message {
+        Message::Update(update) => return update_changes(alloc, peer, update),
+        Message::Notification => add(&mut changes, Change::Down(*peer))?,
+        Message::Other(_) => {}
+    }
+    Ok(changes)
+}

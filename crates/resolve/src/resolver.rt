@@ -1,0 +1,177 @@
+//! The meaning of each record of a feed.
+
+ghost use Rattle.std.specs.Prelude.{◌≡◌, ◌∷◌, ◌++◌, [], List, Some, None, Err, IfOk, OnOk, OnErr, IsTrue, ◌↔◌};
+ghost use Rattle.mrt_records.specs.Values.{Told, told};
+ghost use Rattle.resolve.specs.Tables.{LastTable};
+ghost use Rattle.resolve.specs.Records.{MessageGives, StateGives, RibGives, RibGivesUnder, Gives, state_changes};
+
+use crate::entries::{entry_changes, peer_of};
+use crate::fault::ResolveFault;
+use crate::messages::{add, message_changes};
+use bgp_update::read_message;
+use mrt_records::{AsWidth, Item, Neighbor, RibEntries};
+use route_model::{Admission, Change, Moment, Peer, Prefix};
+use std::alloc::{AllocError, Global};
+use std::marker::Model;
+
+/// The type and the subtype of a peer table (RFC 6396 section 4.3.1).
+const TABLE_DUMP_V2: u16 = 13;
+
+const PEER_INDEX_TABLE: u16 = 1;
+
+/// The state Established (RFC 4271 section 8.2.2).
+const ESTABLISHED: u16 = 6;
+
+/// What a feed of a collector has told so far that later records need: its peer table.
+#[derive(Debug, Drop)]
+pub struct Resolver {
+    collector: u8,
+    peers: Option<Vec<Neighbor>>,
+}
+
+/// Are these the type and the subtype of a peer table?
+fn is_peer_table(kind: u16, subtype: u16) -> bool
+    ensures { IsTrue result ↔ (kind ≡ 13) × (subtype ≡ 1) }
+{
+    kind == TABLE_DUMP_V2 && subtype == PEER_INDEX_TABLE
+}
+
+/// What a message changes.
+fn of_message(
+    alloc: Global,
+    peer: &Peer,
+    time: Moment,
+    width: AsWidth,
+    octets: &[u8],
+) -> Result<Option<Admission>, ResolveFault>
+    ensures { MessageGives peer.now time width octets.now result }
+{
+    let message = read_message(alloc, octets, width)?;
+    let changes = message_changes(alloc, peer, message)?;
+    Ok(Some(Admission::new(time, changes)?))
+}
+
+/// The changes of a change of the session's state.
+fn state_changes(alloc: Global, peer: &Peer, state: u16) -> Result<Vec<Change>, AllocError>
+    ensures { IfOk result (λ v. v.items ≡ state_changes peer.now state) }
+{
+    let mut changes = Vec::new(alloc);
+    if state != ESTABLISHED {
+        add(&mut changes, Change::Down(*peer))?;
+    }
+    Ok(changes)
+}
+
+/// What a change of the session's state changes.
+fn of_state(
+    alloc: Global,
+    peer: &Peer,
+    time: Moment,
+    state: u16,
+) -> Result<Option<Admission>, ResolveFault>
+    ensures { StateGives peer.now time state result }
+{
+    let changes = state_changes(alloc, peer, state)?;
+    Ok(Some(Admission::new(time, changes)?))
+}
+
+/// What a RIB record announces, under these peers.
+fn of_rib(
+    alloc: Global,
+    collector: u8,
+    peers: &[Neighbor],
+    time: Moment,
+    prefix: &Prefix,
+    entries: &RibEntries,
+) -> Result<Option<Admission>, ResolveFault>
+    ensures { RibGives collector peers.now time prefix.now entries.now result }
+{
+    let changes = entry_changes(alloc, collector, peers, prefix, entries)?;
+    Ok(Some(Admission::new(time, changes)?))
+}
+
+impl Model for Resolver {
+    ghost use Rattle.resolve.specs.Tables.{Feed, table_told};
+
+    ghost Value = { Feed };
+
+    ghost view = { λ r. record { collector = r.collector; table = table_told r.peers } };
+}
+
+impl Resolver {
+    /// The feed of a collector, of which no record came yet.
+    pub fn new(collector: u8) -> Resolver
+        ensures collector { result.collector ≡ collector }
+        ensures none { result.table ≡ None }
+    {
+        Resolver {
+            collector,
+            peers: None,
+        }
+    }
+
+    /// What a RIB record announces.
+    fn of_rib(
+        &self,
+        alloc: Global,
+        time: Moment,
+        prefix: &Prefix,
+        entries: &RibEntries,
+    ) -> Result<Option<Admission>, ResolveFault>
+        ensures { RibGivesUnder self.now.collector self.now.table time prefix.now entries.now result }
+    {
+        let Some(peers) = &self.peers else {
+            return Err(ResolveFault::NoPeerTable);
+        };
+        of_rib(alloc, self.collector, peers, time, prefix, entries)
+    }
+
+    /// Keeps a copy of a peer table for the records behind it.
+    fn keep(&mut self, alloc: Global, peers: &[Neighbor]) -> Result<(), AllocError>
+        ensures collector { self.new.collector ≡ self.old.collector }
+        ensures kept { OnOk result (self.new.table ≡ Some peers.now) }
+        ensures same { OnErr result (self.new.table ≡ self.old.table) }
+    {
+        let mut copy = Vec::with_capacity(alloc, peers.len())?;
+        copy.extend_from_slice(peers)?;
+        self.peers = Some(copy);
+        Ok(())
+    }
+
+    /// What the record means that comes next in the feed: an admission, nothing, or why it is refused.
+    pub fn record(&mut self, alloc: Global, item: &Item) -> Result<Option<Admission>, ResolveFault>
+        ensures collector { self.new.collector ≡ self.old.collector }
+        ensures gives { Gives self.old.collector self.old.table (told item.now) result }
+        ensures table { (result ≡ Err ResolveFault.OutOfMemory → ⊥) → (before : List Told) → LastTable before self.old.table → LastTable (before ++ told item.now ∷ []) self.new.table }
+        ensures kept { result ≡ Err ResolveFault.OutOfMemory → self.new.table ≡ self.old.table }
+    {
+        match item {
+            Item::Message {
+                time,
+                peer,
+                width,
+                octets,
+            } => { of_message(alloc, &peer_of(self.collector, peer), *time, *width, octets) }
+            Item::StateChange { time, peer, state } => {
+                of_state(alloc, &peer_of(self.collector, peer), *time, *state)
+            }
+            Item::Rib {
+                time,
+                prefix,
+                entries,
+            } => self.of_rib(alloc, *time, prefix, entries),
+            Item::PeerTable(peers) => {
+                self.keep(alloc, peers)?;
+                Ok(None)
+            }
+            Item::Skipped { .. } => Ok(None),
+            Item::Malformed { kind, subtype } => {
+                if is_peer_table(*kind, *subtype) {
+                    self.peers = None;
+                    return Err(ResolveFault::Malformed);
+                }
+                Err(ResolveFault::Malformed)
+            }
+        }
+    }
+}
