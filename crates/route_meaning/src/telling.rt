@@ -21,17 +21,6 @@ fn concerns(peer: &Peer, prefix: &Prefix, change: &Change) -> bool
     }
 }
 
-// The change once more; a route is shared.
-fn copy_of(change: &Change) -> Result<Change, AllocError>
-    ensures { IfOk result (λ copy. copy ≡ change.now) }
-{
-    Ok(match change {
-        Change::Announce(peer, prefix, route) => Change::Announce(*peer, *prefix, route.share()?),
-        Change::Withdraw(peer, prefix) => Change::Withdraw(*peer, *prefix),
-        Change::Down(peer) => Change::Down(*peer),
-    })
-}
-
 // Adds what the admission tells of the prefix of the peer.
 fn add_told(
     told: &mut Vec<Event>,
@@ -46,7 +35,7 @@ fn add_told(
         if concerns(peer, prefix, change) {
             told.push(Event {
                 time,
-                change: copy_of(change)?,
+                change: change.share()?,
             })?;
         }
     }

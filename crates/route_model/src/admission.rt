@@ -93,6 +93,17 @@ impl Admission {
         self.changes.as_slice()
     }
 
+    /// The same admission; its routes are shared.
+    pub fn share(&self, alloc: Global) -> Result<Admission, AllocError>
+        ensures same { IfOk result (λ admission. admission ≡ self.now) }
+    {
+        Ok(Admission {
+            time: self.time,
+            changes: share_all(alloc, self.changes.as_slice())?,
+            encoded_len: self.encoded_len,
+        })
+    }
+
     /// How many octets the spelling has, at most [`MAX_ADMISSION_LEN`]. It is known beforehand.
     pub fn encoded_len(&self) -> usize
         ensures len { result ≡ length (admission_octets self.now) }
@@ -149,6 +160,17 @@ fn spelled_so(
         changes,
         encoded_len: octets.len(),
     }))
+}
+
+/// The same changes; their routes are shared.
+fn share_all(alloc: Global, changes: &[Change]) -> Result<Vec<Change>, AllocError>
+    ensures { IfOk result (λ shared. shared.items ≡ changes.now) }
+{
+    let mut shared = Vec::with_capacity(alloc, changes.len())?;
+    for change in changes {
+        shared.push(change.share()?)?;
+    }
+    Ok(shared)
 }
 
 /// Whether the change's route is within an admission's limit.

@@ -1,10 +1,11 @@
 //! Changes of routes.
 
-ghost use Rattle.std.specs.Prelude.{◌≡◌};
+ghost use Rattle.std.specs.Prelude.{◌≡◌, IfOk};
 
 use crate::peer::Peer;
 use crate::prefix::Prefix;
 use crate::shared::SharedRoute;
+use std::alloc::AllocError;
 
 /// What a peer said about its routes.
 #[derive(Debug, Drop)]
@@ -29,5 +30,18 @@ impl Change {
             Change::Withdraw(peer, _) => *peer,
             Change::Down(peer) => *peer,
         }
+    }
+
+    /// The same change; its route is shared.
+    pub fn share(&self) -> Result<Change, AllocError>
+        ensures same { IfOk result (λ change. change ≡ self.now) }
+    {
+        Ok(match self {
+            Change::Announce(peer, prefix, route) => {
+                Change::Announce(*peer, *prefix, route.share()?)
+            }
+            Change::Withdraw(peer, prefix) => Change::Withdraw(*peer, *prefix),
+            Change::Down(peer) => Change::Down(*peer),
+        })
     }
 }

@@ -3,6 +3,7 @@
 ghost use Rattle.std.specs.Prelude.{◌≡◌, ◌<◌, ◌≤◌, ◌++◌, [], ℕ, List, IfOk, IfSome, IfNone, OnOk, OnErr, Some, IsErr, slice_get, length, replicate, ◌↔◌};
 ghost use Rattle.std.specs.List.{AllByRecursion};
 ghost use Rattle.sequencer.specs.Lanes.{Waiting, Releases, NoneOpen, SameLanes, Raises, IsAbove, marks, waiting_times, least};
+ghost use Rattle.sequencer.specs.First.{IsNext};
 ghost use Rattle.sequencer.specs.Taking.{IsSieved, MayTakeIn, TakesIn};
 
 use crate::first::{first_lane, is_open, least_bound};
@@ -107,12 +108,11 @@ impl Sequencer {
         Ok(())
     }
 
-    /// Takes the first time of all that waits, where it is below every mark, and tells its collector. Of equal
-    /// times that of the lowest collector goes first.
-    pub fn release(&mut self) -> Option<usize>
-        ensures some { IfSome result (λ c. Releases self.old c self.new) }
-        ensures none { IfNone result (NoneOpen self.old) }
-        ensures same { IfNone result (self.new ≡ self.old) }
+    /// The collector whose first time is the next of all that waits, where that time is below every mark. Of
+    /// equal times that of the lowest collector goes first.
+    pub fn next(&self) -> Option<usize>
+        ensures some { IfSome result (IsNext self.now) }
+        ensures none { IfNone result (NoneOpen self.now) }
     {
         let Some(first) = first_lane(&self.lanes) else {
             return None;
@@ -120,8 +120,29 @@ impl Sequencer {
         if !is_open(&self.lanes, first.time) {
             return None;
         }
-        self.lanes[first.number].pop();
         Some(first.number)
+    }
+
+    /// Takes the first time of the collector that [`Sequencer::next`] tells.
+    pub fn take(&mut self, collector: usize)
+        requires next { IsNext self.old collector }
+        ensures released { Releases self.old collector self.new }
+    {
+        self.lanes[collector].pop();
+    }
+
+    /// Takes the first time of all that waits, where it is below every mark, and tells its collector. Of equal
+    /// times that of the lowest collector goes first.
+    pub fn release(&mut self) -> Option<usize>
+        ensures some { IfSome result (λ c. Releases self.old c self.new) }
+        ensures none { IfNone result (NoneOpen self.old) }
+        ensures same { IfNone result (self.new ≡ self.old) }
+    {
+        let Some(collector) = self.next() else {
+            return None;
+        };
+        self.take(collector);
+        Some(collector)
     }
 
     /// The settled watermark: the least of the first times that wait, and of the marks where none waits.

@@ -82,8 +82,11 @@ fn a_record_waits_for_the_mark_of_each_collector(rt: HostRuntime) -> Result<(), 
     assert_eq!(rt; two.release(), None);
     raise(&mut two, 0, 61)?;
     assert_eq!(rt; two.release(), None);
+    assert_eq!(rt; two.next(), None);
     raise(&mut two, 1, 61)?;
+    assert_eq!(rt; two.next(), Some(1));
     assert_eq!(rt; two.release(), Some(1));
+    assert_eq!(rt; two.next(), None);
     assert_eq!(rt; two.release(), None);
     assert_eq!(rt; settled(&two)?, mark(61));
     Ok(())

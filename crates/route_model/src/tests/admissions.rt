@@ -46,6 +46,18 @@ fn reads_the_vector(rt: HostRuntime) -> Result<(), Fail> {
 }
 
 #[test]
+fn a_shared_admission_is_the_same(rt: HostRuntime) -> Result<(), Fail> {
+    let alloc = rt.alloc();
+    let admission = Admission::decode(alloc, &VECTOR)?.ok_or("no admission")?;
+    let shared = admission.share(alloc)?;
+    assert_eq!(rt; shared.encode(alloc)?.as_slice(), VECTOR.as_slice());
+    for change in shared.changes() {
+        assert_eq!(rt; change.share()?.peer(), peer());
+    }
+    Ok(())
+}
+
+#[test]
 fn writes_the_vector(rt: HostRuntime) -> Result<(), Fail> {
     let alloc = rt.alloc();
     let route = SharedRoute::new(alloc, route(alloc, &[65001, 65002], 0)?)?;
