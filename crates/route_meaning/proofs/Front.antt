@@ -76,7 +76,7 @@ all_swap : (is : List Intake) (ps : List (Placed Admitted)) → AllByRecursion (
 all_swap [] ps a = tt
 all_swap (i ∷ is) ps a = (all_weaker _ _ (λ p h. h.0) ps a, all_swap is ps (all_weaker _ _ (λ p h. h.1) ps a))
 
-front_stays : (h g : History) (n : ℕ) → AllZip (λ i j. GoesOn (floor i) i j) h.intakes g.intakes → n ≤ length (all_of h) → AllByRecursion (λ p. IsBelowMarks h (time_of p)) (take n (all_of h)) → take n (all_of g) ≡ take n (all_of h)
+pub front_stays : (h g : History) (n : ℕ) → AllZip (λ i j. GoesOn (floor i) i j) h.intakes g.intakes → n ≤ length (all_of h) → AllByRecursion (λ p. IsBelowMarks h (time_of p)) (take n (all_of h)) → take n (all_of g) ≡ take n (all_of h)
 front_stays h g zero each le a = refl
 front_stays h g (suc n) each le a =
     let front = take (suc n) (all_of h) in
@@ -94,19 +94,19 @@ front_stays h g (suc n) each le a =
     positive m [] lt b = absurd (omega arith)
     positive m (p ∷ ps) lt b = let lt' : time_of p < m = b.0 in omega arith
 
-all_left : (P : Placed Admitted → Type 0) (xs ys : List (Placed Admitted)) → AllByRecursion P (xs ++ ys) → AllByRecursion P xs
+pub all_left : (P : Placed Admitted → Type 0) (xs ys : List (Placed Admitted)) → AllByRecursion P (xs ++ ys) → AllByRecursion P xs
 all_left P [] ys a = tt
 all_left P (x ∷ xs) ys a = (a.0, all_left P xs ys a.1)
 
 -- one more
-take_next : (n : ℕ) (ps : List (Placed Admitted)) (p : Placed Admitted) (qs : List (Placed Admitted)) → drop n ps ≡ p ∷ qs → take (suc n) ps ≡ take n ps ++ p ∷ []
+pub take_next : (n : ℕ) (ps : List (Placed Admitted)) (p : Placed Admitted) (qs : List (Placed Admitted)) → drop n ps ≡ p ∷ qs → take (suc n) ps ≡ take n ps ++ p ∷ []
 take_next zero [] p qs e = cc
 take_next zero (x ∷ xs) p qs e = let same : x ≡ p = cc in ap (λ (q : Placed Admitted). q ∷ []) same
 take_next (suc n) [] p qs e = cc
 take_next (suc n) (x ∷ xs) p qs e = ap (λ l. x ∷ l) (take_next n xs p qs e)
 
 -- where the fronts are one for one more, what stands at the place is one
-drop_same : (n : ℕ) (ps qs : List (Placed Admitted)) (p : Placed Admitted) (rest : List (Placed Admitted)) → drop n ps ≡ p ∷ rest → take (suc n) qs ≡ take (suc n) ps → (more : List (Placed Admitted)) × (drop n qs ≡ p ∷ more)
+pub drop_same : (n : ℕ) (ps qs : List (Placed Admitted)) (p : Placed Admitted) (rest : List (Placed Admitted)) → drop n ps ≡ p ∷ rest → take (suc n) qs ≡ take (suc n) ps → (more : List (Placed Admitted)) × (drop n qs ≡ p ∷ more)
 drop_same zero [] qs p rest d t = cc
 drop_same zero (x ∷ xs) [] p rest d t = cc
 drop_same zero (x ∷ xs) (y ∷ ys) p rest d t = let same : y ≡ p = cc in (ys, ap (λ (q : Placed Admitted). q ∷ ys) same)
@@ -118,15 +118,15 @@ begun_first : (some : ℕ) (p : Placed Admitted) (xs ys : List (Placed Admitted)
 begun_first zero p xs ys = refl
 begun_first (suc n) p xs ys = refl
 
-begun_time : (P : ℕ → Type 0) (some : ℕ) (p : Placed Admitted) (xs : List (Placed Admitted)) → 0 < some → AllByRecursion (λ q. P (time_of q)) (begun some (p ∷ xs)) → P (time_of p)
+pub begun_time : (P : ℕ → Type 0) (some : ℕ) (p : Placed Admitted) (xs : List (Placed Admitted)) → 0 < some → AllByRecursion (λ q. P (time_of q)) (begun some (p ∷ xs)) → P (time_of p)
 begun_time P zero p xs lt a = absurd (omega arith)
 begun_time P (suc n) p xs lt a = a.0
 
-all_right : (P : Placed Admitted → Type 0) (xs ys : List (Placed Admitted)) → AllByRecursion P (xs ++ ys) → AllByRecursion P ys
+pub all_right : (P : Placed Admitted → Type 0) (xs ys : List (Placed Admitted)) → AllByRecursion P (xs ++ ys) → AllByRecursion P ys
 all_right P [] ys a = a
 all_right P (x ∷ xs) ys a = all_right P xs ys a.1
 
-length_of_drop : (n : ℕ) (ps : List (Placed Admitted)) (p : Placed Admitted) (qs : List (Placed Admitted)) → drop n ps ≡ p ∷ qs → suc n ≤ length ps
+pub length_of_drop : (n : ℕ) (ps : List (Placed Admitted)) (p : Placed Admitted) (qs : List (Placed Admitted)) → drop n ps ≡ p ∷ qs → suc n ≤ length ps
 length_of_drop zero [] p qs e = cc
 length_of_drop zero (x ∷ xs) p qs e = omega arith
 length_of_drop (suc n) [] p qs e = cc

@@ -40,7 +40,7 @@ part_rises m (t ∷ ts) = elim (cases_lt t m) [
   | inr ge ↦ rw (le-ltb t m ge) (part_above t ts, part_rises t ts)
 ]
 
-greatest-above : (m : ℕ) (ts : List ℕ) → m ≤ greatest m ts
+pub greatest-above : (m : ℕ) (ts : List ℕ) → m ≤ greatest m ts
 greatest-above m [] = omega arith
 greatest-above m (t ∷ ts) = omega (arith, greatest-above m ts)
 
@@ -69,6 +69,10 @@ few_part m (t ∷ ts) = elim (cases_lt t m) [
 -- no more are timely than were offered
 pub few_timely : (m : ℕ) (earlier ts : List ℕ) → length (timely (λ t. t) m earlier ts) ≤ length ts
 few_timely m earlier ts = subst (λ (l : List ℕ). length l ≤ length ts) (sym (part_is m earlier ts)) (few_part (greatest m earlier) ts)
+
+-- none of the timely is below the mark
+pub timely_above : (m : ℕ) (ts : List ℕ) → AllByRecursion (λ t. m ≤ t) (timely (λ t. t) m [] ts)
+timely_above m ts = subst (AllByRecursion (λ t. m ≤ t)) (sym (part_is m [] ts)) (part_above m ts)
 
 -- a lane takes in what was sieved at its mark
 pub taken_in : (w : Waiting) (room : ℕ) (ts : List ℕ) → IsLane w → IsLane (record { mark = greatest w.mark ts; times = w.times ++ timely (λ t. t) w.mark [] ts; room = room })

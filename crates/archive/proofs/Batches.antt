@@ -1,0 +1,108 @@
+-- What of a batch is late, by the admissions and by their times.
+use Rattle.std.proofs.Common.{◌≡◌, ℕ, ◌+◌, ◌<◌, ◌≤◌, List, [], ◌∷◌, ◌++◌, length, take, get_or, map, Bool, true, false, cond, ltb, refl, sym, ap, ◌∙◌, subst, arith, zero, suc, Some, inl, inr, max, append-nil, length-append}
+use Rattle.std.specs.List.{AllByRecursion, slice_get, slice_set}
+use Rattle.std.proofs.lemmas.List.{take_more, map-append}
+use Rattle.std.proofs.lemmas.Bool.{lt-ltb, le-ltb, cases_Bool, cond_both}
+use Rattle.route_model.specs.Admission.{Admitted, admission_octets, IsAdmission}
+use Rattle.route_meaning.specs.Holds.{admitted_time}
+use Rattle.route_meaning.proofs.Sorting.{all_append}
+use Rattle.sequencer.specs.declared.late.Late.{Late}
+use Rattle.sequencer.specs.declared.late.Sieved.{Sieved}
+use Rattle.sequencer.specs.Late.{greatest, is_late, timely, lates}
+use Rattle.sequencer.specs.Lanes.{Waiting, marks, waiting_times, SameLanes}
+use Rattle.sequencer.specs.Taking.{IsSieved, TakesIn}
+use Rattle.sequencer.proofs.Sieving.{timely-push, greatest-push}
+use Rattle.sequencer.proofs.Rising.{few_timely}
+use Rattle.sequencer.proofs.Setting.{one_there}
+use Rattle.archive.specs.Steps.{batch_octets}
+
+pub timely-map : {X : Type 0} (f : X → ℕ) (mark : ℕ) (earlier : List ℕ) (xs : List X) → timely (λ t. t) mark earlier (map f xs) ≡ map f (timely f mark earlier xs)
+timely-map f mark earlier [] = refl
+timely-map f mark earlier (x ∷ xs) =
+    let rest = timely-map f mark (earlier ++ f x ∷ []) xs in
+    elim (cases_Bool (is_late mark earlier (f x))) [
+      | inl e ↦ rw e rest
+      | inr e ↦ rw e (ap (λ (l : List ℕ). f x ∷ l) rest)
+    ]
+
+pub lates-map : {X : Type 0} (f : X → ℕ) (mark : ℕ) (earlier : List ℕ) (i : ℕ) (xs : List X) → lates (λ t. t) mark earlier i (map f xs) ≡ lates f mark earlier i xs
+lates-map f mark earlier i [] = refl
+lates-map f mark earlier i (x ∷ xs) =
+    let rest = lates-map f mark (earlier ++ f x ∷ []) (i + 1) xs in
+    elim (cases_Bool (is_late mark earlier (f x))) [
+      | inl e ↦ rw e (ap (λ (l : List Late). record { index = i; time = f x; mark = greatest mark earlier } ∷ l) rest)
+      | inr e ↦ rw e rest
+    ]
+
+pub all_timely : {X : Type 0} (P : X → Type 0) (f : X → ℕ) (mark : ℕ) (earlier : List ℕ) (xs : List X) → AllByRecursion P xs → AllByRecursion P (timely f mark earlier xs)
+all_timely P f mark earlier [] all = tt
+all_timely P f mark earlier (x ∷ xs) all =
+    let rest = all_timely P f mark (earlier ++ f x ∷ []) xs all.1 in
+    elim (cases_Bool (is_late mark earlier (f x))) [
+      | inl e ↦ rw e rest
+      | inr e ↦ rw e (all.0, rest)
+    ]
+
+pub length_map : {X Y : Type 0} (f : X → Y) (xs : List X) → length (map f xs) ≡ length xs
+length_map f [] = refl
+length_map f (x ∷ xs) = ap suc (length_map f xs)
+
+pub few : {X : Type 0} (f : X → ℕ) (mark : ℕ) (xs : List X) → length (timely f mark [] xs) ≤ length xs
+few f mark xs = omega (arith, few_timely mark [] (map f xs), ap length (timely-map f mark [] xs), length_map f (timely f mark [] xs), length_map f xs)
+
+-- ---- the loops
+
+more : {X : Type 0} (xs : List X) (i : ℕ) (x : X) → i < length xs → x ≡ get_or xs i x → take (i + 1) xs ≡ take i xs ++ x ∷ []
+more {X} xs i x lt e = take_more xs i x lt ∙ ap (λ (y : X). take i xs ++ y ∷ []) (sym e)
+
+pub kept_more : {X : Type 0} (f : X → ℕ) (mark : ℕ) (xs : List X) (i : ℕ) (x : X) → i < length xs → x ≡ get_or xs i x → greatest mark (map f (take i xs)) ≤ f x → timely f mark [] (take (i + 1) xs) ≡ timely f mark [] (take i xs) ++ x ∷ []
+kept_more f mark xs i x lt e high =
+    ap (timely f mark []) (more xs i x lt e) ∙ (timely-push f mark [] (take i xs) x ∙ rw (le-ltb (f x) (greatest mark (map f (take i xs))) high) refl)
+
+pub late_more : {X : Type 0} (f : X → ℕ) (mark : ℕ) (xs : List X) (i : ℕ) (x : X) → i < length xs → x ≡ get_or xs i x → f x < greatest mark (map f (take i xs)) → timely f mark [] (take (i + 1) xs) ≡ timely f mark [] (take i xs)
+late_more f mark xs i x lt e low =
+    ap (timely f mark []) (more xs i x lt e) ∙ (timely-push f mark [] (take i xs) x ∙ rw (lt-ltb (f x) (greatest mark (map f (take i xs))) low) (append-nil _))
+
+pub greatest_more : {X : Type 0} (f : X → ℕ) (mark : ℕ) (xs : List X) (i : ℕ) (x : X) → i < length xs → x ≡ get_or xs i x → greatest mark (map f (take (i + 1) xs)) ≡ max (f x) (greatest mark (map f (take i xs)))
+greatest_more f mark xs i x lt e =
+    ap (λ l. greatest mark (map f l)) (more xs i x lt e) ∙ (ap (greatest mark) (map-append f (take i xs) (x ∷ [])) ∙ greatest-push mark (map f (take i xs)) (f x))
+
+octets-append : (xs ys : List Admitted) → batch_octets (xs ++ ys) ≡ batch_octets xs + batch_octets ys
+octets-append [] ys = omega arith
+octets-append (x ∷ xs) ys = let ih = octets-append xs ys in omega (arith, ih)
+
+pub octets_more : (xs : List Admitted) (i : ℕ) (x : Admitted) → i < length xs → x ≡ get_or xs i x → batch_octets (take (i + 1) xs) ≡ batch_octets (take i xs) + (4 + length (admission_octets x))
+octets_more xs i x lt e = ap batch_octets (more xs i x lt e) ∙ (octets-append (take i xs) (x ∷ []) ∙ omega arith)
+
+octets_part : (i : ℕ) (xs : List Admitted) → batch_octets (take i xs) ≤ batch_octets xs
+octets_part zero xs = omega arith
+octets_part (suc i) [] = omega arith
+octets_part (suc i) (x ∷ xs) = let ih = octets_part i xs in omega (arith, ih)
+
+pub too_many : (xs : List Admitted) (i : ℕ) (x : Admitted) → i < length xs → x ≡ get_or xs i x → 262144 < batch_octets (take i xs) + (4 + length (admission_octets x)) → batch_octets xs ≤ 262144 → ⊥
+too_many xs i x lt e high low = let a = octets_more xs i x lt e in let b = octets_part (i + 1) xs in absurd (omega (arith, a, b))
+
+pub valid_more : (xs : List Admitted) (i : ℕ) (x : Admitted) → i < length xs → x ≡ get_or xs i x → IsAdmission x → AllByRecursion IsAdmission (take i xs) → AllByRecursion IsAdmission (take (i + 1) xs)
+valid_more xs i x lt e valid all = subst (AllByRecursion IsAdmission) (sym (more xs i x lt e)) (all_append IsAdmission (take i xs) (x ∷ []) all (valid, tt))
+
+-- ---- what is taken in
+
+pub times_at : (lanes : List Waiting) (c : ℕ) (w : Waiting) → slice_get lanes c ≡ Some w → slice_get (waiting_times lanes) c ≡ Some w.times
+times_at [] c w e = cc
+times_at (v ∷ lanes) zero w e = let same : v ≡ w = cc in ap (λ (x : Waiting). Some x.times) same
+times_at (v ∷ lanes) (suc c) w e = times_at lanes c w e
+
+pub marks_taken : (lanes mid new : List Waiting) (c mark : ℕ) (times : List ℕ) (s : Sieved) → SameLanes lanes mid → TakesIn mid c s new → IsSieved mark times s → marks new ≡ slice_set (marks lanes) c (greatest mark times)
+marks_taken lanes mid new c mark times s same takes sieved = takes.marks ∙ (ap (λ (l : List ℕ). slice_set l c s.mark) same.marks ∙ ap (slice_set (marks lanes) c) sieved.mark)
+
+pub times_taken : (lanes mid new : List Waiting) (c mark : ℕ) (batch : List Admitted) (times : List ℕ) (s : Sieved) → times ≡ map admitted_time batch → SameLanes lanes mid → TakesIn mid c s new → IsSieved mark times s → (before : List ℕ) → slice_get (waiting_times lanes) c ≡ Some before → waiting_times new ≡ slice_set (waiting_times lanes) c (before ++ map admitted_time (timely admitted_time mark [] batch))
+times_taken lanes mid new c mark batch times s ts same takes sieved before here =
+    let at : slice_get (waiting_times lanes) c ≡ Some takes.lane.times = ap (λ (l : List (List ℕ)). slice_get l c) (sym same.times) ∙ times_at mid c takes.lane takes.here in
+    let before_is : takes.lane.times ≡ before = one_there (slice_get (waiting_times lanes) c) takes.lane.times before at here in
+    let kept : s.timely.items ≡ map admitted_time (timely admitted_time mark [] batch) = sieved.timely ∙ (ap (timely (λ t. t) mark []) ts ∙ timely-map admitted_time mark [] batch) in
+    takes.times ∙ (ap (λ (l : List (List ℕ)). slice_set l c (takes.lane.times ++ s.timely.items)) same.times
+    ∙ (ap (λ (l : List ℕ). slice_set (waiting_times lanes) c (l ++ s.timely.items)) before_is
+    ∙ ap (λ (l : List ℕ). slice_set (waiting_times lanes) c (before ++ l)) kept))
+
+pub lates_taken : (mark : ℕ) (batch : List Admitted) (times : List ℕ) (s : Sieved) → times ≡ map admitted_time batch → IsSieved mark times s → s.late.items ≡ lates admitted_time mark [] 0 batch
+lates_taken mark batch times s ts sieved = sieved.late ∙ (ap (lates (λ t. t) mark [] 0) ts ∙ lates-map admitted_time mark [] 0 batch)

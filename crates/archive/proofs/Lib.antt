@@ -1,0 +1,7 @@
+pub mod Keeping
+pub mod Telling
+pub mod Empty
+pub mod Marking
+pub mod Batches
+pub mod Giving
+pub mod Applying

@@ -1,0 +1,5 @@
+pub mod Carries
+pub mod Steps
+pub mod Replies
+pub mod Kept
+pub mod Taking

@@ -1,0 +1,130 @@
+//! Batches of admissions, and what is answered to them.
+
+ghost use Rattle.std.specs.Prelude.{◌≡◌, ◌≤◌, ◌<◌, ◌+◌, ℕ, [], map, length, Some, IfOk, OnErr, IsTrue, ◌↔◌, slice_get};
+ghost use Rattle.std.specs.List.{AllByRecursion};
+ghost use Rattle.route_model.specs.Admission.{IsAdmission};
+ghost use Rattle.route_meaning.specs.Holds.{admitted_time};
+ghost use Rattle.sequencer.specs.Lanes.{SameLanes, marks};
+ghost use Rattle.sequencer.specs.Late.{timely};
+ghost use Rattle.archive.specs.Steps.{batch_octets};
+ghost use Rattle.archive.specs.Taking.{IsTaken, SameQueue};
+
+use crate::queue::Queue;
+use route_model::{Admission, Mark, Moment};
+use sequencer::{Late, Sequencer};
+use std::alloc::{AllocError, Global};
+use thiserror::Error;
+
+/// The most octets of a batch: for each admission the octets of its spelling and 4 more.
+pub const MAX_BATCH_LEN: usize = 262_144;
+
+/// Which admissions of a collector a batch became: those from number `from` to below number `to`. The first
+/// admission of a collector has the number 0.
+#[derive(Clone, Copy, Debug, PartialEq, Eq)]
+pub struct Receipt {
+    pub collector: u8,
+    pub from: u64,
+    pub to: u64,
+}
+
+/// What became of a batch.
+#[derive(Debug, Drop)]
+pub struct Admitted {
+    pub receipt: Receipt,
+    /// How many records were offered for the collector until now, those that came late counted too.
+    pub offered: u64,
+    /// The records of the batch that came late, in their order. They aren't admitted.
+    pub late: Vec<Late>,
+}
+
+/// Why a batch isn't taken. The first of these that holds is told.
+#[derive(Clone, Copy, Debug, PartialEq, Eq, Error)]
+pub enum AdmitRefusal {
+    /// The archive has no collector of this number.
+    #[error("no such collector")]
+    NoCollector,
+    /// The batch has more than [`MAX_BATCH_LEN`] octets.
+    #[error("the batch has more than 262144 octets")]
+    BatchTooLarge,
+    /// So many records can't be counted.
+    #[error("the count of offered records is full")]
+    CounterFull,
+    #[error("out of memory")]
+    OutOfMemory,
+}
+
+/// Whether the batch has at most [`MAX_BATCH_LEN`] octets.
+pub(crate) fn fits(batch: &[Admission]) -> bool
+    ensures octets { IsTrue result ↔ batch_octets batch.now ≤ 262144 }
+    ensures valid { IsTrue result → AllByRecursion IsAdmission batch.now }
+{
+    let mut octets: usize = 0;
+    for admission in batch {
+        let _changes = admission.changes();
+        octets += 4 + admission.encoded_len();
+        if octets > MAX_BATCH_LEN {
+            return false;
+        }
+    }
+    true
+}
+
+/// The times of the batch.
+fn times_of(alloc: Global, batch: &[Admission]) -> Result<Vec<Moment>, AllocError>
+    ensures { IfOk result (λ times. times.items ≡ map admitted_time batch.now) }
+{
+    let mut times = Vec::with_capacity(alloc, batch.len())?;
+    for admission in batch {
+        times.push(admission.time())?;
+    }
+    Ok(times)
+}
+
+/// The admissions of the batch that aren't late, where the collector has this mark.
+fn timely_of(alloc: Global, mark: Mark, batch: &[Admission]) -> Result<Vec<Admission>, AllocError>
+    ensures { IfOk result (λ kept. kept.items ≡ timely admitted_time mark [] batch.now) }
+{
+    let mut kept = Vec::new(alloc);
+    let mut reached = mark;
+    for admission in batch {
+        if reached.seconds() <= admission.time().seconds() {
+            kept.push(admission.share(alloc)?)?;
+            reached = Mark::at(admission.time());
+        }
+    }
+    Ok(kept)
+}
+
+/// Takes a batch of the collector in: it waits in the queue, and its times in the sequencer.
+pub(crate) fn take_in(
+    alloc: Global,
+    sequencer: &mut Sequencer,
+    queue: &mut Queue,
+    collector: u8,
+    batch: &[Admission],
+) -> Result<Admitted, AllocError>
+    requires inside { collector < length sequencer.old }
+    requires counted { queue.old.admitted ≤ queue.old.offered }
+    requires countable { queue.old.offered + length batch.now < 18446744073709551616 }
+    ensures taken { (mark : ℕ) → slice_get (marks sequencer.old) collector ≡ Some mark → IfOk result (IsTaken sequencer.old queue.old collector mark batch.now sequencer.new queue.new) }
+    ensures same { OnErr result (SameLanes sequencer.old sequencer.new × SameQueue queue.old queue.new) }
+{
+    let number = collector as usize;
+    let times = times_of(alloc, batch)?;
+    let kept = timely_of(alloc, sequencer.mark(number), batch)?;
+    queue.reserve(kept.len())?;
+    let sieved = sequencer.sieve(alloc, number, &times)?;
+    // From here on no memory is needed.
+    sequencer.take_in(number, &sieved);
+    let from = queue.admitted();
+    queue.take_in(kept, batch.len());
+    Ok(Admitted {
+        receipt: Receipt {
+            collector,
+            from,
+            to: queue.admitted(),
+        },
+        offered: queue.offered(),
+        late: sieved.late,
+    })
+}

@@ -1,0 +1,31 @@
+//! What is applied.
+
+ghost use Rattle.std.specs.Prelude.{◌≡◌, ◌<◌, ◌∷◌, ◌++◌, [], length};
+ghost use Rattle.std.specs.Vec.{vec_capacity, vec_len};
+
+use route_model::Admission;
+use std::marker::Model;
+
+/// An admission that is applied, with the number of the collector that gave it.
+#[derive(Debug, Drop)]
+pub(crate) struct AppliedAdmission {
+    pub(crate) collector: u8,
+    pub(crate) admission: Admission,
+}
+
+impl Model for AppliedAdmission {
+    ghost use Rattle.route_model.specs.Admission.{Admitted};
+    ghost use Rattle.route_meaning.specs.Merged.{Placed};
+
+    ghost Value = { Placed Admitted };
+
+    ghost view = { λ a. record { collector = a.collector; item = a.admission } };
+}
+
+/// Puts one more at the end, where there is room.
+pub(crate) fn put(applied: &mut Vec<AppliedAdmission>, one: AppliedAdmission)
+    requires { vec_len applied.old < vec_capacity applied.old }
+    ensures { applied.new.items ≡ applied.old.items ++ one ∷ [] }
+{
+    let _pushed = applied.push(one);
+}

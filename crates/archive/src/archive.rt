@@ -1,0 +1,194 @@
+//! The plain archive: all in memory, in lists.
+
+ghost use Rattle.std.specs.Prelude.{◌≡◌, ◌≤◌, ◌<◌, ◌↔◌, ℕ, map, length, Some, IfOk, OnOk, OnErr, slice_get};
+ghost use Rattle.route_meaning.specs.History.{History, Intake, settled};
+ghost use Rattle.archive.specs.Carries.{Carries};
+ghost use Rattle.archive.specs.Steps.{empty, marked, given, batch_octets, IsCollector, IsMarkAbove, IsCounterFull, Applies, NothingToApply};
+ghost use Rattle.archive.specs.Replies.{resume_of, IsReply};
+
+use crate::admit::{AdmitRefusal, Admitted, fits, take_in};
+use crate::applied::{AppliedAdmission, put};
+use crate::queue::Queue;
+use route_model::{Admission, Mark};
+use sequencer::Sequencer;
+use std::alloc::{AllocError, Global};
+use std::marker::Model;
+use thiserror::Error;
+
+/// Where a collector goes on: how many records were offered for it, how many of them were admitted, and its mark.
+#[derive(Clone, Copy, Debug, PartialEq, Eq)]
+pub struct Resume {
+    pub offered: u64,
+    pub admitted: u64,
+    pub mark: Mark,
+}
+
+/// What a step of applying did.
+#[derive(Clone, Copy, Debug, PartialEq, Eq)]
+pub enum Step {
+    /// A change is applied, or an admission without changes.
+    Applied,
+    /// No admission may be applied: each that waits isn't below every mark.
+    Idle,
+}
+
+/// Why a mark isn't taken.
+#[derive(Clone, Copy, Debug, PartialEq, Eq, Error)]
+pub enum MarkRefusal {
+    /// The archive has no collector of this number.
+    #[error("no such collector")]
+    NoCollector,
+    /// The mark is below the collector's mark.
+    #[error("the mark is below the collector's mark")]
+    MarkBack,
+}
+
+/// What some collectors gave, and how far it is applied. It is all in memory.
+#[derive(Drop)]
+pub struct Archive {
+    alloc: Global,
+    sequencer: Sequencer,
+    queues: Vec<Queue>,
+    applied: Vec<AppliedAdmission>,
+    begun: usize,
+}
+
+impl Model for Archive {
+    ghost use Rattle.route_meaning.specs.History.{History};
+    ghost use Rattle.archive.specs.Kept.{history_of, IsKept};
+
+    ghost Value = { History };
+
+    ghost view = { λ a. history_of a.sequencer a.queues.items a.applied.items a.begun };
+
+    ghost invariant = { λ a. IsKept a.sequencer a.queues.items a.applied.items a.begun };
+}
+
+impl Archive {
+    /// An empty archive of 1 to 16 collectors.
+    pub fn plain(alloc: Global, collectors: u8) -> Result<Archive, AllocError>
+        requires some { 1 ≤ collectors }
+        requires few { collectors ≤ 16 }
+        ensures empty { IfOk result (λ a. Carries a (empty collectors)) }
+    {
+        let sequencer = Sequencer::new(alloc, collectors)?;
+        let mut queues = Vec::with_capacity(alloc, collectors as usize)?;
+        for _ in 0..collectors {
+            queues.push(Queue::new(alloc))?;
+        }
+        Ok(Archive {
+            alloc,
+            sequencer,
+            queues,
+            applied: Vec::new(alloc),
+            begun: 0,
+        })
+    }
+
+    /// How many collectors there are, 1 to 16. Their numbers begin with 0.
+    pub fn collectors(&self) -> u8
+        ensures count { (h : History) → Carries self.now h → result ≡ length h.intakes }
+        ensures few { result ≤ 16 }
+    {
+        self.queues.len() as u8
+    }
+
+    /// The settled watermark: a question of a moment below it is answered.
+    pub fn settled(&self) -> Mark
+        ensures settled { (h : History) → Carries self.now h → result ≡ settled h }
+    {
+        self.sequencer.settled()
+    }
+
+    /// Where the collector goes on.
+    pub fn resume(&self, collector: u8) -> Resume
+        requires collector { (h : History) → Carries self.now h → IsCollector h collector }
+        ensures resume { (h : History) → Carries self.now h → slice_get (map resume_of h.intakes) collector ≡ Some result }
+    {
+        let queue = &self.queues[collector as usize];
+        Resume {
+            offered: queue.offered(),
+            admitted: queue.admitted(),
+            mark: self.sequencer.mark(collector as usize),
+        }
+    }
+
+    /// Raises the mark of a collector: what it gives from now on isn't earlier. The present mark may be given
+    /// again. A refusal changes nothing.
+    pub fn mark(&mut self, collector: u8, mark: Mark) -> Result<(), MarkRefusal>
+        ensures raised { (h : History) → Carries self.old h → OnOk result (Carries self.new (marked h collector mark)) }
+        ensures no_collector { (h : History) → Carries self.old h → (result ≡ Err MarkRefusal.NoCollector) ↔ (IsCollector h collector → ⊥) }
+        ensures mark_back { (h : History) → Carries self.old h → (result ≡ Err MarkRefusal.MarkBack) ↔ IsMarkAbove h collector mark }
+        ensures same { (h : History) → Carries self.old h → OnErr result (Carries self.new h) }
+    {
+        let number = collector as usize;
+        if number >= self.queues.len() {
+            return Err(MarkRefusal::NoCollector);
+        }
+        let _range = mark.seconds();
+        match self.sequencer.raise(number, mark) {
+            Ok(()) => Ok(()),
+            Err(_) => Err(MarkRefusal::MarkBack),
+        }
+    }
+    /// Admits the records of a collector, in their order, but for those that come late: whose time is below the
+    /// collector's mark or below an earlier time of the batch. Each of these is told. The mark is raised to the
+    /// greatest of these times. A refusal changes nothing. The batch has at most [`crate::MAX_BATCH_LEN`] octets.
+    pub fn admit(&mut self, collector: u8, batch: &[Admission]) -> Result<Admitted, AdmitRefusal>
+        ensures admitted { (h : History) → Carries self.old h → OnOk result (Carries self.new (given h collector batch.now)) }
+        ensures reply { (h : History) → Carries self.old h → (i : Intake) → slice_get h.intakes collector ≡ Some i → IfOk result (IsReply i collector batch.now) }
+        ensures no_collector { (h : History) → Carries self.old h → (result ≡ Err AdmitRefusal.NoCollector) ↔ (IsCollector h collector → ⊥) }
+        ensures too_large { (h : History) → Carries self.old h → (result ≡ Err AdmitRefusal.BatchTooLarge) ↔ (IsCollector h collector × (262144 < batch_octets batch.now)) }
+        ensures counter_full { (h : History) → Carries self.old h → (result ≡ Err AdmitRefusal.CounterFull) ↔ ((batch_octets batch.now ≤ 262144) × IsCounterFull h collector (length batch.now)) }
+        ensures same { (h : History) → Carries self.old h → OnErr result (Carries self.new h) }
+    {
+        let number = collector as usize;
+        if number >= self.queues.len() {
+            return Err(AdmitRefusal::NoCollector);
+        }
+        if !fits(batch) {
+            return Err(AdmitRefusal::BatchTooLarge);
+        }
+        if !self.queues[number].can_count(batch.len()) {
+            return Err(AdmitRefusal::CounterFull);
+        }
+        let queue = &mut self.queues[number];
+        match take_in(self.alloc, &mut self.sequencer, queue, collector, batch) {
+            Ok(admitted) => Ok(admitted),
+            Err(_) => Err(AdmitRefusal::OutOfMemory),
+        }
+    }
+    /// Applies the next change of the first admission that waits, where that admission is below every mark; an
+    /// admission without changes is applied at once. With its last change an admission is wholly applied.
+    pub fn apply_step(&mut self) -> Result<Step, AllocError>
+        ensures applied { (h : History) → Carries self.old h → IfOk result (λ step. step ≡ Step.Applied → (g : History) × Applies h g × Carries self.new g) }
+        ensures idle { (h : History) → Carries self.old h → IfOk result (λ step. (step ≡ Step.Idle) ↔ NothingToApply h) }
+        ensures idle_same { (h : History) → Carries self.old h → IfOk result (λ step. step ≡ Step.Idle → Carries self.new h) }
+        ensures same { (h : History) → Carries self.old h → OnErr result (Carries self.new h) }
+    {
+        let Some(number) = self.sequencer.next() else {
+            return Ok(Step::Idle);
+        };
+        let left = self.queues[number]
+            .first_changes()
+            .saturating_sub(self.begun);
+        if left > 1 {
+            self.begun += 1;
+            return Ok(Step::Applied);
+        }
+        self.applied.reserve(1)?;
+        // From here on no memory is needed.
+        self.sequencer.take(number);
+        let admission = self.queues[number].pop();
+        let collector = number as u8;
+        put(
+            &mut self.applied,
+            AppliedAdmission {
+                collector,
+                admission,
+            },
+        );
+        self.begun = 0;
+        Ok(Step::Applied)
+    }
+}
