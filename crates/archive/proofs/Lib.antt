@@ -5,3 +5,4 @@ pub mod Marking
 pub mod Batches
 pub mod Giving
 pub mod Applying
+pub mod Answering

@@ -1,13 +1,14 @@
 //! The plain archive: all in memory, in lists.
 
-ghost use Rattle.std.specs.Prelude.{◌≡◌, ◌≤◌, ◌<◌, ◌↔◌, ℕ, map, length, Some, IfOk, OnOk, OnErr, slice_get};
-ghost use Rattle.route_meaning.specs.History.{History, Intake, settled};
+ghost use Rattle.std.specs.Prelude.{◌≡◌, ◌≤◌, ◌<◌, ◌↔◌, ℕ, map, length, Some, IfOk, OnOk, OnErr, slice_get, IsOk};
+ghost use Rattle.route_meaning.specs.History.{History, Intake, applied, settled};
 ghost use Rattle.archive.specs.Carries.{Carries};
 ghost use Rattle.archive.specs.Steps.{empty, marked, given, batch_octets, IsCollector, IsMarkAbove, IsCounterFull, Applies, NothingToApply};
-ghost use Rattle.archive.specs.Replies.{resume_of, IsReply};
+ghost use Rattle.archive.specs.Replies.{resume_of, last_moment, IsReply, IsTurn};
 
 use crate::admit::{AdmitRefusal, Admitted, fits, take_in};
 use crate::applied::{AppliedAdmission, put};
+use crate::question::{Cursor, DescendRefusal, Query, Turn, answer_over};
 use crate::queue::Queue;
 use route_model::{Admission, Mark};
 use sequencer::Sequencer;
@@ -30,6 +31,15 @@ pub enum Step {
     Applied,
     /// No admission may be applied: each that waits isn't below every mark.
     Idle,
+}
+
+/// What a step of flushing did.
+#[derive(Clone, Copy, Debug, PartialEq, Eq)]
+pub enum Flush {
+    /// A page went home.
+    Flushed,
+    /// No page waits to go home.
+    Clean,
 }
 
 /// Why a mark isn't taken.
@@ -190,5 +200,38 @@ impl Archive {
         );
         self.begun = 0;
         Ok(Step::Applied)
+    }
+    /// A step of flushing. All of the plain archive is in memory, so no page ever waits.
+    pub fn flush_step(&mut self) -> Flush
+        ensures clean { result ≡ Flush.Clean }
+        ensures same { (h : History) → Carries self.old h → Carries self.new h }
+    {
+        Flush::Clean
+    }
+
+    /// The start of a question. It waits for nothing.
+    pub fn start(&self, query: Query) -> Cursor
+        ensures query { result ≡ query }
+    {
+        Cursor::new(query)
+    }
+
+    /// A turn of a question: the plain archive answers it in one. The question is answered where its moment, or
+    /// the last of its moments, is below the settled watermark.
+    pub fn descend(&self, cursor: &mut Cursor) -> Result<Turn, DescendRefusal>
+        ensures settled { (h : History) → Carries self.now h → IsOk result → last_moment cursor.old < settled h }
+        ensures answer { (h : History) → Carries self.now h → IfOk result (λ turn. IsTurn (applied h) cursor.old turn) }
+        ensures above { (h : History) → Carries self.now h → (mark : ℕ) → (result ≡ Err (DescendRefusal.AboveWatermark mark)) ↔ ((mark ≡ settled h) × (settled h ≤ last_moment cursor.old)) }
+        ensures query { cursor.new ≡ cursor.old }
+    {
+        let query = cursor.query();
+        let settled = self.settled();
+        if settled.seconds() <= query.last_moment().seconds() {
+            return Err(DescendRefusal::AboveWatermark(settled));
+        }
+        match answer_over(self.alloc, &self.applied, &query) {
+            Ok(answer) => Ok(Turn::Done(answer)),
+            Err(_) => Err(DescendRefusal::OutOfMemory),
+        }
     }
 }

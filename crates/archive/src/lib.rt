@@ -4,7 +4,9 @@
 mod admit;
 mod applied;
 mod archive;
+mod question;
 mod queue;
 
 pub use admit::{AdmitRefusal, Admitted, MAX_BATCH_LEN, Receipt};
-pub use archive::{Archive, MarkRefusal, Resume, Step};
+pub use archive::{Archive, Flush, MarkRefusal, Resume, Step};
+pub use question::{Answer, Cursor, DescendRefusal, Query, Turn};
