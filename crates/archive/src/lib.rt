@@ -10,3 +10,6 @@ mod queue;
 pub use admit::{AdmitRefusal, Admitted, MAX_BATCH_LEN, Receipt};
 pub use archive::{Archive, Flush, MarkRefusal, Resume, Step};
 pub use question::{Answer, Cursor, DescendRefusal, Query, Turn};
+
+#[cfg(test)]
+mod tests;
