@@ -1,13 +1,12 @@
 -- What is answered below the settled watermark.
-use Rattle.std.proofs.Common.{◌≡◌, ℕ, ◌<◌, List, [], ◌∷◌, ◌++◌, take, drop, length, sym, ap, ◌∙◌}
-use Rattle.std.specs.List.{AllByRecursion, filter}
+use Rattle.std.proofs.Common.{◌≡◌, ℕ, ◌<◌, List, [], ◌++◌, length, sym, ap, ◌∙◌}
 use Rattle.std.proofs.lemmas.List.{take-append-drop}
 use Rattle.std.proofs.lemmas.List.Elements.{filter-append}
 use Rattle.std.proofs.Common.{append-nil, leb}
 use Rattle.route_model.specs.Admission.{Admitted}
 use Rattle.route_meaning.specs.Holds.{time_of, until}
 use Rattle.route_meaning.specs.Merged.{Placed}
-use Rattle.route_meaning.specs.History.{History, IsHistory, all_of, waiting, applied, settled}
+use Rattle.route_meaning.specs.History.{all_of, waiting, applied, settled}
 use Rattle.route_meaning.proofs.Settling.{until-applied, until-late, waiting_after_settled}
 use Rattle.route_meaning.proofs.Agreeing.{IsAnswer-until, IsEventsAnswer-until}
 use Rattle.sequencer.specs.Lanes.{Waiting}

@@ -1,24 +1,24 @@
 -- The next change is applied.
-use Rattle.std.proofs.Common.{◌≡◌, ℕ, ◌+◌, ◌<◌, ◌≤◌, ◌⊎◌, List, [], ◌∷◌, ◌++◌, length, take, drop, map, Bool, true, false, cond, leb, eqb, refl, sym, ap, ◌∙◌, subst, arith, zero, suc, Some, inl, inr, append-nil, append_assoc, length-append}
+use Rattle.std.proofs.Common.{◌≡◌, ℕ, ◌+◌, ◌<◌, ◌≤◌, List, [], ◌∷◌, ◌++◌, length, take, map, leb, refl, sym, ap, ◌∙◌, subst, arith, zero, suc, Some, inl, inr, append-nil, append_assoc, length-append}
 use Rattle.std.specs.List.{AllByRecursion, slice_get, slice_set}
-use Rattle.std.proofs.lemmas.Bool.{cases_eq, cond_both, cases_Bool, eq-eqb, ne_eqb}
-use Rattle.std.proofs.lemmas.List.{length-take, map-append}
+use Rattle.std.proofs.lemmas.Bool.{cases_Bool, eq-eqb, ne_eqb}
+use Rattle.std.proofs.lemmas.List.{map-append}
 use Rattle.route_model.specs.Admission.{Admitted}
 use Rattle.route_meaning.specs.Holds.{admitted_time, time_of}
 use Rattle.route_meaning.specs.Merged.{Placed, placed, part, insert_by, by_time, all_placed, merged, IsRising}
-use Rattle.route_meaning.specs.History.{Intake, History, IsIntake, IsHistory, IsBelowMarks, all_of, begun, front, waiting, applied}
+use Rattle.route_meaning.specs.History.{History, IsIntake, IsHistory, IsBelowMarks, all_of, begun, waiting}
 use Rattle.route_meaning.proofs.Sorting.{all_weaker, all_append}
 use Rattle.route_meaning.proofs.OneOrder.{merged-first}
-use Rattle.route_meaning.proofs.Front.{all_left, all_right, take_next, length_of_drop}
+use Rattle.route_meaning.proofs.Front.{all_left, take_next, length_of_drop}
 use Rattle.sequencer.specs.Lanes.{Waiting, marks, waiting_times, in_order, IsOpen, NoneOpen, Releases}
-use Rattle.sequencer.specs.First.{IsFirstLane, IsNext}
+use Rattle.sequencer.specs.First.{IsNext}
 use Rattle.sequencer.proofs.Setting.{one_there, marks_same, times_set}
 use Rattle.archive.proofs.Batches.{times_at}
 use Rattle.archive.specs.Kept.{Queued, intakes_of, history_of, waiting_of, AreCounted, IsKept}
 use Rattle.archive.specs.Steps.{Applies, NothingToApply, moved}
 use Rattle.archive.proofs.Keeping.{same_number, waiting-merged, part-append}
 use Rattle.archive.proofs.Marking.{same_marks}
-use Rattle.archive.proofs.Giving.{rising_from, map_get, map_set, length_set}
+use Rattle.archive.proofs.Giving.{map_get, map_set, length_set}
 
 -- ---- merging goes with taking times
 

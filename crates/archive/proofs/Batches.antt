@@ -1,8 +1,8 @@
 -- What of a batch is late, by the admissions and by their times.
-use Rattle.std.proofs.Common.{◌≡◌, ℕ, ◌+◌, ◌<◌, ◌≤◌, List, [], ◌∷◌, ◌++◌, length, take, get_or, map, Bool, true, false, cond, ltb, refl, sym, ap, ◌∙◌, subst, arith, zero, suc, Some, inl, inr, max, append-nil, length-append}
+use Rattle.std.proofs.Common.{◌≡◌, ℕ, ◌+◌, ◌<◌, ◌≤◌, List, [], ◌∷◌, ◌++◌, length, take, get_or, map, refl, sym, ap, ◌∙◌, subst, arith, zero, suc, Some, inl, inr, max, append-nil}
 use Rattle.std.specs.List.{AllByRecursion, slice_get, slice_set}
 use Rattle.std.proofs.lemmas.List.{take_more, map-append}
-use Rattle.std.proofs.lemmas.Bool.{lt-ltb, le-ltb, cases_Bool, cond_both}
+use Rattle.std.proofs.lemmas.Bool.{lt-ltb, le-ltb, cases_Bool}
 use Rattle.route_model.specs.Admission.{Admitted, admission_octets, IsAdmission}
 use Rattle.route_meaning.specs.Holds.{admitted_time}
 use Rattle.route_meaning.proofs.Sorting.{all_append}

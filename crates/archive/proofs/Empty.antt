@@ -1,16 +1,13 @@
 -- An archive to which nothing was given.
-use Rattle.std.proofs.Common.{◌≡◌, ℕ, ◌+◌, ◌<◌, ◌≤◌, ◌⊎◌, List, [], ◌∷◌, ◌++◌, length, map, replicate, refl, sym, ap, ◌∙◌, subst, arith, zero, suc, inl, inr}
+use Rattle.std.proofs.Common.{◌≡◌, ℕ, ◌≤◌, List, [], ◌∷◌, ◌++◌, length, map, replicate, refl, sym, ap, ◌∙◌, subst, arith, zero, suc, inl}
 use Rattle.std.specs.List.{AllByRecursion}
-use Rattle.route_model.specs.Admission.{Admitted}
 use Rattle.route_meaning.specs.Holds.{admitted_time}
-use Rattle.route_meaning.specs.Merged.{Placed}
-use Rattle.route_meaning.specs.History.{Intake, History, IsIntake, IsHistory}
+use Rattle.route_meaning.specs.History.{Intake, IsIntake, IsHistory}
 use Rattle.route_meaning.proofs.Sorting.{all_append}
 use Rattle.sequencer.specs.Lanes.{Waiting, marks, waiting_times}
 use Rattle.archive.specs.Kept.{Queued, intakes_of, history_of, AreCounted, IsKept}
 use Rattle.archive.specs.Carries.{Carries}
 use Rattle.archive.specs.Steps.{empty}
-use Rattle.archive.proofs.Telling.{carries_step}
 
 -- the queue of a collector that gave nothing
 pub record IsEmptyQueue (q : Queued) : Type 0 where

@@ -1,12 +1,12 @@
 -- A collector gives a batch.
-use Rattle.std.proofs.Common.{◌≡◌, ℕ, ◌+◌, ◌<◌, ◌≤◌, ◌⊎◌, List, [], ◌∷◌, ◌++◌, length, take, drop, map, refl, sym, ap, ◌∙◌, subst, arith, zero, suc, Some, inl, inr, max, append-nil, append_assoc, length-append}
+use Rattle.std.proofs.Common.{◌≡◌, ℕ, ◌+◌, ◌<◌, ◌≤◌, List, [], ◌∷◌, ◌++◌, length, take, map, refl, sym, ap, ◌∙◌, subst, arith, zero, suc, Some, inl, inr, append_assoc, length-append}
 use Rattle.std.specs.List.{AllByRecursion, AllZip, slice_get, slice_set}
 use Rattle.std.proofs.lemmas.Bool.{cases_eq, cases_lt}
 use Rattle.std.proofs.lemmas.List.{length-take, map-append}
 use Rattle.route_model.specs.Admission.{Admitted, IsAdmission}
 use Rattle.route_meaning.specs.Holds.{admitted_time, time_of}
-use Rattle.route_meaning.specs.Merged.{Placed, part, merged, IsRising}
-use Rattle.route_meaning.specs.History.{Intake, History, IsIntake, IsPlace, IsHistory, IsBelowMarks, GoesOn, floor, Begins, all_of, begun, front, waiting, applied}
+use Rattle.route_meaning.specs.Merged.{Placed, part, IsRising}
+use Rattle.route_meaning.specs.History.{Intake, History, IsIntake, IsHistory, IsBelowMarks, GoesOn, floor, Begins, all_of, begun, waiting, applied}
 use Rattle.route_meaning.proofs.Sorting.{all_weaker, all_append}
 use Rattle.route_meaning.proofs.Beginning.{GoesOn-refl, each-refl}
 use Rattle.route_meaning.proofs.Front.{front_kept, front_stays, all_left, all_right, take_next, drop_same, begun_time, length_of_drop}

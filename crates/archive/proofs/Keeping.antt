@@ -1,12 +1,12 @@
 -- What is kept, and what of the history waits.
-use Rattle.std.proofs.Common.{◌≡◌, ℕ, ◌+◌, ◌<◌, ◌≤◌, List, [], ◌∷◌, ◌++◌, length, take, drop, map, min, refl, sym, ap, ◌∙◌, subst, arith, zero, suc, eqb}
+use Rattle.std.proofs.Common.{◌≡◌, ℕ, ◌+◌, ◌<◌, List, [], ◌∷◌, ◌++◌, length, drop, map, min, refl, sym, ap, ◌∙◌, subst, arith, zero, suc, eqb}
 use Rattle.std.specs.List.{AllByRecursion, filter}
 use Rattle.std.proofs.lemmas.List.{map-append, take-append-drop}
 use Rattle.std.proofs.lemmas.List.Elements.{filter-append}
 use Rattle.route_model.specs.Admission.{Admitted}
 use Rattle.route_meaning.specs.Holds.{admitted_time, time_of}
-use Rattle.route_meaning.specs.Merged.{Placed, placed, all_placed, merged, part, parts, IsInOrder, IsRising}
-use Rattle.route_meaning.specs.History.{Intake, History, IsIntake, IsHistory, all_of, waiting, first_or, bounds, settled, least}
+use Rattle.route_meaning.specs.Merged.{Placed, all_placed, merged, part, parts, IsInOrder, IsRising}
+use Rattle.route_meaning.specs.History.{Intake, IsIntake, all_of, waiting, first_or, bounds, settled, least}
 use Rattle.route_meaning.proofs.Sorting.{all_weaker, all_by_time}
 use Rattle.route_meaning.proofs.OneOrder.{merged-parts, parts-merged, IsInOrder-merged}
 use Rattle.route_meaning.proofs.Settling.{all_drop, all_placed_within}

@@ -1,14 +1,14 @@
 -- A mark is raised.
-use Rattle.std.proofs.Common.{◌≡◌, ℕ, ◌+◌, ◌<◌, ◌≤◌, ◌⊎◌, List, [], ◌∷◌, ◌++◌, length, take, drop, map, refl, sym, ap, ◌∙◌, subst, arith, zero, suc, Some}
+use Rattle.std.proofs.Common.{◌≡◌, ℕ, ◌<◌, ◌≤◌, ◌⊎◌, List, [], ◌∷◌, ◌++◌, length, take, drop, map, refl, sym, ap, ◌∙◌, subst, arith, zero, suc, Some}
 use Rattle.std.specs.List.{AllByRecursion, slice_get, slice_set}
 use Rattle.route_model.specs.Admission.{Admitted}
 use Rattle.route_meaning.specs.Holds.{admitted_time, time_of}
 use Rattle.route_meaning.specs.Merged.{Placed, part, merged}
-use Rattle.route_meaning.specs.History.{Intake, History, IsIntake, IsPlace, IsHistory, IsBelowMarks, all_of, front, waiting, applied}
+use Rattle.route_meaning.specs.History.{Intake, History, IsIntake, IsHistory, IsBelowMarks, all_of, front, applied}
 use Rattle.route_meaning.proofs.Sorting.{all_weaker}
-use Rattle.sequencer.specs.Lanes.{Waiting, marks, waiting_times, Raises, IsAbove}
+use Rattle.sequencer.specs.Lanes.{Waiting, marks, Raises, IsAbove}
 use Rattle.sequencer.proofs.Setting.{one_there}
-use Rattle.archive.specs.Kept.{Queued, intakes_of, history_of, AreCounted, IsKept}
+use Rattle.archive.specs.Kept.{Queued, intakes_of, history_of, IsKept}
 use Rattle.archive.specs.Steps.{changed, with_mark, marked, IsMarkAbove}
 use Rattle.archive.proofs.Keeping.{same_number}
 

@@ -1,14 +1,12 @@
 -- What is told of what is kept, is told of each history that is carried.
-use Rattle.std.proofs.Common.{◌≡◌, ℕ, ◌+◌, ◌<◌, ◌≤◌, List, [], ◌∷◌, ◌++◌, length, map, refl, sym, ap, ◌∙◌, subst, arith, zero, suc, Some, length-append}
-use Rattle.std.specs.List.{AllByRecursion, slice_get}
+use Rattle.std.proofs.Common.{◌≡◌, ℕ, List, [], ◌∷◌, ◌++◌, length, map, sym, ap, ◌∙◌, subst, arith, zero, suc, Some, length-append}
+use Rattle.std.specs.List.{slice_get}
 use Rattle.route_model.specs.Admission.{Admitted}
 use Rattle.route_meaning.specs.Merged.{Placed, part}
-use Rattle.route_meaning.specs.History.{Intake, History, IsHistory}
+use Rattle.route_meaning.specs.History.{History, IsHistory}
 use Rattle.sequencer.specs.Lanes.{Waiting, marks}
-use Rattle.archive.specs.declared.archive.Resume.{Resume}
-use Rattle.archive.specs.Kept.{Queued, intakes_of, history_of, AreCounted, IsKept}
+use Rattle.archive.specs.Kept.{Queued, intakes_of, AreCounted, IsKept}
 use Rattle.archive.specs.Carries.{Carries}
-use Rattle.archive.specs.Steps.{IsCollector}
 use Rattle.archive.specs.Replies.{resume_of}
 use Rattle.archive.proofs.Keeping.{same_number, intakes_number}
 

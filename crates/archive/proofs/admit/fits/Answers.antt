@@ -1,5 +1,4 @@
-use Rattle.std.proofs.Common.{◌≤◌, ◌<◌, arith, sym, ◌∙◌}
-use Rattle.archive.specs.Steps.{batch_octets}
+use Rattle.std.proofs.Common.{arith}
 use Rattle.archive.proofs.Batches.{octets_more, too_many, valid_more}
 use Rattle.archive.proofs.admit.fits.Goals as goal
 

@@ -1,4 +1,4 @@
-use Rattle.std.proofs.Common.{◌≡◌, ◌≤◌, ◌<◌, ℕ, List, [], arith, refl, ◌∙◌, ap, map, length, Some}
+use Rattle.std.proofs.Common.{◌≡◌, ℕ, List, [], arith, refl, ◌∙◌, ap, map, length}
 use Rattle.std.specs.List.{slice_get, slice_set}
 use Rattle.sequencer.specs.Lanes.{marks}
 use Rattle.sequencer.specs.Late.{greatest, timely}

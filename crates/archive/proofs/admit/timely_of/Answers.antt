@@ -1,4 +1,4 @@
-use Rattle.std.proofs.Common.{◌≡◌, ◌≤◌, ◌<◌, arith, refl, map, take}
+use Rattle.std.proofs.Common.{◌≤◌, ◌<◌, arith, refl, map, take}
 use Rattle.route_meaning.specs.Holds.{admitted_time}
 use Rattle.sequencer.specs.Late.{greatest}
 use Rattle.archive.proofs.Batches.{kept_more, late_more, greatest_more}

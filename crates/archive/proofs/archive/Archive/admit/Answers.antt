@@ -1,15 +1,15 @@
-use Rattle.std.proofs.Common.{◌≡◌, ◌<◌, ◌≤◌, ◌∙◌, ℕ, List, length, arith, sym, ap, subst, refl, Err, OnOk, IfOk, Some, inl, inr}
+use Rattle.std.proofs.Common.{◌≡◌, ◌<◌, ◌≤◌, ℕ, length, arith, sym, subst, refl, Some, inl, inr}
 use Rattle.std.specs.List.{slice_get, slice_set}
 use Rattle.std.proofs.lemmas.Bool.{false≢true, cases_lt}
-use Rattle.route_meaning.specs.History.{History, Intake, IsHistory}
+use Rattle.route_meaning.specs.History.{Intake, IsHistory}
 use Rattle.archive.specs.Carries.{Carries}
 use Rattle.archive.specs.Steps.{IsCollector, IsCounterFull, batch_octets, given}
 use Rattle.archive.specs.Replies.{IsReply}
-use Rattle.archive.specs.Kept.{history_of, IsKept}
+use Rattle.archive.specs.Kept.{history_of}
 use Rattle.sequencer.proofs.Setting.{get_some}
 use Rattle.archive.proofs.Telling.{carried, carries_step, collectors_are}
 use Rattle.archive.proofs.Marking.{there}
-use Rattle.archive.proofs.Giving.{Of, of_queue, full_is, not_full, reply_is, given_is, kept_given, same_is, kept_same}
+use Rattle.archive.proofs.Giving.{of_queue, full_is, not_full, reply_is, given_is, kept_given, same_is, kept_same}
 use Rattle.archive.proofs.archive.Archive.admit.Goals as goal
 use Rattle.archive.proofs.archive.Archive.admit.Goals.{in-Ok, in-Err}
 

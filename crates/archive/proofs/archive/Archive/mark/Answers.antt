@@ -1,6 +1,5 @@
-use Rattle.std.proofs.Common.{◌≡◌, ◌<◌, ◌≤◌, ◌∙◌, ◌↔◌, ℕ, List, length, arith, sym, ap, subst, refl, Err, OnOk}
-use Rattle.sequencer.specs.Lanes.{Waiting, Raises, IsAbove}
-use Rattle.route_meaning.specs.History.{History}
+use Rattle.std.proofs.Common.{◌<◌, ◌≤◌, List, length, arith, sym, subst, refl}
+use Rattle.sequencer.specs.Lanes.{Waiting}
 use Rattle.archive.specs.Carries.{Carries}
 use Rattle.archive.specs.Steps.{IsCollector, IsMarkAbove, marked}
 use Rattle.archive.specs.Kept.{history_of, IsKept}

@@ -1,4 +1,4 @@
-use Rattle.std.proofs.Common.{◌≡◌, [], List, length, arith, sym, subst}
+use Rattle.std.proofs.Common.{◌≡◌, List, length, arith, sym, subst}
 use Rattle.route_model.specs.Admission.{Admitted}
 use Rattle.route_meaning.specs.Merged.{Placed}
 use Rattle.archive.specs.Kept.{history_of, IsKept}

@@ -1,11 +1,10 @@
-use Rattle.std.proofs.Common.{◌≡◌, ◌<◌, ◌∙◌, length, map, arith, sym, ap, Some, subst, ℕ}
+use Rattle.std.proofs.Common.{◌≡◌, ◌<◌, ◌∙◌, length, map, arith, sym, Some}
 use Rattle.std.specs.List.{slice_get}
-use Rattle.archive.specs.Steps.{IsCollector}
-use Rattle.archive.specs.Kept.{Queued, history_of}
+use Rattle.archive.specs.Kept.{history_of}
 use Rattle.archive.specs.Replies.{resume_of}
 use Rattle.sequencer.proofs.Setting.{get_some}
 use Rattle.archive.proofs.Keeping.{same_number}
-use Rattle.archive.proofs.Telling.{carried, carries_step, collectors_are, resume_at}
+use Rattle.archive.proofs.Telling.{carried, collectors_are, resume_at}
 use Rattle.archive.proofs.archive.Archive.resume.Goals as goal
 
 pub index-queue-requires : goal.index-queue-requires
