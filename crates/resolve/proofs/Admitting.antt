@@ -1,10 +1,9 @@
 -- Why changes are no admission, as a fault of their record.
-use Rattle.std.proofs.Common.{◌≡◌, ◌<◌, ◌≤◌, ℕ, Bool, List, [], ◌∷◌, ◌++◌, map, filter, not, if◌then◌else◌, length, Option, Some, None, Result, Ok, Err, refl, sym, ap, subst, arith, zero, suc, ◌⊎◌, inl, inr, ◌==◌, true, false}
+use Rattle.std.proofs.Common.{◌≡◌, ◌<◌, ℕ, Bool, List, [], ◌∷◌, ◌++◌, map, filter, not, if◌then◌else◌, length, Option, Some, None, Err, refl, sym, subst, arith, zero, suc, ◌⊎◌, inl, inr, ◌==◌, true, false}
 use Rattle.std.specs.List.{Any}
 use Rattle.route_model.specs.Admission.{Admitted, IsTooLarge, admission_octets}
 use Rattle.route_model.specs.Admission as admissions
 use Rattle.route_model.specs.Prefix.{IpPrefix}
-use Rattle.route_model.specs.Sequence.{Each}
 use Rattle.route_model.specs.Spelling.{route_octets}
 use Rattle.route_model.specs.declared.admission.AdmissionError.{AdmissionError}
 use Rattle.route_model.specs.declared.admission.AdmissionError.TheVariants as errors
@@ -17,7 +16,7 @@ use Rattle.mrt_records.specs.Entries.{Entry}
 use Rattle.mrt_records.specs.declared.neighbor.Neighbor.{Neighbor}
 use Rattle.bgp_update.specs.Messages.{Announced, Told, Update, Notification, Other, IsMessage, IsLarge, HasLarge}
 use Rattle.resolve.specs.Changes.{withdrawals, announcements, message_changes, is_among}
-use Rattle.resolve.specs.Entries.{IsChangeOf, AreChangesOf}
+use Rattle.resolve.specs.Entries.{AreChangesOf}
 use Rattle.resolve.specs.Faults.{of_admission}
 use Rattle.resolve.specs.Records.{MessageGives, StateGives, RibGives, IsLong, admitted, state_changes}
 

@@ -2,3 +2,6 @@ pub mod Reading
 pub mod Announcing
 pub mod Admitting
 pub mod Tables
+pub mod OneTable
+pub mod OneMeaning
+pub mod Feeds

@@ -1,7 +1,6 @@
 -- What the attributes of an entry give, and what that says of the entry.
-use Rattle.std.proofs.Common.{◌≡◌, ◌<◌, ◌≤◌, ℕ, suc, List, [], ◌∷◌, length, Some, Result, Ok, Err, sym, subst, slice_get}
+use Rattle.std.proofs.Common.{◌<◌, ℕ, List, length, Result, Ok, Err, subst}
 use Rattle.route_model.specs.Reading.{NoReading}
-use Rattle.route_model.specs.Spelling.{route_octets}
 use Rattle.route_model.specs.Prefix.{IpPrefix}
 use Rattle.route_model.specs.declared.octets.ReadFault.{ReadFault}
 use Rattle.route_model.specs.declared.octets.ReadFault.TheVariants as reading

@@ -1,5 +1,5 @@
 -- What a message changes.
-use Rattle.std.specs.Prelude.{◌≡◌, ℕ, Bool, false, not, List, [], ◌∷◌, ◌++◌, map, filter, Option, Some, None}
+use Rattle.std.specs.Prelude.{ℕ, Bool, false, not, List, [], ◌∷◌, ◌++◌, map, filter, Option, Some, None}
 use Rattle.std.specs.List.{list_any}
 use Rattle.route_model.specs.Prefix.{IpPrefix}
 use Rattle.route_model.specs.declared.peer.Peer.{Peer}

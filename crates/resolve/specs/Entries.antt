@@ -30,23 +30,23 @@ family_of (V4 octets) = families.Ipv4
 family_of (V6 octets) = families.Ipv6
 
 -- the attributes of an entry, with AS numbers of four octets, give the route
-abbrev pub GivesRoute : IpPrefix → Entry → Route → Type 0
-GivesRoute prefix entry route = (a : PathAttributes) × AreAttributes widths.Four entry.attributes a × IsEntryRoute (family_of prefix.address) a route
+abbrev pub IsRouteOf : IpPrefix → Entry → Route → Type 0
+IsRouteOf prefix entry route = (a : PathAttributes) × AreAttributes widths.Four entry.attributes a × IsEntryRoute (family_of prefix.address) a route
 
 -- the entry announces the route that its attributes give, from the peer that it names
 pub record IsChangeOf (collector : ℕ) (peers : List Neighbor) (prefix : IpPrefix) (entry : Entry) (change : Change) : Type 0 where
   pub neighbor : Neighbor
   pub route : Route
   pub named : slice_get peers entry.peer_index ≡ Some neighbor
-  pub gives : GivesRoute prefix entry route
+  pub gives : IsRouteOf prefix entry route
   pub fits : length (route_octets route) ≤ 3072
   pub announces : change ≡ changes.Announce (peer_of collector neighbor) prefix route
 
 -- why an entry announces nothing: the peer is looked at first, then the attributes; memory may be wanting at any entry
 abbrev pub IsFaultOf : List Neighbor → IpPrefix → Entry → ResolveFault → Type 0
 IsFaultOf peers prefix entry faults.BadPeerIndex = length peers ≤ entry.peer_index
-IsFaultOf peers prefix entry faults.Malformed = (entry.peer_index < length peers) × ((route : Route) → GivesRoute prefix entry route → ⊥)
-IsFaultOf peers prefix entry faults.RouteTooLarge = (entry.peer_index < length peers) × (route : Route) × GivesRoute prefix entry route × (3072 < length (route_octets route))
+IsFaultOf peers prefix entry faults.Malformed = (entry.peer_index < length peers) × ((route : Route) → IsRouteOf prefix entry route → ⊥)
+IsFaultOf peers prefix entry faults.RouteTooLarge = (entry.peer_index < length peers) × (route : Route) × IsRouteOf prefix entry route × (3072 < length (route_octets route))
 IsFaultOf peers prefix entry faults.NoPeerTable = ⊥
 IsFaultOf peers prefix entry faults.AdmissionTooLarge = ⊥
 IsFaultOf peers prefix entry faults.OutOfMemory = Unit {0}

@@ -3,3 +3,4 @@ pub mod Changes
 pub mod Entries
 pub mod Records
 pub mod Faults
+pub mod Meanings

@@ -1,6 +1,6 @@
 //! Records from outside, worked examples among them, and the spelling of what they mean.
 
-use crate::{ResolveFault, Resolver};
+use crate::{ResolveFault, Resolver, resolve_all};
 use mrt_records::{Framer, Item};
 use std::alloc::Global;
 use std::test::Fail;
@@ -251,5 +251,26 @@ fn entries_are_refused_in_their_order(rt: HostRuntime) -> Result<(), Fail> {
             Err(ResolveFault::Malformed)
         )?
     );
+    Ok(())
+}
+
+#[test]
+fn a_feed_is_read_as_its_records_are(rt: HostRuntime) -> Result<(), Fail> {
+    let alloc = rt.alloc();
+    let mut framer = Framer::new(alloc);
+    let mut items: Vec<Item> = Vec::new(alloc);
+    for record in [RIB, PEER_TABLE, RIB, CUT_PEER_TABLE, RIB] {
+        framer.feed(&octets(alloc, record)?, &mut items)?;
+    }
+    let results = resolve_all(alloc, 0, &items)?;
+    assert_eq!(rt; results.len(), 5);
+    assert!(rt; matches!(&results[0], Err(ResolveFault::NoPeerTable)));
+    assert!(rt; matches!(&results[1], Ok(None)));
+    let Ok(Some(admission)) = &results[2] else {
+        return Err(Fail::from("no admission"));
+    };
+    assert!(rt; admission.encode(alloc)?.as_slice() == octets(alloc, ANNOUNCED)?.as_slice());
+    assert!(rt; matches!(&results[3], Err(ResolveFault::Malformed)));
+    assert!(rt; matches!(&results[4], Err(ResolveFault::NoPeerTable)));
     Ok(())
 }

@@ -1,9 +1,8 @@
-use Rattle.std.proofs.Common.{◌≡◌, ◌∙◌, ap, subst}
+use Rattle.std.proofs.Common.{◌∙◌, ap, subst}
 use Rattle.std.proofs.lemmas.Result.{err_from_is_err_and}
-use Rattle.route_model.specs.declared.address.Address.{Address}
 use Rattle.route_model.specs.declared.wire.Family.{Family}
 use Rattle.bgp_update.specs.Entries.{GivesRoute}
-use Rattle.resolve.specs.Entries.{family_of, RouteRead}
+use Rattle.resolve.specs.Entries.{family_of}
 use Rattle.resolve.proofs.Reading.{unread, given}
 use Rattle.resolve.proofs.entries.route_of.Goals as goal
 

@@ -1,9 +1,8 @@
-use Rattle.std.proofs.Common.{subst, sym, List, ◌∷◌, ◌++◌, []}
-use Rattle.mrt_records.specs.Values.{Told, told}
+use Rattle.std.proofs.Common.{subst}
+use Rattle.mrt_records.specs.Values.{told}
 use Rattle.mrt_records.specs.declared.item.Item.{Item}
-use Rattle.mrt_records.specs.declared.item.Item.TheVariants as items
-use Rattle.resolve.specs.Tables.{IsPeerTable, LastTable}
-use Rattle.resolve.proofs.Tables.{stays, comes}
+use Rattle.resolve.specs.Tables.{IsPeerTable}
+use Rattle.resolve.proofs.Tables.{stays}
 use Rattle.resolve.proofs.resolver.Resolver.record.Goals as goal
 
 pub returns-in-Message-clause-table : goal.returns-in-Message-clause-table

@@ -1,0 +1,80 @@
+-- The meaning of a feed as its records come.
+use Rattle.std.proofs.Common.{◌≡◌, ◌∙◌, ◌<◌, inl, inr, ℕ, suc, List, [], ◌∷◌, ◌++◌, length, take, map, get_or, ◌+◌, Option, Some, None, Result, Err, refl, sym, ap, subst, arith, zero}
+use Rattle.std.proofs.lemmas.List.{take-append-le, length-append, take_more, map-append}
+use Rattle.std.proofs.lemmas.Bool.Decides.{leb_tells}
+use Rattle.std.proofs.lemmas.Option.{slice_get_within}
+use Rattle.std.proofs.Math.Seq.{take-append_seam}
+use Rattle.std.specs.List.{slice_get}
+use Rattle.route_model.specs.Admission.{Admitted}
+use Rattle.mrt_records.specs.Values.{Told, told}
+use Rattle.mrt_records.specs.declared.item.Item.{Item}
+use Rattle.resolve.specs.Tables.{LastTable, Feed}
+use Rattle.resolve.specs.Records.{Gives}
+use Rattle.resolve.specs.Meanings.{IsMeaning, Means}
+use Rattle.resolve.specs.declared.fault.ResolveFault.{ResolveFault}
+use Rattle.resolve.specs.declared.fault.ResolveFault.TheVariants as faults
+
+-- the resolver of the collector c came behind these records, which mean these results
+pub record IsBehind (c : ℕ) (records : List Told) (feed : Feed) (results : List (Result (Option Admitted) ResolveFault)) : Type 0 where
+  pub collector : feed.collector ≡ c
+  pub last : LastTable records feed.table
+  pub means : Means c records results
+
+pub at_first : (c : ℕ) (feed : Feed) (results : List (Result (Option Admitted) ResolveFault)) → feed.collector ≡ c → feed.table ≡ None → results ≡ [] → IsBehind c [] feed results
+at_first c feed results same none empty = record {
+  collector = same;
+  last = inl (tt, none);
+  means = record { count = ap length empty; each = λ n next result e f. absurd cc };
+}
+
+before_seam : {X : Type 0} (xs : List X) (y : X) (n : ℕ) → n < length xs → slice_get (xs ++ y ∷ []) n ≡ slice_get xs n
+before_seam [] y n lt = absurd (omega (arith, lt))
+before_seam (x ∷ xs) y zero lt = refl
+before_seam (x ∷ xs) y (suc n) lt = before_seam xs y n (omega (arith, lt))
+
+at_seam : {X : Type 0} (xs : List X) (y : X) → slice_get (xs ++ y ∷ []) (length xs) ≡ Some y
+at_seam [] y = refl
+at_seam (x ∷ xs) y = at_seam xs y
+
+-- one record more
+pub one_more : (c : ℕ) (records : List Told) (results : List (Result (Option Admitted) ResolveFault)) (r : Told) (x : Result (Option Admitted) ResolveFault)
+    → Means c records results → IsMeaning c records r x → Means c (records ++ r ∷ []) (results ++ x ∷ [])
+one_more c records results r x means is = record {
+  count = let a = length-append results (x ∷ []) in let b = length-append records (r ∷ []) in let same = means.count in omega (arith, a, b, same);
+  each = λ n next result e f.
+      elim (leb_tells (length records) n) [
+        | inl more ↦
+            let ge = more.1 in
+            let within = slice_get_within (records ++ r ∷ []) n next e in
+            let same : n ≡ length records = let a = length-append records (r ∷ []) in omega (arith, within, a, ge) in
+            let first : r ≡ next = let h : Some r ≡ Some next = sym (at_seam records r) ∙ ap (λ (k : ℕ). slice_get (records ++ r ∷ []) k) (sym same) ∙ e in cc in
+            let second : x ≡ result = let h : Some x ≡ Some result = sym (at_seam results x) ∙ ap (λ (k : ℕ). slice_get (results ++ x ∷ []) k) (means.count ∙ sym same) ∙ f in cc in
+            let front : records ≡ take n (records ++ r ∷ []) = sym (take-append_seam records (r ∷ [])) ∙ ap (λ (k : ℕ). take k (records ++ r ∷ [])) (sym same) in
+            subst (λ (t : List Told). IsMeaning c t next result) front
+            (subst (λ (t : Told). IsMeaning c records t result) first (subst (λ (t : Result (Option Admitted) ResolveFault). IsMeaning c records r t) second is))
+        | inr less ↦
+            let lt = less.1 in
+            let here : slice_get records n ≡ Some next = sym (before_seam records r n lt) ∙ e in
+            let there : slice_get results n ≡ Some result = sym (before_seam results x n (omega (arith, lt, means.count))) ∙ f in
+            subst (λ (t : List Told). IsMeaning c t next result) (sym (take-append-le n records (r ∷ []) (omega (arith, lt)))) (means.each n next result here there)
+      ];
+}
+
+-- the next record of a feed
+pub goes_on : (c : ℕ) (records : List Told) (old new : Feed) (results : List (Result (Option Admitted) ResolveFault)) (r : Told) (x : Result (Option Admitted) ResolveFault)
+    → IsBehind c records old results → new.collector ≡ old.collector → Gives old.collector old.table r x
+    → ((x ≡ Err faults.OutOfMemory → ⊥) → (before : List Told) → LastTable before old.table → LastTable (before ++ r ∷ []) new.table)
+    → (x ≡ Err faults.OutOfMemory → ⊥) → IsBehind c (records ++ r ∷ []) new (results ++ x ∷ [])
+goes_on c records old new results r x behind same gives table enough = record {
+  collector = same ∙ behind.collector;
+  last = table enough records behind.last;
+  means =
+      one_more c records results r x behind.means
+      (record { table = old.table; last = behind.last; gives = subst (λ (n : ℕ). Gives n old.table r x) behind.collector gives; wanting = enough });
+}
+
+-- what the items tell that were gone over, with one more
+pub one_told : (items : List Item) (i : ℕ) (item : Item) → i < length items → item ≡ get_or items i item → map told (take (i + 1) items) ≡ map told (take i items) ++ told item ∷ []
+one_told items i item lt is =
+    ap (λ (t : List Item). map told t) (take_more items i item lt) ∙ map-append told (take i items) (get_or items i item ∷ [])
+    ∙ ap (λ (t : Item). map told (take i items) ++ told t ∷ []) (sym is)

@@ -1,0 +1,288 @@
+-- The records of a feed mean one list of results.
+use Rattle.std.proofs.Common.{◌≡◌, ◌∙◌, ◌<◌, ◌≤◌, ◌⊎◌, inl, inr, ℕ, zero, suc, List, [], ◌∷◌, ◌++◌, length, take, Option, Some, None, Result, Ok, Err, refl, sym, ap, subst, arith}
+use Rattle.std.proofs.lemmas.Option.{slice_get_within}
+use Rattle.std.specs.List.{slice_get}
+use Rattle.route_model.specs.Admission.{Admitted}
+use Rattle.route_model.specs.Prefix.{IpPrefix}
+use Rattle.route_model.specs.Spelling.{route_octets}
+use Rattle.route_model.specs.declared.change.Change.{Change}
+use Rattle.route_model.specs.declared.change.Change.TheVariants as changes
+use Rattle.route_model.specs.declared.peer.Peer.{Peer}
+use Rattle.route_model.specs.declared.route.NextHop.{NextHop}
+use Rattle.route_model.specs.declared.route.Route.{Route}
+use Rattle.route_model.specs.declared.wire.AsWidth.{AsWidth}
+use Rattle.route_model.specs.declared.wire.AsWidth.TheVariants as widths
+use Rattle.route_model.specs.declared.wire.Family.{Family}
+use Rattle.mrt_records.specs.Entries.{Entry}
+use Rattle.mrt_records.specs.Values as records
+use Rattle.mrt_records.specs.declared.neighbor.Neighbor.{Neighbor}
+use Rattle.bgp_update.specs.Entries.{IsEntryRoute}
+use Rattle.bgp_update.specs.Messages.{Told, IsMessage, HasLarge}
+use Rattle.bgp_update.specs.Routes.{four_hop, entry_hop, entry_route_of}
+use Rattle.bgp_update.specs.declared.reading.PathAttributes.{PathAttributes}
+use Rattle.bgp_update.proofs.OneReading.{attributes_one}
+use Rattle.bgp_update.proofs.Reached.{entry_reach_one}
+use Rattle.bgp_update.proofs.Told.{message_one}
+use Rattle.resolve.specs.Changes.{peer_of, message_changes}
+use Rattle.resolve.specs.Entries.{family_of, IsRouteOf, IsChangeOf, IsFaultOf, AreChangesOf, IsFirstFault}
+use Rattle.resolve.specs.Meanings.{IsMeaning, Means}
+use Rattle.resolve.specs.Records.{admitted, IsLong, MessageGives, StateGives, RibGives, RibGivesUnder, Gives, state_changes}
+use Rattle.resolve.specs.declared.fault.ResolveFault.{ResolveFault}
+use Rattle.resolve.specs.declared.fault.ResolveFault.TheVariants as faults
+use Rattle.resolve.proofs.OneTable.{one_table}
+
+abbrev Meaning : Type 0
+Meaning = Result (Option Admitted) ResolveFault
+
+-- a list of changes is an admission, or too large
+abbrev Fits : ℕ → List Change → Meaning → Type 0
+Fits time list x = ((IsLong (admitted time list) → ⊥) × (x ≡ Ok (Some (admitted time list)))) ⊎ (IsLong (admitted time list) × (x ≡ Err faults.AdmissionTooLarge))
+
+fits_one : (time : ℕ) (list : List Change) (x y : Meaning) → Fits time list x → Fits time list y → x ≡ y
+fits_one time list x y (inl a) (inl b) = a.1 ∙ sym b.1
+fits_one time list x y (inl a) (inr b) = absurd (a.0 b.0)
+fits_one time list x y (inr a) (inl b) = absurd (b.0 a.0)
+fits_one time list x y (inr a) (inr b) = a.1 ∙ sym b.1
+
+fits : (time : ℕ) (list : List Change) (a : Admitted) → a ≡ admitted time list → (IsLong a → ⊥) → Fits time list (Ok (Some a))
+fits time list a same short = inl (subst (λ (t : Admitted). IsLong t → ⊥) same short, ap (λ (t : Admitted). Ok (Some t)) same)
+
+-- messages
+
+abbrev OfTold : Peer → ℕ → Told → Meaning → Type 0
+OfTold peer time m x = (HasLarge m × (x ≡ Err faults.RouteTooLarge)) ⊎ ((HasLarge m → ⊥) × Fits time (message_changes peer m) x)
+
+told_one : (peer : Peer) (time : ℕ) (m : Told) (x y : Meaning) → OfTold peer time m x → OfTold peer time m y → x ≡ y
+told_one peer time m x y (inl a) (inl b) = a.1 ∙ sym b.1
+told_one peer time m x y (inl a) (inr b) = absurd (b.0 a.0)
+told_one peer time m x y (inr a) (inl b) = absurd (a.0 b.0)
+told_one peer time m x y (inr a) (inr b) = fits_one time (message_changes peer m) x y a.1 b.1
+
+abbrev OfMessage : Peer → ℕ → AsWidth → List ℕ → Meaning → Type 0
+OfMessage peer time width octets x =
+    (((m : Told) → IsMessage width octets m → ⊥) × (x ≡ Err faults.Malformed)) ⊎ ((m : Told) × IsMessage width octets m × OfTold peer time m x)
+
+of_message : (peer : Peer) (time : ℕ) (width : AsWidth) (octets : List ℕ) (x : Meaning) → MessageGives peer time width octets x → (x ≡ Err faults.OutOfMemory → ⊥) → OfMessage peer time width octets x
+of_message peer time width octets (Ok None) g enough = absurd g
+of_message peer time width octets (Ok (Some a)) g enough = inr (g.0, g.1, inr (g.2, fits time (message_changes peer g.0) a g.3 g.4))
+of_message peer time width octets (Err faults.Malformed) g enough = inl (g, refl)
+of_message peer time width octets (Err faults.RouteTooLarge) g enough = inr (g.0, g.1, inl (g.2, refl))
+of_message peer time width octets (Err faults.AdmissionTooLarge) g enough = inr (g.0, g.1, inr (g.2, inr (g.3, refl)))
+of_message peer time width octets (Err faults.NoPeerTable) g enough = absurd g
+of_message peer time width octets (Err faults.BadPeerIndex) g enough = absurd g
+of_message peer time width octets (Err faults.OutOfMemory) g enough = absurd (enough refl)
+
+of_message_one : (peer : Peer) (time : ℕ) (width : AsWidth) (octets : List ℕ) (x y : Meaning) → OfMessage peer time width octets x → OfMessage peer time width octets y → x ≡ y
+of_message_one peer time width octets x y (inl a) (inl b) = a.1 ∙ sym b.1
+of_message_one peer time width octets x y (inl a) (inr b) = absurd (a.0 b.0 b.1)
+of_message_one peer time width octets x y (inr a) (inl b) = absurd (b.0 a.0 a.1)
+of_message_one peer time width octets x y (inr a) (inr b) =
+    let same = message_one width octets b.0 a.0 b.1 a.1 in
+    told_one peer time a.0 x y a.2 (subst (λ (t : Told). OfTold peer time t y) same b.2)
+
+-- state changes
+
+of_state : (peer : Peer) (time state : ℕ) (x : Meaning) → StateGives peer time state x → (x ≡ Err faults.OutOfMemory → ⊥) → Fits time (state_changes peer state) x
+of_state peer time state (Ok None) g enough = absurd g
+of_state peer time state (Ok (Some a)) g enough = fits time (state_changes peer state) a g.0 g.1
+of_state peer time state (Err faults.AdmissionTooLarge) g enough = inr (g, refl)
+of_state peer time state (Err faults.Malformed) g enough = absurd g
+of_state peer time state (Err faults.RouteTooLarge) g enough = absurd g
+of_state peer time state (Err faults.NoPeerTable) g enough = absurd g
+of_state peer time state (Err faults.BadPeerIndex) g enough = absurd g
+of_state peer time state (Err faults.OutOfMemory) g enough = absurd (enough refl)
+
+-- entries
+
+some_one : {X : Type 0} (x y : X) (o : Option X) → o ≡ Some x → o ≡ Some y → x ≡ y
+some_one x y o e f = let same : Some x ≡ Some y = sym e ∙ f in cc
+
+entry_route_one : (family : Family) (a : PathAttributes) (x y : Route) → IsEntryRoute family a x → IsEntryRoute family a y → x ≡ y
+entry_route_one family a x y p q =
+    let same = entry_reach_one a.reach q.reach p.reach q.is_reach p.is_reach in
+    some_one x y (entry_route_of a (entry_hop family (four_hop a.next_hop) p.reach)) p.is_route
+    (subst (λ (t : Option NextHop). entry_route_of a (entry_hop family (four_hop a.next_hop) t) ≡ Some y) same q.is_route)
+
+route_one : (prefix : IpPrefix) (entry : Entry) (x y : Route) → IsRouteOf prefix entry x → IsRouteOf prefix entry y → x ≡ y
+route_one prefix entry x y p q =
+    let same = attributes_one widths.Four entry.attributes q.0 p.0 q.1 p.1 in
+    entry_route_one (family_of prefix.address) p.0 x y p.2 (subst (λ (t : PathAttributes). IsEntryRoute (family_of prefix.address) t y) same q.2)
+
+change_one : (c : ℕ) (peers : List Neighbor) (prefix : IpPrefix) (entry : Entry) (x y : Change) → IsChangeOf c peers prefix entry x → IsChangeOf c peers prefix entry y → x ≡ y
+change_one c peers prefix entry x y p q =
+    let neighbor = some_one p.neighbor q.neighbor (slice_get peers entry.peer_index) p.named q.named in
+    let route = route_one prefix entry p.route q.route p.gives q.gives in
+    p.announces ∙ ap (λ (t : Neighbor). changes.Announce (peer_of c t) prefix p.route) neighbor ∙ ap (λ (t : Route). changes.Announce (peer_of c q.neighbor) prefix t) route ∙ sym q.announces
+
+changes_one : (c : ℕ) (peers : List Neighbor) (prefix : IpPrefix) (entries : List Entry) (xs ys : List Change) → AreChangesOf c peers prefix entries xs → AreChangesOf c peers prefix entries ys → xs ≡ ys
+changes_one c peers prefix [] [] [] p q = refl
+changes_one c peers prefix [] [] (y ∷ ys) p q = absurd q
+changes_one c peers prefix [] (x ∷ xs) ys p q = absurd p
+changes_one c peers prefix (e ∷ entries) [] ys p q = absurd p
+changes_one c peers prefix (e ∷ entries) (x ∷ xs) [] p q = absurd q
+changes_one c peers prefix (e ∷ entries) (x ∷ xs) (y ∷ ys) p q =
+    let first = change_one c peers prefix e x y p.0 q.0 in
+    let rest = changes_one c peers prefix entries xs ys p.1 q.1 in
+    ap (λ (t : Change). t ∷ xs) first ∙ ap (λ (t : List Change). y ∷ t) rest
+
+-- an entry that announces a change has no fault
+not_faulty : (c : ℕ) (peers : List Neighbor) (prefix : IpPrefix) (entry : Entry) (x : Change) (fault : ResolveFault) → IsChangeOf c peers prefix entry x → IsFaultOf peers prefix entry fault → (fault ≡ faults.OutOfMemory → ⊥) → ⊥
+not_faulty c peers prefix entry x faults.BadPeerIndex p f enough = let within = slice_get_within peers entry.peer_index p.neighbor p.named in omega (arith, within, f)
+not_faulty c peers prefix entry x faults.Malformed p f enough = f.1 p.route p.gives
+not_faulty c peers prefix entry x faults.RouteTooLarge p f enough =
+    let large = subst (λ (t : Route). 3072 < length (route_octets t)) (route_one prefix entry f.1 p.route f.2 p.gives) f.3 in
+    let small = p.fits in
+    omega (arith, large, small)
+not_faulty c peers prefix entry x faults.NoPeerTable p f enough = f
+not_faulty c peers prefix entry x faults.AdmissionTooLarge p f enough = f
+not_faulty c peers prefix entry x faults.OutOfMemory p f enough = enough refl
+
+bad_index_one : (peers : List Neighbor) (prefix : IpPrefix) (entry : Entry) (g : ResolveFault) → length peers ≤ entry.peer_index → IsFaultOf peers prefix entry g → (g ≡ faults.OutOfMemory → ⊥) → faults.BadPeerIndex ≡ g
+bad_index_one peers prefix entry faults.BadPeerIndex a b enough = refl
+bad_index_one peers prefix entry faults.Malformed a b enough = let within = b.0 in absurd (omega (arith, a, within))
+bad_index_one peers prefix entry faults.RouteTooLarge a b enough = let within = b.0 in absurd (omega (arith, a, within))
+bad_index_one peers prefix entry faults.NoPeerTable a b enough = absurd b
+bad_index_one peers prefix entry faults.AdmissionTooLarge a b enough = absurd b
+bad_index_one peers prefix entry faults.OutOfMemory a b enough = absurd (enough refl)
+
+malformed_one : (peers : List Neighbor) (prefix : IpPrefix) (entry : Entry) (g : ResolveFault) → entry.peer_index < length peers → ((route : Route) → IsRouteOf prefix entry route → ⊥) → IsFaultOf peers prefix entry g
+    → (g ≡ faults.OutOfMemory → ⊥) → faults.Malformed ≡ g
+malformed_one peers prefix entry faults.BadPeerIndex within none b enough = absurd (omega (arith, within, b))
+malformed_one peers prefix entry faults.Malformed within none b enough = refl
+malformed_one peers prefix entry faults.RouteTooLarge within none b enough = absurd (none b.1 b.2)
+malformed_one peers prefix entry faults.NoPeerTable within none b enough = absurd b
+malformed_one peers prefix entry faults.AdmissionTooLarge within none b enough = absurd b
+malformed_one peers prefix entry faults.OutOfMemory within none b enough = absurd (enough refl)
+
+large_one : (peers : List Neighbor) (prefix : IpPrefix) (entry : Entry) (g : ResolveFault) (route : Route) → entry.peer_index < length peers → IsRouteOf prefix entry route → IsFaultOf peers prefix entry g
+    → (g ≡ faults.OutOfMemory → ⊥) → faults.RouteTooLarge ≡ g
+large_one peers prefix entry faults.BadPeerIndex route within gives b enough = absurd (omega (arith, within, b))
+large_one peers prefix entry faults.Malformed route within gives b enough = absurd (b.1 route gives)
+large_one peers prefix entry faults.RouteTooLarge route within gives b enough = refl
+large_one peers prefix entry faults.NoPeerTable route within gives b enough = absurd b
+large_one peers prefix entry faults.AdmissionTooLarge route within gives b enough = absurd b
+large_one peers prefix entry faults.OutOfMemory route within gives b enough = absurd (enough refl)
+
+fault_one : (peers : List Neighbor) (prefix : IpPrefix) (entry : Entry) (f g : ResolveFault) → IsFaultOf peers prefix entry f → IsFaultOf peers prefix entry g
+    → (f ≡ faults.OutOfMemory → ⊥) → (g ≡ faults.OutOfMemory → ⊥) → f ≡ g
+fault_one peers prefix entry faults.BadPeerIndex g a b n m = bad_index_one peers prefix entry g a b m
+fault_one peers prefix entry faults.Malformed g a b n m = malformed_one peers prefix entry g a.0 a.1 b m
+fault_one peers prefix entry faults.RouteTooLarge g a b n m = large_one peers prefix entry g a.1 a.0 a.2 b m
+fault_one peers prefix entry faults.NoPeerTable g a b n m = absurd a
+fault_one peers prefix entry faults.AdmissionTooLarge g a b n m = absurd a
+fault_one peers prefix entry faults.OutOfMemory g a b n m = absurd (n refl)
+
+-- the first fault of entries that are told as two lists, each with an entry that has a fault behind entries that have none
+first_one : (c : ℕ) (peers : List Neighbor) (prefix : IpPrefix) (before after other_before other_after : List Entry) (entry other : Entry) (xs ys : List Change) (f g : ResolveFault)
+    → before ++ entry ∷ after ≡ other_before ++ other ∷ other_after → AreChangesOf c peers prefix before xs → AreChangesOf c peers prefix other_before ys
+    → IsFaultOf peers prefix entry f → IsFaultOf peers prefix other g → (f ≡ faults.OutOfMemory → ⊥) → (g ≡ faults.OutOfMemory → ⊥) → f ≡ g
+first_one c peers prefix [] after [] other_after entry other xs ys f g e p q a b n m =
+    let same : entry ≡ other = cc in
+    fault_one peers prefix other f g (subst (λ (t : Entry). IsFaultOf peers prefix t f) same a) b n m
+first_one c peers prefix [] after (k ∷ other_before) other_after entry other xs [] f g e p q a b n m = absurd q
+first_one c peers prefix [] after (k ∷ other_before) other_after entry other xs (y ∷ ys) f g e p q a b n m =
+    let same : k ≡ entry = cc in
+    absurd (not_faulty c peers prefix entry y f (subst (λ (t : Entry). IsChangeOf c peers prefix t y) same q.0) a n)
+first_one c peers prefix (j ∷ before) after [] other_after entry other [] ys f g e p q a b n m = absurd p
+first_one c peers prefix (j ∷ before) after [] other_after entry other (x ∷ xs) ys f g e p q a b n m =
+    let same : j ≡ other = cc in
+    absurd (not_faulty c peers prefix other x g (subst (λ (t : Entry). IsChangeOf c peers prefix t x) same p.0) b m)
+first_one c peers prefix (j ∷ before) after (k ∷ other_before) other_after entry other [] ys f g e p q a b n m = absurd p
+first_one c peers prefix (j ∷ before) after (k ∷ other_before) other_after entry other (x ∷ xs) [] f g e p q a b n m = absurd q
+first_one c peers prefix (j ∷ before) after (k ∷ other_before) other_after entry other (x ∷ xs) (y ∷ ys) f g e p q a b n m =
+    let rest : before ++ entry ∷ after ≡ other_before ++ other ∷ other_after = cc in
+    first_one c peers prefix before after other_before other_after entry other xs ys f g rest p.1 q.1 a b n m
+
+first_fault_one : (c : ℕ) (peers : List Neighbor) (prefix : IpPrefix) (entries : List Entry) (f g : ResolveFault) → IsFirstFault c peers prefix entries f → IsFirstFault c peers prefix entries g
+    → (f ≡ faults.OutOfMemory → ⊥) → (g ≡ faults.OutOfMemory → ⊥) → f ≡ g
+first_fault_one c peers prefix entries f g p q n m =
+    first_one c peers prefix p.before p.after q.before q.after p.entry q.entry p.changes q.changes f g (sym p.parts ∙ q.parts) p.well q.well p.faulty q.faulty n m
+
+-- entries of which each announces a change have no fault
+well_or_faulty : (c : ℕ) (peers : List Neighbor) (prefix : IpPrefix) (before after : List Entry) (entry : Entry) (xs : List Change) (f : ResolveFault)
+    → AreChangesOf c peers prefix (before ++ entry ∷ after) xs → IsFaultOf peers prefix entry f → (f ≡ faults.OutOfMemory → ⊥) → ⊥
+well_or_faulty c peers prefix [] after entry [] f p a n = p
+well_or_faulty c peers prefix [] after entry (x ∷ xs) f p a n = not_faulty c peers prefix entry x f p.0 a n
+well_or_faulty c peers prefix (b ∷ before) after entry [] f p a n = p
+well_or_faulty c peers prefix (b ∷ before) after entry (x ∷ xs) f p a n = well_or_faulty c peers prefix before after entry xs f p.1 a n
+
+none_faulty : (c : ℕ) (peers : List Neighbor) (prefix : IpPrefix) (entries : List Entry) (xs : List Change) (f : ResolveFault) → AreChangesOf c peers prefix entries xs → IsFirstFault c peers prefix entries f
+    → (f ≡ faults.OutOfMemory → ⊥) → ⊥
+none_faulty c peers prefix entries xs f p q n =
+    well_or_faulty c peers prefix q.before q.after q.entry xs f (subst (λ (t : List Entry). AreChangesOf c peers prefix t xs) q.parts p) q.faulty n
+
+-- RIB records
+
+abbrev OfRib : ℕ → List Neighbor → ℕ → IpPrefix → List Entry → Meaning → Type 0
+OfRib c peers time prefix entries x =
+    ((f : ResolveFault) × IsFirstFault c peers prefix entries f × (f ≡ faults.OutOfMemory → ⊥) × (x ≡ Err f)) ⊎ ((list : List Change) × AreChangesOf c peers prefix entries list × Fits time list x)
+
+of_rib : (c : ℕ) (peers : List Neighbor) (time : ℕ) (prefix : IpPrefix) (entries : List Entry) (x : Meaning) → RibGives c peers time prefix entries x → (x ≡ Err faults.OutOfMemory → ⊥) → OfRib c peers time prefix entries x
+of_rib c peers time prefix entries (Ok None) g enough = absurd g
+of_rib c peers time prefix entries (Ok (Some a)) g enough = inr (g.0, g.1, fits time g.0 a g.2 g.3)
+of_rib c peers time prefix entries (Err faults.BadPeerIndex) g enough = inl (faults.BadPeerIndex, g, λ e. absurd cc, refl)
+of_rib c peers time prefix entries (Err faults.Malformed) g enough = inl (faults.Malformed, g, λ e. absurd cc, refl)
+of_rib c peers time prefix entries (Err faults.RouteTooLarge) g enough = inl (faults.RouteTooLarge, g, λ e. absurd cc, refl)
+of_rib c peers time prefix entries (Err faults.AdmissionTooLarge) g enough = inr (g.0, g.1, inr (g.2, refl))
+of_rib c peers time prefix entries (Err faults.NoPeerTable) g enough = absurd g
+of_rib c peers time prefix entries (Err faults.OutOfMemory) g enough = absurd (enough refl)
+
+of_rib_one : (c : ℕ) (peers : List Neighbor) (time : ℕ) (prefix : IpPrefix) (entries : List Entry) (x y : Meaning) → OfRib c peers time prefix entries x → OfRib c peers time prefix entries y → x ≡ y
+of_rib_one c peers time prefix entries x y (inl a) (inl b) =
+    a.3 ∙ ap (λ (t : ResolveFault). Err t) (first_fault_one c peers prefix entries a.0 b.0 a.1 b.1 a.2 b.2) ∙ sym b.3
+of_rib_one c peers time prefix entries x y (inl a) (inr b) = absurd (none_faulty c peers prefix entries b.0 a.0 b.1 a.1 a.2)
+of_rib_one c peers time prefix entries x y (inr a) (inl b) = absurd (none_faulty c peers prefix entries a.0 b.0 a.1 b.1 b.2)
+of_rib_one c peers time prefix entries x y (inr a) (inr b) =
+    let same = changes_one c peers prefix entries b.0 a.0 b.1 a.1 in
+    fits_one time a.0 x y a.2 (subst (λ (t : List Change). Fits time t y) same b.2)
+
+under_one : (c : ℕ) (table : Option (List Neighbor)) (time : ℕ) (prefix : IpPrefix) (entries : List Entry) (x y : Meaning)
+    → RibGivesUnder c table time prefix entries x → RibGivesUnder c table time prefix entries y → (x ≡ Err faults.OutOfMemory → ⊥) → (y ≡ Err faults.OutOfMemory → ⊥) → x ≡ y
+under_one c None time prefix entries x y p q n m = p ∙ sym q
+under_one c (Some peers) time prefix entries x y p q n m =
+    of_rib_one c peers time prefix entries x y (of_rib c peers time prefix entries x p n) (of_rib c peers time prefix entries y q m)
+
+-- records
+
+table_result : (x : Meaning) → (x ≡ Ok None) ⊎ (x ≡ Err faults.OutOfMemory) → (x ≡ Err faults.OutOfMemory → ⊥) → x ≡ Ok None
+table_result x (inl e) n = e
+table_result x (inr e) n = absurd (n e)
+
+gives_one : (c : ℕ) (table : Option (List Neighbor)) (r : records.Told) (x y : Meaning) → Gives c table r x → Gives c table r y → (x ≡ Err faults.OutOfMemory → ⊥) → (y ≡ Err faults.OutOfMemory → ⊥) → x ≡ y
+gives_one c table (records.Read (records.Message time peer width octets)) x y p q n m =
+    of_message_one (peer_of c peer) time width octets x y (of_message (peer_of c peer) time width octets x p n) (of_message (peer_of c peer) time width octets y q m)
+gives_one c table (records.Read (records.StateChange time peer state)) x y p q n m =
+    fits_one time (state_changes (peer_of c peer) state) x y (of_state (peer_of c peer) time state x p n) (of_state (peer_of c peer) time state y q m)
+gives_one c table (records.Read (records.Rib time prefix entries)) x y p q n m = under_one c table time prefix entries x y p q n m
+gives_one c table (records.Read (records.PeerTable peers)) x y p q n m = table_result x p n ∙ sym (table_result y q m)
+gives_one c table (records.Skipped kind subtype) x y p q n m = p ∙ sym q
+gives_one c table (records.Malformed kind subtype) x y p q n m = p ∙ sym q
+
+meaning_one : (c : ℕ) (before : List records.Told) (r : records.Told) (x y : Meaning) → IsMeaning c before r x → IsMeaning c before r y → x ≡ y
+meaning_one c before r x y p q =
+    let same = one_table before q.table p.table q.last p.last in
+    gives_one c p.table r x y p.gives (subst (λ (t : Option (List Neighbor)). Gives c t r y) same q.gives) p.wanting q.wanting
+
+-- lists
+
+some_at : {X : Type 0} (xs : List X) (n : ℕ) → n < length xs → (x : X) × (slice_get xs n ≡ Some x)
+some_at [] n lt = absurd (omega (arith, lt))
+some_at (x ∷ xs) zero lt = (x, refl)
+some_at (x ∷ xs) (suc n) lt = some_at xs n (omega (arith, lt))
+
+lists_one : {X : Type 0} (xs ys : List X) → length xs ≡ length ys → ((n : ℕ) (x y : X) → slice_get xs n ≡ Some x → slice_get ys n ≡ Some y → x ≡ y) → xs ≡ ys
+lists_one [] [] same at = refl
+lists_one [] (y ∷ ys) same at = absurd (omega (arith, same))
+lists_one (x ∷ xs) [] same at = absurd (omega (arith, same))
+lists_one (x ∷ xs) (y ∷ ys) same at =
+    let first : x ≡ y = at zero x y refl refl in
+    let rest : xs ≡ ys = lists_one xs ys (omega (arith, same)) (λ n a b e f. at (suc n) a b e f) in
+    ap (λ t. t ∷ xs) first ∙ ap (λ t. y ∷ t) rest
+
+pub one_meaning : (c : ℕ) (list : List records.Told) (x y : List Meaning) → Means c list x → Means c list y → x ≡ y
+one_meaning c list x y p q =
+    lists_one x y (p.count ∙ sym q.count)
+    (λ n a b e f.
+    let within = slice_get_within x n a e in
+    let here = some_at list n (omega (arith, within, p.count)) in
+    meaning_one c (take n list) here.0 a b (p.each n here.0 a here.1 e) (q.each n here.0 b here.1 f))
