@@ -98,6 +98,7 @@ impl Archive {
     /// How many collectors there are, 1 to 16. Their numbers begin with 0.
     pub fn collectors(&self) -> u8
         ensures count { (h : History) → Carries self.now h → result ≡ length h.intakes }
+        ensures some { 1 ≤ result }
         ensures few { result ≤ 16 }
     {
         self.queues.len() as u8

@@ -1,20 +1,34 @@
 //! What messages change.
 
 ghost use Rattle.std.specs.Prelude.{◌≡◌, ◌∷◌, ◌++◌, [], not, map, filter, IfOk, OnOk};
+ghost use Rattle.std.specs.BTreeSet.{contains, IsFromIterResult};
+ghost use Rattle.route_model.specs.Prefix.{IpPrefix};
+ghost use Rattle.route_model.specs.contracts.prefix.PrefixOrd.TheImpl as prefix_ord;
 ghost use Rattle.bgp_update.specs.Messages.{option_told, changes_told, told};
 ghost use Rattle.resolve.specs.Changes.{is_among, withdrawals, announcements, update_changes, message_changes};
 
 use bgp_update::{Announcement, Message, Update};
 use route_model::{Change, Peer, Prefix, SharedRoute};
 use std::alloc::{AllocError, Global};
+use std::collections::BTreeSet;
 
-/// Is the prefix among those that are announced?
-fn is_among(announced: &Option<Announcement>, prefix: &Prefix) -> bool
-    ensures { result ≡ is_among (option_told announced.now) prefix.now }
+/// These prefixes as a set.
+fn set_of(alloc: Global, prefixes: &[Prefix]) -> Result<BTreeSet<Prefix>, AllocError>
+    ensures { IfOk result (IsFromIterResult (prefix_ord.cmp-value).it prefixes.now) }
+{
+    prefixes.iter().copied().collect(alloc)
+}
+
+/// The prefixes that are announced, as a set in which others are looked up.
+fn prefixes_of(
+    alloc: Global,
+    announced: &Option<Announcement>,
+) -> Result<BTreeSet<Prefix>, AllocError>
+    ensures { IfOk result (λ set. (x : IpPrefix) → contains (prefix_ord.cmp-value).it set x ≡ is_among (option_told announced.now) x) }
 {
     match announced {
-        None => false,
-        Some(announcement) => announcement.prefixes.contains(prefix),
+        None => Ok(BTreeSet::new(alloc)),
+        Some(announcement) => set_of(alloc, &announcement.prefixes),
     }
 }
 
@@ -38,6 +52,7 @@ fn withdraw(changes: &mut Vec<Change>, peer: &Peer, prefixes: &[Prefix]) -> Resu
 
 /// Adds a withdrawal of each of the prefixes that isn't announced too.
 fn withdraw_others(
+    alloc: Global,
     changes: &mut Vec<Change>,
     peer: &Peer,
     prefixes: &[Prefix],
@@ -45,8 +60,12 @@ fn withdraw_others(
 ) -> Result<(), AllocError>
     ensures { OnOk result (changes.new.items ≡ changes.old.items ++ withdrawals peer.now (filter (λ x. not (is_among (option_told announced.now) x)) prefixes.now)) }
 {
+    if prefixes.is_empty() {
+        return Ok(());
+    }
+    let others = prefixes_of(alloc, announced)?;
     for prefix in prefixes {
-        if !is_among(announced, prefix) {
+        if !others.contains(prefix) {
             add(changes, Change::Withdraw(*peer, *prefix))?;
         }
     }
@@ -83,20 +102,18 @@ fn announce(
     announce_all(changes, peer, &announcement.prefixes, &route)
 }
 
-/// How many prefixes are announced.
-fn count(announced: &Option<Announcement>) -> usize {
-    match announced {
-        None => 0,
-        Some(announcement) => announcement.prefixes.len(),
-    }
-}
-
 /// The changes of an UPDATE, in the order of its parts.
 fn update_changes(alloc: Global, peer: &Peer, update: Update) -> Result<Vec<Change>, AllocError>
     ensures { IfOk result (λ v. v.items ≡ update_changes peer.now (changes_told update)) }
 {
     let mut changes = Vec::new(alloc);
-    withdraw_others(&mut changes, peer, &update.withdrawn, &update.announced)?;
+    withdraw_others(
+        alloc,
+        &mut changes,
+        peer,
+        &update.withdrawn,
+        &update.announced,
+    )?;
     withdraw(&mut changes, peer, &update.unreachable)?;
     announce(alloc, &mut changes, peer, update.announced)?;
     announce(alloc, &mut changes, peer, update.reachable)?;
