@@ -4,11 +4,13 @@
 mod admit;
 mod applied;
 mod archive;
+mod laws;
 mod question;
 mod queue;
 
 pub use admit::{AdmitRefusal, Admitted, MAX_BATCH_LEN, Receipt};
 pub use archive::{Archive, Flush, MarkRefusal, Resume, Step};
+pub use laws::batches_are_one;
 pub use question::{Answer, Cursor, DescendRefusal, Query, Turn};
 
 #[cfg(test)]
