@@ -1,0 +1,29 @@
+-- The lines of a feed. Each ends in LF.
+use Rattle.std.specs.Prelude.{ℕ, List, [], ◌∷◌, ◌++◌, codes, decimal}
+use Rattle.std.specs.List.{flat_map}
+use Rattle.archive.specs.declared.admit.Admitted.{Admitted}
+use Rattle.sequencer.specs.declared.late.Late.{Late}
+use Rattle.service.specs.declared.feed_lines.FeedCounts.{FeedCounts}
+use Rattle.service.specs.Refusals.{line_end}
+
+-- which admissions of the collector a batch became, and how many records were offered for it until now
+abbrev pub batch_line : Admitted → List ℕ
+batch_line a = codes "B|" ++ decimal a.receipt.from ++ codes "|" ++ decimal a.receipt.to ++ codes "|" ++ decimal a.offered ++ line_end
+
+-- a late record: its place in the batch, its time, and the mark at its turn
+abbrev pub late_line : Late → List ℕ
+late_line l = codes "L|" ++ decimal l.index ++ codes "|" ++ decimal l.time ++ codes "|" ++ decimal l.mark ++ line_end
+
+-- what a batch became, and then each of its late records
+abbrev pub admitted_text : Admitted → List ℕ
+admitted_text a = batch_line a ++ flat_map late_line a.late.items
+
+-- of a feed: its records, and how many of them were admitted, came late, were refused, and were skipped
+abbrev pub counts_line : FeedCounts → List ℕ
+counts_line c =
+    codes "F|" ++ decimal c.records ++ codes "|" ++ decimal c.admitted ++ codes "|" ++ decimal c.late
+    ++ codes "|" ++ decimal c.refused ++ codes "|" ++ decimal c.skipped ++ line_end
+
+-- the settled watermark
+abbrev pub settled_line : ℕ → List ℕ
+settled_line settled = codes "S|" ++ decimal settled ++ line_end

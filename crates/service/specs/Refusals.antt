@@ -1,0 +1,76 @@
+-- Refusals by number and name, and the lines that tell them. Each line ends in LF.
+use Rattle.std.specs.Prelude.{ℕ, List, [], ◌∷◌, ◌++◌, codes, decimal}
+use Rattle.service.specs.declared.refusal.Refusal.{Refusal}
+use Rattle.service.specs.declared.refusal.Refusal.TheVariants as refusals
+
+abbrev pub number_of : Refusal → ℕ
+number_of refusals.Truncated = 13
+number_of refusals.TooLong = 14
+number_of refusals.Malformed = 15
+number_of refusals.RouteTooLarge = 16
+number_of refusals.NoPeerTable = 17
+number_of refusals.BadPeerIndex = 18
+number_of refusals.AdmissionTooLarge = 19
+number_of refusals.MarkBack = 21
+number_of refusals.NoCollector = 22
+number_of (refusals.AboveWatermark settled) = 24
+number_of refusals.BatchTooLarge = 25
+number_of refusals.CounterFull = 26
+number_of refusals.OutOfMemory = 27
+number_of refusals.BadRequest = 28
+number_of refusals.Outside = 29
+
+abbrev pub name_of : Refusal → List ℕ
+name_of refusals.Truncated = codes "Truncated"
+name_of refusals.TooLong = codes "TooLong"
+name_of refusals.Malformed = codes "Malformed"
+name_of refusals.RouteTooLarge = codes "RouteTooLarge"
+name_of refusals.NoPeerTable = codes "NoPeerTable"
+name_of refusals.BadPeerIndex = codes "BadPeerIndex"
+name_of refusals.AdmissionTooLarge = codes "AdmissionTooLarge"
+name_of refusals.MarkBack = codes "MarkBack"
+name_of refusals.NoCollector = codes "NoCollector"
+name_of (refusals.AboveWatermark settled) = codes "AboveWatermark"
+name_of refusals.BatchTooLarge = codes "BatchTooLarge"
+name_of refusals.CounterFull = codes "CounterFull"
+name_of refusals.OutOfMemory = codes "OutOfMemory"
+name_of refusals.BadRequest = codes "BadRequest"
+name_of refusals.Outside = codes "Outside"
+
+-- the end of a line: LF
+abbrev pub line_end : List ℕ
+line_end = 10 ∷ []
+
+-- what the line of a refusal tells behind its name: the watermark of AboveWatermark
+abbrev pub told_of : Refusal → List ℕ
+told_of refusals.Truncated = []
+told_of refusals.TooLong = []
+told_of refusals.Malformed = []
+told_of refusals.RouteTooLarge = []
+told_of refusals.NoPeerTable = []
+told_of refusals.BadPeerIndex = []
+told_of refusals.AdmissionTooLarge = []
+told_of refusals.MarkBack = []
+told_of refusals.NoCollector = []
+told_of (refusals.AboveWatermark settled) = codes "|" ++ decimal settled
+told_of refusals.BatchTooLarge = []
+told_of refusals.CounterFull = []
+told_of refusals.OutOfMemory = []
+told_of refusals.BadRequest = []
+told_of refusals.Outside = []
+
+-- X, the number and the name
+abbrev pub refusal_head : Refusal → List ℕ
+refusal_head r = codes "X|" ++ decimal (number_of r) ++ codes "|" ++ name_of r
+
+-- the same, and for AboveWatermark the watermark
+abbrev pub refusal_line : Refusal → List ℕ
+refusal_line r = refusal_head r ++ told_of r ++ line_end
+
+-- the same of a refused record, by its place in the feed, the first place being 0
+abbrev pub refused_record_line : Refusal → ℕ → List ℕ
+refused_record_line r place = refusal_head r ++ codes "|" ++ decimal place ++ line_end
+
+-- a refusal as standard error shows it
+abbrev pub error_line : Refusal → List ℕ
+error_line r = codes "rha: " ++ decimal (number_of r) ++ codes " " ++ name_of r ++ line_end

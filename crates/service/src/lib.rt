@@ -1,0 +1,10 @@
+//! Requests and feeds as lines: what a feed, an answer and a refusal are told as, and what a request line asks.
+#![tactic(auto)]
+
+mod answer_lines;
+mod feed_lines;
+mod refusal;
+
+pub use answer_lines::write_answer;
+pub use feed_lines::{FeedCounts, write_admitted, write_counts, write_settled};
+pub use refusal::{Refusal, write_error, write_refusal, write_refused_record};

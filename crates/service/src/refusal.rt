@@ -1,0 +1,157 @@
+//! Why something isn't done, by number and name.
+
+ghost use Rattle.std.specs.Prelude.{◌≡◌, ◌++◌, OnOk, string_bytes};
+ghost use Rattle.service.specs.Refusals.{number_of, name_of, refusal_head, refusal_line, refused_record_line, error_line};
+
+use route_model::Mark;
+use route_text::{write_mark, write_number};
+use std::alloc::AllocError;
+use thiserror::Error;
+
+/// Why something isn't done. Each refusal has a number and a name, by which lines tell it.
+#[derive(Clone, Copy, Debug, Error, PartialEq, Eq)]
+pub enum Refusal {
+    /// The feed ended inside a record.
+    #[error("the feed ended inside a record")]
+    Truncated,
+    /// The Length of a record is above 131,072.
+    #[error("the length of a record is above 131072")]
+    TooLong,
+    /// The record has no reading.
+    #[error("the record is malformed")]
+    Malformed,
+    /// An announced route has a spelling of more than 3,072 octets.
+    #[error("a route has more than 3072 octets")]
+    RouteTooLarge,
+    /// A RIB record came, and the feed has no peer table.
+    #[error("there is no peer table")]
+    NoPeerTable,
+    /// An entry names a peer that the peer table doesn't have.
+    #[error("an entry names no peer of the peer table")]
+    BadPeerIndex,
+    /// The admission has a spelling of more than 131,072 octets.
+    #[error("the admission has more than 131072 octets")]
+    AdmissionTooLarge,
+    /// The new mark is below the collector's mark.
+    #[error("the mark is below the collector's mark")]
+    MarkBack,
+    /// There is no collector of this number.
+    #[error("no such collector")]
+    NoCollector,
+    /// The question's moment isn't below the settled watermark, which this is.
+    #[error("the moment isn't below the settled watermark")]
+    AboveWatermark(Mark),
+    /// The batch has more than 262,144 octets.
+    #[error("the batch has more than 262144 octets")]
+    BatchTooLarge,
+    /// A count would pass 18446744073709551615.
+    #[error("a count is full")]
+    CounterFull,
+    /// A growth of memory was refused.
+    #[error("out of memory")]
+    OutOfMemory,
+    /// The line is no request.
+    #[error("the line is no request")]
+    BadRequest,
+    /// A file, address or socket of the program itself failed.
+    #[error("a file, address or socket failed")]
+    Outside,
+}
+
+impl Refusal {
+    /// Its number, 13 to 29.
+    pub fn number(&self) -> u8
+        ensures number { result ≡ number_of self.now }
+    {
+        match self {
+            Refusal::Truncated => 13,
+            Refusal::TooLong => 14,
+            Refusal::Malformed => 15,
+            Refusal::RouteTooLarge => 16,
+            Refusal::NoPeerTable => 17,
+            Refusal::BadPeerIndex => 18,
+            Refusal::AdmissionTooLarge => 19,
+            Refusal::MarkBack => 21,
+            Refusal::NoCollector => 22,
+            Refusal::AboveWatermark(_) => 24,
+            Refusal::BatchTooLarge => 25,
+            Refusal::CounterFull => 26,
+            Refusal::OutOfMemory => 27,
+            Refusal::BadRequest => 28,
+            Refusal::Outside => 29,
+        }
+    }
+
+    /// Its name.
+    pub fn name(&self) -> &'static str
+        ensures name { result.now ≡ name_of self.now }
+    {
+        match self {
+            Refusal::Truncated => "Truncated",
+            Refusal::TooLong => "TooLong",
+            Refusal::Malformed => "Malformed",
+            Refusal::RouteTooLarge => "RouteTooLarge",
+            Refusal::NoPeerTable => "NoPeerTable",
+            Refusal::BadPeerIndex => "BadPeerIndex",
+            Refusal::AdmissionTooLarge => "AdmissionTooLarge",
+            Refusal::MarkBack => "MarkBack",
+            Refusal::NoCollector => "NoCollector",
+            Refusal::AboveWatermark(_) => "AboveWatermark",
+            Refusal::BatchTooLarge => "BatchTooLarge",
+            Refusal::CounterFull => "CounterFull",
+            Refusal::OutOfMemory => "OutOfMemory",
+            Refusal::BadRequest => "BadRequest",
+            Refusal::Outside => "Outside",
+        }
+    }
+}
+
+/// `X|NUMBER|NAME`.
+fn write_head(out: &mut String, refusal: &Refusal) -> Result<(), AllocError>
+    ensures text { OnOk result (string_bytes out.new ≡ string_bytes out.old ++ refusal_head refusal.now) }
+{
+    out.push_str("X|")?;
+    write_number(out, u64::from(refusal.number()))?;
+    out.push('|')?;
+    out.push_str(refusal.name())
+}
+
+/// Writes the line of a refusal at the end of `out`: `X|NUMBER|NAME`, and behind `AboveWatermark` a bar and the
+/// watermark. After an error nothing is said of `out`.
+pub fn write_refusal(out: &mut String, refusal: &Refusal) -> Result<(), AllocError>
+    ensures line { OnOk result (string_bytes out.new ≡ string_bytes out.old ++ refusal_line refusal.now) }
+{
+    write_head(out, refusal)?;
+    if let Refusal::AboveWatermark(settled) = refusal {
+        out.push('|')?;
+        write_mark(out, *settled)?;
+    }
+    out.push('\n')
+}
+
+/// Writes the line of a refused record at the end of `out`: `X|NUMBER|NAME|PLACE`, where the first record of a feed
+/// has the place 0. After an error nothing is said of `out`.
+pub fn write_refused_record(
+    out: &mut String,
+    refusal: &Refusal,
+    place: u64,
+) -> Result<(), AllocError>
+    ensures line { OnOk result (string_bytes out.new ≡ string_bytes out.old ++ refused_record_line refusal.now place) }
+{
+    write_head(out, refusal)?;
+    out.push('|')?;
+    write_number(out, place)?;
+    out.push('\n')
+}
+
+/// Writes a refusal that has no other line at the end of `out`, as standard error shows it: `rha: NUMBER NAME`.
+/// After an error nothing is said of `out`.
+pub fn write_error(out: &mut String, refusal: &Refusal) -> Result<(), AllocError>
+    ensures line { OnOk result (string_bytes out.new ≡ string_bytes out.old ++ error_line refusal.now) }
+{
+    out.push_str("rha: ")?;
+    write_number(out, u64::from(refusal.number()))?;
+    out.push(' ')?;
+    out.push_str(refusal.name())?;
+    out.push('\n')
+}
