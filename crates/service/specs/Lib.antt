@@ -1,3 +1,4 @@
 pub mod Refusals
 pub mod FeedLines
 pub mod AnswerLines
+pub mod Requests

@@ -4,7 +4,9 @@
 mod answer_lines;
 mod feed_lines;
 mod refusal;
+mod request;
 
 pub use answer_lines::write_answer;
 pub use feed_lines::{FeedCounts, write_admitted, write_counts, write_settled};
 pub use refusal::{Refusal, write_error, write_refusal, write_refused_record};
+pub use request::{RequestError, read_query};
