@@ -18,11 +18,16 @@ late_line l = codes "L|" ++ decimal l.index ++ codes "|" ++ decimal l.time ++ co
 abbrev pub admitted_text : Admitted → List ℕ
 admitted_text a = batch_line a ++ flat_map late_line a.late.items
 
--- of a feed: its records, and how many of them were admitted, came late, were refused, and were skipped
+-- of a feed: its records, and how many of them were admitted and came late
+abbrev pub came_text : FeedCounts → List ℕ
+came_text c = codes "F|" ++ decimal c.records ++ codes "|" ++ decimal c.admitted ++ codes "|" ++ decimal c.late
+
+-- how many of them were refused and skipped
+abbrev pub lost_text : FeedCounts → List ℕ
+lost_text c = codes "|" ++ decimal c.refused ++ codes "|" ++ decimal c.skipped ++ line_end
+
 abbrev pub counts_line : FeedCounts → List ℕ
-counts_line c =
-    codes "F|" ++ decimal c.records ++ codes "|" ++ decimal c.admitted ++ codes "|" ++ decimal c.late
-    ++ codes "|" ++ decimal c.refused ++ codes "|" ++ decimal c.skipped ++ line_end
+counts_line c = came_text c ++ lost_text c
 
 -- the settled watermark
 abbrev pub settled_line : ℕ → List ℕ

@@ -1,12 +1,14 @@
 //! The lines of a feed.
 
-ghost use Rattle.std.specs.Prelude.{◌≡◌, ◌++◌, OnOk, string_bytes};
-ghost use Rattle.service.specs.FeedLines.{batch_line, late_line, admitted_text, counts_line, settled_line};
+ghost use Rattle.std.specs.Prelude.{OnOk};
+ghost use Rattle.std.specs.Io.KnownBytes.{Appends};
+ghost use Rattle.service.specs.FeedLines.{batch_line, late_line, admitted_text, came_text, lost_text, counts_line, settled_line};
 
 use archive::Admitted;
 use route_model::Mark;
 use sequencer::Late;
-use std::alloc::AllocError;
+use std::io;
+use std::io::Write;
 
 /// How many records a feed had, and what became of them.
 #[derive(Clone, Copy, Debug, PartialEq, Eq)]
@@ -19,8 +21,8 @@ pub struct FeedCounts {
     pub skipped: u64,
 }
 
-fn write_batch(out: &mut String, admitted: &Admitted) -> Result<(), AllocError>
-    ensures line { OnOk result (string_bytes out.new ≡ string_bytes out.old ++ batch_line admitted.now) }
+fn write_batch<W: Write>(out: &mut W, admitted: &Admitted) -> io::Result<()>
+    ensures line { OnOk result (Appends (W.contents out.old) (W.contents out.new) (batch_line admitted.now)) }
 {
     let from = admitted.receipt.from;
     let to = admitted.receipt.to;
@@ -28,8 +30,8 @@ fn write_batch(out: &mut String, admitted: &Admitted) -> Result<(), AllocError>
     writeln!(out, "B|{from}|{to}|{offered}")
 }
 
-fn write_late(out: &mut String, late: &Late) -> Result<(), AllocError>
-    ensures line { OnOk result (string_bytes out.new ≡ string_bytes out.old ++ late_line late.now) }
+fn write_late<W: Write>(out: &mut W, late: &Late) -> io::Result<()>
+    ensures line { OnOk result (Appends (W.contents out.old) (W.contents out.new) (late_line late.now)) }
 {
     let index = late.index;
     let time = late.time.seconds();
@@ -37,10 +39,10 @@ fn write_late(out: &mut String, late: &Late) -> Result<(), AllocError>
     writeln!(out, "L|{index}|{time}|{mark}")
 }
 
-/// Writes what became of a batch at the end of `out`: `B|FROM|TO|OFFERED`, then `L|INDEX|TIME|MARK` for each late
-/// record. After an error nothing is said of `out`.
-pub fn write_admitted(out: &mut String, admitted: &Admitted) -> Result<(), AllocError>
-    ensures lines { OnOk result (string_bytes out.new ≡ string_bytes out.old ++ admitted_text admitted.now) }
+/// Writes what became of a batch: `B|FROM|TO|OFFERED`, then `L|INDEX|TIME|MARK` for each late record. No memory
+/// is needed. After an error nothing is said of `out`.
+pub fn write_admitted<W: Write>(out: &mut W, admitted: &Admitted) -> io::Result<()>
+    ensures lines { OnOk result (Appends (W.contents out.old) (W.contents out.new) (admitted_text admitted.now)) }
 {
     write_batch(out, admitted)?;
     for late in &admitted.late {
@@ -49,23 +51,37 @@ pub fn write_admitted(out: &mut String, admitted: &Admitted) -> Result<(), Alloc
     Ok(())
 }
 
-/// Writes what became of a feed at the end of `out`: `F|RECORDS|ADMITTED|LATE|REFUSED|SKIPPED`. After an error
-/// nothing is said of `out`.
-pub fn write_counts(out: &mut String, counts: &FeedCounts) -> Result<(), AllocError>
-    ensures line { OnOk result (string_bytes out.new ≡ string_bytes out.old ++ counts_line counts.now) }
+fn write_came<W: Write>(out: &mut W, counts: &FeedCounts) -> io::Result<()>
+    ensures text { OnOk result (Appends (W.contents out.old) (W.contents out.new) (came_text counts.now)) }
 {
     let records = counts.records;
     let admitted = counts.admitted;
     let late = counts.late;
+    write!(out, "F|{records}|{admitted}|{late}")
+}
+
+fn write_lost<W: Write>(out: &mut W, counts: &FeedCounts) -> io::Result<()>
+    ensures text { OnOk result (Appends (W.contents out.old) (W.contents out.new) (lost_text counts.now)) }
+{
     let refused = counts.refused;
     let skipped = counts.skipped;
-    write!(out, "F|{records}|{admitted}|{late}")?;
     writeln!(out, "|{refused}|{skipped}")
 }
 
-/// Writes the settled watermark at the end of `out`: `S|SETTLED`. After an error nothing is said of `out`.
-pub fn write_settled(out: &mut String, settled: Mark) -> Result<(), AllocError>
-    ensures line { OnOk result (string_bytes out.new ≡ string_bytes out.old ++ settled_line settled) }
+/// Writes what became of a feed: `F|RECORDS|ADMITTED|LATE|REFUSED|SKIPPED`. No memory is needed. After an error
+/// nothing is said of `out`.
+pub fn write_counts<W: Write>(out: &mut W, counts: &FeedCounts) -> io::Result<()>
+    ensures line { OnOk result (Appends (W.contents out.old) (W.contents out.new) (counts_line counts.now)) }
+{
+    write_came(out, counts)?;
+    write_lost(out, counts)?;
+    Ok(())
+}
+
+/// Writes the settled watermark: `S|SETTLED`. No memory is needed. After an error nothing is said of
+/// `out`.
+pub fn write_settled<W: Write>(out: &mut W, settled: Mark) -> io::Result<()>
+    ensures line { OnOk result (Appends (W.contents out.old) (W.contents out.new) (settled_line settled)) }
 {
     let seconds = settled.seconds();
     writeln!(out, "S|{seconds}")

@@ -1,11 +1,12 @@
 //! Why something isn't done, by number and name.
 
-ghost use Rattle.std.specs.Prelude.{◌≡◌, ◌++◌, OnOk, string_bytes};
-ghost use Rattle.service.specs.Refusals.{number_of, name_of, refusal_head, refusal_line, refused_record_line, error_line};
+ghost use Rattle.std.specs.Prelude.{◌≡◌, OnOk};
+ghost use Rattle.std.specs.Io.KnownBytes.{Appends};
+ghost use Rattle.service.specs.Refusals.{number_of, name_of, refusal_line, refused_record_line, error_line};
 
 use route_model::Mark;
-use route_text::{write_mark, write_number};
-use std::alloc::AllocError;
+use std::io;
+use std::io::Write;
 use thiserror::Error;
 
 /// Why something isn't done. Each refusal has a number and a name, by which lines tell it.
@@ -106,52 +107,38 @@ impl Refusal {
     }
 }
 
-/// `X|NUMBER|NAME`.
-fn write_head(out: &mut String, refusal: &Refusal) -> Result<(), AllocError>
-    ensures text { OnOk result (string_bytes out.new ≡ string_bytes out.old ++ refusal_head refusal.now) }
+/// Writes the line of a refusal: `X|NUMBER|NAME`, and behind `AboveWatermark` a bar and the watermark. No memory is
+/// needed. After an error nothing is said of `out`.
+pub fn write_refusal<W: Write>(out: &mut W, refusal: &Refusal) -> io::Result<()>
+    ensures line { OnOk result (Appends (W.contents out.old) (W.contents out.new) (refusal_line refusal.now)) }
 {
-    out.push_str("X|")?;
-    write_number(out, u64::from(refusal.number()))?;
-    out.push('|')?;
-    out.push_str(refusal.name())
-}
-
-/// Writes the line of a refusal at the end of `out`: `X|NUMBER|NAME`, and behind `AboveWatermark` a bar and the
-/// watermark. After an error nothing is said of `out`.
-pub fn write_refusal(out: &mut String, refusal: &Refusal) -> Result<(), AllocError>
-    ensures line { OnOk result (string_bytes out.new ≡ string_bytes out.old ++ refusal_line refusal.now) }
-{
-    write_head(out, refusal)?;
-    if let Refusal::AboveWatermark(settled) = refusal {
-        out.push('|')?;
-        write_mark(out, *settled)?;
+    let number = refusal.number();
+    let name = refusal.name();
+    match refusal {
+        Refusal::AboveWatermark(settled) => {
+            let seconds = settled.seconds();
+            writeln!(out, "X|{number}|{name}|{seconds}")
+        }
+        _ => writeln!(out, "X|{number}|{name}"),
     }
-    out.push('\n')
 }
 
-/// Writes the line of a refused record at the end of `out`: `X|NUMBER|NAME|PLACE`, where the first record of a feed
-/// has the place 0. After an error nothing is said of `out`.
-pub fn write_refused_record(
-    out: &mut String,
-    refusal: &Refusal,
-    place: u64,
-) -> Result<(), AllocError>
-    ensures line { OnOk result (string_bytes out.new ≡ string_bytes out.old ++ refused_record_line refusal.now place) }
+/// Writes the line of a refused record: `X|NUMBER|NAME|PLACE`, where the first record of a feed has the place 0. No
+/// memory is needed. After an error nothing is said of `out`.
+pub fn write_refused_record<W: Write>(out: &mut W, refusal: &Refusal, place: u64) -> io::Result<()>
+    ensures line { OnOk result (Appends (W.contents out.old) (W.contents out.new) (refused_record_line refusal.now place)) }
 {
-    write_head(out, refusal)?;
-    out.push('|')?;
-    write_number(out, place)?;
-    out.push('\n')
+    let number = refusal.number();
+    let name = refusal.name();
+    writeln!(out, "X|{number}|{name}|{place}")
 }
 
-/// Writes a refusal that has no other line at the end of `out`, as standard error shows it: `rha: NUMBER NAME`.
+/// Writes a refusal that has no other line, as standard error shows it: `rha: NUMBER NAME`. No memory is needed.
 /// After an error nothing is said of `out`.
-pub fn write_error(out: &mut String, refusal: &Refusal) -> Result<(), AllocError>
-    ensures line { OnOk result (string_bytes out.new ≡ string_bytes out.old ++ error_line refusal.now) }
+pub fn write_error<W: Write>(out: &mut W, refusal: &Refusal) -> io::Result<()>
+    ensures line { OnOk result (Appends (W.contents out.old) (W.contents out.new) (error_line refusal.now)) }
 {
-    out.push_str("rha: ")?;
-    write_number(out, u64::from(refusal.number()))?;
-    out.push(' ')?;
-    out.push_str(refusal.name())?;
-    out.push('\n')
+    let number = refusal.number();
+    let name = refusal.name();
+    writeln!(out, "rha: {number} {name}")
 }
