@@ -2,3 +2,5 @@ pub mod Refusals
 pub mod FeedLines
 pub mod AnswerLines
 pub mod Requests
+pub mod Replies
+pub mod Statuses
