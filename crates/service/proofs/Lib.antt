@@ -1,2 +1,5 @@
 pub mod Words
 pub mod Lines
+pub mod Batches
+pub mod Following
+pub mod Streams

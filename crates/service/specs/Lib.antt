@@ -4,3 +4,5 @@ pub mod AnswerLines
 pub mod Requests
 pub mod Replies
 pub mod Statuses
+pub mod Faults
+pub mod Feeds
