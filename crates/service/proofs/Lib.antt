@@ -3,3 +3,4 @@ pub mod Lines
 pub mod Batches
 pub mod Following
 pub mod Streams
+pub mod Applying

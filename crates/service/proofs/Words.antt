@@ -1,5 +1,5 @@
 -- The words of a line, one by one.
-use Rattle.std.proofs.Common.{◌≡◌, ℕ, zero, suc, ◌-◌, ◌<◌, ◌≤◌, Bool, true, false, not, Option, codes, List, [], ◌∷◌, length, map, take, drop, get_or, refl, sym, ◌∙◌, arith, Bor}
+use Rattle.std.proofs.Common.{◌≡◌, ℕ, zero, suc, ◌<◌, ◌≤◌, Bool, true, false, not, Option, codes, List, [], ◌∷◌, length, map, drop, get_or, refl, sym, ◌∙◌, arith, Bor}
 use Rattle.std.specs.Str.{bytes_eq}
 use Rattle.route_model.specs.Prefix.{IpPrefix}
 use Rattle.route_meaning.specs.declared.question.Select.TheVariants.{ByPrefix}

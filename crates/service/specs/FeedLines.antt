@@ -1,5 +1,5 @@
 -- The lines of a feed. Each ends in LF.
-use Rattle.std.specs.Prelude.{ℕ, List, [], ◌∷◌, ◌++◌, codes, decimal}
+use Rattle.std.specs.Prelude.{ℕ, List, ◌++◌, codes, decimal}
 use Rattle.std.specs.List.{flat_map}
 use Rattle.archive.specs.declared.admit.Admitted.{Admitted}
 use Rattle.sequencer.specs.declared.late.Late.{Late}

@@ -6,3 +6,4 @@ pub mod Replies
 pub mod Statuses
 pub mod Faults
 pub mod Feeds
+pub mod Loads

@@ -7,14 +7,19 @@ mod faults;
 mod feed_lines;
 mod feeding;
 mod intake;
+mod loading;
 mod refusal;
 mod request;
 mod status;
 
 pub use answer_lines::write_answer;
 pub use asking::{ask, reply};
-pub use intake::{End, feed};
 pub use feed_lines::{FeedCounts, write_admitted, write_counts, write_settled};
+pub use intake::{End, feed};
+pub use loading::{LoadSettings, load};
 pub use refusal::{Refusal, write_error, write_refusal, write_refused_record};
 pub use request::{RequestError, read_query};
 pub use status::Status;
+
+#[cfg(test)]
+mod tests;

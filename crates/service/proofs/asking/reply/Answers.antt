@@ -1,13 +1,12 @@
 use Rattle.std.proofs.Common.{◌≡◌, ℕ, ◌≤◌, ◌↔◌, List, Result, Err, refl, sym, subst}
 use Rattle.route_meaning.specs.History.{History, applied, settled}
-use Rattle.archive.specs.Carries.{Carries}
 use Rattle.archive.specs.Replies.{last_moment, IsTurn}
 use Rattle.archive.specs.declared.question.Turn.{Turn}
 use Rattle.archive.specs.declared.question.Query.{Query}
 use Rattle.archive.specs.declared.question.DescendRefusal.{DescendRefusal}
 use Rattle.archive.specs.declared.question.DescendRefusal.TheVariants as descends
 use Rattle.service.specs.Requests.{IsQueryLine}
-use Rattle.service.specs.Replies.{IsReplyText, IsRefused, unanswered}
+use Rattle.service.specs.Replies.{IsRefused, unanswered}
 use Rattle.service.proofs.asking.reply.Goals as goal
 
 told_above : {A : Type 0} (h : History) (line : List ℕ) (query : Query) (e : DescendRefusal) → IsQueryLine line query

@@ -1,4 +1,4 @@
-use Rattle.std.proofs.Common.{◌≡◌, ◌∷◌, [], Bor, List, ℕ, Option, Some, None, ap, subst, sym, codes, ◌∙◌}
+use Rattle.std.proofs.Common.{◌≡◌, ◌∷◌, Bor, List, ℕ, Option, Some, None, ap, subst, sym}
 use Rattle.std.proofs.lemmas.Result.{err_from_is_err_and}
 use Rattle.route_meaning.specs.declared.question.Spot.{Spot}
 use Rattle.service.specs.Requests.{AreSpotWords, AreAfterWords}

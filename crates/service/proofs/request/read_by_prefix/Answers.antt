@@ -1,11 +1,10 @@
-use Rattle.std.proofs.Common.{◌≡◌, ◌-◌, [], ◌∷◌, ◌∙◌, List, ℕ, Option, length, take, drop, refl, sym, ap, subst, codes, arith}
+use Rattle.std.proofs.Common.{[], ◌∙◌, List, ℕ, length, sym, ap, subst, codes, arith}
 use Rattle.std.proofs.lemmas.Result.{err_from_is_err_and}
 use Rattle.std.proofs.lemmas.Slice.{between_to_end}
-use Rattle.route_meaning.specs.declared.question.Spot.{Spot}
 use Rattle.route_text.specs.MomentText.{IsMomentText}
 use Rattle.route_text.specs.PrefixText.{IsPrefixText}
 use Rattle.service.specs.Requests.{AreAfterWords}
-use Rattle.service.proofs.Words.{Words, texts, word_at, words_behind, same_word, asked}
+use Rattle.service.proofs.Words.{texts, word_at, words_behind, same_word, asked}
 use Rattle.service.proofs.request.read_by_prefix.Goals as goal
 
 pub returns-in_err-moment-clause-none : goal.returns-in_err-moment-clause-none

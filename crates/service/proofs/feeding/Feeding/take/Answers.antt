@@ -1,12 +1,7 @@
-use Rattle.std.proofs.Common.{◌≡◌, ◌++◌, ◌∷◌, [], ◌∙◌, List, Option, Result, Ok, Err, None, sym, ap, subst}
+use Rattle.std.proofs.Common.{◌++◌, ◌∷◌, [], ◌∙◌, Ok, Err, None, sym, subst}
 use Rattle.std.proofs.lemmas.List.{append-nil}
 use Rattle.mrt_records.specs.Values.{told}
-use Rattle.mrt_records.specs.declared.neighbor.Neighbor.{Neighbor}
-use Rattle.route_model.specs.Admission.{Admitted}
 use Rattle.resolve.specs.Tables.{LastTable, Feed}
-use Rattle.resolve.specs.Records.{Gives}
-use Rattle.resolve.specs.declared.fault.ResolveFault.{ResolveFault}
-use Rattle.resolve.specs.declared.fault.ResolveFault.TheVariants as faults
 use Rattle.service.proofs.Following.{gathered_more, told_by, on_ok, on_ok_more, ok_is_none, fault_is}
 use Rattle.service.proofs.feeding.Feeding.take.Goals as goal
 

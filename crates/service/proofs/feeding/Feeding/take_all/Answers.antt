@@ -1,4 +1,4 @@
-use Rattle.std.proofs.Common.{◌≡◌, ◌++◌, ◌∙◌, List, sym, ap, subst, map, arith, refl, take_all}
+use Rattle.std.proofs.Common.{◌++◌, ◌∙◌, List, sym, subst, map, arith, refl, take_all}
 use Rattle.std.proofs.lemmas.List.{append-nil}
 use Rattle.mrt_records.specs.Values.{Told, told}
 use Rattle.resolve.specs.Tables.{LastTable}

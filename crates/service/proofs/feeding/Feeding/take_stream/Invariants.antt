@@ -1,4 +1,4 @@
-use Rattle.std.proofs.Common.{◌≡◌, ℕ, ◌<◌, List, Some, length}
+use Rattle.std.proofs.Common.{◌≡◌, ℕ, List, Some, length}
 use Rattle.route_meaning.specs.History.{History}
 use Rattle.service.specs.Feeds.{Reads}
 use Rattle.service.proofs.Streams.{Left}

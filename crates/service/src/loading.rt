@@ -1,0 +1,143 @@
+//! Files that are loaded: fed, marked and applied.
+
+ghost use Rattle.std.specs.Prelude.{◌≡◌, ℕ, List, Some, OnOk};
+ghost use Rattle.route_meaning.specs.History.{History};
+ghost use Rattle.archive.specs.Carries.{Carries};
+ghost use Rattle.service.specs.Loads.{IsLoaded, IsSettled, marked_if};
+
+use crate::feed_lines::write_settled;
+use crate::intake::{End, feed};
+use crate::refusal::{Refusal, write_error};
+use crate::status::Status;
+use archive::{Archive, Flush, MarkRefusal, Step};
+use route_model::Mark;
+use std::alloc::Global;
+use std::io::{Read, Write};
+
+/// How a file is loaded.
+#[derive(Clone, Copy, Debug, PartialEq, Eq)]
+pub struct LoadSettings {
+    /// Whose feed the file is.
+    pub collector: u8,
+    /// The most admissions of a batch.
+    pub limit: usize,
+    /// The mark that is set once the feed has ended well.
+    pub mark: Option<Mark>,
+}
+
+/// Sets the mark of a collector, if there is one to set.
+fn set_mark(archive: &mut Archive, collector: u8, mark: Option<Mark>) -> Result<(), Refusal>
+    ensures marked { (h : History) → Carries archive.old h → OnOk result (Carries archive.new (marked_if collector mark h)) }
+{
+    let Some(mark) = mark else {
+        return Ok(());
+    };
+    match archive.mark(collector, mark) {
+        Ok(()) => Ok(()),
+        Err(MarkRefusal::NoCollector) => Err(Refusal::NoCollector),
+        Err(MarkRefusal::MarkBack) => Err(Refusal::MarkBack),
+    }
+}
+
+/// Applies what may be applied.
+fn apply_all(archive: &mut Archive) -> Result<(), Refusal>
+    ensures settled { (h : History) → Carries archive.old h → OnOk result (IsSettled h.intakes archive.new) }
+{
+    for _ in 0..u64::MAX {
+        match archive.apply_step() {
+            Ok(Step::Applied) => {}
+            Ok(Step::Idle) => return Ok(()),
+            Err(_) => return Err(Refusal::OutOfMemory),
+        }
+    }
+    Err(Refusal::OutOfMemory)
+}
+
+/// Flushes until no page waits to go home.
+fn flush_all(archive: &mut Archive)
+    ensures same { (h : History) → Carries archive.old h → Carries archive.new h }
+{
+    for _ in 0..u64::MAX {
+        match archive.flush_step() {
+            Flush::Flushed => {}
+            Flush::Clean => return,
+        }
+    }
+}
+
+/// Sets the mark, applies what may be applied, and flushes.
+fn settle(archive: &mut Archive, collector: u8, mark: Option<Mark>) -> Result<(), Refusal>
+    ensures settled { (h : History) → Carries archive.old h → OnOk result (IsSettled (marked_if collector mark h).intakes archive.new) }
+{
+    set_mark(archive, collector, mark)?;
+    apply_all(archive)?;
+    flush_all(archive);
+    Ok(())
+}
+
+/// The mark to set once a feed has ended so.
+fn mark_after(end: &End, mark: Option<Mark>) -> Option<Mark>
+    ensures well { end.now ≡ End.Well → result ≡ mark }
+{
+    match end {
+        End::Well => mark,
+        End::Cut | End::Refused(_) => None,
+    }
+}
+
+/// The status of a load whose feed has ended so.
+fn status_after(end: &End) -> Status
+    ensures done { result ≡ Status.Done → end.now ≡ End.Well }
+{
+    match end {
+        End::Well => Status::Done,
+        End::Cut | End::Refused(_) => Status::Refused,
+    }
+}
+
+/// Tells a refusal that has no line of its own.
+fn refused<E: Write>(err: &mut E, refusal: &Refusal) -> Status
+    ensures refused { result ≡ Status.Refused }
+{
+    // There is no one left to tell where this fails too.
+    let _ = write_error(err, refusal);
+    Status::Refused
+}
+
+/// Writes the settled watermark at the end of a load of this status.
+fn tell_settled<W: Write, E: Write>(
+    archive: &Archive,
+    status: Status,
+    out: &mut W,
+    err: &mut E,
+) -> Status
+    ensures done { result ≡ Status.Done → status ≡ Status.Done }
+{
+    if write_settled(out, archive.settled()).is_err() {
+        let _ = write_error(err, &Refusal::Outside);
+        return Status::Failed;
+    }
+    status
+}
+
+/// Loads a file: takes it in as a feed, sets the mark where the feed ended well, applies what may be applied, flushes,
+/// and writes the settled watermark. A refusal outside the feed is told to `err` and ends the load.
+pub fn load<R: Read, W: Write, E: Write>(
+    alloc: Global,
+    archive: &mut Archive,
+    how: LoadSettings,
+    reader: &mut R,
+    out: &mut W,
+    err: &mut E,
+) -> Status
+    ensures loaded { (h : History) (bytes : List ℕ) → R.remaining reader.old ≡ Some bytes → Carries archive.old h → result ≡ Status.Done → IsLoaded how.collector how.mark h bytes archive.new }
+{
+    if how.collector >= archive.collectors() {
+        return refused(err, &Refusal::NoCollector);
+    }
+    let end = feed(alloc, archive, how.collector, how.limit, reader, out);
+    match settle(archive, how.collector, mark_after(&end, how.mark)) {
+        Ok(()) => tell_settled(archive, status_after(&end), out, err),
+        Err(refusal) => refused(err, &refusal),
+    }
+}

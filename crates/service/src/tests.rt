@@ -1,0 +1,460 @@
+//! Feeds and questions as lines: worked examples from outside, and what is done where a reader or a writer fails.
+
+use crate::{
+    End, FeedCounts, LoadSettings, Refusal, RequestError, Status, ask, feed, load, read_query,
+    reply, write_admitted, write_answer, write_counts, write_error, write_refusal,
+    write_refused_record, write_settled,
+};
+use archive::{Admitted, Answer, Archive, Query, Receipt, Turn};
+use route_meaning::{RowsQuestion, Select, Spot};
+use route_model::{Address, Mark, Moment, Peer, Prefix};
+use sequencer::Late;
+use std::alloc::Global;
+use std::io::{Error, ErrorKind, Read};
+use std::test::Fail;
+
+/// A message of 192.0.2.1, AS 65001: an UPDATE that announces 10.0.0.0/8 by 65001 65002, at 1704067200.
+const UPDATE: &str = "65920080 0010 0001 0000003D FDE9 FC00 0000 0001 C0000201 C0000202
+    FFFFFFFFFFFFFFFFFFFFFFFFFFFFFFFF 002D 02 0000 0014 40010100 4002060202FDE9FDEA 400304C0000201 080A";
+
+/// The same a second before.
+const EARLIER: &str = "6592007F 0010 0001 0000003D FDE9 FC00 0000 0001 C0000201 C0000202
+    FFFFFFFFFFFFFFFFFFFFFFFFFFFFFFFF 002D 02 0000 0014 40010100 4002060202FDE9FDEA 400304C0000201 080A";
+
+/// An UPDATE without prefixes.
+const EMPTY: &str = "65920080 0010 0001 00000027 FDE9 FC00 0000 0001 C0000201 C0000202
+    FFFFFFFFFFFFFFFFFFFFFFFFFFFFFFFF 0017 02 0000 0000";
+
+/// A prefix of 33 bits in NLRI.
+const LONG_PREFIX: &str = "65920080 0010 0001 00000041 FDE9 FC00 0000 0001 C0000201 C0000202
+    FFFFFFFFFFFFFFFFFFFFFFFFFFFFFFFF 0031 02 0000 0014 40010100 4002060202FDE9FDEA 400304C0000201 210A00000000";
+
+const NOTIFICATION: &str = "65920080 0010 0001 00000025 FDE9 FC00 0000 0001 C0000201 C0000202
+    FFFFFFFFFFFFFFFFFFFFFFFFFFFFFFFF 0015 03 0602";
+
+/// A record of another type.
+const SKIPPED: &str = "65920080 000B 0001 00000001 00";
+
+/// One peer: 192.0.2.1, AS 65001.
+const PEER_TABLE: &str =
+    "65920080 000D 0001 00000015 C0000202 0000 0001 02 C0000201 C0000201 0000FDE9";
+
+/// 10.0.0.0/8 by the first peer of the table.
+const RIB: &str = "65920080 000D 0002 00000028 00000000 08 0A 0001 0000 65920000 0018 40010100
+    40020A02020000FDE90000FDEA 400304C0000201";
+
+/// A header whose Length is 131,073.
+const TOO_LONG: &str = "65920080 0010 0001 00020001";
+
+/// An UPDATE that announces 257 prefixes, which are to follow: 10.0.0.0/24 to 10.1.0.0/24.
+const MANY: &str = "65920080 0010 0001 0000043F FDE9 FC00 0000 0001 C0000201 C0000202
+    FFFFFFFFFFFFFFFFFFFFFFFFFFFFFFFF 042F 02 0000 0014 40010100 4002060202FDE9FDEA 400304C0000201";
+
+const QUESTION: &str = "at 1704067200 prefix 10.0.0.0/8";
+
+const ANSWER: &str = "R|0|192.0.2.1|65001|10.0.0.0/8|65001 65002|IGP|192.0.2.1|||NAG||\nE|1\n";
+
+/// Lines that ask nothing.
+const NO_REQUESTS: [&str; 14] = [
+    "",
+    "at",
+    "at 7 prefix",
+    "at 7  prefix 10.0.0.0/8",
+    " at 7 prefix 10.0.0.0/8",
+    "at 7 prefix 10.0.0.0/8 ",
+    "At 7 prefix 10.0.0.0/8",
+    "at 07 prefix 10.0.0.0/8",
+    "at 7 prefix 10.0.0.0/33",
+    "at 7 prefix 10.0.0.0/8 after",
+    "at 7 prefix 10.0.0.0/8 after 16 192.0.2.1 65001 10.0.0.0/8",
+    "at 7 prefix 10.0.0.0/8 after 0 192.0.2.1 4294967296 10.0.0.0/8",
+    "at 7 prefix 10.0.0.0/8 after 0 192.0.2.1 65001 10.0.0.0/8 more",
+    "at 4294967296 prefix 10.0.0.0/8",
+];
+
+fn digit(b: u8) -> Option<u8> {
+    match b {
+        b'0'..=b'9' => Some(b - b'0'),
+        b'A'..=b'F' => Some(b - b'A' + 10),
+        _ => None,
+    }
+}
+
+/// Adds the octets that a text of hexadecimal digits spells; spaces and line ends part them.
+fn add_octets(out: &mut Vec<u8>, text: &str) -> Result<(), Fail> {
+    let mut high = None;
+    for b in text.bytes() {
+        if b == b' ' || b == b'\n' {
+            continue;
+        }
+        let low = digit(b).ok_or("no digit")?;
+        match high {
+            None => high = Some(low),
+            Some(h) => {
+                out.push((h << 4) | low)?;
+                high = None;
+            }
+        }
+    }
+    Ok(())
+}
+
+/// The octets of records.
+fn stream(alloc: Global, records: &[&str]) -> Result<Vec<u8>, Fail> {
+    let mut out = Vec::new(alloc);
+    for record in records {
+        add_octets(&mut out, record)?;
+    }
+    Ok(out)
+}
+
+/// What a load or a question wrote, and its status.
+#[derive(Debug, Drop)]
+struct Told {
+    out: Vec<u8>,
+    err: Vec<u8>,
+    status: Status,
+}
+
+impl Told {
+    fn is(&self, out: &str, err: &str, status: Status) -> bool {
+        self.out.as_slice() == out.as_bytes()
+            && self.err.as_slice() == err.as_bytes()
+            && self.status == status
+    }
+}
+
+/// Loads octets for collector 0 in batches of so many admissions.
+fn load_octets(
+    alloc: Global,
+    archive: &mut Archive,
+    octets: &[u8],
+    limit: usize,
+    mark: Option<u64>,
+) -> Result<Told, Fail> {
+    let mut out = Vec::new(alloc);
+    let mut err = Vec::new(alloc);
+    let mark = match mark {
+        Some(seconds) => Some(Mark::new(seconds).ok_or("no mark")?),
+        None => None,
+    };
+    let how = LoadSettings {
+        collector: 0,
+        limit,
+        mark,
+    };
+    let mut reader = octets;
+    let status = load(alloc, archive, how, &mut reader, &mut out, &mut err);
+    Ok(Told { out, err, status })
+}
+
+fn ask_line(alloc: Global, archive: &Archive, line: &str) -> Result<Told, Fail> {
+    let mut out = Vec::new(alloc);
+    let mut err = Vec::new(alloc);
+    let status = ask(alloc, archive, line, &mut out, &mut err);
+    Ok(Told { out, err, status })
+}
+
+/// Loads records into a new archive with the mark 1704067201, and asks for 10.0.0.0/8.
+fn example(
+    alloc: Global,
+    records: &[&str],
+    lines: &str,
+    status: Status,
+    answer: &str,
+) -> Result<bool, Fail> {
+    let mut archive = Archive::plain(alloc, 1)?;
+    let octets = stream(alloc, records)?;
+    let loaded = load_octets(alloc, &mut archive, &octets, 1000, Some(1_704_067_201))?;
+    let asked = ask_line(alloc, &archive, QUESTION)?;
+    Ok(loaded.is(lines, "", status) && asked.is(answer, "", Status::Done))
+}
+
+#[test]
+fn an_update_is_loaded_and_answered(rt: HostRuntime) -> Result<(), Fail> {
+    let alloc = rt.alloc();
+    let lines = "B|0|1|1\nF|1|1|0|0|0\nS|1704067201\n";
+    assert!(rt; example(alloc, &[UPDATE], lines, Status::Done, ANSWER)?);
+    Ok(())
+}
+
+#[test]
+fn a_notification_ends_the_routes(rt: HostRuntime) -> Result<(), Fail> {
+    let alloc = rt.alloc();
+    let lines = "B|0|2|2\nF|2|2|0|0|0\nS|1704067201\n";
+    assert!(rt; example(alloc, &[UPDATE, NOTIFICATION], lines, Status::Done, "E|0\n")?);
+    Ok(())
+}
+
+#[test]
+fn an_empty_file_gives_nothing(rt: HostRuntime) -> Result<(), Fail> {
+    let alloc = rt.alloc();
+    let lines = "F|0|0|0|0|0\nS|1704067201\n";
+    assert!(rt; example(alloc, &[], lines, Status::Done, "E|0\n")?);
+    Ok(())
+}
+
+#[test]
+fn a_table_is_answered(rt: HostRuntime) -> Result<(), Fail> {
+    let alloc = rt.alloc();
+    let lines = "B|0|1|1\nF|2|1|0|0|0\nS|1704067201\n";
+    assert!(rt; example(alloc, &[PEER_TABLE, RIB], lines, Status::Done, ANSWER)?);
+    Ok(())
+}
+
+#[test]
+fn a_refused_record_is_lost_alone(rt: HostRuntime) -> Result<(), Fail> {
+    let alloc = rt.alloc();
+    let lines = "X|15|Malformed|0\nX|17|NoPeerTable|2\nB|0|1|1\nF|4|1|0|2|1\nS|1704067201\n";
+    let records = [LONG_PREFIX, SKIPPED, RIB, UPDATE];
+    assert!(rt; example(alloc, &records, lines, Status::Done, ANSWER)?);
+    Ok(())
+}
+
+#[test]
+fn a_file_that_ends_in_a_record_is_cut(rt: HostRuntime) -> Result<(), Fail> {
+    let alloc = rt.alloc();
+    let mut archive = Archive::plain(alloc, 1)?;
+    let mut octets = stream(alloc, &[UPDATE])?;
+    octets.truncate(72);
+    let told = load_octets(alloc, &mut archive, &octets, 1000, Some(1_704_067_201))?;
+    assert!(rt; told.is("X|13|Truncated|0\nF|0|0|0|0|0\nS|0\n", "", Status::Refused));
+    Ok(())
+}
+
+#[test]
+fn a_length_above_the_limit_ends_a_file(rt: HostRuntime) -> Result<(), Fail> {
+    let alloc = rt.alloc();
+    let mut archive = Archive::plain(alloc, 1)?;
+    let octets = stream(alloc, &[UPDATE, TOO_LONG, UPDATE])?;
+    let told = load_octets(alloc, &mut archive, &octets, 1000, Some(1_704_067_201))?;
+    let lines = "B|0|1|1\nX|14|TooLong|1\nF|1|1|0|0|0\nS|1704067200\n";
+    assert!(rt; told.is(lines, "", Status::Refused));
+    Ok(())
+}
+
+#[test]
+fn an_empty_update_is_admitted(rt: HostRuntime) -> Result<(), Fail> {
+    let alloc = rt.alloc();
+    let mut archive = Archive::plain(alloc, 1)?;
+    let octets = stream(alloc, &[EMPTY])?;
+    let told = load_octets(alloc, &mut archive, &octets, 1000, None)?;
+    assert!(rt; told.is("B|0|1|1\nF|1|1|0|0|0\nS|1704067200\n", "", Status::Done));
+    Ok(())
+}
+
+#[test]
+fn batches_are_offered_when_they_are_full(rt: HostRuntime) -> Result<(), Fail> {
+    let alloc = rt.alloc();
+    let mut archive = Archive::plain(alloc, 1)?;
+    let octets = stream(alloc, &[UPDATE, UPDATE, LONG_PREFIX, EARLIER])?;
+    let told = load_octets(alloc, &mut archive, &octets, 2, None)?;
+    let lines =
+        "B|0|2|2\nX|15|Malformed|2\nB|2|2|3\nL|0|1704067199|1704067200\nF|4|2|1|1|0\nS|1704067200\n";
+    assert!(rt; told.is(lines, "", Status::Done));
+    Ok(())
+}
+
+#[test]
+fn batches_are_offered_before_they_are_too_large(rt: HostRuntime) -> Result<(), Fail> {
+    let alloc = rt.alloc();
+    let mut archive = Archive::plain(alloc, 1)?;
+    let one = stream(alloc, &[UPDATE])?;
+    let mut octets = Vec::new(alloc);
+    // Each admission has 67 octets, so 3,692 of them are a batch of 262,132.
+    for _ in 0..3693 {
+        octets.extend_from_slice(&one)?;
+    }
+    let told = load_octets(alloc, &mut archive, &octets, 100_000, None)?;
+    let lines = "B|0|3692|3692\nB|3692|3693|3693\nF|3693|3693|0|0|0\nS|1704067200\n";
+    assert!(rt; told.is(lines, "", Status::Done));
+    Ok(())
+}
+
+#[test]
+fn refusals_outside_the_feed_are_told(rt: HostRuntime) -> Result<(), Fail> {
+    let alloc = rt.alloc();
+    let mut archive = Archive::plain(alloc, 1)?;
+    let octets = stream(alloc, &[UPDATE])?;
+    let back = load_octets(alloc, &mut archive, &octets, 1000, Some(1))?;
+    assert!(rt;
+        back.is(
+            "B|0|1|1\nF|1|1|0|0|0\n",
+            "rha: 21 MarkBack\n",
+            Status::Refused
+        )
+    );
+    let how = LoadSettings {
+        collector: 1,
+        limit: 1000,
+        mark: None,
+    };
+    let mut out: Vec<u8> = Vec::new(alloc);
+    let mut err: Vec<u8> = Vec::new(alloc);
+    let mut reader: &[u8] = &octets;
+    let status = load(alloc, &mut archive, how, &mut reader, &mut out, &mut err);
+    let told = Told { out, err, status };
+    assert!(rt; told.is("", "rha: 22 NoCollector\n", Status::Refused));
+    assert_eq!(rt; status.code(), 1);
+    Ok(())
+}
+
+#[test]
+fn questions_at_the_watermark_are_refused(rt: HostRuntime) -> Result<(), Fail> {
+    let alloc = rt.alloc();
+    let mut archive = Archive::plain(alloc, 1)?;
+    let octets = stream(alloc, &[UPDATE])?;
+    load_octets(alloc, &mut archive, &octets, 1000, Some(1_704_067_201))?;
+    let above = ask_line(alloc, &archive, "at 1704067201 prefix 10.0.0.0/8")?;
+    assert!(rt; above.is("X|24|AboveWatermark|1704067201\n", "", Status::Refused));
+    let other = ask_line(alloc, &archive, "at 1704067200 route 0 192.0.2.1 65001")?;
+    assert!(rt; other.is("X|28|BadRequest\n", "", Status::Refused));
+    let after = "at 2024-01-01T00:00:00Z prefix 10.0.0.0/8 after 0 192.0.2.1 65001 10.0.0.0/8";
+    assert!(rt; ask_line(alloc, &archive, after)?.is("E|0\n", "", Status::Done));
+    match reply(alloc, &archive, QUESTION) {
+        Ok(text) => assert_eq!(rt; text.as_str(), ANSWER),
+        Err(_) => return Err(Fail::from("refused")),
+    }
+    Ok(())
+}
+
+#[test]
+fn lines_are_read_word_by_word(rt: HostRuntime) -> Result<(), Fail> {
+    let alloc = rt.alloc();
+    let ten = Prefix::containing(Address::V4([10, 0, 0, 0]), 8);
+    let first = RowsQuestion {
+        moment: Moment::from(7),
+        select: Select::ByPrefix(ten),
+        after: None,
+    };
+    assert_eq!(rt;
+        read_query(alloc, "at 7 prefix 10.0.0.0/8"),
+        Ok(Query::Rows(first))
+    );
+    let spot = Spot {
+        peer: Peer {
+            collector: 15,
+            address: Address::V4([192, 0, 2, 1]),
+            as_number: 4_294_967_295,
+        },
+        prefix: ten,
+    };
+    let behind = RowsQuestion {
+        moment: Moment::from(7),
+        select: Select::ByPrefix(ten),
+        after: Some(spot),
+    };
+    let line = "at 7 prefix 10.1.2.3/8 after 15 192.0.2.1 4294967295 10.0.0.0/8";
+    assert_eq!(rt; read_query(alloc, line), Ok(Query::Rows(behind)));
+    Ok(())
+}
+
+#[test]
+fn other_lines_are_no_requests(rt: HostRuntime) -> Result<(), Fail> {
+    let alloc = rt.alloc();
+    for line in &NO_REQUESTS {
+        assert_eq!(rt; read_query(alloc, line), Err(RequestError::BadRequest));
+    }
+    Ok(())
+}
+
+#[test]
+fn long_answers_name_their_last_row(rt: HostRuntime) -> Result<(), Fail> {
+    let alloc = rt.alloc();
+    let mut archive = Archive::plain(alloc, 1)?;
+    let mut octets = stream(alloc, &[MANY])?;
+    for third in 0..=255 {
+        octets.extend_from_slice(&[24, 10, 0, third])?;
+    }
+    octets.extend_from_slice(&[24, 10, 1, 0])?;
+    load_octets(alloc, &mut archive, &octets, 1000, Some(1_704_067_201))?;
+    let all = RowsQuestion {
+        moment: Moment::from(1_704_067_200),
+        select: Select::All,
+        after: None,
+    };
+    let mut cursor = archive.start(Query::Rows(all));
+    let Ok(Turn::Done(Answer::Rows(answer))) = archive.descend(&mut cursor) else {
+        return Err(Fail::from("no rows"));
+    };
+    let mut text = String::new(alloc);
+    write_answer(&mut text, &answer)?;
+    assert_eq!(rt; text.as_str().lines().count(), 257);
+    assert!(rt;
+        text.as_str()
+            .ends_with("\nM|0|192.0.2.1|65001|10.0.255.0/24\n")
+    );
+    Ok(())
+}
+
+#[test]
+fn lines_are_written(rt: HostRuntime) -> Result<(), Fail> {
+    let alloc = rt.alloc();
+    let mut out = Vec::new(alloc);
+    let mut late = Vec::new(alloc);
+    late.push(Late {
+        index: 1,
+        time: Moment::from(99),
+        mark: Mark::at(Moment::from(100)),
+    })?;
+    let admitted = Admitted {
+        receipt: Receipt {
+            collector: 0,
+            from: 0,
+            to: 2,
+        },
+        offered: 3,
+        late,
+    };
+    write_admitted(&mut out, &admitted)?;
+    let counts = FeedCounts {
+        records: 5,
+        admitted: 1,
+        late: 2,
+        refused: 3,
+        skipped: 4,
+    };
+    write_counts(&mut out, &counts)?;
+    write_settled(&mut out, Mark::at(Moment::from(7)))?;
+    write_refusal(&mut out, &Refusal::BadRequest)?;
+    write_refused_record(&mut out, &Refusal::TooLong, 8)?;
+    write_error(&mut out, &Refusal::Outside)?;
+    let lines =
+        "B|0|2|3\nL|1|99|100\nF|5|1|2|3|4\nS|7\nX|28|BadRequest\nX|14|TooLong|8\nrha: 29 Outside\n";
+    assert!(rt; out.as_slice() == lines.as_bytes());
+    Ok(())
+}
+
+/// A reader of these octets, which then fails.
+#[derive(Drop)]
+struct Failing<'a> {
+    octets: &'a [u8],
+}
+
+impl Read for Failing<'_> {
+    fn read(&mut self, buf: &mut [u8]) -> std::io::Result<usize> {
+        if self.octets.is_empty() {
+            return Err(Error::from(ErrorKind::BrokenPipe));
+        }
+        self.octets.read(buf)
+    }
+}
+
+#[test]
+fn failures_outside_end_a_feed(rt: HostRuntime) -> Result<(), Fail> {
+    let alloc = rt.alloc();
+    let mut archive = Archive::plain(alloc, 1)?;
+    let octets = stream(alloc, &[UPDATE])?;
+    let mut reader = Failing { octets: &octets };
+    let mut out: Vec<u8> = Vec::new(alloc);
+    let end = feed(alloc, &mut archive, 0, 1, &mut reader, &mut out);
+    assert_eq!(rt; end, End::Refused(Refusal::Outside));
+    assert!(rt; out.as_slice() == "B|0|1|1\nX|29|Outside\n".as_bytes());
+    let mut small = [0u8; 4];
+    let mut full: &mut [u8] = &mut small;
+    let mut err: Vec<u8> = Vec::new(alloc);
+    let status = ask(alloc, &archive, QUESTION, &mut full, &mut err);
+    assert_eq!(rt; status, Status::Failed);
+    assert!(rt; err.as_slice() == "rha: 29 Outside\n".as_bytes());
+    Ok(())
+}
