@@ -4,7 +4,7 @@ use Rattle.std.proofs.lemmas.List.{append-nil, map-append}
 use Rattle.route_model.specs.Admission.{Admitted}
 use Rattle.route_meaning.specs.Holds.{admitted_time}
 use Rattle.route_meaning.specs.History.{Intake, History}
-use Rattle.sequencer.specs.Late.{greatest, is_late, timely}
+use Rattle.sequencer.specs.Late.{greatest, is_late, timely, lates}
 use Rattle.sequencer.proofs.Sieving.{greatest-push, is_late-greatest}
 use Rattle.archive.specs.Steps.{changed, with_batch, given}
 
@@ -36,11 +36,11 @@ timely_split {X = X} time m e (x ∷ xs) ys =
     both true x us vs ws h = h
     both false x us vs ws h = ap (λ (t : List X). x ∷ t) h
 
-timely_both : {X : Type 0} (time : X → ℕ) (m : ℕ) (xs ys : List X) → timely time m [] (xs ++ ys) ≡ timely time m [] xs ++ timely time (greatest m (map time xs)) [] ys
+pub timely_both : {X : Type 0} (time : X → ℕ) (m : ℕ) (xs ys : List X) → timely time m [] (xs ++ ys) ≡ timely time m [] xs ++ timely time (greatest m (map time xs)) [] ys
 timely_both time m xs ys =
     timely_split time m [] xs ys ∙ ap (λ (t : List _). timely time m [] xs ++ t) (timely_same time m (greatest m (map time xs)) (map time xs) [] ys refl)
 
-with_both : (a b : List Admitted) (i : Intake) → with_batch b (with_batch a i) ≡ with_batch (a ++ b) i
+pub with_both : (a b : List Admitted) (i : Intake) → with_batch b (with_batch a i) ≡ with_batch (a ++ b) i
 with_both a b i = λ k. record {
   admitted = (append_assoc i.admitted (timely admitted_time i.mark [] a) (timely admitted_time (greatest i.mark (map admitted_time a)) [] b) ∙ ap (λ (t : List Admitted). i.admitted ++ t) (sym (timely_both admitted_time i.mark a b))) k;
   mark = (sym (ap (greatest i.mark) (map-append admitted_time a b) ∙ greatest_both i.mark (map admitted_time a) (map admitted_time b))) k;
@@ -60,9 +60,29 @@ changed_same c f [] same = refl
 changed_same zero f (i ∷ is) same = ap (λ (j : Intake). j ∷ is) (same i)
 changed_same (suc c) f (i ∷ is) same = ap (λ (js : List Intake). i ∷ js) (changed_same c f is same)
 
-with_none : (i : Intake) → with_batch [] i ≡ i
+pub with_none : (i : Intake) → with_batch [] i ≡ i
 with_none i = λ k. record { admitted = append-nil i.admitted k; mark = i.mark; offered = (let e : i.offered + 0 ≡ i.offered = omega arith in e) k }
 
 -- an empty batch changes nothing
 pub given_none : (h : History) (c : ℕ) → given h c [] ≡ h
 given_none h c = λ k. record { intakes = changed_same c (with_batch []) h.intakes with_none k; whole = h.whole; some = h.some }
+
+-- each item of a batch is late, or it isn't
+pub none_lost : {X : Type 0} (time : X → ℕ) (m : ℕ) (e : List ℕ) (i : ℕ) (xs : List X) → length (timely time m e xs) + length (lates time m e i xs) ≡ length xs
+none_lost time m e i [] = refl
+none_lost time m e i (x ∷ xs) = either (is_late m e (time x)) x _ _ _ _ (none_lost time m (e ++ time x ∷ []) (i + 1) xs)
+  where
+    either : {X Y : Type 0} (b : Bool) (x : X) (y : Y) (us : List X) (vs : List Y) (n : ℕ) → length us + length vs ≡ n → length (cond b us (x ∷ us)) + length (cond b (y ∷ vs) vs) ≡ suc n
+    either true x y us vs n h = omega (arith, h)
+    either false x y us vs n h = omega (arith, h)
+
+-- so many of two batches are late as of each
+pub lates_both : {X : Type 0} (time : X → ℕ) (m : ℕ) (xs ys : List X)
+    → length (lates time m [] 0 (xs ++ ys)) ≡ length (lates time m [] 0 xs) + length (lates time (greatest m (map time xs)) [] 0 ys)
+lates_both time m xs ys =
+    let whole = none_lost time m [] 0 (xs ++ ys) in
+    let first = none_lost time m [] 0 xs in
+    let second = none_lost time (greatest m (map time xs)) [] 0 ys in
+    let kept : length (timely time m [] (xs ++ ys)) ≡ length (timely time m [] xs) + length (timely time (greatest m (map time xs)) [] ys) = ap length (timely_both time m xs ys) ∙ length-append _ _ in
+    let all = length-append xs ys in
+    omega (arith, whole, first, second, kept, all)

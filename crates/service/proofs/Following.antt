@@ -1,57 +1,127 @@
--- A feed that is given to an archive record by record.
-use Rattle.std.proofs.Common.{◌≡◌, ℕ, ◌+◌, ◌<◌, length, take, get_or, map, List, [], ◌∷◌, ◌++◌, Option, Result, Ok, Err, OnOk, refl, sym, ap, ◌∙◌, subst, append_assoc}
+-- A feed that is taken in record by record.
+use Rattle.std.proofs.Common.{◌≡◌, ℕ, ◌+◌, ◌<◌, length, length-append, take, get_or, map, zero, suc, List, [], ◌∷◌, ◌++◌, Option, None, Some, Result, Ok, Err, OnOk, inl, refl, sym, ap, ◌∙◌, subst, append_assoc, arith}
 use Rattle.std.proofs.lemmas.List.{append-nil, map-append}
+use Rattle.std.proofs.KnownBytes.{Appends-nil}
 use Rattle.route_model.proofs.Admissions.{take_item}
 use Rattle.route_model.specs.Admission.{Admitted}
 use Rattle.route_meaning.specs.History.{History}
-use Rattle.mrt_records.specs.Values.{Told, told}
+use Rattle.mrt_records.specs.Values.{Told, told, Read, Skipped, Malformed}
 use Rattle.mrt_records.specs.declared.item.Item.{Item}
-use Rattle.mrt_records.specs.declared.neighbor.Neighbor.{Neighbor}
 use Rattle.resolve.specs.Tables.{LastTable}
 use Rattle.resolve.specs.Records.{Gives}
+use Rattle.resolve.specs.Meanings.{Means, IsMeaning}
 use Rattle.resolve.specs.declared.fault.ResolveFault.{ResolveFault}
 use Rattle.resolve.specs.declared.fault.ResolveFault.TheVariants as faults
+use Rattle.resolve.proofs.Feeds.{one_more}
 use Rattle.archive.specs.Carries.{Carries}
-use Rattle.archive.specs.Steps.{given}
-use Rattle.service.specs.Feeds.{RecordGives, RecordsGive, Follows, admissions_of}
-use Rattle.service.proofs.Batches.{given_both}
+use Rattle.archive.specs.Steps.{given, batch_octets}
+use Rattle.service.specs.Turns.{Turn, turns_at, waits_after, turns_for, waits_behind}
+use Rattle.service.specs.FeedTexts.{capped, skips}
+use Rattle.service.specs.Feeding.{HasDone, IsCounted, IsBehind}
+use Rattle.service.specs.declared.feed_lines.FeedCounts.{FeedCounts}
+use Rattle.service.specs.declared.feeding.Feeding.{Feeding}
+use Rattle.service.specs.declared.refusal.Refusal.{Refusal}
+use Rattle.service.proofs.Batches.{given_none}
 
--- all that is gathered is offered
-pub offered_all : (b c : ℕ) (h : History) (records : List Told) (gathered batch left : List Admitted) (was now : History)
-    → b ≡ c → batch ≡ gathered → left ≡ [] → ((g : History) → Carries was g → Carries now (given g b batch)) → Follows c h records gathered was → Follows c h records left now
-offered_all b c h records gathered batch left was now one same none gives f = record {
-  offered = f.offered ++ gathered;
-  give = subst (λ (t : List Admitted). RecordsGive c [] records t) (sym (append-nil (f.offered ++ gathered)) ∙ ap (λ (t : List Admitted). (f.offered ++ gathered) ++ t) (sym none)) f.give;
-  carried = subst (λ (g : History). Carries now g) ((λ i. given (given h c f.offered) (one i) (same i)) ∙ given_both h c f.offered gathered) (gives (given h c f.offered) f.carried);
-}
+pub turns_snoc : (limit place : ℕ) (waiting : List Admitted) (results : List (Result (Option Admitted) ResolveFault)) (r : Result (Option Admitted) ResolveFault)
+    → turns_for limit place waiting (results ++ r ∷ []) ≡ turns_for limit place waiting results ++ turns_at limit (place + length results) (waits_behind limit waiting results) r
+turns_snoc limit place waiting [] r =
+    append-nil (turns_at limit place waiting r) ∙ ap (λ (n : ℕ). turns_at limit n waiting r) (let e : place ≡ place + 0 = omega arith in e)
+turns_snoc limit place waiting (q ∷ results) r =
+    ap (λ (t : List Turn). turns_at limit place waiting q ++ t)
+    (turns_snoc limit (suc place) (waits_after limit waiting q) results r
+    ∙ ap (λ (n : ℕ). turns_for limit (suc place) (waits_after limit waiting q) results ++ turns_at limit n (waits_behind limit (waits_after limit waiting q) results) r)
+    (let e : suc place + length results ≡ place + suc (length results) = omega arith in e))
+    ∙ sym (append_assoc (turns_at limit place waiting q) (turns_for limit (suc place) (waits_after limit waiting q) results) _)
 
--- one more record gives some more
-records_more : (c : ℕ) (before records : List Told) (r : Told) (all first : List Admitted) → RecordsGive c before records all → RecordGives c (before ++ records) r first → RecordsGive c before (records ++ r ∷ []) (all ++ first)
-records_more c before [] r all first is more =
-    (first, [], subst (λ (t : List Told). RecordGives c t r first) (append-nil before) more, refl, ap (λ (t : List Admitted). t ++ first) is ∙ sym (append-nil first))
-records_more c before (q ∷ records) r all first is more =
-    let rest = records_more c (before ++ q ∷ []) records r is.1 first is.3 (subst (λ (t : List Told). RecordGives c t r first) (sym (append_assoc before (q ∷ []) records)) more) in
-    (is.0, is.1 ++ first, is.2, rest, ap (λ (t : List Admitted). t ++ first) is.4 ∙ append_assoc is.0 is.1 first)
+pub waits_snoc : (limit : ℕ) (waiting : List Admitted) (results : List (Result (Option Admitted) ResolveFault)) (r : Result (Option Admitted) ResolveFault)
+    → waits_behind limit waiting (results ++ r ∷ []) ≡ waits_after limit (waits_behind limit waiting results) r
+waits_snoc limit waiting [] r = refl
+waits_snoc limit waiting (q ∷ results) r = waits_snoc limit (waits_after limit waiting q) results r
 
--- what one more record gives is gathered
-pub gathered_more : (c : ℕ) (h : History) (before : List Told) (r : Told) (gathered first now : List Admitted) (archive : History)
-    → Follows c h before gathered archive → RecordGives c before r first → now ≡ gathered ++ first → Follows c h (before ++ r ∷ []) now archive
-gathered_more c h before r gathered first now archive f more is = record {
-  offered = f.offered;
-  give = subst (λ (t : List Admitted). RecordsGive c [] (before ++ r ∷ []) t) (append_assoc f.offered gathered first ∙ ap (λ (t : List Admitted). f.offered ++ t) (sym is)) (records_more c [] before r (f.offered ++ gathered) first f.give more);
-  carried = f.carried;
-}
+pub skips_both : (xs ys : List Told) → skips (xs ++ ys) ≡ skips xs + skips ys
+skips_both [] ys = omega arith
+skips_both (Skipped kind subtype ∷ xs) ys = let ih = skips_both xs ys in omega (arith, ih)
+skips_both (Read reading ∷ xs) ys = skips_both xs ys
+skips_both (Malformed kind subtype ∷ xs) ys = skips_both xs ys
 
--- what a record gives, by what is read of it
-pub told_by : (b c : ℕ) (before : List Told) (table : Option (List Neighbor)) (r : Told) (result : Result (Option Admitted) ResolveFault)
-    → b ≡ c → LastTable before table → Gives b table r result → (result ≡ Err faults.OutOfMemory → ⊥) → RecordGives c before r (admissions_of result)
-told_by b c before table r result same known means remembered = record {
-  table = table;
-  result = result;
-  known = known;
-  means = subst (λ (n : ℕ). Gives n table r result) same means;
-  remembered = remembered;
-  are = refl;
+-- what comes behind one more record, once its turns are made
+pub behind_more : (c limit : ℕ) (h : History) (records : List Told) (r : Told) (x : Result (Option Admitted) ResolveFault) (old new : Feeding) (archive later : History) (was mid now : Option (List ℕ))
+    (b : IsBehind c limit h records old archive was mid)
+    → new.collector ≡ old.collector → new.limit ≡ old.limit → new.resolver.collector ≡ old.resolver.collector
+    → Gives old.resolver.collector old.resolver.table r x → (x ≡ Err faults.OutOfMemory → ⊥)
+    → LastTable (records ++ r ∷ []) new.resolver.table
+    → new.gathered.items ≡ waits_after old.limit old.gathered.items x → IsCounted new
+    → HasDone c h (turns_for limit 0 [] b.results ++ turns_at old.limit (length b.results) old.gathered.items x) new.counts later was now
+    → new.counts.records ≡ capped (suc old.counts.records) → new.counts.skipped ≡ capped (old.counts.skipped + skips (r ∷ []))
+    → IsBehind c limit h (records ++ r ∷ []) new later was now
+behind_more c limit h records r x old new archive later was mid now b collector limits fed gives enough known waits counted done counts skipped =
+    let n = length b.results in
+    record {
+      results = b.results ++ x ∷ [];
+      collector = collector ∙ b.collector;
+      limited = limits ∙ b.limited;
+      fed = fed ∙ b.fed;
+      known = known;
+      means =
+          one_more c records b.results r x b.means
+          (record { table = old.resolver.table; last = b.known; gives = subst (λ (t : ℕ). Gives t old.resolver.table r x) b.fed gives; wanting = enough });
+      waits = waits ∙ (λ k. waits_after (b.limited k) (b.waits k) x) ∙ sym (waits_snoc limit [] b.results x);
+      counted = counted;
+      done =
+          subst (λ (t : List Turn). HasDone c h t new.counts later was now)
+          ((λ k. turns_for limit 0 [] b.results ++ turns_at (b.limited k) (let e : n ≡ 0 + n = omega arith in e k) (b.waits k) x) ∙ sym (turns_snoc limit 0 [] b.results x))
+          done;
+      recorded = let sum = length-append records (r ∷ []) in let before = b.recorded in omega (arith, counts, sum, before);
+      skipped = let sum = skips_both records (r ∷ []) in let before = b.skipped in omega (arith, skipped, sum, before);
+    }
+
+-- the same where the turns may fail
+pub behind_where : (t : Result (Unit {0}) Refusal) (c limit : ℕ) (h : History) (records : List Told) (r : Told) (x : Result (Option Admitted) ResolveFault) (old new : Feeding) (archive later : History) (was mid now : Option (List ℕ))
+    (b : IsBehind c limit h records old archive was mid)
+    → new.collector ≡ old.collector → new.limit ≡ old.limit → new.resolver.collector ≡ old.resolver.collector
+    → Gives old.resolver.collector old.resolver.table r x → OnOk t (x ≡ Err faults.OutOfMemory → ⊥)
+    → ((x ≡ Err faults.OutOfMemory → ⊥) → LastTable (records ++ r ∷ []) new.resolver.table)
+    → OnOk t (new.gathered.items ≡ waits_after old.limit old.gathered.items x) → OnOk t (IsCounted new)
+    → OnOk t (HasDone c h (turns_for limit 0 [] b.results ++ turns_at old.limit (length b.results) old.gathered.items x) new.counts later was now)
+    → new.counts.records ≡ capped (suc old.counts.records) → new.counts.skipped ≡ capped (old.counts.skipped + skips (r ∷ []))
+    → OnOk t (IsBehind c limit h (records ++ r ∷ []) new later was now)
+behind_where (Ok done_) c limit h records r x old new archive later was mid now b collector limits fed gives enough known waits counted done counts skipped =
+    behind_more c limit h records r x old new archive later was mid now b collector limits fed gives enough (known enough) waits counted done counts skipped
+behind_where (Err e) c limit h records r x old new archive later was mid now b collector limits fed gives enough known waits counted done counts skipped = tt
+
+-- the place of the next record
+pub place_of : (c limit : ℕ) (h : History) (records : List Told) (old : Feeding) (archive : History) (was mid : Option (List ℕ)) (b : IsBehind c limit h records old archive was mid) → old.counts.records ≡ capped (length b.results)
+place_of c limit h records old archive was mid b = b.recorded ∙ ap capped (sym b.means.count)
+
+-- counts of records and skipped ones tell nothing of what was done
+pub done_counted : (c : ℕ) (h : History) (turns : List Turn) (old new : FeedCounts) (archive : History) (was now : Option (List ℕ))
+    → new.admitted ≡ old.admitted → new.late ≡ old.late → new.refused ≡ old.refused → HasDone c h turns old archive was now → HasDone c h turns new archive was now
+done_counted c h turns old new archive was now admitted late refused d = record { carried = d.carried; wrote = d.wrote; admitted = admitted ∙ d.admitted; late = late ∙ d.late; refused = refused ∙ d.refused }
+
+-- no record came yet
+pub behind_none : (c limit : ℕ) (h archive : History) (feeding : Feeding) (was : Option (List ℕ))
+    → feeding.collector ≡ c → feeding.limit ≡ limit → feeding.resolver.collector ≡ c → feeding.resolver.table ≡ None → feeding.gathered.items ≡ [] → feeding.octets ≡ 0
+    → feeding.counts ≡ record { records = 0; admitted = 0; late = 0; refused = 0; skipped = 0 }
+    → Carries archive h → IsBehind c limit h [] feeding archive was was
+behind_none c limit h archive feeding was collector limits fed none empty octets counts carried = record {
+  results = [];
+  collector = collector;
+  limited = limits;
+  fed = fed;
+  known = inl (tt, none);
+  means = record { count = refl; each = λ n next result e f. absurd cc };
+  waits = empty;
+  counted = record { octets = octets ∙ sym (ap batch_octets empty); fit = omega (arith, octets) };
+  done = record {
+    carried = subst (λ (t : History). Carries archive t) (sym (given_none h c)) carried;
+    wrote = Appends-nil was;
+    admitted = ap (λ (t : FeedCounts). t.admitted) counts;
+    late = ap (λ (t : FeedCounts). t.late) counts;
+    refused = ap (λ (t : FeedCounts). t.refused) counts;
+  };
+  recorded = ap (λ (t : FeedCounts). t.records) counts;
+  skipped = ap (λ (t : FeedCounts). t.skipped) counts;
 }
 
 pub on_ok : {E : Type 0} (P : Type 0) (r : Result (Unit {0}) E) → P → OnOk r P
@@ -65,8 +135,10 @@ on_ok_more P Q (Err e) p f = tt
 pub ok_is_none : (o : Option Admitted) → (◌≡◌ {A = Result (Option Admitted) ResolveFault} (Ok o) (Err faults.OutOfMemory)) → ⊥
 ok_is_none o e = absurd cc
 
-pub fault_is : (fault : ResolveFault) → (fault ≡ faults.OutOfMemory → ⊥) → (◌≡◌ {A = Result (Option Admitted) ResolveFault} (Err fault) (Err faults.OutOfMemory)) → ⊥
-fault_is fault remembered e = remembered cc
+-- what is refused for want of memory isn't told as the record's fault
+pub remembered : (t : Result (Unit {0}) Refusal) (fault : ResolveFault) → OnOk t (fault ≡ faults.OutOfMemory → ⊥) → OnOk t ((◌≡◌ {A = Result (Option Admitted) ResolveFault} (Err fault) (Err faults.OutOfMemory)) → ⊥)
+remembered (Ok x) fault enough = λ e. enough cc
+remembered (Err x) fault enough = tt
 
 -- what one more record is told as
 pub told_more : (items : List Item) (i : ℕ) (item : Item) (before : List Told) → i < length items → item ≡ get_or items i item

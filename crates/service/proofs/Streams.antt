@@ -1,56 +1,83 @@
 -- A stream that is read piece by piece.
 use Rattle.std.proofs.Common.{◌≡◌, ℕ, List, [], ◌++◌, Option, Some, None, Bool, true, false, map, arith, inl, inr, refl, sym, ap, ◌∙◌, subst, append_assoc}
-use Rattle.std.specs.Io.KnownBytes.{Consumes, IsAtEnd}
+use Rattle.std.specs.Io.KnownBytes.{Consumes, IsAtEnd, Appends}
+use Rattle.std.proofs.KnownBytes.{Appends-trans}
 use Rattle.std.proofs.lemmas.List.{append-nil, map-append}
 use Rattle.route_model.specs.Admission.{Admitted}
 use Rattle.route_meaning.specs.History.{History}
 use Rattle.mrt_records.specs.Values.{Told, told}
 use Rattle.mrt_records.specs.Records.{Over}
-use Rattle.mrt_records.specs.Streams.{GainsFrames}
+use Rattle.mrt_records.specs.Streams.{GainsFrames, EndsOver}
 use Rattle.mrt_records.specs.declared.item.Item.{Item}
-use Rattle.mrt_records.specs.declared.neighbor.Neighbor.{Neighbor}
 use Rattle.mrt_records.proofs.Pieces.{frames_then}
-use Rattle.mrt_records.proofs.Streams.{frames_none, part_begins_none}
+use Rattle.mrt_records.proofs.Streams.{frames_none, part_begins_none, over_begins_none, over-append}
 use Rattle.archive.specs.Carries.{Carries}
-use Rattle.resolve.specs.Tables.{LastTable}
-use Rattle.service.specs.Feeds.{Follows, Reads, IsRead, TakesPiece, IsFed, RecordsGive}
-use Rattle.service.proofs.Batches.{given_none}
+use Rattle.archive.specs.Steps.{given}
+use Rattle.service.specs.Feeds.{IsCut, IsFed}
+use Rattle.service.specs.Turns.{Turn, turns_for, last_turns, feed_turns, offered, admissions_of}
+use Rattle.service.specs.FeedTexts.{intake_in, turns_text, cut_line, counts_of, capped}
+use Rattle.service.specs.FeedLines.{counts_line}
+use Rattle.service.specs.Feeding.{IsBehind, HasDone, Reads, IsHeld, IsRead, IsReadOut, IsSameFeed}
+use Rattle.service.specs.declared.feed_lines.FeedCounts.{FeedCounts}
+use Rattle.service.specs.declared.feeding.Feeding.{Feeding}
+use Rattle.service.specs.declared.refusal.Refusal.{Refusal}
+use Rattle.service.proofs.Turning.{offered_feed}
 
 -- the same items behind others
 gains_behind : (bytes now : List ℕ) (none items mid : List Item) → none ≡ [] → GainsFrames bytes now none items → GainsFrames bytes now mid (mid ++ items)
 gains_behind bytes now none items mid e p = (p.0, p.1, (p.2.0, p.2.1, ap (λ (t : List Item). mid ++ t) (p.2.2 ∙ ap (λ (t : List Item). t ++ p.2.0) e)))
 
--- one more piece
-pub piece_read : (k : ℕ) (h : History) (bytes held piece now : List ℕ) (table left : Option (List Neighbor)) (gathered rest : List Admitted) (was new : History) (none items got : List Item)
-    → none ≡ [] → got ≡ items → GainsFrames (held ++ piece) now none items
-    → ((before : List Told) → LastTable before table → LastTable (before ++ map told got) left)
-    → ((before : List Told) → LastTable before table → Follows k h before gathered was → Follows k h (before ++ map told got) rest new)
-    → Reads k h bytes held table gathered was → Reads k h (bytes ++ piece) now left rest new
-piece_read k h bytes held piece now table left gathered rest was new none items got empty same gains known follows r =
+-- one more piece, behind which this rest is left
+pub piece_read : (c limit : ℕ) (h : History) (bytes held piece rest : List ℕ) (old new : Feeding) (archive later : History) (was mid now : Option (List ℕ)) (none items got : List Item)
+    → none ≡ [] → got ≡ items → GainsFrames (held ++ piece) rest none items
+    → ((records : List Told) → IsBehind c limit h records old archive was mid → IsBehind c limit h (records ++ map told got) new later was now)
+    → Reads c limit h bytes held old archive was mid → Reads c limit h (bytes ++ piece) rest new later was now
+piece_read c limit h bytes held piece rest old new archive later was mid now none items got empty same gains behind r =
     let both : map told r.items ++ map told got ≡ map told (r.items ++ items) = ap (λ (t : List Item). map told r.items ++ map told t) same ∙ sym (map-append told r.items items) in
     record {
       items = r.items ++ items;
-      framed = frames_then bytes held piece now [] r.items (r.items ++ items) r.framed (gains_behind (held ++ piece) now none items r.items empty gains);
-      known = subst (λ (t : List Told). LastTable t left) both (known (map told r.items) r.known);
-      follows = subst (λ (t : List Told). Follows k h t rest new) both (follows (map told r.items) r.known r.follows);
+      framed = frames_then bytes held piece rest [] r.items (r.items ++ items) r.framed (gains_behind (held ++ piece) rest none items r.items empty gains);
+      behind = subst (λ (t : List Told). IsBehind c limit h t new later was now) both (behind (map told r.items) r.behind);
     }
 
+-- one more piece, and the feed goes on
+pub piece_goes : (c limit : ℕ) (h : History) (bytes held piece now_held : List ℕ) (old new : Feeding) (archive later : History) (was mid now : Option (List ℕ)) (none items got : List Item) (on : Bool)
+    → on ≡ true → none ≡ [] → got ≡ items → GainsFrames (held ++ piece) now_held none items
+    → ((records : List Told) → IsBehind c limit h records old archive was mid → IsBehind c limit h (records ++ map told got) new later was now)
+    → Reads c limit h bytes held old archive was mid → IsRead c limit h (bytes ++ piece) now_held on new later was now
+piece_goes c limit h bytes held piece now_held old new archive later was mid now none items got on goes_on empty same gains behind r =
+    subst (λ (t : Bool). IsRead c limit h (bytes ++ piece) now_held t new later was now) (sym goes_on)
+    (record { rest = now_held; holds = refl; reads = piece_read c limit h bytes held piece now_held old new archive later was mid now none items got empty same gains behind r })
+
+-- one more piece, and behind its records stands a Length above the limit
+pub piece_stops : (c limit : ℕ) (h : History) (bytes held piece now_held : List ℕ) (old new : Feeding) (archive later : History) (was mid now : Option (List ℕ)) (none items got : List Item) (on : Bool)
+    → on ≡ false → none ≡ [] → got ≡ items → EndsOver (held ++ piece) now_held none items
+    → ((records : List Told) → IsBehind c limit h records old archive was mid → IsBehind c limit h (records ++ map told got) new later was now)
+    → Reads c limit h bytes held old archive was mid → IsRead c limit h (bytes ++ piece) now_held on new later was now
+piece_stops c limit h bytes held piece now_held old new archive later was mid now none items got on stops empty same ends behind r =
+    subst (λ (t : Bool). IsRead c limit h (bytes ++ piece) now_held t new later was now) (sym stops)
+    (record {
+      rest = now_held ++ ends.0;
+      holds = (ends.0, refl, ends.2);
+      reads = piece_read c limit h bytes held piece (now_held ++ ends.0) old new archive later was mid now none items got empty same ends.1 behind r;
+    })
+
 -- of what a reader had left some is read, and this is still left
-pub record Left (k : ℕ) (h : History) (bytes all : List ℕ) (now : Option (List ℕ)) (held : List ℕ) (table : Option (List Neighbor)) (gathered : List Admitted) (archive : History) : Type 0 where
+pub record Left (c limit : ℕ) (h : History) (bytes all : List ℕ) (reader : Option (List ℕ)) (held : List ℕ) (feeding : Feeding) (archive : History) (was now : Option (List ℕ)) : Type 0 where
   pub done : List ℕ
   pub rest : List ℕ
   pub parts : all ≡ done ++ rest
-  pub left : now ≡ Some rest
-  pub reads : Reads k h (bytes ++ done) held table gathered archive
+  pub left : reader ≡ Some rest
+  pub reads : Reads c limit h (bytes ++ done) held feeding archive was now
 
-pub left_first : (k : ℕ) (h : History) (bytes all : List ℕ) (now : Option (List ℕ)) (held : List ℕ) (table : Option (List Neighbor)) (gathered : List Admitted) (archive : History)
-    → now ≡ Some all → Reads k h bytes held table gathered archive → Left k h bytes all now held table gathered archive
-left_first k h bytes all now held table gathered archive e r = record {
+pub left_first : (c limit : ℕ) (h : History) (bytes all : List ℕ) (reader : Option (List ℕ)) (held : List ℕ) (feeding : Feeding) (archive : History) (was now : Option (List ℕ))
+    → reader ≡ Some all → Reads c limit h bytes held feeding archive was now → Left c limit h bytes all reader held feeding archive was now
+left_first c limit h bytes all reader held feeding archive was now e r = record {
   done = [];
   rest = all;
   parts = refl;
   left = e;
-  reads = subst (λ (t : List ℕ). Reads k h t held table gathered archive) (sym (append-nil bytes)) r;
+  reads = subst (λ (t : List ℕ). Reads c limit h t held feeding archive was now) (sym (append-nil bytes)) r;
 }
 
 pub consumed : (old new : Option (List ℕ)) (rest bs : List ℕ) → old ≡ Some rest → Consumes old new bs → (more : List ℕ) × (new ≡ Some more) × (rest ≡ bs ++ more)
@@ -59,61 +86,99 @@ consumed (Some xs) None rest bs e c = absurd c
 consumed (Some xs) (Some ys) rest bs e c = let same : xs ≡ rest = cc in (ys, refl, sym same ∙ c)
 
 -- the reader is at its end
-pub left_none : (k : ℕ) (h : History) (bytes all : List ℕ) (now new : Option (List ℕ)) (held : List ℕ) (table : Option (List Neighbor)) (gathered : List Admitted) (archive : History)
-    → Consumes now new [] → IsAtEnd new → Left k h bytes all now held table gathered archive → IsRead k h (bytes ++ all) held table gathered archive
-left_none k h bytes all now new held table gathered archive c end l =
-    let more = consumed now new l.rest [] l.left c in
+pub left_none : (c limit : ℕ) (h : History) (bytes all : List ℕ) (reader new : Option (List ℕ)) (held : List ℕ) (feeding : Feeding) (archive : History) (was now : Option (List ℕ))
+    → Consumes reader new [] → IsAtEnd new → Left c limit h bytes all reader held feeding archive was now → IsReadOut c limit h (bytes ++ all) held feeding archive was now
+left_none c limit h bytes all reader new held feeding archive was now gone end l =
+    let more = consumed reader new l.rest [] l.left gone in
     let none : more.0 ≡ [] = subst IsAtEnd more.1 end in
     let whole : l.done ≡ all = sym (l.parts ∙ ap (λ (t : List ℕ). l.done ++ t) (more.2 ∙ none) ∙ append-nil l.done) in
-    inr (subst (λ (t : List ℕ). Reads k h (bytes ++ t) held table gathered archive) whole l.reads)
+    (true, record { rest = held; holds = refl; reads = subst (λ (t : List ℕ). Reads c limit h (bytes ++ t) held feeding archive was now) whole l.reads })
 
--- some more is read and taken
-pub left_more : (k : ℕ) (h : History) (bytes all piece : List ℕ) (now new : Option (List ℕ)) (held left : List ℕ) (table later : Option (List Neighbor)) (gathered rest : List Admitted) (was archive : History)
-    → Consumes now new piece → Left k h bytes all now held table gathered was
-    → ((seen : List ℕ) → Reads k h seen held table gathered was → Reads k h (seen ++ piece) left later rest archive)
-    → Left k h bytes all new left later rest archive
-left_more k h bytes all piece now new held left table later gathered rest was archive c l takes =
-    let more = consumed now new l.rest piece l.left c in
+-- some more is read and taken, and the feed goes on
+pub left_more : (c limit : ℕ) (h : History) (bytes all piece : List ℕ) (reader next : Option (List ℕ)) (held left : List ℕ) (old new : Feeding) (archive later : History) (was mid now : Option (List ℕ)) (on : Bool)
+    → on ≡ true → Consumes reader next piece → Left c limit h bytes all reader held old archive was mid
+    → ((seen : List ℕ) → Reads c limit h seen held old archive was mid → IsRead c limit h (seen ++ piece) left on new later was now)
+    → Left c limit h bytes all next left new later was now
+left_more c limit h bytes all piece reader next held left old new archive later was mid now on goes_on gone l takes =
+    let more = consumed reader next l.rest piece l.left gone in
+    let read = subst (λ (t : Bool). IsRead c limit h ((bytes ++ l.done) ++ piece) left t new later was now) goes_on (takes (bytes ++ l.done) l.reads) in
     record {
       done = l.done ++ piece;
       rest = more.0;
       parts = l.parts ∙ ap (λ (t : List ℕ). l.done ++ t) more.2 ∙ sym (append_assoc l.done piece more.0);
       left = more.1;
-      reads = subst (λ (t : List ℕ). Reads k h t left later rest archive) (append_assoc bytes l.done piece) (takes (bytes ++ l.done) l.reads);
+      reads = subst (λ (t : List ℕ). Reads c limit h t left new later was now) (append_assoc bytes l.done piece)
+          (subst (λ (t : List ℕ). Reads c limit h ((bytes ++ l.done) ++ piece) t new later was now) (sym read.holds) read.reads);
     }
 
-pub goes_on : (k : ℕ) (h : History) (bytes held : List ℕ) (table : Option (List Neighbor)) (gathered : List Admitted) (archive : History) (on : Bool)
-    → TakesPiece k h bytes held table gathered archive on → on ≡ true → Reads k h bytes held table gathered archive
-goes_on k h bytes held table gathered archive true r e = r
-goes_on k h bytes held table gathered archive false r e = absurd cc
+-- what stands behind a Length above the limit is left with it
+over_more : (bytes rest more : List ℕ) (items : List Item) → Over rest → GainsFrames bytes rest [] items → GainsFrames (bytes ++ more) (rest ++ more) [] items
+over_more bytes rest more items over g = (g.0, record { whole = ap (λ (t : List ℕ). t ++ more) g.1.whole ∙ append_assoc _ rest more; each = g.1.each; ended = over_begins_none (rest ++ more) (over-append rest more over) }, g.2)
 
-pub stops : (k : ℕ) (h : History) (bytes held : List ℕ) (table : Option (List Neighbor)) (gathered : List Admitted) (archive : History) (on : Bool)
-    → TakesPiece k h bytes held table gathered archive on → on ≡ false → Over held
-stops k h bytes held table gathered archive true r e = absurd cc
-stops k h bytes held table gathered archive false r e = r
+-- some more is read and taken, and the feed stops
+pub left_stops : (c limit : ℕ) (h : History) (bytes all piece : List ℕ) (reader next : Option (List ℕ)) (held left : List ℕ) (old new : Feeding) (archive later : History) (was mid now : Option (List ℕ)) (on : Bool)
+    → on ≡ false → Consumes reader next piece → Left c limit h bytes all reader held old archive was mid
+    → ((seen : List ℕ) → Reads c limit h seen held old archive was mid → IsRead c limit h (seen ++ piece) left on new later was now)
+    → IsReadOut c limit h (bytes ++ all) left new later was now
+left_stops c limit h bytes all piece reader next held left old new archive later was mid now on stops gone l takes =
+    let more = consumed reader next l.rest piece l.left gone in
+    let read = subst (λ (t : Bool). IsRead c limit h ((bytes ++ l.done) ++ piece) left t new later was now) stops (takes (bytes ++ l.done) l.reads) in
+    let held_ = read.holds in
+    let over : Over read.rest = subst Over (sym held_.1) (over-append left held_.0 held_.2) in
+    let whole : ((bytes ++ l.done) ++ piece) ++ more.0 ≡ bytes ++ all =
+    append_assoc (bytes ++ l.done) piece more.0 ∙ append_assoc bytes l.done (piece ++ more.0) ∙ ap (λ (t : List ℕ). bytes ++ t) (ap (λ (t : List ℕ). l.done ++ t) (sym more.2) ∙ sym l.parts) in (
+      false,
+      record {
+        rest = read.rest ++ more.0;
+        holds = (held_.0 ++ more.0, ap (λ (t : List ℕ). t ++ more.0) held_.1 ∙ append_assoc left held_.0 more.0, held_.2);
+        reads = record {
+          items = read.reads.items;
+          framed = subst (λ (t : List ℕ). GainsFrames t (read.rest ++ more.0) [] read.reads.items) whole (over_more ((bytes ++ l.done) ++ piece) read.rest more.0 read.reads.items over read.reads.framed);
+          behind = read.reads.behind;
+        };
+      },
+    )
 
 -- nothing is read yet
-pub reads_none : (c : ℕ) (h : History) (held : List ℕ) (table : Option (List Neighbor)) (gathered : List Admitted) (archive : History)
-    → held ≡ [] → table ≡ None → gathered ≡ [] → Carries archive h → Reads c h [] held table gathered archive
-reads_none c h held table gathered archive empty none nothing carried = record {
+pub reads_none : (c limit : ℕ) (h : History) (held : List ℕ) (feeding : Feeding) (archive : History) (was : Option (List ℕ))
+    → held ≡ [] → IsBehind c limit h [] feeding archive was was → Reads c limit h [] held feeding archive was was
+reads_none c limit h held feeding archive was empty b = record {
   items = [];
   framed = subst (λ (t : List ℕ). GainsFrames [] t [] []) (sym empty) (frames_none [] [] (part_begins_none [] (inl (omega arith))));
-  known = inl (tt, none);
-  follows = record { offered = []; give = nothing; carried = subst (λ (g : History). Carries archive g) (sym (given_none h c)) carried };
+  behind = b;
 }
 
--- all is read and given
-pub all_fed : (c : ℕ) (h : History) (bytes held : List ℕ) (table : Option (List Neighbor)) (gathered rest : List Admitted) (was archive : History)
-    → IsRead c h bytes held table gathered was → held ≡ [] → rest ≡ [] → ((records : List Told) → Follows c h records gathered was → Follows c h records rest archive) → IsFed c h bytes archive
-all_fed c h bytes held table gathered rest was archive (inl over) empty none offers = let long = (subst (λ (t : List ℕ). Over t) empty over).header in absurd (omega (arith, long))
-all_fed c h bytes held table gathered rest was archive (inr reads) empty none offers =
-    let f = offers (map told reads.items) reads.follows in
+-- why a feed is cut that has this rest, by what the framer holds of it
+pub cut_short : (held rest : List ℕ) (on : Bool) (cut : Option Refusal) → IsHeld held rest on → IsCut held cut → IsCut rest cut
+cut_short held rest true cut same is = subst (λ (t : List ℕ). IsCut t cut) same is
+cut_short held rest false None over is = let long = (subst (λ (t : List ℕ). Over t) is over.2).header in absurd (omega (arith, long))
+cut_short held rest false (Some why) over (inl is) = absurd (is.2 over.2)
+cut_short held rest false (Some why) over (inr is) = inr (is.0, subst Over (sym over.1) (over-append held over.0 over.2))
+
+-- all is read, and its end is told
+pub all_fed : (c limit : ℕ) (h : History) (bytes held : List ℕ) (cut : Option Refusal) (old new : Feeding) (archive later : History) (was mid then now : Option (List ℕ))
+    → IsReadOut c limit h bytes held old archive was mid → IsCut held cut → IsSameFeed old new
+    → ((turns : List Turn) → old.collector ≡ c → HasDone c h turns old.counts archive was mid → HasDone c h (turns ++ last_turns old.gathered.items) new.counts later was then)
+    → Appends then now (cut_line cut new.counts.records ++ counts_line new.counts)
+    → IsFed c limit h bytes cut later was now
+all_fed c limit h bytes held cut old new archive later was mid then now out is same rest told_ =
+    let read = out.1 in
+    let b = read.reads.behind in
+    let records = map told read.reads.items in
+    let d = rest _ b.collector b.done in
+    let i = intake_in h.intakes c in
+    let turns : turns_for limit 0 [] b.results ++ last_turns old.gathered.items ≡ feed_turns limit b.results = ap (λ (t : List Admitted). turns_for limit 0 [] b.results ++ last_turns t) b.waits in
+    let done = subst (λ (t : List Turn). HasDone c h t new.counts later was then) turns d in
+    let counted : new.counts ≡ counts_of i records (feed_turns limit b.results) =
+    λ k. record { records = (same.records ∙ b.recorded) k; admitted = done.admitted k; late = done.late k; refused = done.refused k; skipped = (same.skipped ∙ b.skipped) k } in
     record {
-      admissions = f.offered;
-      gives = record {
-        items = reads.items;
-        framed = subst (λ (t : List ℕ). GainsFrames bytes t [] reads.items) empty reads.framed;
-        give = subst (λ (t : List Admitted). RecordsGive c [] (map told reads.items) t) (ap (λ (t : List Admitted). f.offered ++ t) none ∙ append-nil f.offered) f.give;
-      };
-      carried = f.carried;
+      rest = read.rest;
+      records = records;
+      results = b.results;
+      feed = record { items = read.reads.items; framed = read.reads.framed; told_are = refl; means = b.means };
+      cut_is = cut_short held read.rest out.0 cut read.holds is;
+      carried = subst (λ (t : List Admitted). Carries later (given h c t)) (offered_feed limit b.results) done.carried;
+      wrote =
+          Appends-trans was then now _ _ done.wrote
+          (subst (λ (t : List ℕ). Appends then now t) (λ k. cut_line cut ((same.records ∙ b.recorded) k) ++ counts_line (counted k)) told_);
     }

@@ -6,9 +6,9 @@ use Rattle.sequencer.specs.declared.late.Late.{Late}
 use Rattle.service.specs.declared.feed_lines.FeedCounts.{FeedCounts}
 use Rattle.service.specs.Refusals.{line_end}
 
--- which admissions of the collector a batch became, and how many records were offered for it until now
-abbrev pub batch_line : Admitted → List ℕ
-batch_line a = codes "B|" ++ decimal a.receipt.from ++ codes "|" ++ decimal a.receipt.to ++ codes "|" ++ decimal a.offered ++ line_end
+-- a batch: the first number that its admissions got and the one behind their last, and how many records were offered for the collector until now
+abbrev pub batch_line : ℕ → ℕ → ℕ → List ℕ
+batch_line from to offered = codes "B|" ++ decimal from ++ codes "|" ++ decimal to ++ codes "|" ++ decimal offered ++ line_end
 
 -- a late record: its place in the batch, its time, and the mark at its turn
 abbrev pub late_line : Late → List ℕ
@@ -16,7 +16,7 @@ late_line l = codes "L|" ++ decimal l.index ++ codes "|" ++ decimal l.time ++ co
 
 -- what a batch became, and then each of its late records
 abbrev pub admitted_text : Admitted → List ℕ
-admitted_text a = batch_line a ++ flat_map late_line a.late.items
+admitted_text a = batch_line a.receipt.from a.receipt.to a.offered ++ flat_map late_line a.late.items
 
 -- of a feed: its records, and how many of them were admitted and came late
 abbrev pub came_text : FeedCounts → List ℕ

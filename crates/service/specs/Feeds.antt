@@ -1,71 +1,40 @@
--- What the records of a feed give, and what an archive carries once they are given to it.
-use Rattle.std.specs.Prelude.{◌≡◌, ◌⊎◌, ℕ, map, Bool, true, false, List, [], ◌∷◌, ◌++◌, Option, Some, None, Result, Ok, Err}
+-- What a feed of MRT records is, and what an archive carries once it took it in.
+use Rattle.std.specs.Prelude.{◌≡◌, ◌⊎◌, ℕ, map, List, [], ◌++◌, Option, Some, None, Result}
+use Rattle.std.specs.Io.KnownBytes.{Appends}
 use Rattle.route_model.specs.Admission.{Admitted}
 use Rattle.route_meaning.specs.History.{History}
 use Rattle.mrt_records.specs.Values.{Told, told}
 use Rattle.mrt_records.specs.Records.{Over}
 use Rattle.mrt_records.specs.Streams.{GainsFrames}
 use Rattle.mrt_records.specs.declared.item.Item.{Item}
-use Rattle.mrt_records.specs.declared.neighbor.Neighbor.{Neighbor}
-use Rattle.resolve.specs.Tables.{LastTable}
-use Rattle.resolve.specs.Records.{Gives}
+use Rattle.resolve.specs.Meanings.{Means}
 use Rattle.resolve.specs.declared.fault.ResolveFault.{ResolveFault}
-use Rattle.resolve.specs.declared.fault.ResolveFault.TheVariants as faults
 use Rattle.archive.specs.Carries.{Carries}
 use Rattle.archive.specs.Steps.{given}
+use Rattle.service.specs.Turns.{admissions_of}
+use Rattle.service.specs.FeedTexts.{intake_in, feed_text}
+use Rattle.service.specs.declared.refusal.Refusal.{Refusal}
+use Rattle.service.specs.declared.refusal.Refusal.TheVariants as refusals
 
--- a record's admission, if it gives one
-abbrev pub admissions_of : Result (Option Admitted) ResolveFault → List Admitted
-admissions_of (Ok (Some a)) = a ∷ []
-admissions_of (Ok None) = []
-admissions_of (Err fault) = []
-
--- behind these records of the collector's feed the record gives these admissions: one or none
-pub record RecordGives (c : ℕ) (before : List Told) (r : Told) (admissions : List Admitted) : Type 0 where
-  pub table : Option (List Neighbor)
-  pub result : Result (Option Admitted) ResolveFault
-  pub known : LastTable before table
-  pub means : Gives c table r result
-  pub remembered : result ≡ Err faults.OutOfMemory → ⊥
-  pub are : admissions ≡ admissions_of result
-
--- behind these records the records give these admissions, in their order
-abbrev pub RecordsGive : ℕ → List Told → List Told → List Admitted → Type 0
-RecordsGive c before [] admissions = admissions ≡ []
-RecordsGive c before (r ∷ records) admissions =
-    (first rest : List Admitted) × RecordGives c before r first × RecordsGive c (before ++ r ∷ []) records rest × (admissions ≡ first ++ rest)
-
--- what the records give was given to an archive that carried the history h, but for what is gathered and still to be
--- offered
-pub record Follows (c : ℕ) (h : History) (records : List Told) (gathered : List Admitted) (archive : History) : Type 0 where
-  pub offered : List Admitted
-  pub give : RecordsGive c [] records (offered ++ gathered)
-  pub carried : Carries archive (given h c offered)
-
--- the octets are whole records, which give these admissions, and then what is held
-pub record Reads (c : ℕ) (h : History) (bytes held : List ℕ) (table : Option (List Neighbor)) (gathered : List Admitted) (archive : History) : Type 0 where
+-- the octets are these whole records, which mean this, and then a rest at whose front no whole record stands
+pub record IsFeed (c : ℕ) (bytes rest : List ℕ) (records : List Told) (results : List (Result (Option Admitted) ResolveFault)) : Type 0 where
   pub items : List Item
-  pub framed : GainsFrames bytes held [] items
-  pub known : LastTable (map told items) table
-  pub follows : Follows c h (map told items) gathered archive
+  pub framed : GainsFrames bytes rest [] items
+  pub told_are : map told items ≡ records
+  pub means : Means c records results
 
--- the octets were read, or those that are held show a Length above the limit
-abbrev pub IsRead : ℕ → History → List ℕ → List ℕ → Option (List Neighbor) → List Admitted → History → Type 0
-IsRead c h bytes held table gathered archive = Over held ⊎ Reads c h bytes held table gathered archive
+-- why a feed is cut short that has this rest behind its whole records: it ends inside a record, or the next record's Length is above the limit
+abbrev pub IsCut : List ℕ → Option Refusal → Type 0
+IsCut rest None = rest ≡ []
+IsCut rest (Some why) = ((why ≡ refusals.Truncated) × (rest ≡ [] → ⊥) × (Over rest → ⊥)) ⊎ ((why ≡ refusals.TooLong) × Over rest)
 
--- the octets are whole records, and these give these admissions of the collector, in their order
-pub record FeedGives (c : ℕ) (bytes : List ℕ) (admissions : List Admitted) : Type 0 where
-  pub items : List Item
-  pub framed : GainsFrames bytes [] [] items
-  pub give : RecordsGive c [] (map told items) admissions
-
--- the archive carried h, and now carries it with all that the feed gives
-pub record IsFed (c : ℕ) (h : History) (bytes : List ℕ) (archive : History) : Type 0 where
-  pub admissions : List Admitted
-  pub gives : FeedGives c bytes admissions
-  pub carried : Carries archive (given h c admissions)
-
--- the octets were read, and the feed goes on; or those that are held show a Length above the limit
-abbrev pub TakesPiece : ℕ → History → List ℕ → List ℕ → Option (List Neighbor) → List Admitted → History → Bool → Type 0
-TakesPiece c h bytes held table gathered archive true = Reads c h bytes held table gathered archive
-TakesPiece c h bytes held table gathered archive false = Over held
+-- The archive carried h; now it carries all that the feed gives too, and what the feed writes was written. It was cut short for
+-- this, or it wasn't.
+pub record IsFed (c limit : ℕ) (h : History) (bytes : List ℕ) (cut : Option Refusal) (archive : History) (was now : Option (List ℕ)) : Type 0 where
+  pub rest : List ℕ
+  pub records : List Told
+  pub results : List (Result (Option Admitted) ResolveFault)
+  pub feed : IsFeed c bytes rest records results
+  pub cut_is : IsCut rest cut
+  pub carried : Carries archive (given h c (admissions_of results))
+  pub wrote : Appends was now (feed_text (intake_in h.intakes c) limit records results cut)

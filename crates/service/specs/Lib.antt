@@ -5,5 +5,8 @@ pub mod Requests
 pub mod Replies
 pub mod Statuses
 pub mod Faults
+pub mod Turns
+pub mod FeedTexts
 pub mod Feeds
+pub mod Feeding
 pub mod Loads

@@ -1,10 +1,17 @@
 -- What an archive carries once a file is loaded.
-use Rattle.std.specs.Prelude.{◌≡◌, ℕ, List, Option, Some, None}
+use Rattle.std.specs.Prelude.{◌≡◌, ℕ, ◌++◌, List, Option, Some, None, Result}
+use Rattle.std.specs.Io.KnownBytes.{Appends}
 use Rattle.route_model.specs.Admission.{Admitted}
-use Rattle.route_meaning.specs.History.{History, Intake}
+use Rattle.route_meaning.specs.History.{History, Intake, settled}
+use Rattle.mrt_records.specs.Values.{Told}
 use Rattle.archive.specs.Carries.{Carries}
 use Rattle.archive.specs.Steps.{given, marked, NothingToApply}
-use Rattle.service.specs.Feeds.{FeedGives}
+use Rattle.resolve.specs.declared.fault.ResolveFault.{ResolveFault}
+use Rattle.service.specs.Turns.{admissions_of}
+use Rattle.service.specs.FeedTexts.{intake_in, feed_text}
+use Rattle.service.specs.FeedLines.{settled_line}
+use Rattle.service.specs.Feeds.{IsFeed, IsCut}
+use Rattle.service.specs.declared.refusal.Refusal.{Refusal}
 
 -- the collector's mark is this one where there is one
 abbrev pub marked_if : ℕ → Option ℕ → History → History
@@ -18,8 +25,13 @@ pub record IsSettled (intakes : List Intake) (archive : History) : Type 0 where
   pub idle : NothingToApply now
   pub carried : Carries archive now
 
--- the archive carried h; now it carries all that the feed of the collector gives too, and its mark, applied as far as may be
-pub record IsLoaded (c : ℕ) (mark : Option ℕ) (h : History) (bytes : List ℕ) (archive : History) : Type 0 where
-  pub admissions : List Admitted
-  pub gives : FeedGives c bytes admissions
-  pub settled : IsSettled (marked_if c mark (given h c admissions)).intakes archive
+-- The archive carried h; now it carries all that the feed of the collector gives too, and its mark, applied as far as may be.
+-- What the feed writes was written, and then the settled watermark.
+pub record IsLoaded (c limit : ℕ) (mark : Option ℕ) (h : History) (bytes : List ℕ) (cut : Option Refusal) (archive : History) (was now : Option (List ℕ)) : Type 0 where
+  pub rest : List ℕ
+  pub records : List Told
+  pub results : List (Result (Option Admitted) ResolveFault)
+  pub feed : IsFeed c bytes rest records results
+  pub cut_is : IsCut rest cut
+  pub applied : IsSettled (marked_if c mark (given h c (admissions_of results))).intakes archive
+  pub wrote : Appends was now (feed_text (intake_in h.intakes c) limit records results cut ++ settled_line (settled applied.now))

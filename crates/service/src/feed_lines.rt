@@ -1,10 +1,13 @@
 //! The lines of a feed.
 
-ghost use Rattle.std.specs.Prelude.{OnOk};
+ghost use Rattle.std.specs.Prelude.{◌≡◌, ◌+◌, ◌-◌, suc, [], ◌∷◌, length, OnOk};
 ghost use Rattle.std.specs.Io.KnownBytes.{Appends};
 ghost use Rattle.service.specs.FeedLines.{batch_line, late_line, admitted_text, came_text, lost_text, counts_line, settled_line};
+ghost use Rattle.mrt_records.specs.Values.{told};
+ghost use Rattle.service.specs.FeedTexts.{capped, skips};
 
 use archive::Admitted;
+use mrt_records::Item;
 use route_model::Mark;
 use sequencer::Late;
 use std::io;
@@ -21,8 +24,49 @@ pub struct FeedCounts {
     pub skipped: u64,
 }
 
+impl FeedCounts {
+    /// Counts what became of a batch.
+    pub(crate) fn count_batch(&mut self, admitted: &Admitted)
+        ensures admitted { self.new.admitted ≡ capped (self.old.admitted + (admitted.now.receipt.to - admitted.now.receipt.from)) }
+        ensures late { self.new.late ≡ capped (self.old.late + length admitted.now.late.items) }
+        ensures records { self.new.records ≡ self.old.records }
+        ensures refused { self.new.refused ≡ self.old.refused }
+        ensures skipped { self.new.skipped ≡ self.old.skipped }
+    {
+        let kept = admitted.receipt.to.saturating_sub(admitted.receipt.from);
+        self.admitted = self.admitted.saturating_add(kept);
+        self.late = self.late.saturating_add(admitted.late.len() as u64);
+    }
+
+    /// Counts a record, and whether it is skipped.
+    pub(crate) fn count_record(&mut self, item: &Item)
+        ensures records { self.new.records ≡ capped (suc self.old.records) }
+        ensures skipped { self.new.skipped ≡ capped (self.old.skipped + skips (told item.now ∷ [])) }
+        ensures admitted { self.new.admitted ≡ self.old.admitted }
+        ensures late { self.new.late ≡ self.old.late }
+        ensures refused { self.new.refused ≡ self.old.refused }
+    {
+        self.records = self.records.saturating_add(1);
+        self.skipped = self.skipped.saturating_add(skips_of(item));
+    }
+}
+
+/// How many skipped records the item is: 1 or 0.
+fn skips_of(item: &Item) -> u64
+    ensures skips { result ≡ skips (told item.now ∷ []) }
+{
+    match item {
+        Item::Skipped { .. } => 1,
+        Item::Message { .. }
+        | Item::StateChange { .. }
+        | Item::PeerTable(_)
+        | Item::Rib { .. }
+        | Item::Malformed { .. } => 0,
+    }
+}
+
 fn write_batch<W: Write>(out: &mut W, admitted: &Admitted) -> io::Result<()>
-    ensures line { OnOk result (Appends (W.contents out.old) (W.contents out.new) (batch_line admitted.now)) }
+    ensures line { OnOk result (Appends (W.contents out.old) (W.contents out.new) (batch_line admitted.now.receipt.from admitted.now.receipt.to admitted.now.offered)) }
 {
     let from = admitted.receipt.from;
     let to = admitted.receipt.to;

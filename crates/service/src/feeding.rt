@@ -1,10 +1,12 @@
 //! A feed under way: its records are resolved, and their admissions offered in batches.
 
-ghost use Rattle.std.specs.Prelude.{◌≡◌, ◌∷◌, ◌++◌, ℕ, List, [], None, map, OnOk};
+ghost use Rattle.std.specs.Prelude.{◌≡◌, ◌≤◌, ◌∷◌, ◌++◌, ◌+◌, ltb, ℕ, List, [], Option, Some, Ok, map, OnOk};
 ghost use Rattle.route_meaning.specs.History.{History};
 ghost use Rattle.mrt_records.specs.Values.{Told, told};
-ghost use Rattle.resolve.specs.Tables.{LastTable};
-ghost use Rattle.service.specs.Feeds.{RecordGives, Follows};
+ghost use Rattle.archive.specs.Carries.{Carries};
+ghost use Rattle.service.specs.Turns.{Turn, Offer, Refuse, offer_where, wait_unless, is_full, turns_at, waits_after, last_turns};
+ghost use Rattle.service.specs.FeedTexts.{capped};
+ghost use Rattle.service.specs.Feeding.{HasDone, IsSameFeed, IsCounted, IsBehind};
 
 use crate::faults::{of_admit, of_record};
 use crate::feed_lines::{FeedCounts, write_admitted};
@@ -31,10 +33,7 @@ pub(crate) struct Feeding {
 impl Feeding {
     /// The beginning of a feed of the collector, whose batches have at most so many admissions.
     pub(crate) fn new(alloc: Global, collector: u8, limit: usize) -> Feeding
-        ensures collector { result.collector ≡ collector }
-        ensures fed { result.resolver.collector ≡ collector }
-        ensures none { result.resolver.table ≡ None }
-        ensures gathered { result.gathered.items ≡ [] }
+        ensures begins { (h : History) (archive : History) (was : Option (List ℕ)) → Carries archive h → IsBehind collector limit h [] result archive was was }
     {
         Feeding {
             collector,
@@ -54,22 +53,17 @@ impl Feeding {
 
     /// Offers what is gathered as a batch, and writes what became of it.
     fn offer<W: Write>(&mut self, archive: &mut Archive, out: &mut W) -> Result<(), Refusal>
-        ensures collector { self.new.collector ≡ self.old.collector }
-        ensures fed { self.new.resolver ≡ self.old.resolver }
-        ensures offered { OnOk result (self.new.gathered.items ≡ []) }
-        ensures follows { (c : ℕ) (h : History) (records : List Told) → self.old.collector ≡ c → Follows c h records self.old.gathered.items archive.old → OnOk result (Follows c h records self.new.gathered.items archive.new) }
+        ensures same { IsSameFeed self.old self.new }
+        ensures gathered { OnOk result (self.new.gathered.items ≡ []) }
+        ensures octets { OnOk result (self.new.octets ≡ 0) }
+        ensures done { (c : ℕ) (h : History) (turns : List Turn) (was : Option (List ℕ)) → self.old.collector ≡ c → HasDone c h turns self.old.counts archive.old was (W.contents out.old) → OnOk result (HasDone c h (turns ++ Offer self.old.gathered.items ∷ []) self.new.counts archive.new was (W.contents out.new)) }
     {
         let admitted = match archive.admit(self.collector, &self.gathered) {
             Ok(admitted) => admitted,
             Err(refusal) => return Err(of_admit(refusal)),
         };
-        if write_admitted(out, &admitted).is_err() {
-            return Err(Refusal::Outside);
-        }
-        let late = admitted.late.len() as u64;
-        let kept = self.gathered.len().saturating_sub(admitted.late.len()) as u64;
-        self.counts.admitted = self.counts.admitted.saturating_add(kept);
-        self.counts.late = self.counts.late.saturating_add(late);
+        write_admitted(out, &admitted)?;
+        self.counts.count_batch(&admitted);
         self.gathered.clear();
         self.octets = 0;
         Ok(())
@@ -82,9 +76,10 @@ impl Feeding {
         archive: &mut Archive,
         out: &mut W,
     ) -> Result<(), Refusal>
-        ensures collector { self.new.collector ≡ self.old.collector }
-        ensures fed { self.new.resolver ≡ self.old.resolver }
-        ensures follows { (c : ℕ) (h : History) (records : List Told) → self.old.collector ≡ c → Follows c h records self.old.gathered.items archive.old → OnOk result (Follows c h records self.new.gathered.items archive.new) }
+        ensures same { IsSameFeed self.old self.new }
+        ensures gathered { OnOk result (self.new.gathered.items ≡ wait_unless (ltb 262144 (self.old.octets + octets)) self.old.gathered.items) }
+        ensures counted { IsCounted self.old → OnOk result (IsCounted self.new) }
+        ensures done { (c : ℕ) (h : History) (turns : List Turn) (was : Option (List ℕ)) → self.old.collector ≡ c → HasDone c h turns self.old.counts archive.old was (W.contents out.old) → OnOk result (HasDone c h (turns ++ offer_where (ltb 262144 (self.old.octets + octets)) self.old.gathered.items) self.new.counts archive.new was (W.contents out.new)) }
     {
         if self.octets.saturating_add(octets) > MAX_BATCH_LEN {
             return self.offer(archive, out);
@@ -94,9 +89,10 @@ impl Feeding {
 
     /// Offers what is gathered where it has as many admissions as a batch may have.
     fn offer_full<W: Write>(&mut self, archive: &mut Archive, out: &mut W) -> Result<(), Refusal>
-        ensures collector { self.new.collector ≡ self.old.collector }
-        ensures fed { self.new.resolver ≡ self.old.resolver }
-        ensures follows { (c : ℕ) (h : History) (records : List Told) → self.old.collector ≡ c → Follows c h records self.old.gathered.items archive.old → OnOk result (Follows c h records self.new.gathered.items archive.new) }
+        ensures same { IsSameFeed self.old self.new }
+        ensures gathered { OnOk result (self.new.gathered.items ≡ wait_unless (is_full self.old.limit self.old.gathered.items) self.old.gathered.items) }
+        ensures counted { IsCounted self.old → OnOk result (IsCounted self.new) }
+        ensures done { (c : ℕ) (h : History) (turns : List Turn) (was : Option (List ℕ)) → self.old.collector ≡ c → HasDone c h turns self.old.counts archive.old was (W.contents out.old) → OnOk result (HasDone c h (turns ++ offer_where (is_full self.old.limit self.old.gathered.items) self.old.gathered.items) self.new.counts archive.new was (W.contents out.new)) }
     {
         if self.gathered.len() >= self.limit {
             return self.offer(archive, out);
@@ -110,8 +106,8 @@ impl Feeding {
         archive: &mut Archive,
         out: &mut W,
     ) -> Result<(), Refusal>
-        ensures offered { OnOk result (self.new.gathered.items ≡ []) }
-        ensures follows { (c : ℕ) (h : History) (records : List Told) → self.old.collector ≡ c → Follows c h records self.old.gathered.items archive.old → OnOk result (Follows c h records self.new.gathered.items archive.new) }
+        ensures same { IsSameFeed self.old self.new }
+        ensures done { (c : ℕ) (h : History) (turns : List Turn) (was : Option (List ℕ)) → self.old.collector ≡ c → HasDone c h turns self.old.counts archive.old was (W.contents out.old) → OnOk result (HasDone c h (turns ++ last_turns self.old.gathered.items) self.new.counts archive.new was (W.contents out.new)) }
     {
         if self.gathered.is_empty() {
             return Ok(());
@@ -119,11 +115,12 @@ impl Feeding {
         self.offer(archive, out)
     }
 
-    /// Adds an admission to what is gathered.
+    /// Adds an admission of so many octets to what is gathered.
     fn push(&mut self, admission: Admission, octets: usize) -> Result<(), AllocError>
-        ensures collector { self.new.collector ≡ self.old.collector }
-        ensures fed { self.new.resolver ≡ self.old.resolver }
+        ensures same { IsSameFeed self.old self.new }
+        ensures counts { self.new.counts ≡ self.old.counts }
         ensures gathered { OnOk result (self.new.gathered.items ≡ self.old.gathered.items ++ admission ∷ []) }
+        ensures octets { OnOk result (self.old.octets + octets ≤ 262144 → self.new.octets ≡ self.old.octets + octets) }
     {
         self.gathered.push(admission)?;
         self.octets = self.octets.saturating_add(octets);
@@ -138,26 +135,16 @@ impl Feeding {
         admission: Admission,
         out: &mut W,
     ) -> Result<(), Refusal>
-        ensures collector { self.new.collector ≡ self.old.collector }
-        ensures fed { self.new.resolver ≡ self.old.resolver }
-        ensures follows { (c : ℕ) (h : History) (before : List Told) (r : Told) → self.old.collector ≡ c → Follows c h before self.old.gathered.items archive.old → RecordGives c before r (admission ∷ []) → OnOk result (Follows c h (before ++ r ∷ []) self.new.gathered.items archive.new) }
+        ensures same { IsSameFeed self.old self.new }
+        ensures gathered { IsCounted self.old → OnOk result (self.new.gathered.items ≡ waits_after self.old.limit self.old.gathered.items (Ok (Some admission))) }
+        ensures counted { IsCounted self.old → OnOk result (IsCounted self.new) }
+        ensures done { (c : ℕ) (h : History) (turns : List Turn) (was : Option (List ℕ)) (place : ℕ) → IsCounted self.old → self.old.collector ≡ c → HasDone c h turns self.old.counts archive.old was (W.contents out.old) → OnOk result (HasDone c h (turns ++ turns_at self.old.limit place self.old.gathered.items (Ok (Some admission))) self.new.counts archive.new was (W.contents out.new)) }
     {
-        let octets = admission.encoded_len().saturating_add(4);
+        let octets = admission.encoded_len() + 4;
         self.make_room(octets, archive, out)?;
         match self.push(admission, octets) {
             Ok(()) => self.offer_full(archive, out),
             Err(_) => Err(Refusal::OutOfMemory),
-        }
-    }
-
-    /// Counts a record without an admission.
-    fn skip(&mut self, item: &Item)
-        ensures collector { self.new.collector ≡ self.old.collector }
-        ensures fed { self.new.resolver ≡ self.old.resolver }
-        ensures gathered { self.new.gathered.items ≡ self.old.gathered.items }
-    {
-        if let Item::Skipped { .. } = item {
-            self.counts.skipped = self.counts.skipped.saturating_add(1);
         }
     }
 
@@ -168,19 +155,17 @@ impl Feeding {
         place: u64,
         out: &mut W,
     ) -> Result<(), Refusal>
-        ensures collector { self.new.collector ≡ self.old.collector }
-        ensures fed { self.new.resolver ≡ self.old.resolver }
+        ensures same { IsSameFeed self.old self.new }
         ensures gathered { self.new.gathered.items ≡ self.old.gathered.items }
+        ensures octets { self.new.octets ≡ self.old.octets }
         ensures remembered { OnOk result (fault ≡ ResolveFault.OutOfMemory → ⊥) }
+        ensures done { (c : ℕ) (h archive : History) (turns : List Turn) (was : Option (List ℕ)) (n : ℕ) → place ≡ capped n → HasDone c h turns self.old.counts archive was (W.contents out.old) → OnOk result (HasDone c h (turns ++ Refuse n fault ∷ []) self.new.counts archive was (W.contents out.new)) }
     {
-        let refusal = match fault {
-            ResolveFault::OutOfMemory => return Err(Refusal::OutOfMemory),
-            _ => of_record(fault),
-        };
-        self.counts.refused = self.counts.refused.saturating_add(1);
-        if write_refused_record(out, &refusal, place).is_err() {
-            return Err(Refusal::Outside);
+        if fault == ResolveFault::OutOfMemory {
+            return Err(Refusal::OutOfMemory);
         }
+        self.counts.refused = self.counts.refused.saturating_add(1);
+        write_refused_record(out, &of_record(fault), place)?;
         Ok(())
     }
 
@@ -192,19 +177,13 @@ impl Feeding {
         item: &Item,
         out: &mut W,
     ) -> Result<(), Refusal>
-        ensures collector { self.new.collector ≡ self.old.collector }
-        ensures fed { self.new.resolver.collector ≡ self.old.resolver.collector }
-        ensures known { (before : List Told) → LastTable before self.old.resolver.table → OnOk result (LastTable (before ++ told item.now ∷ []) self.new.resolver.table) }
-        ensures follows { (c : ℕ) (h : History) (before : List Told) → self.old.collector ≡ c → self.old.resolver.collector ≡ c → LastTable before self.old.resolver.table → Follows c h before self.old.gathered.items archive.old → OnOk result (Follows c h (before ++ told item.now ∷ []) self.new.gathered.items archive.new) }
+        ensures behind { (c limit : ℕ) (h : History) (records : List Told) (was : Option (List ℕ)) → IsBehind c limit h records self.old archive.old was (W.contents out.old) → OnOk result (IsBehind c limit h (records ++ told item.now ∷ []) self.new archive.new was (W.contents out.new)) }
     {
         let place = self.counts.records;
-        self.counts.records = place.saturating_add(1);
+        self.counts.count_record(item);
         match self.resolver.record(alloc, item) {
             Ok(Some(admission)) => self.gather(archive, admission, out),
-            Ok(None) => {
-                self.skip(item);
-                Ok(())
-            }
+            Ok(None) => Ok(()),
             Err(fault) => self.refuse(fault, place, out),
         }
     }
@@ -217,10 +196,7 @@ impl Feeding {
         items: &[Item],
         out: &mut W,
     ) -> Result<(), Refusal>
-        ensures collector { self.new.collector ≡ self.old.collector }
-        ensures fed { self.new.resolver.collector ≡ self.old.resolver.collector }
-        ensures known { (before : List Told) → LastTable before self.old.resolver.table → OnOk result (LastTable (before ++ map told items.now) self.new.resolver.table) }
-        ensures follows { (c : ℕ) (h : History) (before : List Told) → self.old.collector ≡ c → self.old.resolver.collector ≡ c → LastTable before self.old.resolver.table → Follows c h before self.old.gathered.items archive.old → OnOk result (Follows c h (before ++ map told items.now) self.new.gathered.items archive.new) }
+        ensures behind { (c limit : ℕ) (h : History) (records : List Told) (was : Option (List ℕ)) → IsBehind c limit h records self.old archive.old was (W.contents out.old) → OnOk result (IsBehind c limit h (records ++ map told items.now) self.new archive.new was (W.contents out.new)) }
     {
         for item in items {
             self.take(alloc, archive, item, out)?;

@@ -1,17 +1,22 @@
 //! Feeds: MRT records that are read, resolved and admitted (RFC 6396).
 
-ghost use Rattle.std.specs.Prelude.{◌≡◌, ◌++◌, ℕ, List, [], Some, None, OnOk, IfOk};
+ghost use Rattle.std.specs.Prelude.{◌≡◌, ◌++◌, ℕ, List, [], Option, Some, None, OnOk, IfOk};
+ghost use Rattle.std.specs.Io.KnownBytes.{Appends};
 ghost use Rattle.route_meaning.specs.History.{History};
 ghost use Rattle.archive.specs.Carries.{Carries};
-ghost use Rattle.service.specs.Feeds.{Reads, IsRead, IsFed, TakesPiece};
+ghost use Rattle.service.specs.FeedLines.{counts_line};
+ghost use Rattle.service.specs.FeedTexts.{cut_line};
+ghost use Rattle.service.specs.Feeds.{IsCut, IsFed};
+ghost use Rattle.service.specs.Feeding.{Reads, IsRead, IsReadOut};
+ghost use Rattle.service.specs.declared.refusal.Refusal.{Refusal};
 
-use crate::feed_lines::write_counts;
+use crate::feed_lines::{FeedCounts, write_counts};
 use crate::feeding::Feeding;
 use crate::refusal::{Refusal, write_refusal, write_refused_record};
 use archive::Archive;
 use mrt_records::{FrameError, Framer};
 use std::alloc::Global;
-use std::io::{Read, Write};
+use std::io::{self, Read, Write};
 
 /// How many octets are read at once.
 const PIECE: usize = 65_536;
@@ -37,22 +42,16 @@ impl Feeding {
         archive: &mut Archive,
         out: &mut W,
     ) -> Result<bool, Refusal>
-        ensures collector { self.new.collector ≡ self.old.collector }
-        ensures fed { self.new.resolver.collector ≡ self.old.resolver.collector }
-        ensures read { (c : ℕ) (h : History) (bytes : List ℕ) → self.old.collector ≡ c → self.old.resolver.collector ≡ c → Reads c h bytes framer.old self.old.resolver.table self.old.gathered.items archive.old → IfOk result (TakesPiece c h (bytes ++ piece.now) framer.new self.new.resolver.table self.new.gathered.items archive.new) }
+        ensures read { (c limit : ℕ) (h : History) (bytes : List ℕ) (was : Option (List ℕ)) → Reads c limit h bytes framer.old self.old archive.old was (W.contents out.old) → IfOk result (λ goes_on. IsRead c limit h (bytes ++ piece.now) framer.new goes_on self.new archive.new was (W.contents out.new)) }
     {
         let mut items = Vec::new(alloc);
-        match framer.feed(piece, &mut items) {
-            Ok(()) => {
-                self.take_all(alloc, archive, &items, out)?;
-                Ok(true)
-            }
-            Err(FrameError::TooLong) => {
-                self.take_all(alloc, archive, &items, out)?;
-                Ok(false)
-            }
-            Err(_) => Err(Refusal::OutOfMemory),
-        }
+        let goes_on = match framer.feed(piece, &mut items) {
+            Ok(()) => true,
+            Err(FrameError::TooLong) => false,
+            Err(_) => return Err(Refusal::OutOfMemory),
+        };
+        self.take_all(alloc, archive, &items, out)?;
+        Ok(goes_on)
     }
 
     /// Takes the records of all that a reader has left, or those before a Length above the limit.
@@ -64,8 +63,7 @@ impl Feeding {
         archive: &mut Archive,
         out: &mut W,
     ) -> Result<(), Refusal>
-        ensures collector { OnOk result (self.new.collector ≡ self.old.collector) }
-        ensures read { (c : ℕ) (h : History) (bytes left : List ℕ) → self.old.collector ≡ c → self.old.resolver.collector ≡ c → R.remaining reader.old ≡ Some left → Reads c h bytes framer.old self.old.resolver.table self.old.gathered.items archive.old → OnOk result (IsRead c h (bytes ++ left) framer.new self.new.resolver.table self.new.gathered.items archive.new) }
+        ensures read { (c limit : ℕ) (h : History) (bytes left : List ℕ) (was : Option (List ℕ)) → R.remaining reader.old ≡ Some left → Reads c limit h bytes framer.old self.old archive.old was (W.contents out.old) → OnOk result (IsReadOut c limit h (bytes ++ left) framer.new self.new archive.new was (W.contents out.new)) }
     {
         let mut piece = [0u8; PIECE];
         for _ in 0..u64::MAX {
@@ -81,30 +79,11 @@ impl Feeding {
         }
         Err(Refusal::Outside)
     }
-
-    /// Writes how the feed ended.
-    fn tell_end<W: Write>(&self, cut: Option<Refusal>, out: &mut W) -> Result<End, Refusal>
-        ensures well { IfOk result (λ end. end ≡ End.Well → cut ≡ None) }
-    {
-        let end = match &cut {
-            None => End::Well,
-            Some(refusal) => {
-                if write_refused_record(out, refusal, self.counts.records).is_err() {
-                    return Err(Refusal::Outside);
-                }
-                End::Cut
-            }
-        };
-        if write_counts(out, &self.counts).is_err() {
-            return Err(Refusal::Outside);
-        }
-        Ok(end)
-    }
 }
 
 /// Why a feed ended before the end of its last record, if it did.
 fn cut_of(framer: &Framer) -> Option<Refusal>
-    ensures whole { result ≡ None → framer.now ≡ [] }
+    ensures cut { IsCut framer.now result }
 {
     match framer.finish() {
         Ok(()) => None,
@@ -113,7 +92,26 @@ fn cut_of(framer: &Framer) -> Option<Refusal>
     }
 }
 
-/// Takes a feed in to its end.
+/// Writes why a feed of so many records is cut short, if it is.
+fn tell_cut<W: Write>(cut: &Option<Refusal>, records: u64, out: &mut W) -> io::Result<()>
+    ensures told { OnOk result (Appends (W.contents out.old) (W.contents out.new) (cut_line cut.now records)) }
+{
+    match cut {
+        None => Ok(()),
+        Some(refusal) => write_refused_record(out, refusal, records),
+    }
+}
+
+/// Writes how a feed ended, and its counts.
+fn tell_end<W: Write>(cut: &Option<Refusal>, counts: &FeedCounts, out: &mut W) -> io::Result<()>
+    ensures told { OnOk result (Appends (W.contents out.old) (W.contents out.new) (cut_line cut.now counts.now.records ++ counts_line counts.now)) }
+{
+    tell_cut(cut, counts.records, out)?;
+    write_counts(out, counts)?;
+    Ok(())
+}
+
+/// Takes a feed in to its end. Answers why it is cut short, if it is.
 fn take_in<R: Read, W: Write>(
     alloc: Global,
     archive: &mut Archive,
@@ -121,14 +119,16 @@ fn take_in<R: Read, W: Write>(
     limit: usize,
     reader: &mut R,
     out: &mut W,
-) -> Result<End, Refusal>
-    ensures fed { (h : History) (bytes : List ℕ) → R.remaining reader.old ≡ Some bytes → Carries archive.old h → IfOk result (λ end. end ≡ End.Well → IsFed collector h bytes archive.new) }
+) -> Result<Option<Refusal>, Refusal>
+    ensures fed { (h : History) (bytes : List ℕ) → R.remaining reader.old ≡ Some bytes → Carries archive.old h → IfOk result (λ cut. IsFed collector limit h bytes cut archive.new (W.contents out.old) (W.contents out.new)) }
 {
     let mut feeding = Feeding::new(alloc, collector, limit);
     let mut framer = Framer::new(alloc);
     feeding.take_stream(alloc, &mut framer, reader, archive, out)?;
     feeding.offer_rest(archive, out)?;
-    feeding.tell_end(cut_of(&framer), out)
+    let cut = cut_of(&framer);
+    tell_end(&cut, &feeding.counts, out)?;
+    Ok(cut)
 }
 
 /// Takes a feed of a collector in. Its admissions are offered in batches, as soon as one has `limit` admissions, before
@@ -143,10 +143,12 @@ pub fn feed<R: Read, W: Write>(
     reader: &mut R,
     out: &mut W,
 ) -> End
-    ensures fed { (h : History) (bytes : List ℕ) → R.remaining reader.old ≡ Some bytes → Carries archive.old h → result ≡ End.Well → IsFed collector h bytes archive.new }
+    ensures well { (h : History) (bytes : List ℕ) → R.remaining reader.old ≡ Some bytes → Carries archive.old h → result ≡ End.Well → IsFed collector limit h bytes None archive.new (W.contents out.old) (W.contents out.new) }
+    ensures cut { (h : History) (bytes : List ℕ) → R.remaining reader.old ≡ Some bytes → Carries archive.old h → result ≡ End.Cut → (why : Refusal) × IsFed collector limit h bytes (Some why) archive.new (W.contents out.old) (W.contents out.new) }
 {
     match take_in(alloc, archive, collector, limit, reader, out) {
-        Ok(end) => end,
+        Ok(None) => End::Well,
+        Ok(Some(_)) => End::Cut,
         Err(refusal) => {
             // The feed is given up, whether its line can be written or not.
             let _ = write_refusal(out, &refusal);

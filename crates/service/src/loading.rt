@@ -1,8 +1,11 @@
 //! Files that are loaded: fed, marked and applied.
 
-ghost use Rattle.std.specs.Prelude.{◌≡◌, ℕ, List, Some, OnOk};
-ghost use Rattle.route_meaning.specs.History.{History};
+ghost use Rattle.std.specs.Prelude.{◌≡◌, ℕ, List, Some, None, OnOk};
+ghost use Rattle.std.specs.Io.KnownBytes.{Appends};
+ghost use Rattle.route_meaning.specs.History.{History, settled};
 ghost use Rattle.archive.specs.Carries.{Carries};
+ghost use Rattle.service.specs.FeedLines.{settled_line};
+ghost use Rattle.service.specs.Refusals.{error_line};
 ghost use Rattle.service.specs.Loads.{IsLoaded, IsSettled, marked_if};
 
 use crate::feed_lines::write_settled;
@@ -97,11 +100,13 @@ fn status_after(end: &End) -> Status
 
 /// Tells a refusal that has no line of its own.
 fn refused<E: Write>(err: &mut E, refusal: &Refusal) -> Status
-    ensures refused { result ≡ Status.Refused }
+    ensures undone { result ≡ Status.Done → ⊥ }
+    ensures told { result ≡ Status.Refused → Appends (E.contents err.old) (E.contents err.new) (error_line refusal.now) }
 {
-    // There is no one left to tell where this fails too.
-    let _ = write_error(err, refusal);
-    Status::Refused
+    match write_error(err, refusal) {
+        Ok(()) => Status::Refused,
+        Err(_) => Status::Failed,
+    }
 }
 
 /// Writes the settled watermark at the end of a load of this status.
@@ -111,9 +116,11 @@ fn tell_settled<W: Write, E: Write>(
     out: &mut W,
     err: &mut E,
 ) -> Status
-    ensures done { result ≡ Status.Done → status ≡ Status.Done }
+    ensures same { (result ≡ Status.Failed → ⊥) → result ≡ status }
+    ensures told { (h : History) → Carries archive.now h → (result ≡ Status.Failed → ⊥) → Appends (W.contents out.old) (W.contents out.new) (settled_line (settled h)) }
 {
     if write_settled(out, archive.settled()).is_err() {
+        // There is no one left to tell where this fails too.
         let _ = write_error(err, &Refusal::Outside);
         return Status::Failed;
     }
@@ -130,7 +137,7 @@ pub fn load<R: Read, W: Write, E: Write>(
     out: &mut W,
     err: &mut E,
 ) -> Status
-    ensures loaded { (h : History) (bytes : List ℕ) → R.remaining reader.old ≡ Some bytes → Carries archive.old h → result ≡ Status.Done → IsLoaded how.collector how.mark h bytes archive.new }
+    ensures loaded { (h : History) (bytes : List ℕ) → R.remaining reader.old ≡ Some bytes → Carries archive.old h → result ≡ Status.Done → IsLoaded how.collector how.limit how.mark h bytes None archive.new (W.contents out.old) (W.contents out.new) }
 {
     if how.collector >= archive.collectors() {
         return refused(err, &Refusal::NoCollector);

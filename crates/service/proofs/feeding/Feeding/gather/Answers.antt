@@ -1,9 +1,41 @@
-use Rattle.std.proofs.Common.{◌∷◌, [], ◌∙◌}
-use Rattle.service.proofs.Following.{gathered_more}
+use Rattle.std.proofs.Common.{◌≡◌, ◌≤◌, ◌+◌, ◌∷◌, [], ◌++◌, ◌∙◌, List, ltb, refl, sym, ap, subst, append_assoc, arith}
+use Rattle.service.specs.Turns.{Turn, offer_where, wait_unless, is_full, joined}
+use Rattle.service.specs.Feeding.{IsCounted, HasDone}
+use Rattle.service.specs.declared.feed_lines.FeedCounts.{FeedCounts}
+use Rattle.service.proofs.Following.{on_ok_more}
+use Rattle.service.proofs.Gathering.{crowded_is, joined_is, room_made, counted_more}
 use Rattle.service.proofs.feeding.Feeding.gather.Goals as goal
 
-pub returns-in-Ok-clause-follows : goal.returns-in-Ok-clause-follows
-returns-in-Ok-clause-follows g c = λ k h before r same f more.
-    let room = c.in_ok-make_room.ensures.follows k h before same f in
-    c.offer_full.ensures.follows k h _ (c.push.ensures.collector ∙ c.make_room.ensures.collector ∙ same)
-    (gathered_more k h before r c.make_room.new.self.gathered.items (c.args.admission ∷ []) _ c.make_room.new.archive room more c.in-Ok.ensures.gathered)
+pub returns-in-Ok-clause-gathered : goal.returns-in-Ok-clause-gathered
+returns-in-Ok-clause-gathered g c = λ counted.
+    let limits = c.push.ensures.same.limit ∙ c.make_room.ensures.same.limit in
+    let now = joined_is c.args.self.now.gathered.items c.make_room.new.self.gathered.items c.push.new.self.gathered.items c.args.admission _
+    (crowded_is c.args.self.now.gathered.items c.args.admission c.args.self.now.octets c.encoded_len-octets.result counted.octets c.encoded_len-octets.ensures.len)
+    c.in_ok-make_room.ensures.gathered c.in-Ok.ensures.gathered in
+    let w = c.push.new.self.gathered.items in
+    let j = joined c.args.self.now.gathered.items c.args.admission in
+    on_ok_more (c.offer_full.new.self.gathered.items ≡ wait_unless (is_full c.push.new.self.limit w) w) (c.offer_full.new.self.gathered.items ≡ wait_unless (is_full c.args.self.now.limit j) j) c.offer_full.result
+    c.offer_full.ensures.gathered (λ e. e ∙ (λ k. wait_unless (is_full (limits k) (now k)) (now k)))
+
+pub returns-in-Ok-clause-counted : goal.returns-in-Ok-clause-counted
+returns-in-Ok-clause-counted g c = λ counted.
+    let room = c.in_ok-make_room.ensures.counted counted in
+    let few : c.encoded_len-octets.result + 4 ≤ 131076 = let f = c.encoded_len-octets.ensures.few in omega (arith, f) in
+    let fits = room_made _ c.args.self.now.gathered.items c.make_room.new.self.gathered.items c.args.self.now.octets c.make_room.new.self.octets (c.encoded_len-octets.result + 4)
+    refl c.in_ok-make_room.ensures.gathered counted.octets room.octets few in
+    c.offer_full.ensures.counted
+    (counted_more c.make_room.new.self c.push.new.self c.args.admission c.encoded_len-octets.result room c.encoded_len-octets.ensures.len fits c.in-Ok.ensures.gathered (c.in-Ok.ensures.octets fits))
+
+pub returns-in-Ok-clause-done : goal.returns-in-Ok-clause-done
+returns-in-Ok-clause-done g c = λ k h turns was place counted same d.
+    let limits = c.push.ensures.same.limit ∙ c.make_room.ensures.same.limit in
+    let crowded = crowded_is c.args.self.now.gathered.items c.args.admission c.args.self.now.octets c.encoded_len-octets.result counted.octets c.encoded_len-octets.ensures.len in
+    let now = joined_is c.args.self.now.gathered.items c.make_room.new.self.gathered.items c.push.new.self.gathered.items c.args.admission _
+    crowded c.in_ok-make_room.ensures.gathered c.in-Ok.ensures.gathered in
+    let room = c.in_ok-make_room.ensures.done k h turns was same d in
+    let first = offer_where (ltb 262144 (c.args.self.now.octets + (c.encoded_len-octets.result + 4))) c.args.self.now.gathered.items in
+    on_ok_more _ _ _
+    (c.offer_full.ensures.done k h (turns ++ first) was (c.push.ensures.same.collector ∙ c.make_room.ensures.same.collector ∙ same)
+    (subst (λ (t : FeedCounts). HasDone k h (turns ++ first) t c.make_room.new.archive was (g.W.Write.contents c.make_room.new.out)) (sym c.push.ensures.counts) room))
+    (λ e. subst (λ (t : List Turn). HasDone k h t c.offer_full.new.self.counts c.offer_full.new.archive was (g.W.Write.contents c.offer_full.new.out))
+    (append_assoc turns first _ ∙ (λ i. turns ++ (offer_where (crowded i) c.args.self.now.gathered.items ++ offer_where (is_full (limits i) (now i)) (now i)))) e)

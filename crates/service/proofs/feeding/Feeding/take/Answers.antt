@@ -1,34 +1,56 @@
-use Rattle.std.proofs.Common.{◌++◌, ◌∷◌, [], ◌∙◌, Ok, Err, None, sym, subst}
-use Rattle.std.proofs.lemmas.List.{append-nil}
+use Rattle.std.proofs.Common.{◌≤◌, ℕ, ◌++◌, ◌∷◌, [], ◌∙◌, Ok, Err, Some, None, refl, sym, ap, subst, length}
 use Rattle.mrt_records.specs.Values.{told}
+use Rattle.archive.specs.Steps.{batch_octets}
 use Rattle.resolve.specs.Tables.{LastTable, Feed}
-use Rattle.service.proofs.Following.{gathered_more, told_by, on_ok, on_ok_more, ok_is_none, fault_is}
+use Rattle.service.specs.Turns.{turns_for}
+use Rattle.service.proofs.Turning.{done_no_more}
+use Rattle.service.proofs.Following.{behind_more, behind_where, done_counted, place_of, on_ok, ok_is_none, remembered}
 use Rattle.service.proofs.feeding.Feeding.take.Goals as goal
 
-pub returns-in-Ok-Some-clause-known : goal.returns-in-Ok-Some-clause-known
-returns-in-Ok-Some-clause-known g c = λ before h.
-    on_ok _ _ (subst (λ (t : Feed). LastTable (before ++ told c.args.item.now ∷ []) t.table) (sym c.gather.ensures.fed) (c.in-Ok-Some.ensures.table (ok_is_none _) before h))
+pub returns-in-Ok-Some : goal.returns-in-Ok-Some
+returns-in-Ok-Some g c = record {
+  behind = λ k limit h records was b.
+      let r = told c.args.item.now in
+      let same = c.gather.ensures.same in
+      let counts = c.count_record.ensures in
+      let means = rw c.in-Ok-Some.field-0-is at c.in-Ok-Some.ensures.gives in
+      behind_where c.gather.result k limit h records r (Ok (Some c.in-Ok-Some.admission)) c.args.self.now c.gather.new.self c.args.archive.now c.gather.new.archive was _ _ b
+      same.collector same.limit (ap (λ (t : Feed). t.collector) same.resolver ∙ c.record.ensures.collector) means (on_ok _ c.gather.result (ok_is_none _))
+      (λ enough. subst (λ (t : Feed). LastTable (records ++ r ∷ []) t.table) (sym same.resolver) (c.in-Ok-Some.ensures.table (ok_is_none _) records b.known))
+      (c.gather.ensures.gathered (record { octets = b.counted.octets; fit = b.counted.fit }))
+      (c.gather.ensures.counted (record { octets = b.counted.octets; fit = b.counted.fit }))
+      (c.gather.ensures.done k h (turns_for limit 0 [] b.results) was (length b.results) (record { octets = b.counted.octets; fit = b.counted.fit }) b.collector
+      (done_counted k h (turns_for limit 0 [] b.results) c.args.self.now.counts c.count_record.new.self c.args.archive.now was _ counts.admitted counts.late counts.refused b.done))
+      (same.records ∙ counts.records) (same.skipped ∙ counts.skipped);
+}
 
-pub returns-in-Ok-None-clause-known : goal.returns-in-Ok-None-clause-known
-returns-in-Ok-None-clause-known g c = λ before h.
-    subst (λ (t : Feed). LastTable (before ++ told c.args.item.now ∷ []) t.table) (sym c.skip.ensures.fed) (c.in-Ok-None.ensures.table (ok_is_none _) before h)
+pub returns-in-Ok-None : goal.returns-in-Ok-None
+returns-in-Ok-None g c = record {
+  behind = λ k limit h records was b.
+      let r = told c.args.item.now in
+      let counts = c.count_record.ensures in
+      let means = rw c.in-Ok-None.field-0-is at c.in-Ok-None.ensures.gives in
+      behind_more k limit h records r (Ok None) c.args.self.now _ c.args.archive.now c.args.archive.now was _ _ b
+      refl refl c.record.ensures.collector means (ok_is_none None)
+      (c.in-Ok-None.ensures.table (ok_is_none _) records b.known)
+      refl (record { octets = b.counted.octets; fit = b.counted.fit })
+      (done_no_more k h (turns_for limit 0 [] b.results) c.count_record.new.self c.args.archive.now was _
+      (done_counted k h (turns_for limit 0 [] b.results) c.args.self.now.counts c.count_record.new.self c.args.archive.now was _ counts.admitted counts.late counts.refused b.done))
+      counts.records counts.skipped;
+}
 
-pub returns-in-Ok-None-clause-follows : goal.returns-in-Ok-None-clause-follows
-returns-in-Ok-None-clause-follows g c = λ k h before same fed known f.
-    let means = rw c.in-Ok-None.field-0-is at c.in-Ok-None.ensures.gives in
-    gathered_more k h before (told c.args.item.now) c.args.self.now.gathered.items [] _ c.args.archive.now f
-    (told_by c.args.self.now.resolver.collector k before c.args.self.now.resolver.table (told c.args.item.now) (Ok None) fed known means (ok_is_none None))
-    (c.skip.ensures.gathered ∙ sym (append-nil c.args.self.now.gathered.items))
-
-pub returns-in-Err-clause-known : goal.returns-in-Err-clause-known
-returns-in-Err-clause-known g c = λ before h.
-    on_ok_more _ _ _ c.refuse.ensures.remembered
-    (λ remembered. subst (λ (t : Feed). LastTable (before ++ told c.args.item.now ∷ []) t.table) (sym c.refuse.ensures.fed)
-    (c.in-Err.ensures.table (fault_is c.in-Err.fault remembered) before h))
-
-pub returns-in-Err-clause-follows : goal.returns-in-Err-clause-follows
-returns-in-Err-clause-follows g c = λ k h before same fed known f.
-    on_ok_more _ _ _ c.refuse.ensures.remembered
-    (λ remembered. gathered_more k h before (told c.args.item.now) c.args.self.now.gathered.items [] _ c.args.archive.now f
-    (told_by c.args.self.now.resolver.collector k before c.args.self.now.resolver.table (told c.args.item.now) (Err c.in-Err.fault) fed known c.in-Err.ensures.gives (fault_is c.in-Err.fault remembered))
-    (c.refuse.ensures.gathered ∙ sym (append-nil c.args.self.now.gathered.items)))
+pub returns-in-Err : goal.returns-in-Err
+returns-in-Err g c = record {
+  behind = λ k limit h records was b.
+      let r = told c.args.item.now in
+      let same = c.refuse.ensures.same in
+      let counts = c.count_record.ensures in
+      behind_where c.refuse.result k limit h records r (Err c.in-Err.fault) c.args.self.now c.refuse.new.self c.args.archive.now c.args.archive.now was _ _ b
+      same.collector same.limit (ap (λ (t : Feed). t.collector) same.resolver ∙ c.record.ensures.collector) c.in-Err.ensures.gives (remembered c.refuse.result c.in-Err.fault c.refuse.ensures.remembered)
+      (λ enough. subst (λ (t : Feed). LastTable (records ++ r ∷ []) t.table) (sym same.resolver) (c.in-Err.ensures.table enough records b.known))
+      (on_ok _ c.refuse.result c.refuse.ensures.gathered)
+      (on_ok _ c.refuse.result (record { octets = c.refuse.ensures.octets ∙ b.counted.octets ∙ sym (ap batch_octets c.refuse.ensures.gathered); fit = subst (λ (t : ℕ). t ≤ 262144) (sym c.refuse.ensures.octets) b.counted.fit }))
+      (c.refuse.ensures.done k h c.args.archive.now (turns_for limit 0 [] b.results) was (length b.results) (place_of k limit h records c.args.self.now c.args.archive.now was _ b)
+      (done_counted k h (turns_for limit 0 [] b.results) c.args.self.now.counts c.count_record.new.self c.args.archive.now was _ counts.admitted counts.late counts.refused b.done))
+      (same.records ∙ counts.records) (same.skipped ∙ counts.skipped);
+}

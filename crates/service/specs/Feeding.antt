@@ -1,0 +1,76 @@
+-- A feed under way. Contracts of private functions alone cite this file.
+use Rattle.std.specs.Prelude.{◌≡◌, ◌≤◌, ℕ, map, length, Bool, true, false, List, [], ◌++◌, Option, Some, None, Result}
+use Rattle.std.specs.Io.KnownBytes.{Appends}
+use Rattle.route_model.specs.Admission.{Admitted}
+use Rattle.route_meaning.specs.Holds.{admitted_time}
+use Rattle.route_meaning.specs.History.{History}
+use Rattle.sequencer.specs.Late.{lates}
+use Rattle.mrt_records.specs.Values.{Told, told}
+use Rattle.mrt_records.specs.Records.{Over}
+use Rattle.mrt_records.specs.Streams.{GainsFrames}
+use Rattle.mrt_records.specs.declared.item.Item.{Item}
+use Rattle.resolve.specs.Tables.{LastTable}
+use Rattle.resolve.specs.Meanings.{Means}
+use Rattle.resolve.specs.declared.fault.ResolveFault.{ResolveFault}
+use Rattle.archive.specs.Carries.{Carries}
+use Rattle.archive.specs.Steps.{given, batch_octets}
+use Rattle.service.specs.Turns.{Turn, offered, refusals, turns_for, waits_behind}
+use Rattle.service.specs.FeedTexts.{capped, intake_in, admitted_of, turns_text, skips}
+use Rattle.service.specs.declared.feed_lines.FeedCounts.{FeedCounts}
+use Rattle.service.specs.declared.feeding.Feeding.{Feeding}
+
+-- these turns were made for a collector of an archive that carried h
+pub record HasDone (c : ℕ) (h : History) (turns : List Turn) (counts : FeedCounts) (archive : History) (was now : Option (List ℕ)) : Type 0 where
+  pub carried : Carries archive (given h c (offered turns))
+  pub wrote : Appends was now (turns_text (intake_in h.intakes c) turns)
+  pub admitted : counts.admitted ≡ capped (length (admitted_of (intake_in h.intakes c) (offered turns)))
+  pub late : counts.late ≡ capped (length (lates admitted_time (intake_in h.intakes c).mark [] 0 (offered turns)))
+  pub refused : counts.refused ≡ capped (refusals turns)
+
+-- of a feed under way all is the same but for what waits and what was done
+pub record IsSameFeed (old new : Feeding) : Type 0 where
+  pub collector : new.collector ≡ old.collector
+  pub limit : new.limit ≡ old.limit
+  pub resolver : new.resolver ≡ old.resolver
+  pub records : new.counts.records ≡ old.counts.records
+  pub skipped : new.counts.skipped ≡ old.counts.skipped
+
+-- the octets of what waits are counted, and fit a batch
+pub record IsCounted (feeding : Feeding) : Type 0 where
+  pub octets : feeding.octets ≡ batch_octets feeding.gathered.items
+  pub fit : feeding.octets ≤ 262144
+
+-- the feed came behind these records
+pub record IsBehind (c limit : ℕ) (h : History) (records : List Told) (feeding : Feeding) (archive : History) (was now : Option (List ℕ)) : Type 0 where
+  pub results : List (Result (Option Admitted) ResolveFault)
+  pub collector : feeding.collector ≡ c
+  pub limited : feeding.limit ≡ limit
+  pub fed : feeding.resolver.collector ≡ c
+  pub known : LastTable records feeding.resolver.table
+  pub means : Means c records results
+  pub waits : feeding.gathered.items ≡ waits_behind limit [] results
+  pub counted : IsCounted feeding
+  pub done : HasDone c h (turns_for limit 0 [] results) feeding.counts archive was now
+  pub recorded : feeding.counts.records ≡ capped (length records)
+  pub skipped : feeding.counts.skipped ≡ capped (skips records)
+
+-- the octets are whole records, behind which the feed came, and this rest
+pub record Reads (c limit : ℕ) (h : History) (bytes rest : List ℕ) (feeding : Feeding) (archive : History) (was now : Option (List ℕ)) : Type 0 where
+  pub items : List Item
+  pub framed : GainsFrames bytes rest [] items
+  pub behind : IsBehind c limit h (map told items) feeding archive was now
+
+-- the framer holds the rest, or the front of one whose Length is above the limit
+abbrev pub IsHeld : List ℕ → List ℕ → Bool → Type 0
+IsHeld held rest true = held ≡ rest
+IsHeld held rest false = (more : List ℕ) × (rest ≡ held ++ more) × Over held
+
+-- the octets were read as far as the feed goes on
+pub record IsRead (c limit : ℕ) (h : History) (bytes held : List ℕ) (goes_on : Bool) (feeding : Feeding) (archive : History) (was now : Option (List ℕ)) : Type 0 where
+  pub rest : List ℕ
+  pub holds : IsHeld held rest goes_on
+  pub reads : Reads c limit h bytes rest feeding archive was now
+
+-- all the octets were read, or those behind a Length above the limit are left
+abbrev pub IsReadOut : ℕ → ℕ → History → List ℕ → List ℕ → Feeding → History → Option (List ℕ) → Option (List ℕ) → Type 0
+IsReadOut c limit h bytes held feeding archive was now = (goes_on : Bool) × IsRead c limit h bytes held goes_on feeding archive was now

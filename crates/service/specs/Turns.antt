@@ -1,0 +1,82 @@
+-- What is done for the records of a feed, one after another: admissions are offered in batches, and refused records told.
+use Rattle.std.specs.Prelude.{ℕ, ltb, leb, suc, length, Bool, true, false, List, [], ◌∷◌, ◌++◌, Option, Some, None, Result, Ok, Err}
+use Rattle.route_model.specs.Admission.{Admitted}
+use Rattle.archive.specs.Steps.{batch_octets}
+use Rattle.resolve.specs.declared.fault.ResolveFault.{ResolveFault}
+
+-- a batch is offered, or the record at this place is told as refused; the first record has the place 0
+pub data Turn : Type 0 where
+  Offer : (batch : List Admitted) → Turn
+  Refuse : (place : ℕ) (fault : ResolveFault) → Turn
+
+-- what is offered by these turns, in their order
+abbrev pub offered : List Turn → List Admitted
+offered [] = []
+offered (Offer batch ∷ turns) = batch ++ offered turns
+offered (Refuse place fault ∷ turns) = offered turns
+
+-- how many records these turns refuse
+abbrev pub refusals : List Turn → ℕ
+refusals [] = 0
+refusals (Offer batch ∷ turns) = refusals turns
+refusals (Refuse place fault ∷ turns) = suc (refusals turns)
+
+-- the admissions of a feed, by what its records mean
+abbrev pub admissions_of : List (Result (Option Admitted) ResolveFault) → List Admitted
+admissions_of [] = []
+admissions_of (Ok (Some a) ∷ results) = a ∷ admissions_of results
+admissions_of (Ok None ∷ results) = admissions_of results
+admissions_of (Err fault ∷ results) = admissions_of results
+
+-- with one more admission these would have more octets than a batch may have
+abbrev pub is_crowded : List Admitted → Admitted → Bool
+is_crowded waiting a = ltb 262144 (batch_octets (waiting ++ a ∷ []))
+
+-- these are as many admissions as a batch may have
+abbrev pub is_full : ℕ → List Admitted → Bool
+is_full limit waiting = leb limit (length waiting)
+
+-- where it is so, all that waits is offered
+abbrev pub offer_where : Bool → List Admitted → List Turn
+offer_where true waiting = Offer waiting ∷ []
+offer_where false waiting = []
+
+-- and nothing waits any more
+abbrev pub wait_unless : Bool → List Admitted → List Admitted
+wait_unless true waiting = []
+wait_unless false waiting = waiting
+
+-- what waits with one more admission, for which room is made first
+abbrev pub joined : List Admitted → Admitted → List Admitted
+joined waiting a = wait_unless (is_crowded waiting a) waiting ++ a ∷ []
+
+-- what is done for the record at this place, where these admissions wait
+abbrev pub turns_at : ℕ → ℕ → List Admitted → Result (Option Admitted) ResolveFault → List Turn
+turns_at limit place waiting (Ok (Some a)) = offer_where (is_crowded waiting a) waiting ++ offer_where (is_full limit (joined waiting a)) (joined waiting a)
+turns_at limit place waiting (Ok None) = []
+turns_at limit place waiting (Err fault) = Refuse place fault ∷ []
+
+-- what waits after it
+abbrev pub waits_after : ℕ → List Admitted → Result (Option Admitted) ResolveFault → List Admitted
+waits_after limit waiting (Ok (Some a)) = wait_unless (is_full limit (joined waiting a)) (joined waiting a)
+waits_after limit waiting (Ok None) = waiting
+waits_after limit waiting (Err fault) = waiting
+
+-- what is done for the records of these meanings, the first of which has this place, where these admissions wait
+abbrev pub turns_for : ℕ → ℕ → List Admitted → List (Result (Option Admitted) ResolveFault) → List Turn
+turns_for limit place waiting [] = []
+turns_for limit place waiting (r ∷ results) = turns_at limit place waiting r ++ turns_for limit (suc place) (waits_after limit waiting r) results
+
+-- what waits after them
+abbrev pub waits_behind : ℕ → List Admitted → List (Result (Option Admitted) ResolveFault) → List Admitted
+waits_behind limit waiting [] = waiting
+waits_behind limit waiting (r ∷ results) = waits_behind limit (waits_after limit waiting r) results
+
+-- what waits at the end of a feed is offered, if there is any
+abbrev pub last_turns : List Admitted → List Turn
+last_turns [] = []
+last_turns (a ∷ waiting) = Offer (a ∷ waiting) ∷ []
+
+-- what is done for a whole feed whose records mean this, in batches of at most so many admissions
+abbrev pub feed_turns : ℕ → List (Result (Option Admitted) ResolveFault) → List Turn
+feed_turns limit results = turns_for limit 0 [] results ++ last_turns (waits_behind limit [] results)
