@@ -4,5 +4,6 @@ pub mod Batches
 pub mod Turning
 pub mod Gathering
 pub mod Following
+pub mod GivingUp
 pub mod Streams
 pub mod Applying

@@ -17,7 +17,9 @@ use Rattle.service.specs.Feeds.{IsCut, IsFed}
 use Rattle.service.specs.Turns.{Turn, turns_for, last_turns, feed_turns, offered, admissions_of}
 use Rattle.service.specs.FeedTexts.{intake_in, turns_text, cut_line, counts_of, capped}
 use Rattle.service.specs.FeedLines.{counts_line}
-use Rattle.service.specs.Feeding.{IsBehind, HasDone, Reads, IsHeld, IsRead, IsReadOut, IsSameFeed}
+use Rattle.service.specs.Feeding.{IsBehind, HasDone, Reads, IsHeld, IsRead, IsReadOut, IsSameFeed, StopsWithin}
+use Rattle.service.specs.declared.refusal.Refusal.TheVariants as refusals
+use Rattle.service.proofs.GivingUp.{within_more, stops_behind}
 use Rattle.service.specs.declared.feed_lines.FeedCounts.{FeedCounts}
 use Rattle.service.specs.declared.feeding.Feeding.{Feeding}
 use Rattle.service.specs.declared.refusal.Refusal.{Refusal}
@@ -39,6 +41,11 @@ piece_read c limit h bytes held piece rest old new archive later was mid now non
       framed = frames_then bytes held piece rest [] r.items (r.items ++ items) r.framed (gains_behind (held ++ piece) rest none items r.items empty gains);
       behind = subst (λ (t : List Told). IsBehind c limit h t new later was now) both (behind (map told r.items) r.behind);
     }
+
+-- the records with one more piece
+pub piece_framed : (bytes held piece rest : List ℕ) (before none items got : List Item) → none ≡ [] → got ≡ items → GainsFrames (held ++ piece) rest none items → GainsFrames bytes held [] before → GainsFrames (bytes ++ piece) rest [] (before ++ got)
+piece_framed bytes held piece rest before none items got empty same gains framed =
+    subst (λ (t : List Item). GainsFrames (bytes ++ piece) rest [] (before ++ t)) (sym same) (frames_then bytes held piece rest [] before (before ++ items) framed (gains_behind (held ++ piece) rest none items before empty gains))
 
 -- one more piece, and the feed goes on
 pub piece_goes : (c limit : ℕ) (h : History) (bytes held piece now_held : List ℕ) (old new : Feeding) (archive later : History) (was mid now : Option (List ℕ)) (none items got : List Item) (on : Bool)
@@ -110,6 +117,24 @@ left_more c limit h bytes all piece reader next held left old new archive later 
       reads = subst (λ (t : List ℕ). Reads c limit h t left new later was now) (append_assoc bytes l.done piece)
           (subst (λ (t : List ℕ). Reads c limit h ((bytes ++ l.done) ++ piece) t new later was now) (sym read.holds) read.reads);
     }
+
+-- the device fails behind what was read
+pub left_gives : (c limit : ℕ) (h : History) (bytes all : List ℕ) (reader : Option (List ℕ)) (held : List ℕ) (feeding : Feeding) (archive : History) (was now : Option (List ℕ))
+    → Left c limit h bytes all reader held feeding archive was now → StopsWithin c limit h (bytes ++ all) archive was now refusals.Outside
+left_gives c limit h bytes all reader held feeding archive was now l =
+    subst (λ (t : List ℕ). StopsWithin c limit h t archive was now refusals.Outside) (append_assoc bytes l.done l.rest ∙ ap (λ (t : List ℕ). bytes ++ t) (sym l.parts))
+    (within_more c limit h (bytes ++ l.done) l.rest archive was now refusals.Outside (stops_behind c limit h (bytes ++ l.done) held feeding archive was now refusals.Outside (λ made. tt) l.reads))
+
+-- the feed is given up in the next piece
+pub left_piece_gives : (c limit : ℕ) (h : History) (bytes all piece : List ℕ) (reader next : Option (List ℕ)) (held : List ℕ) (feeding : Feeding) (archive later : History) (was mid now : Option (List ℕ)) (why : Refusal)
+    → Consumes reader next piece → Left c limit h bytes all reader held feeding archive was mid
+    → ((seen : List ℕ) → Reads c limit h seen held feeding archive was mid → StopsWithin c limit h (seen ++ piece) later was now why)
+    → StopsWithin c limit h (bytes ++ all) later was now why
+left_piece_gives c limit h bytes all piece reader next held feeding archive later was mid now why gone l stops =
+    let more = consumed reader next l.rest piece l.left gone in
+    subst (λ (t : List ℕ). StopsWithin c limit h t later was now why)
+    (append_assoc (bytes ++ l.done) piece more.0 ∙ append_assoc bytes l.done (piece ++ more.0) ∙ ap (λ (t : List ℕ). bytes ++ t) (ap (λ (t : List ℕ). l.done ++ t) (sym more.2) ∙ sym l.parts))
+    (within_more c limit h ((bytes ++ l.done) ++ piece) more.0 later was now why (stops (bytes ++ l.done) l.reads))
 
 -- what stands behind a Length above the limit is left with it
 over_more : (bytes rest more : List ℕ) (items : List Item) → Over rest → GainsFrames bytes rest [] items → GainsFrames (bytes ++ more) (rest ++ more) [] items

@@ -14,7 +14,10 @@ use Rattle.resolve.specs.Meanings.{Means}
 use Rattle.resolve.specs.declared.fault.ResolveFault.{ResolveFault}
 use Rattle.archive.specs.Carries.{Carries}
 use Rattle.archive.specs.Steps.{given, batch_octets}
-use Rattle.service.specs.Turns.{Turn, offered, refusals, turns_for, waits_behind}
+use Rattle.service.specs.Turns.{Turn, offered, refusals, turns_for, waits_behind, feed_turns}
+use Rattle.service.specs.Feeds.{IsReason}
+use Rattle.service.specs.declared.refusal.Refusal.{Refusal}
+use Rattle.service.specs.declared.refusal.Refusal.TheVariants as refused_as
 use Rattle.service.specs.FeedTexts.{capped, intake_in, admitted_of, turns_text, skips}
 use Rattle.service.specs.declared.feed_lines.FeedCounts.{FeedCounts}
 use Rattle.service.specs.declared.feeding.Feeding.{Feeding}
@@ -74,3 +77,32 @@ pub record IsRead (c limit : ℕ) (h : History) (bytes held : List ℕ) (goes_on
 -- all the octets were read, or those behind a Length above the limit are left
 abbrev pub IsReadOut : ℕ → ℕ → History → List ℕ → List ℕ → Feeding → History → Option (List ℕ) → Option (List ℕ) → Type 0
 IsReadOut c limit h bytes held feeding archive was now = (goes_on : Bool) × IsRead c limit h bytes held goes_on feeding archive was now
+
+-- Some of these turns were made and written when the feed was given up for this, which isn't written yet.
+pub record GivesUp (c : ℕ) (h : History) (turns : List Turn) (archive : History) (was now : Option (List ℕ)) (why : Refusal) : Type 0 where
+  pub made : List Turn
+  pub unmade : List Turn
+  pub parts : turns ≡ made ++ unmade
+  pub carried : Carries archive (given h c (offered made))
+  pub reason : IsReason c h made unmade why
+  pub wrote : (why ≡ refused_as.Outside → ⊥) → Appends was now (turns_text (intake_in h.intakes c) made)
+
+-- the feed was given up at one of the items that came behind these records, or before the first of them
+pub record StopsAmong (c limit : ℕ) (h : History) (records : List Told) (items : List Item) (archive : History) (was now : Option (List ℕ)) (why : Refusal) : Type 0 where
+  pub front : List Item
+  pub back : List Item
+  pub parts : items ≡ front ++ back
+  pub results : List (Result (Option Admitted) ResolveFault)
+  pub means : Means c (records ++ map told front) results
+  pub gives_up : GivesUp c h (turns_for limit 0 [] results) archive was now why
+
+-- the feed was given up among the whole records of the octets
+pub record StopsWithin (c limit : ℕ) (h : History) (bytes : List ℕ) (archive : History) (was now : Option (List ℕ)) (why : Refusal) : Type 0 where
+  pub seen : List ℕ
+  pub later : List ℕ
+  pub parts : bytes ≡ seen ++ later
+  pub items : List Item
+  pub framed : GainsFrames seen [] [] items
+  pub results : List (Result (Option Admitted) ResolveFault)
+  pub means : Means c (map told items) results
+  pub gives_up : GivesUp c h (feed_turns limit results) archive was now why

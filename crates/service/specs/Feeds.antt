@@ -1,5 +1,5 @@
 -- What a feed of MRT records is, and what an archive carries once it took it in.
-use Rattle.std.specs.Prelude.{◌≡◌, ◌⊎◌, ℕ, map, List, [], ◌++◌, Option, Some, None, Result}
+use Rattle.std.specs.Prelude.{◌≡◌, ◌⊎◌, ℕ, map, length, List, [], ◌∷◌, ◌++◌, Option, Some, None, Result}
 use Rattle.std.specs.Io.KnownBytes.{Appends}
 use Rattle.route_model.specs.Admission.{Admitted}
 use Rattle.route_meaning.specs.History.{History}
@@ -10,9 +10,10 @@ use Rattle.mrt_records.specs.declared.item.Item.{Item}
 use Rattle.resolve.specs.Meanings.{Means}
 use Rattle.resolve.specs.declared.fault.ResolveFault.{ResolveFault}
 use Rattle.archive.specs.Carries.{Carries}
-use Rattle.archive.specs.Steps.{given}
-use Rattle.service.specs.Turns.{admissions_of}
-use Rattle.service.specs.FeedTexts.{intake_in, feed_text}
+use Rattle.archive.specs.Steps.{given, IsCollector, IsCounterFull}
+use Rattle.service.specs.Turns.{Turn, Offer, offered, admissions_of, feed_turns}
+use Rattle.service.specs.FeedTexts.{intake_in, turns_text, feed_text}
+use Rattle.service.specs.Refusals.{refusal_line}
 use Rattle.service.specs.declared.refusal.Refusal.{Refusal}
 use Rattle.service.specs.declared.refusal.Refusal.TheVariants as refusals
 
@@ -38,3 +39,38 @@ pub record IsFed (c limit : ℕ) (h : History) (bytes : List ℕ) (cut : Option 
   pub cut_is : IsCut rest cut
   pub carried : Carries archive (given h c (admissions_of results))
   pub wrote : Appends was now (feed_text (intake_in h.intakes c) limit records results cut)
+
+-- why a feed is given up of which these turns were made and the next ones weren't: there is no such collector, the next batch would
+-- pass the last count of offered records, memory was wanting, or a reader or a writer failed
+abbrev pub IsReason : ℕ → History → List Turn → List Turn → Refusal → Type 0
+IsReason c h made unmade refusals.NoCollector = IsCollector h c → ⊥
+IsReason c h made unmade refusals.CounterFull = (batch : List Admitted) × (later : List Turn) × (unmade ≡ Offer batch ∷ later) × IsCounterFull (given h c (offered made)) c (length batch)
+IsReason c h made unmade refusals.OutOfMemory = Unit {0}
+IsReason c h made unmade refusals.Outside = Unit {0}
+IsReason c h made unmade refusals.Truncated = ⊥
+IsReason c h made unmade refusals.TooLong = ⊥
+IsReason c h made unmade refusals.Malformed = ⊥
+IsReason c h made unmade refusals.RouteTooLarge = ⊥
+IsReason c h made unmade refusals.NoPeerTable = ⊥
+IsReason c h made unmade refusals.BadPeerIndex = ⊥
+IsReason c h made unmade refusals.AdmissionTooLarge = ⊥
+IsReason c h made unmade refusals.MarkBack = ⊥
+IsReason c h made unmade refusals.BatchTooLarge = ⊥
+IsReason c h made unmade refusals.BadRequest = ⊥
+IsReason c h made unmade (refusals.AboveWatermark settled) = ⊥
+
+-- The archive carried h; now it carries what the first turns for the first records of the feed offer too. These turns were written and
+-- then the refusal, unless it is that a reader or a writer failed.
+pub record IsGivenUp (c limit : ℕ) (h : History) (bytes : List ℕ) (why : Refusal) (archive : History) (was now : Option (List ℕ)) : Type 0 where
+  pub seen : List ℕ
+  pub later : List ℕ
+  pub parts : bytes ≡ seen ++ later
+  pub records : List Told
+  pub results : List (Result (Option Admitted) ResolveFault)
+  pub feed : IsFeed c seen [] records results
+  pub made : List Turn
+  pub unmade : List Turn
+  pub turns : feed_turns limit results ≡ made ++ unmade
+  pub carried : Carries archive (given h c (offered made))
+  pub reason : IsReason c h made unmade why
+  pub wrote : (why ≡ refusals.Outside → ⊥) → Appends was now (turns_text (intake_in h.intakes c) made ++ refusal_line why)

@@ -1,12 +1,12 @@
 //! A feed under way: its records are resolved, and their admissions offered in batches.
 
-ghost use Rattle.std.specs.Prelude.{◌≡◌, ◌≤◌, ◌∷◌, ◌++◌, ◌+◌, ltb, ℕ, List, [], Option, Some, Ok, map, OnOk};
+ghost use Rattle.std.specs.Prelude.{◌≡◌, ◌≤◌, ◌∷◌, ◌++◌, ◌+◌, ltb, ℕ, List, [], Option, Some, Ok, map, OnOk, IfErr};
 ghost use Rattle.route_meaning.specs.History.{History};
 ghost use Rattle.mrt_records.specs.Values.{Told, told};
 ghost use Rattle.archive.specs.Carries.{Carries};
 ghost use Rattle.service.specs.Turns.{Turn, Offer, Refuse, offer_where, wait_unless, is_full, turns_at, waits_after, last_turns};
 ghost use Rattle.service.specs.FeedTexts.{capped};
-ghost use Rattle.service.specs.Feeding.{HasDone, IsSameFeed, IsCounted, IsBehind};
+ghost use Rattle.service.specs.Feeding.{HasDone, IsSameFeed, IsCounted, IsBehind, GivesUp, StopsAmong};
 
 use crate::faults::{of_admit, of_record};
 use crate::feed_lines::{FeedCounts, write_admitted};
@@ -57,6 +57,7 @@ impl Feeding {
         ensures gathered { OnOk result (self.new.gathered.items ≡ []) }
         ensures octets { OnOk result (self.new.octets ≡ 0) }
         ensures done { (c : ℕ) (h : History) (turns : List Turn) (was : Option (List ℕ)) → self.old.collector ≡ c → HasDone c h turns self.old.counts archive.old was (W.contents out.old) → OnOk result (HasDone c h (turns ++ Offer self.old.gathered.items ∷ []) self.new.counts archive.new was (W.contents out.new)) }
+        ensures given_up { (c : ℕ) (h : History) (turns : List Turn) (was : Option (List ℕ)) → self.old.collector ≡ c → IsCounted self.old → HasDone c h turns self.old.counts archive.old was (W.contents out.old) → IfErr result (GivesUp c h (turns ++ Offer self.old.gathered.items ∷ []) archive.new was (W.contents out.new)) }
     {
         let admitted = match archive.admit(self.collector, &self.gathered) {
             Ok(admitted) => admitted,
@@ -80,6 +81,7 @@ impl Feeding {
         ensures gathered { OnOk result (self.new.gathered.items ≡ wait_unless (ltb 262144 (self.old.octets + octets)) self.old.gathered.items) }
         ensures counted { IsCounted self.old → OnOk result (IsCounted self.new) }
         ensures done { (c : ℕ) (h : History) (turns : List Turn) (was : Option (List ℕ)) → self.old.collector ≡ c → HasDone c h turns self.old.counts archive.old was (W.contents out.old) → OnOk result (HasDone c h (turns ++ offer_where (ltb 262144 (self.old.octets + octets)) self.old.gathered.items) self.new.counts archive.new was (W.contents out.new)) }
+        ensures given_up { (c : ℕ) (h : History) (turns : List Turn) (was : Option (List ℕ)) → self.old.collector ≡ c → IsCounted self.old → HasDone c h turns self.old.counts archive.old was (W.contents out.old) → IfErr result (GivesUp c h (turns ++ offer_where (ltb 262144 (self.old.octets + octets)) self.old.gathered.items) archive.new was (W.contents out.new)) }
     {
         if self.octets.saturating_add(octets) > MAX_BATCH_LEN {
             return self.offer(archive, out);
@@ -93,6 +95,7 @@ impl Feeding {
         ensures gathered { OnOk result (self.new.gathered.items ≡ wait_unless (is_full self.old.limit self.old.gathered.items) self.old.gathered.items) }
         ensures counted { IsCounted self.old → OnOk result (IsCounted self.new) }
         ensures done { (c : ℕ) (h : History) (turns : List Turn) (was : Option (List ℕ)) → self.old.collector ≡ c → HasDone c h turns self.old.counts archive.old was (W.contents out.old) → OnOk result (HasDone c h (turns ++ offer_where (is_full self.old.limit self.old.gathered.items) self.old.gathered.items) self.new.counts archive.new was (W.contents out.new)) }
+        ensures given_up { (c : ℕ) (h : History) (turns : List Turn) (was : Option (List ℕ)) → self.old.collector ≡ c → IsCounted self.old → HasDone c h turns self.old.counts archive.old was (W.contents out.old) → IfErr result (GivesUp c h (turns ++ offer_where (is_full self.old.limit self.old.gathered.items) self.old.gathered.items) archive.new was (W.contents out.new)) }
     {
         if self.gathered.len() >= self.limit {
             return self.offer(archive, out);
@@ -108,6 +111,7 @@ impl Feeding {
     ) -> Result<(), Refusal>
         ensures same { IsSameFeed self.old self.new }
         ensures done { (c : ℕ) (h : History) (turns : List Turn) (was : Option (List ℕ)) → self.old.collector ≡ c → HasDone c h turns self.old.counts archive.old was (W.contents out.old) → OnOk result (HasDone c h (turns ++ last_turns self.old.gathered.items) self.new.counts archive.new was (W.contents out.new)) }
+        ensures given_up { (c : ℕ) (h : History) (turns : List Turn) (was : Option (List ℕ)) → self.old.collector ≡ c → IsCounted self.old → HasDone c h turns self.old.counts archive.old was (W.contents out.old) → IfErr result (GivesUp c h (turns ++ last_turns self.old.gathered.items) archive.new was (W.contents out.new)) }
     {
         if self.gathered.is_empty() {
             return Ok(());
@@ -139,6 +143,7 @@ impl Feeding {
         ensures gathered { IsCounted self.old → OnOk result (self.new.gathered.items ≡ waits_after self.old.limit self.old.gathered.items (Ok (Some admission))) }
         ensures counted { IsCounted self.old → OnOk result (IsCounted self.new) }
         ensures done { (c : ℕ) (h : History) (turns : List Turn) (was : Option (List ℕ)) (place : ℕ) → IsCounted self.old → self.old.collector ≡ c → HasDone c h turns self.old.counts archive.old was (W.contents out.old) → OnOk result (HasDone c h (turns ++ turns_at self.old.limit place self.old.gathered.items (Ok (Some admission))) self.new.counts archive.new was (W.contents out.new)) }
+        ensures given_up { (c : ℕ) (h : History) (turns : List Turn) (was : Option (List ℕ)) (place : ℕ) → self.old.collector ≡ c → IsCounted self.old → HasDone c h turns self.old.counts archive.old was (W.contents out.old) → IfErr result (GivesUp c h (turns ++ turns_at self.old.limit place self.old.gathered.items (Ok (Some admission))) archive.new was (W.contents out.new)) }
     {
         let octets = admission.encoded_len() + 4;
         self.make_room(octets, archive, out)?;
@@ -160,6 +165,7 @@ impl Feeding {
         ensures octets { self.new.octets ≡ self.old.octets }
         ensures remembered { OnOk result (fault ≡ ResolveFault.OutOfMemory → ⊥) }
         ensures done { (c : ℕ) (h archive : History) (turns : List Turn) (was : Option (List ℕ)) (n : ℕ) → place ≡ capped n → HasDone c h turns self.old.counts archive was (W.contents out.old) → OnOk result (HasDone c h (turns ++ Refuse n fault ∷ []) self.new.counts archive was (W.contents out.new)) }
+        ensures given_up { (c : ℕ) (h archive : History) (turns : List Turn) (was : Option (List ℕ)) → HasDone c h turns self.old.counts archive was (W.contents out.old) → IfErr result (GivesUp c h turns archive was (W.contents out.new)) }
     {
         if fault == ResolveFault::OutOfMemory {
             return Err(Refusal::OutOfMemory);
@@ -178,6 +184,7 @@ impl Feeding {
         out: &mut W,
     ) -> Result<(), Refusal>
         ensures behind { (c limit : ℕ) (h : History) (records : List Told) (was : Option (List ℕ)) → IsBehind c limit h records self.old archive.old was (W.contents out.old) → OnOk result (IsBehind c limit h (records ++ told item.now ∷ []) self.new archive.new was (W.contents out.new)) }
+        ensures given_up { (c limit : ℕ) (h : History) (records : List Told) (was : Option (List ℕ)) → IsBehind c limit h records self.old archive.old was (W.contents out.old) → IfErr result (StopsAmong c limit h records (item.now ∷ []) archive.new was (W.contents out.new)) }
     {
         let place = self.counts.records;
         self.counts.count_record(item);
@@ -197,6 +204,7 @@ impl Feeding {
         out: &mut W,
     ) -> Result<(), Refusal>
         ensures behind { (c limit : ℕ) (h : History) (records : List Told) (was : Option (List ℕ)) → IsBehind c limit h records self.old archive.old was (W.contents out.old) → OnOk result (IsBehind c limit h (records ++ map told items.now) self.new archive.new was (W.contents out.new)) }
+        ensures given_up { (c limit : ℕ) (h : History) (records : List Told) (was : Option (List ℕ)) → IsBehind c limit h records self.old archive.old was (W.contents out.old) → IfErr result (StopsAmong c limit h records items.now archive.new was (W.contents out.new)) }
     {
         for item in items {
             self.take(alloc, archive, item, out)?;

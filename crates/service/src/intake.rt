@@ -1,13 +1,13 @@
 //! Feeds: MRT records that are read, resolved and admitted (RFC 6396).
 
-ghost use Rattle.std.specs.Prelude.{◌≡◌, ◌++◌, ℕ, List, [], Option, Some, None, OnOk, IfOk};
+ghost use Rattle.std.specs.Prelude.{◌≡◌, ◌++◌, ℕ, List, [], Option, Some, None, OnOk, IfOk, IfErr};
 ghost use Rattle.std.specs.Io.KnownBytes.{Appends};
 ghost use Rattle.route_meaning.specs.History.{History};
 ghost use Rattle.archive.specs.Carries.{Carries};
 ghost use Rattle.service.specs.FeedLines.{counts_line};
 ghost use Rattle.service.specs.FeedTexts.{cut_line};
-ghost use Rattle.service.specs.Feeds.{IsCut, IsFed};
-ghost use Rattle.service.specs.Feeding.{Reads, IsRead, IsReadOut};
+ghost use Rattle.service.specs.Feeds.{IsCut, IsFed, IsGivenUp};
+ghost use Rattle.service.specs.Feeding.{Reads, IsRead, IsReadOut, StopsWithin};
 ghost use Rattle.service.specs.declared.refusal.Refusal.{Refusal};
 
 use crate::feed_lines::{FeedCounts, write_counts};
@@ -43,6 +43,7 @@ impl Feeding {
         out: &mut W,
     ) -> Result<bool, Refusal>
         ensures read { (c limit : ℕ) (h : History) (bytes : List ℕ) (was : Option (List ℕ)) → Reads c limit h bytes framer.old self.old archive.old was (W.contents out.old) → IfOk result (λ goes_on. IsRead c limit h (bytes ++ piece.now) framer.new goes_on self.new archive.new was (W.contents out.new)) }
+        ensures given_up { (c limit : ℕ) (h : History) (bytes : List ℕ) (was : Option (List ℕ)) → Reads c limit h bytes framer.old self.old archive.old was (W.contents out.old) → IfErr result (StopsWithin c limit h (bytes ++ piece.now) archive.new was (W.contents out.new)) }
     {
         let mut items = Vec::new(alloc);
         let goes_on = match framer.feed(piece, &mut items) {
@@ -64,6 +65,7 @@ impl Feeding {
         out: &mut W,
     ) -> Result<(), Refusal>
         ensures read { (c limit : ℕ) (h : History) (bytes left : List ℕ) (was : Option (List ℕ)) → R.remaining reader.old ≡ Some left → Reads c limit h bytes framer.old self.old archive.old was (W.contents out.old) → OnOk result (IsReadOut c limit h (bytes ++ left) framer.new self.new archive.new was (W.contents out.new)) }
+        ensures given_up { (c limit : ℕ) (h : History) (bytes left : List ℕ) (was : Option (List ℕ)) → R.remaining reader.old ≡ Some left → Reads c limit h bytes framer.old self.old archive.old was (W.contents out.old) → IfErr result (StopsWithin c limit h (bytes ++ left) archive.new was (W.contents out.new)) }
     {
         let mut piece = [0u8; PIECE];
         for _ in 0..u64::MAX {
@@ -121,6 +123,7 @@ fn take_in<R: Read, W: Write>(
     out: &mut W,
 ) -> Result<Option<Refusal>, Refusal>
     ensures fed { (h : History) (bytes : List ℕ) → R.remaining reader.old ≡ Some bytes → Carries archive.old h → IfOk result (λ cut. IsFed collector limit h bytes cut archive.new (W.contents out.old) (W.contents out.new)) }
+    ensures given_up { (h : History) (bytes : List ℕ) → R.remaining reader.old ≡ Some bytes → Carries archive.old h → IfErr result (StopsWithin collector limit h bytes archive.new (W.contents out.old) (W.contents out.new)) }
 {
     let mut feeding = Feeding::new(alloc, collector, limit);
     let mut framer = Framer::new(alloc);
@@ -134,7 +137,8 @@ fn take_in<R: Read, W: Write>(
 /// Takes a feed of a collector in. Its admissions are offered in batches, as soon as one has `limit` admissions, before
 /// it would have more than [`archive::MAX_BATCH_LEN`] octets, and at the end. A refused record writes its line when it
 /// is met, each batch what became of it, and the end the counts of the feed; where the feed ends inside a record or
-/// at a Length above the limit, a line before them. Another refusal writes its line and ends the feed.
+/// at a Length above the limit, a line before them. Another refusal writes its line and ends the feed; where that line
+/// can't be written, the refusal is `Outside`.
 pub fn feed<R: Read, W: Write>(
     alloc: Global,
     archive: &mut Archive,
@@ -145,14 +149,14 @@ pub fn feed<R: Read, W: Write>(
 ) -> End
     ensures well { (h : History) (bytes : List ℕ) → R.remaining reader.old ≡ Some bytes → Carries archive.old h → result ≡ End.Well → IsFed collector limit h bytes None archive.new (W.contents out.old) (W.contents out.new) }
     ensures cut { (h : History) (bytes : List ℕ) → R.remaining reader.old ≡ Some bytes → Carries archive.old h → result ≡ End.Cut → (why : Refusal) × IsFed collector limit h bytes (Some why) archive.new (W.contents out.old) (W.contents out.new) }
+    ensures given_up { (h : History) (bytes : List ℕ) → R.remaining reader.old ≡ Some bytes → Carries archive.old h → (why : Refusal) → result ≡ End.Refused why → IsGivenUp collector limit h bytes why archive.new (W.contents out.old) (W.contents out.new) }
 {
     match take_in(alloc, archive, collector, limit, reader, out) {
         Ok(None) => End::Well,
         Ok(Some(_)) => End::Cut,
-        Err(refusal) => {
-            // The feed is given up, whether its line can be written or not.
-            let _ = write_refusal(out, &refusal);
-            End::Refused(refusal)
-        }
+        Err(refusal) => match write_refusal(out, &refusal) {
+            Ok(()) => End::Refused(refusal),
+            Err(_) => End::Refused(Refusal::Outside),
+        },
     }
 }

@@ -1,8 +1,12 @@
-use Rattle.std.proofs.Common.{◌≡◌, ◌≤◌, ◌+◌, ◌∷◌, [], ◌++◌, ◌∙◌, List, ltb, refl, sym, ap, subst, append_assoc, arith}
+use Rattle.std.proofs.Common.{◌≡◌, ◌≤◌, ◌+◌, ◌∷◌, [], ◌++◌, ◌∙◌, List, ltb, refl, sym, ap, subst, append_assoc, arith, IfErr}
+use Rattle.std.proofs.lemmas.Result.{err_from_is_err_and}
 use Rattle.service.specs.Turns.{Turn, offer_where, wait_unless, is_full, joined}
-use Rattle.service.specs.Feeding.{IsCounted, HasDone}
+use Rattle.service.specs.Feeding.{IsCounted, HasDone, GivesUp}
+use Rattle.service.specs.declared.refusal.Refusal.{Refusal}
+use Rattle.service.specs.declared.refusal.Refusal.TheVariants as refusals
 use Rattle.service.specs.declared.feed_lines.FeedCounts.{FeedCounts}
 use Rattle.service.proofs.Following.{on_ok_more}
+use Rattle.service.proofs.GivingUp.{gives_more, gives_all}
 use Rattle.service.proofs.Gathering.{crowded_is, joined_is, room_made, counted_more}
 use Rattle.service.proofs.feeding.Feeding.gather.Goals as goal
 
@@ -39,3 +43,43 @@ returns-in-Ok-clause-done g c = λ k h turns was place counted same d.
     (subst (λ (t : FeedCounts). HasDone k h (turns ++ first) t c.make_room.new.archive was (g.W.Write.contents c.make_room.new.out)) (sym c.push.ensures.counts) room))
     (λ e. subst (λ (t : List Turn). HasDone k h t c.offer_full.new.self.counts c.offer_full.new.archive was (g.W.Write.contents c.offer_full.new.out))
     (append_assoc turns first _ ∙ (λ i. turns ++ (offer_where (crowded i) c.args.self.now.gathered.items ++ offer_where (is_full (limits i) (now i)) (now i)))) e)
+
+pub returns-in_err-make_room-clause-given_up : goal.returns-in_err-make_room-clause-given_up
+returns-in_err-make_room-clause-given_up g c = λ k h turns was place same counted d.
+    let crowded = crowded_is c.args.self.now.gathered.items c.args.admission c.args.self.now.octets c.encoded_len-octets.result counted.octets c.encoded_len-octets.ensures.len in
+    let p = err_from_is_err_and c.from_residual.result c.from_residual.ensures.1 in
+    let first = offer_where (ltb 262144 (c.args.self.now.octets + (c.encoded_len-octets.result + 4))) c.args.self.now.gathered.items in
+    let j = joined c.args.self.now.gathered.items c.args.admission in
+    let second = offer_where (is_full c.args.self.now.limit j) j in
+    rw p.1 (rw p.2
+    (subst (λ (t : List Turn). GivesUp k h t c.make_room.new.archive was (g.W.Write.contents c.make_room.new.out) c.in_err-make_room.field-0.0)
+    (append_assoc turns first second ∙ (λ i. turns ++ (offer_where (crowded i) c.args.self.now.gathered.items ++ second)))
+    (gives_more k h (turns ++ first) second c.make_room.new.archive was _ _ (c.in_err-make_room.ensures.given_up k h turns was same counted d))))
+
+pub returns-in-Ok-clause-given_up : goal.returns-in-Ok-clause-given_up
+returns-in-Ok-clause-given_up g c = λ k h turns was place same counted d.
+    let limits = c.push.ensures.same.limit ∙ c.make_room.ensures.same.limit in
+    let crowded = crowded_is c.args.self.now.gathered.items c.args.admission c.args.self.now.octets c.encoded_len-octets.result counted.octets c.encoded_len-octets.ensures.len in
+    let now = joined_is c.args.self.now.gathered.items c.make_room.new.self.gathered.items c.push.new.self.gathered.items c.args.admission _
+    crowded c.in_ok-make_room.ensures.gathered c.in-Ok.ensures.gathered in
+    let counts = c.in_ok-make_room.ensures.counted counted in
+    let few : c.encoded_len-octets.result + 4 ≤ 131076 = let f = c.encoded_len-octets.ensures.few in omega (arith, f) in
+    let fits = room_made _ c.args.self.now.gathered.items c.make_room.new.self.gathered.items c.args.self.now.octets c.make_room.new.self.octets (c.encoded_len-octets.result + 4)
+    refl c.in_ok-make_room.ensures.gathered counted.octets counts.octets few in
+    let more = counted_more c.make_room.new.self c.push.new.self c.args.admission c.encoded_len-octets.result counts c.encoded_len-octets.ensures.len fits c.in-Ok.ensures.gathered (c.in-Ok.ensures.octets fits) in
+    let room = c.in_ok-make_room.ensures.done k h turns was same d in
+    let first = offer_where (ltb 262144 (c.args.self.now.octets + (c.encoded_len-octets.result + 4))) c.args.self.now.gathered.items in
+    subst (λ (t : List Turn). IfErr c.offer_full.result (GivesUp k h t c.offer_full.new.archive was (g.W.Write.contents c.offer_full.new.out)))
+    (append_assoc turns first _ ∙ (λ i. turns ++ (offer_where (crowded i) c.args.self.now.gathered.items ++ offer_where (is_full (limits i) (now i)) (now i))))
+    (c.offer_full.ensures.given_up k h (turns ++ first) was (c.push.ensures.same.collector ∙ c.make_room.ensures.same.collector ∙ same) more
+    (subst (λ (t : FeedCounts). HasDone k h (turns ++ first) t c.make_room.new.archive was (g.W.Write.contents c.make_room.new.out)) (sym c.push.ensures.counts) room))
+
+pub returns-in-Err-clause-given_up : goal.returns-in-Err-clause-given_up
+returns-in-Err-clause-given_up g c = λ k h turns was place same counted d.
+    let crowded = crowded_is c.args.self.now.gathered.items c.args.admission c.args.self.now.octets c.encoded_len-octets.result counted.octets c.encoded_len-octets.ensures.len in
+    let first = offer_where (ltb 262144 (c.args.self.now.octets + (c.encoded_len-octets.result + 4))) c.args.self.now.gathered.items in
+    let j = joined c.args.self.now.gathered.items c.args.admission in
+    let second = offer_where (is_full c.args.self.now.limit j) j in
+    subst (λ (t : List Turn). GivesUp k h t c.make_room.new.archive was (g.W.Write.contents c.make_room.new.out) refusals.OutOfMemory)
+    (append_assoc turns first second ∙ (λ i. turns ++ (offer_where (crowded i) c.args.self.now.gathered.items ++ second)))
+    (gives_more k h (turns ++ first) second c.make_room.new.archive was _ _ (gives_all k h (turns ++ first) c.make_room.new.self.counts c.make_room.new.archive was _ refusals.OutOfMemory tt (c.in_ok-make_room.ensures.done k h turns was same d)))

@@ -4,6 +4,7 @@ use Rattle.archive.specs.Steps.{batch_octets}
 use Rattle.resolve.specs.Tables.{LastTable, Feed}
 use Rattle.service.specs.Turns.{turns_for}
 use Rattle.service.proofs.Turning.{done_no_more}
+use Rattle.service.proofs.GivingUp.{stops_at, stops_before}
 use Rattle.service.proofs.Following.{behind_more, behind_where, done_counted, place_of, on_ok, ok_is_none, remembered}
 use Rattle.service.proofs.feeding.Feeding.take.Goals as goal
 
@@ -22,6 +23,12 @@ returns-in-Ok-Some g c = record {
       (c.gather.ensures.done k h (turns_for limit 0 [] b.results) was (length b.results) (record { octets = b.counted.octets; fit = b.counted.fit }) b.collector
       (done_counted k h (turns_for limit 0 [] b.results) c.args.self.now.counts c.count_record.new.self c.args.archive.now was _ counts.admitted counts.late counts.refused b.done))
       (same.records ∙ counts.records) (same.skipped ∙ counts.skipped);
+  given_up = λ k limit h records was b.
+      let counts = c.count_record.ensures in
+      let means = rw c.in-Ok-Some.field-0-is at c.in-Ok-Some.ensures.gives in
+      stops_at c.gather.result k limit h records c.args.item.now (Ok (Some c.in-Ok-Some.admission)) c.args.self.now c.args.archive.now c.gather.new.archive was _ _ b means (ok_is_none _)
+      (c.gather.ensures.given_up k h (turns_for limit 0 [] b.results) was (length b.results) b.collector (record { octets = b.counted.octets; fit = b.counted.fit })
+      (done_counted k h (turns_for limit 0 [] b.results) c.args.self.now.counts c.count_record.new.self c.args.archive.now was _ counts.admitted counts.late counts.refused b.done));
 }
 
 pub returns-in-Ok-None : goal.returns-in-Ok-None
@@ -37,6 +44,7 @@ returns-in-Ok-None g c = record {
       (done_no_more k h (turns_for limit 0 [] b.results) c.count_record.new.self c.args.archive.now was _
       (done_counted k h (turns_for limit 0 [] b.results) c.args.self.now.counts c.count_record.new.self c.args.archive.now was _ counts.admitted counts.late counts.refused b.done))
       counts.records counts.skipped;
+  given_up = λ k limit h records was b. tt;
 }
 
 pub returns-in-Err : goal.returns-in-Err
@@ -53,4 +61,9 @@ returns-in-Err g c = record {
       (c.refuse.ensures.done k h c.args.archive.now (turns_for limit 0 [] b.results) was (length b.results) (place_of k limit h records c.args.self.now c.args.archive.now was _ b)
       (done_counted k h (turns_for limit 0 [] b.results) c.args.self.now.counts c.count_record.new.self c.args.archive.now was _ counts.admitted counts.late counts.refused b.done))
       (same.records ∙ counts.records) (same.skipped ∙ counts.skipped);
+  given_up = λ k limit h records was b.
+      let counts = c.count_record.ensures in
+      stops_before c.refuse.result k limit h records c.args.item.now c.args.self.now c.args.archive.now c.args.archive.now was _ _ b
+      (c.refuse.ensures.given_up k h c.args.archive.now (turns_for limit 0 [] b.results) was
+      (done_counted k h (turns_for limit 0 [] b.results) c.args.self.now.counts c.count_record.new.self c.args.archive.now was _ counts.admitted counts.late counts.refused b.done));
 }

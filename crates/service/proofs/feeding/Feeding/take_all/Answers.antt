@@ -2,6 +2,8 @@ use Rattle.std.proofs.Common.{◌++◌, List, sym, subst, map, arith, take_all}
 use Rattle.std.proofs.lemmas.List.{append-nil}
 use Rattle.mrt_records.specs.Values.{Told, told}
 use Rattle.service.specs.Feeding.{IsBehind}
+use Rattle.std.proofs.lemmas.Result.{err_from_is_err_and}
+use Rattle.service.proofs.GivingUp.{stops_among}
 use Rattle.service.proofs.Following.{told_more}
 use Rattle.service.proofs.feeding.Feeding.take_all.Goals as goal
 
@@ -19,4 +21,12 @@ returns g c = record {
   behind = λ k limit h records was b.
       subst (λ (t : List _). IsBehind k limit h (records ++ map told t) c.loop-item.self c.loop-item.archive was (g.W.Write.contents c.loop-item.out)) (take_all c.loop-item.item-index c.args.items.now (omega arith))
       (c.loop-item.invariant k limit h records was b);
+  given_up = λ k limit h records was b. tt;
 }
+
+pub returns-in_err-take-clause-given_up : goal.returns-in_err-take-clause-given_up
+returns-in_err-take-clause-given_up g c = λ k limit h records was b.
+    let p = err_from_is_err_and c.from_residual.result c.from_residual.ensures.1 in
+    rw p.1 (rw p.2
+    (stops_among k limit h records c.args.items.now c.loop-item.item-index c.item-item.result c.take.new.archive was _ _ (omega arith) c.item-item.is
+    (c.in_err-take.ensures.given_up k limit h _ was (c.loop-item.invariant k limit h records was b))))

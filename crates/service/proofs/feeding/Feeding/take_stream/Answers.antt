@@ -1,6 +1,7 @@
 use Rattle.std.proofs.Common.{ℕ, ◌<◌, refl, subst, take, length, arith}
 use Rattle.std.specs.Io.KnownBytes.{Consumes}
-use Rattle.service.proofs.Streams.{left_first, left_none, left_more, left_stops}
+use Rattle.std.proofs.lemmas.Result.{err_from_is_err_and}
+use Rattle.service.proofs.Streams.{left_first, left_none, left_more, left_stops, left_gives, left_piece_gives}
 use Rattle.service.proofs.feeding.Feeding.take_stream.Goals as goal
 
 pub loop-init : goal.loop-init
@@ -27,6 +28,7 @@ returns-then-count-eq0 g c = record {
       (subst (λ (n : ℕ). Consumes (g.R.Read.remaining c.loop.reader) (g.R.Read.remaining c.read.new.self) (take n c.read.new.buf)) none c.in-Ok.ensures.bytes.0)
       (c.in-Ok.ensures.bytes.1 none room)
       (c.loop.invariant.left k limit h bytes all was e r);
+  given_up = λ k limit h bytes all was e r. tt;
 }
 
 pub returns-then-not-branch : goal.returns-then-not-branch
@@ -34,4 +36,18 @@ returns-then-not-branch g c = record {
   read = λ k limit h bytes all was e r.
       left_stops k limit h bytes all _ _ _ _ _ _ _ _ _ was _ _ _ c.if-not-branch.true c.in-Ok.ensures.bytes.0 (c.loop.invariant.left k limit h bytes all was e r)
       (λ seen s. c.in_ok-take_piece.ensures.read k limit h seen was s);
+  given_up = λ k limit h bytes all was e r. tt;
 }
+
+pub returns-in_default-clause-given_up : goal.returns-in_default-clause-given_up
+returns-in_default-clause-given_up g c = λ k limit h bytes all was e r. left_gives k limit h bytes all _ _ c.loop.self c.loop.archive was _ (c.loop.invariant.left k limit h bytes all was e r)
+
+pub returns-clause-given_up : goal.returns-clause-given_up
+returns-clause-given_up g c = λ k limit h bytes all was e r. left_gives k limit h bytes all _ _ c.loop.self c.loop.archive was _ (c.loop.invariant.left k limit h bytes all was e r)
+
+pub returns-in_err-take_piece-clause-given_up : goal.returns-in_err-take_piece-clause-given_up
+returns-in_err-take_piece-clause-given_up g c = λ k limit h bytes all was e r.
+    let p = err_from_is_err_and c.from_residual.result c.from_residual.ensures.1 in
+    rw p.1 (rw p.2
+    (left_piece_gives k limit h bytes all _ _ _ _ c.loop.self c.loop.archive c.take_piece.new.archive was _ _ _ c.in-Ok.ensures.bytes.0 (c.loop.invariant.left k limit h bytes all was e r)
+    (λ seen s. c.in_err-take_piece.ensures.given_up k limit h seen was s)))

@@ -1,0 +1,285 @@
+-- Feeds that are given up.
+use Rattle.std.proofs.Common.{◌≡◌, ◌↔◌, ℕ, ◌+◌, ◌<◌, ◌≤◌, List, [], ◌∷◌, ◌++◌, length, map, take, drop, get_or, suc, Some, None, Option, Result, Ok, Err, IfErr, inl, inr, refl, sym, ap, ◌∙◌, subst, append_assoc, arith}
+use Rattle.std.specs.List.{AllByRecursion}
+use Rattle.std.specs.Io.KnownBytes.{Appends}
+use Rattle.std.proofs.KnownBytes.{Appends-trans}
+use Rattle.std.proofs.lemmas.List.{append-nil, map-append, take-append-drop}
+use Rattle.route_model.specs.Admission.{Admitted}
+use Rattle.route_model.specs.Sequence.{Each, joined}
+use Rattle.route_model.proofs.Sequences.{joined-append}
+use Rattle.route_model.proofs.Admissions.{take_item}
+use Rattle.route_meaning.specs.History.{Intake, History}
+use Rattle.mrt_records.specs.Values.{Told, told}
+use Rattle.mrt_records.specs.Records.{IsRecord}
+use Rattle.mrt_records.specs.Streams.{IsItem, GainsFrames}
+use Rattle.mrt_records.specs.declared.item.Item.{Item}
+use Rattle.mrt_records.proofs.Streams.{part_begins_none}
+use Rattle.archive.specs.Carries.{Carries}
+use Rattle.archive.specs.Steps.{with_batch, given, batch_octets, IsCollector, IsCounterFull}
+use Rattle.archive.specs.declared.admit.Admitted.{Admitted as Reply}
+use Rattle.archive.specs.declared.admit.AdmitRefusal.{AdmitRefusal}
+use Rattle.archive.specs.declared.admit.AdmitRefusal.TheVariants as admits
+use Rattle.resolve.specs.Records.{Gives}
+use Rattle.resolve.specs.Meanings.{Means}
+use Rattle.resolve.specs.declared.fault.ResolveFault.{ResolveFault}
+use Rattle.resolve.specs.declared.fault.ResolveFault.TheVariants as faults
+use Rattle.resolve.proofs.Feeds.{one_more}
+use Rattle.service.specs.Faults.{of_admit}
+use Rattle.service.specs.Turns.{Turn, Offer, Refuse, offered, turns_at, turns_for, waits_behind, last_turns, feed_turns}
+use Rattle.service.specs.FeedTexts.{intake_in, turns_text}
+use Rattle.service.specs.Refusals.{refusal_line}
+use Rattle.service.specs.Feeds.{IsReason, IsGivenUp}
+use Rattle.service.specs.Feeding.{HasDone, IsCounted, IsBehind, Reads, GivesUp, StopsAmong, StopsWithin}
+use Rattle.service.specs.declared.feed_lines.FeedCounts.{FeedCounts}
+use Rattle.service.specs.declared.feeding.Feeding.{Feeding}
+use Rattle.service.specs.declared.refusal.Refusal.{Refusal}
+use Rattle.service.specs.declared.refusal.Refusal.TheVariants as refusals
+use Rattle.service.proofs.Batches.{given_both}
+use Rattle.service.proofs.Turning.{offered_both, as_many}
+use Rattle.service.proofs.Following.{turns_snoc}
+
+-- a reason stays one where more turns would have followed
+reason_more : (c : ℕ) (h : History) (made unmade later : List Turn) (why : Refusal) → IsReason c h made unmade why → IsReason c h made (unmade ++ later) why
+reason_more c h made unmade later refusals.NoCollector r = r
+reason_more c h made unmade later refusals.CounterFull r = (r.0, r.1 ++ later, ap (λ (t : List Turn). t ++ later) r.2, r.3)
+reason_more c h made unmade later refusals.OutOfMemory r = tt
+reason_more c h made unmade later refusals.Outside r = tt
+reason_more c h made unmade later refusals.Truncated r = absurd r
+reason_more c h made unmade later refusals.TooLong r = absurd r
+reason_more c h made unmade later refusals.Malformed r = absurd r
+reason_more c h made unmade later refusals.RouteTooLarge r = absurd r
+reason_more c h made unmade later refusals.NoPeerTable r = absurd r
+reason_more c h made unmade later refusals.BadPeerIndex r = absurd r
+reason_more c h made unmade later refusals.AdmissionTooLarge r = absurd r
+reason_more c h made unmade later refusals.MarkBack r = absurd r
+reason_more c h made unmade later refusals.BatchTooLarge r = absurd r
+reason_more c h made unmade later refusals.BadRequest r = absurd r
+reason_more c h made unmade later (refusals.AboveWatermark settled) r = absurd r
+
+pub gives_more : (c : ℕ) (h : History) (turns later : List Turn) (archive : History) (was now : Option (List ℕ)) (why : Refusal) → GivesUp c h turns archive was now why → GivesUp c h (turns ++ later) archive was now why
+gives_more c h turns later archive was now why g = record {
+  made = g.made;
+  unmade = g.unmade ++ later;
+  parts = ap (λ (t : List Turn). t ++ later) g.parts ∙ append_assoc g.made g.unmade later;
+  carried = g.carried;
+  reason = reason_more c h g.made g.unmade later why g.reason;
+  wrote = g.wrote;
+}
+
+-- all of these turns were made and written, and memory was wanting for what comes then, or the device failed
+pub gives_all : (c : ℕ) (h : History) (turns : List Turn) (counts : FeedCounts) (archive : History) (was now : Option (List ℕ)) (why : Refusal) → IsReason c h turns [] why → HasDone c h turns counts archive was now → GivesUp c h turns archive was now why
+gives_all c h turns counts archive was now why reason d = record { made = turns; unmade = []; parts = sym (append-nil turns); carried = d.carried; reason = reason; wrote = λ written. d.wrote }
+
+-- all of these turns were made, and not all of them written
+pub gives_unwritten : (c : ℕ) (h : History) (turns : List Turn) (archive : History) (was now : Option (List ℕ)) → Carries archive (given h c (offered turns)) → GivesUp c h turns archive was now refusals.Outside
+gives_unwritten c h turns archive was now carried = record { made = turns; unmade = []; parts = sym (append-nil turns); carried = carried; reason = tt; wrote = λ written. absurd (written refl) }
+
+-- a batch was taken
+pub carries_batch : (b c : ℕ) (h : History) (turns : List Turn) (batch given_ : List Admitted) (archive later : History) → b ≡ c → given_ ≡ batch
+    → ((g : History) → Carries archive g → Carries later (given g b given_)) → Carries archive (given h c (offered turns)) → Carries later (given h c (offered (turns ++ Offer batch ∷ [])))
+carries_batch b c h turns batch given_ archive later one same gives carried =
+    let all : offered (turns ++ Offer batch ∷ []) ≡ offered turns ++ batch = offered_both turns (Offer batch ∷ []) ∙ ap (λ (t : List Admitted). offered turns ++ t) (append-nil batch) in
+    subst (λ (t : History). Carries later t) ((λ k. given (given h c (offered turns)) (one k) (same k)) ∙ given_both h c (offered turns) batch ∙ ap (given h c) (sym all)) (gives (given h c (offered turns)) carried)
+
+-- why a batch wasn't taken
+why_not : (c : ℕ) (h : History) (turns : List Turn) (batch : List Admitted) (r : Result Reply AdmitRefusal) (e : AdmitRefusal) → r ≡ Err e → batch_octets batch ≤ 262144
+    → ((r ≡ Err admits.NoCollector) ↔ (IsCollector (given h c (offered turns)) c → ⊥))
+    → ((r ≡ Err admits.BatchTooLarge) ↔ (IsCollector (given h c (offered turns)) c × (262144 < batch_octets batch)))
+    → ((r ≡ Err admits.CounterFull) ↔ ((batch_octets batch ≤ 262144) × IsCounterFull (given h c (offered turns)) c (length batch)))
+    → IsReason c h turns (Offer batch ∷ []) (of_admit e)
+why_not c h turns batch r admits.NoCollector is fit missing large full = λ here. missing.0 is (let n = as_many c (with_batch (offered turns)) h.intakes in omega (arith, n, here))
+why_not c h turns batch r admits.BatchTooLarge is fit missing large full = let above = (large.0 is).1 in absurd (omega (arith, above, fit))
+why_not c h turns batch r admits.CounterFull is fit missing large full = (batch, [], refl, (full.0 is).1)
+why_not c h turns batch r admits.OutOfMemory is fit missing large full = tt
+
+-- a batch wasn't taken
+pub gives_refused : (b c : ℕ) (h : History) (turns : List Turn) (batch given_ : List Admitted) (counts : FeedCounts) (archive later : History) (was now : Option (List ℕ)) (r : Result Reply AdmitRefusal) (e : AdmitRefusal)
+    → b ≡ c → given_ ≡ batch → r ≡ Err e → batch_octets batch ≤ 262144
+    → ((g : History) → Carries archive g → ((r ≡ Err admits.NoCollector) ↔ (IsCollector g b → ⊥)))
+    → ((g : History) → Carries archive g → ((r ≡ Err admits.BatchTooLarge) ↔ (IsCollector g b × (262144 < batch_octets given_))))
+    → ((g : History) → Carries archive g → ((r ≡ Err admits.CounterFull) ↔ ((batch_octets given_ ≤ 262144) × IsCounterFull g b (length given_))))
+    → ((g : History) → Carries archive g → Carries later g)
+    → HasDone c h turns counts archive was now → GivesUp c h (turns ++ Offer batch ∷ []) later was now (of_admit e)
+gives_refused b c h turns batch given_ counts archive later was now r e one same is fit missing large full stays d =
+    let g = given h c (offered turns) in
+    record {
+      made = turns;
+      unmade = Offer batch ∷ [];
+      parts = refl;
+      carried = stays g d.carried;
+      reason =
+          why_not c h turns batch r e is fit
+          (subst (λ (t : ℕ). (r ≡ Err admits.NoCollector) ↔ (IsCollector g t → ⊥)) one (missing g d.carried))
+          (subst (λ (t : ℕ). (r ≡ Err admits.BatchTooLarge) ↔ (IsCollector g t × (262144 < batch_octets batch))) one
+          (subst (λ (t : List Admitted). (r ≡ Err admits.BatchTooLarge) ↔ (IsCollector g b × (262144 < batch_octets t))) same (large g d.carried)))
+          (subst (λ (t : ℕ). (r ≡ Err admits.CounterFull) ↔ ((batch_octets batch ≤ 262144) × IsCounterFull g t (length batch))) one
+          (subst (λ (t : List Admitted). (r ≡ Err admits.CounterFull) ↔ ((batch_octets t ≤ 262144) × IsCounterFull g b (length t))) same (full g d.carried)));
+      wrote = λ written. d.wrote;
+    }
+
+-- the feed is given up at this record, whose meaning is known
+pub stops_at : (t : Result (Unit {0}) Refusal) (c limit : ℕ) (h : History) (records : List Told) (item : Item) (x : Result (Option Admitted) ResolveFault) (old : Feeding) (archive later : History) (was mid now : Option (List ℕ))
+    (b : IsBehind c limit h records old archive was mid)
+    → Gives old.resolver.collector old.resolver.table (told item) x → (x ≡ Err faults.OutOfMemory → ⊥)
+    → IfErr t (GivesUp c h (turns_for limit 0 [] b.results ++ turns_at old.limit (length b.results) old.gathered.items x) later was now)
+    → IfErr t (StopsAmong c limit h records (item ∷ []) later was now)
+stops_at (Ok done_) c limit h records item x old archive later was mid now b gives enough g = tt
+stops_at (Err why) c limit h records item x old archive later was mid now b gives enough g =
+    let n = length b.results in
+    record {
+      front = item ∷ [];
+      back = [];
+      parts = refl;
+      results = b.results ++ x ∷ [];
+      means =
+          one_more c records b.results (told item) x b.means
+          (record { table = old.resolver.table; last = b.known; gives = subst (λ (k : ℕ). Gives k old.resolver.table (told item) x) b.fed gives; wanting = enough });
+      gives_up =
+          subst (λ (k : List Turn). GivesUp c h k later was now why)
+          ((λ k. turns_for limit 0 [] b.results ++ turns_at (b.limited k) (let e : n ≡ 0 + n = omega arith in e k) (b.waits k) x) ∙ sym (turns_snoc limit 0 [] b.results x)) g;
+    }
+
+-- the feed is given up before this record has a meaning
+pub stops_before : (t : Result (Unit {0}) Refusal) (c limit : ℕ) (h : History) (records : List Told) (item : Item) (old : Feeding) (archive later : History) (was mid now : Option (List ℕ))
+    (b : IsBehind c limit h records old archive was mid)
+    → IfErr t (GivesUp c h (turns_for limit 0 [] b.results) later was now) → IfErr t (StopsAmong c limit h records (item ∷ []) later was now)
+stops_before (Ok done_) c limit h records item old archive later was mid now b g = tt
+stops_before (Err why) c limit h records item old archive later was mid now b g =
+    record { front = []; back = item ∷ []; parts = refl; results = b.results; means = subst (λ (t : List Told). Means c t b.results) (sym (append-nil records)) b.means; gives_up = g }
+
+-- the feed is given up at one of the items, behind those that were taken
+pub stops_among : (c limit : ℕ) (h : History) (records : List Told) (items : List Item) (i : ℕ) (item : Item) (archive : History) (was now : Option (List ℕ)) (why : Refusal)
+    → i < length items → item ≡ get_or items i item → StopsAmong c limit h (records ++ map told (take i items)) (item ∷ []) archive was now why → StopsAmong c limit h records items archive was now why
+stops_among c limit h records items i item archive was now why lt is s =
+    let first = take i items in
+    let rest = drop (i + 1) items in
+    record {
+      front = first ++ s.front;
+      back = s.back ++ rest;
+      parts =
+          sym (take-append-drop (i + 1) items) ∙ ap (λ (t : List Item). t ++ rest) (take_item items i item lt is) ∙ append_assoc first (item ∷ []) rest
+          ∙ ap (λ (t : List Item). first ++ (t ++ rest)) s.parts ∙ ap (λ (t : List Item). first ++ t) (append_assoc s.front s.back rest) ∙ sym (append_assoc first s.front (s.back ++ rest));
+      results = s.results;
+      means =
+          subst (λ (t : List Told). Means c t s.results)
+          (append_assoc records (map told first) (map told s.front) ∙ ap (λ (t : List Told). records ++ t) (sym (map-append told first s.front))) s.means;
+      gives_up = s.gives_up;
+    }
+
+each_front : {A B : Type 0} (R : A → B → Type 0) (xs : List A) (ys zs : List B) → Each R xs (ys ++ zs) → (us vs : List A) × (xs ≡ us ++ vs) × Each R us ys
+each_front R xs [] zs e = ([], xs, refl, tt)
+each_front R [] (y ∷ ys) zs e = absurd e
+each_front R (x ∷ xs) (y ∷ ys) zs e = let r = each_front R xs ys zs e.1 in (x ∷ r.0, r.1, ap (λ (t : List _). x ∷ t) r.2, (e.0, r.3))
+
+all_front : {A : Type 0} (P : A → Type 0) (xs ys : List A) → AllByRecursion P (xs ++ ys) → AllByRecursion P xs
+all_front P [] ys p = tt
+all_front P (x ∷ xs) ys p = (p.0, all_front P xs ys p.1)
+
+-- the octets of the first items are whole records
+framed_front : (bytes rest : List ℕ) (front back : List Item) → GainsFrames bytes rest [] (front ++ back) → (seen later : List ℕ) × (bytes ≡ seen ++ later) × GainsFrames seen [] [] front
+framed_front bytes rest front back g =
+    let f = each_front IsItem g.0 front back (subst (λ (t : List Item). Each IsItem g.0 t) (sym g.2.2) g.2.1) in
+    let us = f.0 in
+    let vs = f.1 in (
+      joined us,
+      joined vs ++ rest,
+      g.1.whole ∙ ap (λ (t : List (List ℕ)). joined t ++ rest) f.2 ∙ ap (λ (t : List ℕ). t ++ rest) (joined-append us vs) ∙ append_assoc (joined us) (joined vs) rest,
+      (us, record { whole = sym (append-nil (joined us)); each = all_front IsRecord us vs (subst (λ (t : List (List ℕ)). AllByRecursion IsRecord t) f.2 g.1.each); ended = part_begins_none [] (inl (omega arith)) }, (front, f.3, refl)),
+    )
+
+-- the feed is given up among the items of the whole records of the octets
+pub stops_within : (c limit : ℕ) (h : History) (bytes rest : List ℕ) (before items : List Item) (archive : History) (was now : Option (List ℕ)) (why : Refusal)
+    → GainsFrames bytes rest [] (before ++ items) → StopsAmong c limit h (map told before) items archive was now why → StopsWithin c limit h bytes archive was now why
+stops_within c limit h bytes rest before items archive was now why framed s =
+    let f = framed_front bytes rest (before ++ s.front) s.back (subst (λ (t : List Item). GainsFrames bytes rest [] t) (ap (λ (t : List Item). before ++ t) s.parts ∙ sym (append_assoc before s.front s.back)) framed) in
+    record {
+      seen = f.0;
+      later = f.1;
+      parts = f.2;
+      items = before ++ s.front;
+      framed = f.3;
+      results = s.results;
+      means = subst (λ (t : List Told). Means c t s.results) (sym (map-append told before s.front)) s.means;
+      gives_up = gives_more c h (turns_for limit 0 [] s.results) (last_turns (waits_behind limit [] s.results)) archive was now why s.gives_up;
+    }
+
+-- what comes behind is left too
+pub within_more : (c limit : ℕ) (h : History) (bytes more : List ℕ) (archive : History) (was now : Option (List ℕ)) (why : Refusal) → StopsWithin c limit h bytes archive was now why → StopsWithin c limit h (bytes ++ more) archive was now why
+within_more c limit h bytes more archive was now why s =
+    record { seen = s.seen; later = s.later ++ more; parts = ap (λ (t : List ℕ). t ++ more) s.parts ∙ append_assoc s.seen s.later more; items = s.items; framed = s.framed; results = s.results; means = s.means; gives_up = s.gives_up }
+
+-- the feed is given up behind all that was read, and nothing of it is untold
+pub stops_behind : (c limit : ℕ) (h : History) (bytes rest : List ℕ) (feeding : Feeding) (archive : History) (was now : Option (List ℕ)) (why : Refusal)
+    → ((made : List Turn) → IsReason c h made [] why) → Reads c limit h bytes rest feeding archive was now → StopsWithin c limit h bytes archive was now why
+stops_behind c limit h bytes rest feeding archive was now why reason r =
+    let f = framed_front bytes rest r.items [] (subst (λ (t : List Item). GainsFrames bytes rest [] t) (sym (append-nil r.items)) r.framed) in
+    let b = r.behind in
+    let turns = turns_for limit 0 [] b.results in
+    record {
+      seen = f.0;
+      later = f.1;
+      parts = f.2;
+      items = r.items;
+      framed = f.3;
+      results = b.results;
+      means = b.means;
+      gives_up = gives_more c h turns (last_turns (waits_behind limit [] b.results)) archive was now why (gives_all c h turns feeding.counts archive was now why (reason turns) b.done);
+    }
+
+-- the feed is given up while its last batch is offered, or its end told
+pub stops_last : (c limit : ℕ) (h : History) (bytes rest : List ℕ) (feeding : Feeding) (archive later : History) (was mid now : Option (List ℕ)) (why : Refusal)
+    (r : Reads c limit h bytes rest feeding archive was mid)
+    → GivesUp c h (turns_for limit 0 [] r.behind.results ++ last_turns feeding.gathered.items) later was now why → StopsWithin c limit h bytes later was now why
+stops_last c limit h bytes rest feeding archive later was mid now why r g =
+    let f = framed_front bytes rest r.items [] (subst (λ (t : List Item). GainsFrames bytes rest [] t) (sym (append-nil r.items)) r.framed) in
+    let b = r.behind in
+    record {
+      seen = f.0;
+      later = f.1;
+      parts = f.2;
+      items = r.items;
+      framed = f.3;
+      results = b.results;
+      means = b.means;
+      gives_up = subst (λ (t : List Turn). GivesUp c h t later was now why) (ap (λ (t : List Admitted). turns_for limit 0 [] b.results ++ last_turns t) b.waits) g;
+    }
+
+-- the feed is given up, and the refusal was written
+pub given_up_told : (c limit : ℕ) (h : History) (bytes : List ℕ) (archive : History) (was mid now : Option (List ℕ)) (why : Refusal)
+    → StopsWithin c limit h bytes archive was mid why → Appends mid now (refusal_line why) → IsGivenUp c limit h bytes why archive was now
+given_up_told c limit h bytes archive was mid now why s line =
+    let g = s.gives_up in
+    record {
+      seen = s.seen;
+      later = s.later;
+      parts = s.parts;
+      records = map told s.items;
+      results = s.results;
+      feed = record { items = s.items; framed = s.framed; told_are = refl; means = s.means };
+      made = g.made;
+      unmade = g.unmade;
+      turns = g.parts;
+      carried = g.carried;
+      reason = g.reason;
+      wrote = λ written. Appends-trans was mid now _ (refusal_line why) (g.wrote written) line;
+    }
+
+-- the feed is given up, and the refusal couldn't be written
+pub given_up_untold : (c limit : ℕ) (h : History) (bytes : List ℕ) (archive : History) (was mid now : Option (List ℕ)) (why : Refusal)
+    → StopsWithin c limit h bytes archive was mid why → IsGivenUp c limit h bytes refusals.Outside archive was now
+given_up_untold c limit h bytes archive was mid now why s =
+    let g = s.gives_up in
+    record {
+      seen = s.seen;
+      later = s.later;
+      parts = s.parts;
+      records = map told s.items;
+      results = s.results;
+      feed = record { items = s.items; framed = s.framed; told_are = refl; means = s.means };
+      made = g.made;
+      unmade = g.unmade;
+      turns = g.parts;
+      carried = g.carried;
+      reason = tt;
+      wrote = λ written. absurd (written refl);
+    }
