@@ -1,5 +1,5 @@
 -- A feed that is taken in record by record.
-use Rattle.std.proofs.Common.{◌≡◌, ℕ, ◌+◌, ◌<◌, length, length-append, take, get_or, map, zero, suc, List, [], ◌∷◌, ◌++◌, Option, None, Some, Result, Ok, Err, OnOk, inl, refl, sym, ap, ◌∙◌, subst, append_assoc, arith}
+use Rattle.std.proofs.Common.{◌≡◌, ℕ, ◌+◌, ◌<◌, length, length-append, take, get_or, map, suc, List, [], ◌∷◌, ◌++◌, Option, None, Result, Ok, Err, OnOk, inl, refl, sym, ap, ◌∙◌, subst, append_assoc, arith}
 use Rattle.std.proofs.lemmas.List.{append-nil, map-append}
 use Rattle.std.proofs.KnownBytes.{Appends-nil}
 use Rattle.route_model.proofs.Admissions.{take_item}
@@ -9,12 +9,11 @@ use Rattle.mrt_records.specs.Values.{Told, told, Read, Skipped, Malformed}
 use Rattle.mrt_records.specs.declared.item.Item.{Item}
 use Rattle.resolve.specs.Tables.{LastTable}
 use Rattle.resolve.specs.Records.{Gives}
-use Rattle.resolve.specs.Meanings.{Means, IsMeaning}
 use Rattle.resolve.specs.declared.fault.ResolveFault.{ResolveFault}
 use Rattle.resolve.specs.declared.fault.ResolveFault.TheVariants as faults
 use Rattle.resolve.proofs.Feeds.{one_more}
 use Rattle.archive.specs.Carries.{Carries}
-use Rattle.archive.specs.Steps.{given, batch_octets}
+use Rattle.archive.specs.Steps.{batch_octets}
 use Rattle.service.specs.Turns.{Turn, turns_at, waits_after, turns_for, waits_behind}
 use Rattle.service.specs.FeedTexts.{capped, skips}
 use Rattle.service.specs.Feeding.{HasDone, IsCounted, IsBehind}

@@ -1,5 +1,5 @@
 -- Feeds that are given up.
-use Rattle.std.proofs.Common.{◌≡◌, ◌↔◌, ℕ, ◌+◌, ◌<◌, ◌≤◌, List, [], ◌∷◌, ◌++◌, length, map, take, drop, get_or, suc, Some, None, Option, Result, Ok, Err, IfErr, inl, inr, refl, sym, ap, ◌∙◌, subst, append_assoc, arith}
+use Rattle.std.proofs.Common.{◌≡◌, ◌↔◌, ℕ, ◌+◌, ◌<◌, ◌≤◌, List, [], ◌∷◌, ◌++◌, length, map, take, drop, get_or, Option, Result, Ok, Err, IfErr, inl, refl, sym, ap, ◌∙◌, subst, append_assoc, arith}
 use Rattle.std.specs.List.{AllByRecursion}
 use Rattle.std.specs.Io.KnownBytes.{Appends}
 use Rattle.std.proofs.KnownBytes.{Appends-trans}
@@ -8,7 +8,7 @@ use Rattle.route_model.specs.Admission.{Admitted}
 use Rattle.route_model.specs.Sequence.{Each, joined}
 use Rattle.route_model.proofs.Sequences.{joined-append}
 use Rattle.route_model.proofs.Admissions.{take_item}
-use Rattle.route_meaning.specs.History.{Intake, History}
+use Rattle.route_meaning.specs.History.{History}
 use Rattle.mrt_records.specs.Values.{Told, told}
 use Rattle.mrt_records.specs.Records.{IsRecord}
 use Rattle.mrt_records.specs.Streams.{IsItem, GainsFrames}
@@ -25,11 +25,10 @@ use Rattle.resolve.specs.declared.fault.ResolveFault.{ResolveFault}
 use Rattle.resolve.specs.declared.fault.ResolveFault.TheVariants as faults
 use Rattle.resolve.proofs.Feeds.{one_more}
 use Rattle.service.specs.Faults.{of_admit}
-use Rattle.service.specs.Turns.{Turn, Offer, Refuse, offered, turns_at, turns_for, waits_behind, last_turns, feed_turns}
-use Rattle.service.specs.FeedTexts.{intake_in, turns_text}
+use Rattle.service.specs.Turns.{Turn, Offer, offered, turns_at, turns_for, waits_behind, last_turns}
 use Rattle.service.specs.Refusals.{refusal_line}
 use Rattle.service.specs.Feeds.{IsReason, IsGivenUp}
-use Rattle.service.specs.Feeding.{HasDone, IsCounted, IsBehind, Reads, GivesUp, StopsAmong, StopsWithin}
+use Rattle.service.specs.Feeding.{HasDone, IsBehind, Reads, GivesUp, StopsAmong, StopsWithin}
 use Rattle.service.specs.declared.feed_lines.FeedCounts.{FeedCounts}
 use Rattle.service.specs.declared.feeding.Feeding.{Feeding}
 use Rattle.service.specs.declared.refusal.Refusal.{Refusal}

@@ -7,3 +7,4 @@ pub mod Following
 pub mod GivingUp
 pub mod Streams
 pub mod Applying
+pub mod Unloading

@@ -14,13 +14,12 @@ use Rattle.mrt_records.proofs.Streams.{frames_none, part_begins_none, over_begin
 use Rattle.archive.specs.Carries.{Carries}
 use Rattle.archive.specs.Steps.{given}
 use Rattle.service.specs.Feeds.{IsCut, IsFed}
-use Rattle.service.specs.Turns.{Turn, turns_for, last_turns, feed_turns, offered, admissions_of}
-use Rattle.service.specs.FeedTexts.{intake_in, turns_text, cut_line, counts_of, capped}
+use Rattle.service.specs.Turns.{Turn, turns_for, last_turns, feed_turns}
+use Rattle.service.specs.FeedTexts.{intake_in, cut_line, counts_of}
 use Rattle.service.specs.FeedLines.{counts_line}
 use Rattle.service.specs.Feeding.{IsBehind, HasDone, Reads, IsHeld, IsRead, IsReadOut, IsSameFeed, StopsWithin}
 use Rattle.service.specs.declared.refusal.Refusal.TheVariants as refusals
 use Rattle.service.proofs.GivingUp.{within_more, stops_behind}
-use Rattle.service.specs.declared.feed_lines.FeedCounts.{FeedCounts}
 use Rattle.service.specs.declared.feeding.Feeding.{Feeding}
 use Rattle.service.specs.declared.refusal.Refusal.{Refusal}
 use Rattle.service.proofs.Turning.{offered_feed}

@@ -1,14 +1,14 @@
 -- Turns that are made one after another.
-use Rattle.std.proofs.Common.{◌≡◌, ℕ, ◌+◌, ◌-◌, ◌<◌, ◌≤◌, List, [], ◌∷◌, ◌++◌, length, zero, suc, map, min, get_or, Some, None, Option, Result, Ok, Err, Bool, true, false, ◌↔◌, inl, inr, refl, sym, ap, ◌∙◌, subst, append_assoc, length-append, arith}
+use Rattle.std.proofs.Common.{◌≡◌, ℕ, ◌+◌, ◌-◌, ◌<◌, List, [], ◌∷◌, ◌++◌, length, zero, suc, get_or, Some, None, Option, Result, Ok, Err, Bool, true, false, ◌↔◌, inl, inr, refl, sym, ap, ◌∙◌, subst, append_assoc, length-append, arith}
 use Rattle.std.specs.List.{flat_map, slice_get}
 use Rattle.std.specs.Io.KnownBytes.{Appends}
-use Rattle.std.proofs.KnownBytes.{Appends-nil, Appends-trans}
+use Rattle.std.proofs.KnownBytes.{Appends-trans}
 use Rattle.std.proofs.lemmas.Bool.{cases_lt}
-use Rattle.std.proofs.lemmas.List.{append-nil, map-append}
+use Rattle.std.proofs.lemmas.List.{append-nil}
 use Rattle.route_model.specs.Admission.{Admitted, admission_octets}
 use Rattle.route_meaning.specs.Holds.{admitted_time}
 use Rattle.route_meaning.specs.History.{Intake, History}
-use Rattle.sequencer.specs.Late.{greatest, timely, lates}
+use Rattle.sequencer.specs.Late.{lates}
 use Rattle.archive.specs.Carries.{Carries}
 use Rattle.archive.specs.Replies.{IsReply}
 use Rattle.archive.specs.Steps.{changed, with_batch, given, batch_octets, IsCollector}
@@ -23,7 +23,7 @@ use Rattle.service.specs.Turns.{Turn, Offer, Refuse, offered, refusals, admissio
 use Rattle.service.specs.FeedTexts.{capped, intake_in, admitted_of, batch_text, turns_text}
 use Rattle.service.specs.Feeding.{HasDone}
 use Rattle.service.specs.declared.feed_lines.FeedCounts.{FeedCounts}
-use Rattle.service.proofs.Batches.{timely_both, none_lost, lates_both, with_both, with_none, given_both}
+use Rattle.service.proofs.Batches.{timely_both, lates_both, with_both, with_none, given_both}
 
 pub offered_both : (xs ys : List Turn) → offered (xs ++ ys) ≡ offered xs ++ offered ys
 offered_both [] ys = refl

@@ -1,9 +1,9 @@
 -- What a feed writes.
-use Rattle.std.specs.Prelude.{ℕ, ◌+◌, suc, min, get_or, length, List, [], ◌∷◌, ◌++◌, Option, Some, None, Result, codes, decimal}
+use Rattle.std.specs.Prelude.{ℕ, ◌+◌, suc, min, get_or, length, List, [], ◌∷◌, ◌++◌, Option, Some, None, Result}
 use Rattle.std.specs.List.{flat_map}
 use Rattle.route_model.specs.Admission.{Admitted}
 use Rattle.route_meaning.specs.Holds.{admitted_time}
-use Rattle.route_meaning.specs.History.{History, Intake}
+use Rattle.route_meaning.specs.History.{Intake}
 use Rattle.sequencer.specs.Late.{timely, lates}
 use Rattle.mrt_records.specs.Values.{Told, Read, Skipped, Malformed}
 use Rattle.archive.specs.Steps.{with_batch}
@@ -11,7 +11,7 @@ use Rattle.resolve.specs.declared.fault.ResolveFault.{ResolveFault}
 use Rattle.service.specs.Faults.{of_record}
 use Rattle.service.specs.FeedLines.{batch_line, late_line, counts_line}
 use Rattle.service.specs.Refusals.{refused_record_line}
-use Rattle.service.specs.Turns.{Turn, Offer, Refuse, offered, admissions_of, refusals, feed_turns}
+use Rattle.service.specs.Turns.{Turn, Offer, Refuse, offered, refusals, feed_turns}
 use Rattle.service.specs.declared.feed_lines.FeedCounts.{FeedCounts}
 use Rattle.service.specs.declared.refusal.Refusal.{Refusal}
 

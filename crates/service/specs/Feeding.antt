@@ -1,5 +1,5 @@
 -- A feed under way. Contracts of private functions alone cite this file.
-use Rattle.std.specs.Prelude.{◌≡◌, ◌≤◌, ℕ, map, length, Bool, true, false, List, [], ◌++◌, Option, Some, None, Result}
+use Rattle.std.specs.Prelude.{◌≡◌, ◌≤◌, ℕ, map, length, Bool, true, false, List, [], ◌++◌, Option, Result}
 use Rattle.std.specs.Io.KnownBytes.{Appends}
 use Rattle.route_model.specs.Admission.{Admitted}
 use Rattle.route_meaning.specs.Holds.{admitted_time}

@@ -83,6 +83,7 @@ pub fn ask<W: Write, E: Write>(
 ) -> Status
     ensures done { (h : History) → Carries archive.now h → result ≡ Status.Done → ToldReply h line.now (W.contents out.old) (W.contents out.new) }
     ensures refused { (h : History) → Carries archive.now h → result ≡ Status.Refused → ToldRefusal h line.now (W.contents out.old) (W.contents out.new) }
+    ensures quiet { (result ≡ Status.Failed → ⊥) → E.contents err.new ≡ E.contents err.old }
 {
     match reply(alloc, archive, line) {
         Ok(text) => {

@@ -1,12 +1,13 @@
 //! Files that are loaded: fed, marked and applied.
 
-ghost use Rattle.std.specs.Prelude.{◌≡◌, ℕ, List, Some, None, OnOk};
+ghost use Rattle.std.specs.Prelude.{◌≡◌, ℕ, List, Some, None, OnOk, OnErr, IfErr};
 ghost use Rattle.std.specs.Io.KnownBytes.{Appends};
 ghost use Rattle.route_meaning.specs.History.{History, settled};
 ghost use Rattle.archive.specs.Carries.{Carries};
 ghost use Rattle.service.specs.FeedLines.{settled_line};
 ghost use Rattle.service.specs.Refusals.{error_line};
-ghost use Rattle.service.specs.Loads.{IsLoaded, IsSettled, marked_if};
+ghost use Rattle.service.specs.declared.refusal.Refusal.{Refusal};
+ghost use Rattle.service.specs.Loads.{IsLoaded, IsRefusedLoad, IsSettled, IsUnsettled, HasIntakes, marked_if};
 
 use crate::feed_lines::write_settled;
 use crate::intake::{End, feed};
@@ -31,6 +32,7 @@ pub struct LoadSettings {
 /// Sets the mark of a collector, if there is one to set.
 fn set_mark(archive: &mut Archive, collector: u8, mark: Option<Mark>) -> Result<(), Refusal>
     ensures marked { (h : History) → Carries archive.old h → OnOk result (Carries archive.new (marked_if collector mark h)) }
+    ensures unmarked { (h : History) → Carries archive.old h → IfErr result (IsUnsettled collector mark h archive.new) }
 {
     let Some(mark) = mark else {
         return Ok(());
@@ -45,6 +47,8 @@ fn set_mark(archive: &mut Archive, collector: u8, mark: Option<Mark>) -> Result<
 /// Applies what may be applied.
 fn apply_all(archive: &mut Archive) -> Result<(), Refusal>
     ensures settled { (h : History) → Carries archive.old h → OnOk result (IsSettled h.intakes archive.new) }
+    ensures kept { (h : History) → Carries archive.old h → OnErr result (HasIntakes h.intakes archive.new) }
+    ensures wanting { IfErr result (λ why. why ≡ Refusal.OutOfMemory) }
 {
     for _ in 0..u64::MAX {
         match archive.apply_step() {
@@ -71,6 +75,7 @@ fn flush_all(archive: &mut Archive)
 /// Sets the mark, applies what may be applied, and flushes.
 fn settle(archive: &mut Archive, collector: u8, mark: Option<Mark>) -> Result<(), Refusal>
     ensures settled { (h : History) → Carries archive.old h → OnOk result (IsSettled (marked_if collector mark h).intakes archive.new) }
+    ensures unsettled { (h : History) → Carries archive.old h → IfErr result (IsUnsettled collector mark h archive.new) }
 {
     set_mark(archive, collector, mark)?;
     apply_all(archive)?;
@@ -81,6 +86,8 @@ fn settle(archive: &mut Archive, collector: u8, mark: Option<Mark>) -> Result<()
 /// The mark to set once a feed has ended so.
 fn mark_after(end: &End, mark: Option<Mark>) -> Option<Mark>
     ensures well { end.now ≡ End.Well → result ≡ mark }
+    ensures cut { end.now ≡ End.Cut → result ≡ None }
+    ensures given_up { (why : Refusal) → end.now ≡ End.Refused why → result ≡ None }
 {
     match end {
         End::Well => mark,
@@ -91,6 +98,8 @@ fn mark_after(end: &End, mark: Option<Mark>) -> Option<Mark>
 /// The status of a load whose feed has ended so.
 fn status_after(end: &End) -> Status
     ensures done { result ≡ Status.Done → end.now ≡ End.Well }
+    ensures well { end.now ≡ End.Well → result ≡ Status.Done }
+    ensures told { result ≡ Status.Failed → ⊥ }
 {
     match end {
         End::Well => Status::Done,
@@ -118,6 +127,7 @@ fn tell_settled<W: Write, E: Write>(
 ) -> Status
     ensures same { (result ≡ Status.Failed → ⊥) → result ≡ status }
     ensures told { (h : History) → Carries archive.now h → (result ≡ Status.Failed → ⊥) → Appends (W.contents out.old) (W.contents out.new) (settled_line (settled h)) }
+    ensures quiet { (result ≡ Status.Failed → ⊥) → E.contents err.new ≡ E.contents err.old }
 {
     if write_settled(out, archive.settled()).is_err() {
         // There is no one left to tell where this fails too.
@@ -138,6 +148,8 @@ pub fn load<R: Read, W: Write, E: Write>(
     err: &mut E,
 ) -> Status
     ensures loaded { (h : History) (bytes : List ℕ) → R.remaining reader.old ≡ Some bytes → Carries archive.old h → result ≡ Status.Done → IsLoaded how.collector how.limit how.mark h bytes None archive.new (W.contents out.old) (W.contents out.new) }
+    ensures quiet { result ≡ Status.Done → E.contents err.new ≡ E.contents err.old }
+    ensures refused { (h : History) (bytes : List ℕ) → R.remaining reader.old ≡ Some bytes → Carries archive.old h → result ≡ Status.Refused → IsRefusedLoad how.collector how.limit how.mark h bytes archive.new (W.contents out.old) (W.contents out.new) (E.contents err.old) (E.contents err.new) }
 {
     if how.collector >= archive.collectors() {
         return refused(err, &Refusal::NoCollector);

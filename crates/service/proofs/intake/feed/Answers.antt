@@ -1,9 +1,7 @@
-use Rattle.std.proofs.Common.{◌≡◌, ℕ, List, Option, subst}
+use Rattle.std.proofs.Common.{◌≡◌, subst}
 use Rattle.service.specs.Feeds.{IsGivenUp}
 use Rattle.service.specs.declared.refusal.Refusal.{Refusal}
 use Rattle.service.specs.declared.refusal.Refusal.TheVariants as refusals
-use Rattle.service.specs.declared.intake.End.{End}
-use Rattle.service.specs.declared.intake.End.TheVariants as ends
 use Rattle.service.proofs.GivingUp.{given_up_told, given_up_untold}
 use Rattle.service.proofs.intake.feed.Goals as goal
 

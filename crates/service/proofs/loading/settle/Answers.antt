@@ -4,4 +4,5 @@ use Rattle.service.proofs.loading.settle.Goals as goal
 pub returns : goal.returns
 returns c = record {
   settled = λ h carried. flushed _ _ _ c.flush_all.ensures.same (c.in_ok-apply_all.ensures.settled _ (c.in_ok-set_mark.ensures.marked h carried));
+  unsettled = λ h carried. tt;
 }

@@ -1,4 +1,4 @@
-use Rattle.std.proofs.Common.{◌≤◌, ℕ, sym, subst}
+use Rattle.std.proofs.Common.{◌≤◌, ℕ, subst}
 use Rattle.std.proofs.lemmas.Result.{err_from_is_err_and}
 use Rattle.service.proofs.Turning.{done_offer, collector_there}
 use Rattle.service.proofs.GivingUp.{gives_refused, gives_unwritten, carries_batch}
