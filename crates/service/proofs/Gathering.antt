@@ -14,7 +14,7 @@ crowded_is waiting a octets n counted len = ap (ltb 262144) (let more = octets_m
 pub joined_is : (waiting left now : List Admitted) (a : Admitted) (b : Bool) → b ≡ is_crowded waiting a → left ≡ wait_unless b waiting → now ≡ left ++ a ∷ [] → now ≡ joined waiting a
 joined_is waiting left now a b crowded stays more = more ∙ ap (λ (t : List Admitted). t ++ a ∷ []) (stays ∙ ap (λ (t : Bool). wait_unless t waiting) crowded)
 
-not_above : (n : ℕ) → ltb 262144 n ≡ false → n ≤ 262144
+pub not_above : (n : ℕ) → ltb 262144 n ≡ false → n ≤ 262144
 not_above n e = elim (cases_lt 262144 n) [ inl lt ↦ let t = lt-ltb 262144 n lt in absurd cc | inr ge ↦ ge ]
 
 -- there is room for one more

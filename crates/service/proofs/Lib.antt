@@ -8,3 +8,4 @@ pub mod GivingUp
 pub mod Streams
 pub mod Applying
 pub mod Unloading
+pub mod Batching

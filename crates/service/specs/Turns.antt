@@ -1,5 +1,5 @@
 -- What is done for the records of a feed, one after another: admissions are offered in batches, and refused records told.
-use Rattle.std.specs.Prelude.{ℕ, ltb, leb, suc, length, Bool, true, false, List, [], ◌∷◌, ◌++◌, Option, Some, None, Result, Ok, Err}
+use Rattle.std.specs.Prelude.{ℕ, ◌≤◌, ltb, leb, suc, length, Bool, true, false, List, [], ◌∷◌, ◌++◌, Option, Some, None, Result, Ok, Err}
 use Rattle.route_model.specs.Admission.{Admitted}
 use Rattle.archive.specs.Steps.{batch_octets}
 use Rattle.resolve.specs.declared.fault.ResolveFault.{ResolveFault}
@@ -80,3 +80,8 @@ last_turns (a ∷ waiting) = Offer (a ∷ waiting) ∷ []
 -- what is done for a whole feed whose records mean this, in batches of at most so many admissions
 abbrev pub feed_turns : ℕ → List (Result (Option Admitted) ResolveFault) → List Turn
 feed_turns limit results = turns_for limit 0 [] results ++ last_turns (waits_behind limit [] results)
+
+-- an offered batch has at most so many admissions, and no more octets than a batch may have
+abbrev pub IsWithin : ℕ → Turn → Type 0
+IsWithin limit (Offer batch) = (length batch ≤ limit) × (batch_octets batch ≤ 262144)
+IsWithin limit (Refuse place fault) = Unit {0}
