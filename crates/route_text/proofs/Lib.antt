@@ -12,3 +12,5 @@ pub mod Prefixes
 pub mod RouteFields
 pub mod Separated
 pub mod StepWords
+mod Timestamps
+pub mod OneValue

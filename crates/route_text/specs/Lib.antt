@@ -7,3 +7,4 @@ pub mod MomentText
 pub mod Reads
 pub mod RouteText
 pub mod Steps
+pub mod TextLaws

@@ -7,6 +7,7 @@ mod cut;
 mod fault;
 mod field_reading;
 mod hexadecimal;
+mod laws;
 mod moment;
 mod number;
 mod path_builder;
@@ -18,6 +19,7 @@ mod step;
 
 pub use address::{addresses_have_texts, read_address, read_ipv4, read_ipv6, write_address};
 pub use fault::{BadText, TextError};
+pub use laws::texts_have_one_value;
 pub use moment::{read_mark, read_moment, write_mark, write_moment};
 pub use number::{read_number, write_number};
 pub use prefix::{read_prefix, write_prefix};

@@ -1,0 +1,12 @@
+use Rattle.std.proofs.Common.{arith}
+use Rattle.route_text.proofs.OneValue.{one_prefix, one_instant}
+use Rattle.route_text.proofs.laws.texts_have_one_value.Goals as goal
+
+pub returns-clause-prefix : goal.returns-clause-prefix
+returns-clause-prefix c = one_prefix
+
+pub returns-clause-moment : goal.returns-clause-moment
+returns-clause-moment c = one_instant 4294967295 (omega arith)
+
+pub returns-clause-mark : goal.returns-clause-mark
+returns-clause-mark c = one_instant 4294967296 (omega arith)
