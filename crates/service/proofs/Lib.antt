@@ -9,3 +9,4 @@ pub mod Streams
 pub mod Applying
 pub mod Unloading
 pub mod Batching
+pub mod CommandLines

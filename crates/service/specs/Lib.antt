@@ -10,3 +10,4 @@ pub mod FeedTexts
 pub mod Feeds
 pub mod Feeding
 pub mod Loads
+pub mod CommandLines

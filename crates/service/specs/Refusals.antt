@@ -4,6 +4,7 @@ use Rattle.service.specs.declared.refusal.Refusal.{Refusal}
 use Rattle.service.specs.declared.refusal.Refusal.TheVariants as refusals
 
 abbrev pub number_of : Refusal → ℕ
+number_of refusals.BadText = 12
 number_of refusals.Truncated = 13
 number_of refusals.TooLong = 14
 number_of refusals.Malformed = 15
@@ -21,6 +22,7 @@ number_of refusals.BadRequest = 28
 number_of refusals.Outside = 29
 
 abbrev pub name_of : Refusal → List ℕ
+name_of refusals.BadText = codes "BadText"
 name_of refusals.Truncated = codes "Truncated"
 name_of refusals.TooLong = codes "TooLong"
 name_of refusals.Malformed = codes "Malformed"
@@ -43,6 +45,7 @@ line_end = 10 ∷ []
 
 -- what the line of a refusal tells behind its name: the watermark of AboveWatermark
 abbrev pub told_of : Refusal → List ℕ
+told_of refusals.BadText = []
 told_of refusals.Truncated = []
 told_of refusals.TooLong = []
 told_of refusals.Malformed = []

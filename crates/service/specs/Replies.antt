@@ -37,6 +37,7 @@ abbrev pub IsRefused : History → List ℕ → Refusal → Type 0
 IsRefused h line refusals.BadRequest = (query : Query) → IsQueryLine line query → ⊥
 IsRefused h line (refusals.AboveWatermark watermark) = IsAbove h line watermark
 IsRefused h line refusals.OutOfMemory = Unit {0}
+IsRefused h line refusals.BadText = ⊥
 IsRefused h line refusals.Truncated = ⊥
 IsRefused h line refusals.TooLong = ⊥
 IsRefused h line refusals.Malformed = ⊥

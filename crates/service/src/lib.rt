@@ -3,6 +3,7 @@
 
 mod answer_lines;
 mod asking;
+mod command_line;
 mod faults;
 mod feed_lines;
 mod feeding;
@@ -15,6 +16,7 @@ mod status;
 
 pub use answer_lines::write_answer;
 pub use asking::{ask, reply};
+pub use command_line::{Attempt, CommandError, Invocation, command};
 pub use feed_lines::{FeedCounts, write_admitted, write_counts, write_settled};
 pub use intake::{End, feed};
 pub use laws::batches_share_a_feed;
@@ -23,5 +25,7 @@ pub use refusal::{Refusal, write_error, write_refusal, write_refused_record};
 pub use request::{RequestError, read_query};
 pub use status::Status;
 
+#[cfg(test)]
+mod command_tests;
 #[cfg(test)]
 mod tests;

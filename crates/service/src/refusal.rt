@@ -13,6 +13,9 @@ use thiserror::Error;
 /// Why something isn't done. Each refusal has a number and a name, by which lines tell it.
 #[derive(Clone, Copy, Debug, Error, PartialEq, Eq)]
 pub enum Refusal {
+    /// An argument of the command line isn't a text of the kind that was asked for.
+    #[error("an argument isn't a text of the kind that was asked for")]
+    BadText,
     /// The feed ended inside a record.
     #[error("the feed ended inside a record")]
     Truncated,
@@ -69,11 +72,12 @@ impl From<io::Error> for Refusal {
 }
 
 impl Refusal {
-    /// Its number, 13 to 29.
+    /// Its number, 12 to 29.
     pub fn number(&self) -> u8
         ensures number { result ≡ number_of self.now }
     {
         match self {
+            Refusal::BadText => 12,
             Refusal::Truncated => 13,
             Refusal::TooLong => 14,
             Refusal::Malformed => 15,
@@ -97,6 +101,7 @@ impl Refusal {
         ensures name { result.now ≡ name_of self.now }
     {
         match self {
+            Refusal::BadText => "BadText",
             Refusal::Truncated => "Truncated",
             Refusal::TooLong => "TooLong",
             Refusal::Malformed => "Malformed",
