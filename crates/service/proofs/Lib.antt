@@ -10,3 +10,4 @@ pub mod Applying
 pub mod Unloading
 pub mod Batching
 pub mod CommandLines
+pub mod OneQuestion

@@ -11,3 +11,4 @@ pub mod Feeds
 pub mod Feeding
 pub mod Loads
 pub mod CommandLines
+pub mod RequestLaws

@@ -12,6 +12,7 @@ mod laws;
 mod loading;
 mod refusal;
 mod request;
+mod request_laws;
 mod status;
 
 pub use answer_lines::write_answer;
@@ -23,6 +24,7 @@ pub use laws::batches_share_a_feed;
 pub use loading::{LoadSettings, load};
 pub use refusal::{Refusal, write_error, write_refusal, write_refused_record};
 pub use request::{RequestError, read_query};
+pub use request_laws::lines_ask_one_question;
 pub use status::Status;
 
 #[cfg(test)]
