@@ -45,19 +45,23 @@ fn run(rt: &HostRuntime) -> Result<u8, CommandError> {
     attempt(rt, &asked).map_err(CommandError::Refused)
 }
 
-fn main(rt: HostRuntime) -> ExitCode {
-    let error = match run(&rt) {
-        Ok(code) => return ExitCode::from(code),
-        Err(error) => error,
+/// Tells why there was nothing to do, and gives the exit status.
+fn tell(rt: &HostRuntime, error: &CommandError) -> u8 {
+    let told = match error {
+        CommandError::Usage(usage) => usage.print(rt),
+        CommandError::Refused(refusal) => write_error(&mut rt.stderr(), refusal),
     };
-    // There is no one left to tell where this can't be written.
-    match &error {
-        CommandError::Usage(told) => {
-            let _ = told.print(&rt);
-        }
-        CommandError::Refused(refusal) => {
-            let _ = write_error(&mut rt.stderr(), refusal);
-        }
+    if told.is_err() && error.code() == 0 {
+        // Help that can't be shown isn't done. There is no one left to tell where this fails too.
+        let _ = write_error(&mut rt.stderr(), &Refusal::Outside);
+        return 1;
     }
-    ExitCode::from(error.code())
+    error.code()
+}
+
+fn main(rt: HostRuntime) -> ExitCode {
+    match run(&rt) {
+        Ok(code) => ExitCode::from(code),
+        Err(error) => ExitCode::from(tell(&rt, &error)),
+    }
 }
