@@ -145,6 +145,7 @@ fn attempt_of<'a>(alloc: Global, matches: &ArgMatches<'a>) -> Result<Attempt<'a>
     ensures bad_mark { result ≡ Err Refusal.BadText → IsNoMark (first_of (codes "mark") (rows_of (found_of matches.now))) }
     ensures refused { IfErr result (λ refusal. (refusal ≡ Refusal.BadText) ⊎ (refusal ≡ Refusal.OutOfMemory)) }
 {
+    // clap wants FILE and a WORD, but no clause of its says that they are there: else they count as empty.
     let file = matches.get_str("FILE").unwrap_or("");
     let mark = match mark_of(matches.get_str("mark")) {
         Ok(mark) => mark,
