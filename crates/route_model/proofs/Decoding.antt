@@ -61,7 +61,7 @@ route_one r q is iq e =
     let f : some r ≡ some q = sym (whole_route r is) ∙ ap (λ (t : List ℕ). whole (route_at t)) e ∙ whole_route q iq in
     some_is r q f
 
-peer_one : (p q : Peer) → IsPeer p → IsPeer q → peer_octets p ≡ peer_octets q → p ≡ q
+pub peer_one : (p q : Peer) → IsPeer p → IsPeer q → peer_octets p ≡ peer_octets q → p ≡ q
 peer_one p q is iq e =
     let a : peer_at (peer_octets p ++ []) ≡ Some (p, []) = peer_again p [] is in
     let b : peer_at (peer_octets q ++ []) ≡ Some (q, []) = peer_again q [] iq in

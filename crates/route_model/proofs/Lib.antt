@@ -10,6 +10,7 @@ pub mod TableRows
 pub mod Admissions
 pub mod Measures
 pub mod Decoding
+mod PeersTold
 pub mod Prefixes
 pub mod Whole
 pub mod KeyNumbers

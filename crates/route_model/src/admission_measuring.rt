@@ -2,13 +2,14 @@
 
 ghost use Rattle.std.specs.Prelude.{◌≡◌, ◌+◌, ◌∷◌, ◌++◌, ◌<◌, ◌≤◌, ℕ, List, [], IfSome, IfNone, length, map, if◌then◌else◌};
 ghost use Rattle.std.specs.List.{flat_map, AllByRecursion};
+ghost use Rattle.std.specs.Str.{bytes_eq};
 ghost use Rattle.route_model.specs.Spelling.{peer_octets, route_octets};
 ghost use Rattle.route_model.specs.Tables.{has_row};
 ghost use Rattle.route_model.specs.Admission.{peer_of, announced, change_octets, admission_octets, IsChange};
 
-use crate::address::slice_of;
 use crate::admission::MAX_ADMISSION_LEN;
 use crate::change::Change;
+use crate::peer::{Peer, peer_len};
 use crate::shared::SharedRoute;
 
 /// How many octets an admission without changes has: its time and three counts.
@@ -17,15 +18,24 @@ const EMPTY_LEN: usize = 14;
 /// How many octets stand before a route in its table: its length.
 const ROUTE_ROW_HEAD: usize = 2;
 
-/// Whether a change before is about the peer of this spelling. It looks from the end on, since
-/// neighbours mostly share their peer.
-fn has_peer(before: &[Change], row: &[u8]) -> bool
-    ensures { result ≡ has_row (map peer_octets (map peer_of before.now)) row.now }
+/// Whether the peers have one spelling: they are compared themselves, which costs less.
+fn are_same(one: &Peer, other: &Peer) -> bool
+    ensures { result ≡ bytes_eq (peer_octets one.now) (peer_octets other.now) }
+{
+    let _one = peer_len(one);
+    let _other = peer_len(other);
+    one == other
+}
+
+/// Whether a change before is about the peer. It looks from the end on, since neighbours mostly share
+/// their peer.
+fn has_peer(before: &[Change], peer: &Peer) -> bool
+    ensures { result ≡ has_row (map peer_octets (map peer_of before.now)) (peer_octets peer.now) }
 {
     let mut left = before.len();
     while left > 0 {
         left -= 1;
-        if before[left].peer().encode().as_slice() == row {
+        if are_same(&before[left].peer(), peer) {
             return true;
         }
     }
@@ -62,11 +72,11 @@ fn peer_row_len(before: &[Change], c: &Change) -> usize
     ensures len { result ≡ if has_row (map peer_octets (map peer_of before.now)) (peer_octets (peer_of c.now)) then 0 else length (peer_octets (peer_of c.now)) }
     ensures few { result ≤ 22 }
 {
-    let row = c.peer().encode();
-    if has_peer(before, &row) {
+    let peer = c.peer();
+    if has_peer(before, &peer) {
         0
     } else {
-        slice_of(&row).len()
+        peer_len(&peer)
     }
 }
 
