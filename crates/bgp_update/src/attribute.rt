@@ -125,14 +125,10 @@ pub(crate) fn attribute_list(
 pub(crate) fn value_in<'a>(attributes: &[PathAttribute<'a>], kind: u8) -> Option<ValueOctets<'a>>
     ensures { result ≡ value_of kind attributes.now }
 {
-    match attributes {
-        [] => None,
-        [first, rest @ ..] => {
-            if first.kind == kind {
-                Some(ValueOctets::new(first.value.as_slice()))
-            } else {
-                value_in(rest, kind)
-            }
+    for a in attributes {
+        if a.kind == kind {
+            return Some(ValueOctets::new(a.value.as_slice()));
         }
     }
+    None
 }
