@@ -9,6 +9,7 @@ use service::{
 use std::env;
 use std::fs::File;
 use std::io::{BufWriter, Write};
+use std::mem;
 use std::process::ExitCode;
 
 /// The most admissions of a batch.
@@ -28,6 +29,8 @@ fn attempt(rt: &HostRuntime, attempt: &Attempt<'_>) -> Result<u8, Refusal> {
     };
     let loaded = load(alloc, &mut archive, how, &mut file, &mut out, &mut err);
     let asked = ask(alloc, &archive, attempt.line.as_str(), &mut out, &mut err);
+    // The process ends: the system takes its memory back at once, sooner than an archive lets go of its parts.
+    mem::forget(archive);
     out.flush().map_err(|_| Refusal::Outside)?;
     Ok(loaded.code().max(asked.code()))
 }

@@ -43,6 +43,7 @@ reason_more c h made unmade later refusals.NoCollector r = r
 reason_more c h made unmade later refusals.CounterFull r = (r.0, r.1 ++ later, ap (λ (t : List Turn). t ++ later) r.2, r.3)
 reason_more c h made unmade later refusals.OutOfMemory r = tt
 reason_more c h made unmade later refusals.Outside r = tt
+reason_more c h made unmade later refusals.BadText r = absurd r
 reason_more c h made unmade later refusals.Truncated r = absurd r
 reason_more c h made unmade later refusals.TooLong r = absurd r
 reason_more c h made unmade later refusals.Malformed r = absurd r

@@ -63,6 +63,7 @@ unloaded_well c limit mark h bytes fed archive was mid refusals.NoCollector here
 unloaded_well c limit mark h bytes fed archive was mid refusals.MarkBack here f u =
     record { lower = u.0; asked = u.1; records = f.records; results = f.results; feed = subst (λ (t : List ℕ). IsFeed c bytes t f.records f.results) f.cut_is f.feed; above = u.2; carried = u.3 }
 unloaded_well c limit mark h bytes fed archive was mid refusals.OutOfMemory here f u = record { gave = admissions_of f.results; set = mark; kept = u }
+unloaded_well c limit mark h bytes fed archive was mid refusals.BadText here f u = absurd u
 unloaded_well c limit mark h bytes fed archive was mid refusals.Truncated here f u = absurd u
 unloaded_well c limit mark h bytes fed archive was mid refusals.TooLong here f u = absurd u
 unloaded_well c limit mark h bytes fed archive was mid refusals.Malformed here f u = absurd u
@@ -82,6 +83,7 @@ unloaded_short : (c : ℕ) (mark : Option ℕ) (h : History) (bytes : List ℕ) 
 unloaded_short c mark h bytes archive gave refusals.NoCollector here u = absurd (u.0 (there c h gave here))
 unloaded_short c mark h bytes archive gave refusals.MarkBack here u = let none = u.1 in absurd cc
 unloaded_short c mark h bytes archive gave refusals.OutOfMemory here u = record { gave = gave; set = None; kept = u }
+unloaded_short c mark h bytes archive gave refusals.BadText here u = absurd u
 unloaded_short c mark h bytes archive gave refusals.Truncated here u = absurd u
 unloaded_short c mark h bytes archive gave refusals.TooLong here u = absurd u
 unloaded_short c mark h bytes archive gave refusals.Malformed here u = absurd u

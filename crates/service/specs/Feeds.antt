@@ -47,6 +47,7 @@ IsReason c h made unmade refusals.NoCollector = IsCollector h c → ⊥
 IsReason c h made unmade refusals.CounterFull = (batch : List Admitted) × (later : List Turn) × (unmade ≡ Offer batch ∷ later) × IsCounterFull (given h c (offered made)) c (length batch)
 IsReason c h made unmade refusals.OutOfMemory = Unit {0}
 IsReason c h made unmade refusals.Outside = Unit {0}
+IsReason c h made unmade refusals.BadText = ⊥
 IsReason c h made unmade refusals.Truncated = ⊥
 IsReason c h made unmade refusals.TooLong = ⊥
 IsReason c h made unmade refusals.Malformed = ⊥

@@ -75,6 +75,7 @@ abbrev pub IsUnloaded : ℕ → Option ℕ → History → List ℕ → History 
 IsUnloaded c mark h bytes archive refusals.NoCollector = (IsCollector h c → ⊥) × Carries archive h
 IsUnloaded c mark h bytes archive refusals.MarkBack = IsMarkedBack c mark h bytes archive
 IsUnloaded c mark h bytes archive refusals.OutOfMemory = IsPartLoaded c h archive
+IsUnloaded c mark h bytes archive refusals.BadText = ⊥
 IsUnloaded c mark h bytes archive refusals.Truncated = ⊥
 IsUnloaded c mark h bytes archive refusals.TooLong = ⊥
 IsUnloaded c mark h bytes archive refusals.Malformed = ⊥
@@ -100,6 +101,7 @@ abbrev pub IsUnsettled : ℕ → Option ℕ → History → History → Refusal 
 IsUnsettled c mark h archive refusals.NoCollector = (IsCollector h c → ⊥) × Carries archive h
 IsUnsettled c mark h archive refusals.MarkBack = (lower : ℕ) × (mark ≡ Some lower) × IsMarkAbove h c lower × Carries archive h
 IsUnsettled c mark h archive refusals.OutOfMemory = HasIntakes (marked_if c mark h).intakes archive
+IsUnsettled c mark h archive refusals.BadText = ⊥
 IsUnsettled c mark h archive refusals.Truncated = ⊥
 IsUnsettled c mark h archive refusals.TooLong = ⊥
 IsUnsettled c mark h archive refusals.Malformed = ⊥
