@@ -50,9 +50,37 @@ const TOO_LONG: &str = "65920080 0010 0001 00020001";
 const MANY: &str = "65920080 0010 0001 0000043F FDE9 FC00 0000 0001 C0000201 C0000202
     FFFFFFFFFFFFFFFFFFFFFFFFFFFFFFFF 042F 02 0000 0014 40010100 4002060202FDE9FDEA 400304C0000201";
 
+/// A peer table of 46 peers of AS 65001, which are to follow: 8 octets and 11 for each.
+const MANY_PEERS: &str = "65920080 000D 0001 00000202 C0000202 0000 002E";
+
+/// How many peers it has.
+const PEERS: u16 = 46;
+
 const QUESTION: &str = "at 1704067200 prefix 10.0.0.0/8";
 
 const ANSWER: &str = "R|0|192.0.2.1|65001|10.0.0.0/8|65001 65002|IGP|192.0.2.1|||NAG||\nE|1\n";
+
+/// Of seven records, of which the second, the fourth and the last are refused, in batches of two.
+const REFUSED_BETWEEN: &str = "X|15|Malformed|1
+B|0|2|2
+X|15|Malformed|3
+B|2|4|4
+X|17|NoPeerTable|6
+F|7|4|0|3|0
+S|1704067200
+";
+
+/// Of eight records with one that is late in each batch of two.
+const LATE_IN_EACH: &str = "B|0|1|2
+L|1|1704067199|1704067200
+B|1|2|4
+L|0|1704067199|1704067200
+X|15|Malformed|5
+B|2|2|5
+L|0|1704067199|1704067200
+F|8|2|3|1|1
+S|1704067200
+";
 
 /// Lines that ask nothing.
 const NO_REQUESTS: [&str; 14] = [
@@ -106,6 +134,46 @@ fn stream(alloc: Global, records: &[&str]) -> Result<Vec<u8>, Fail> {
         add_octets(&mut out, record)?;
     }
     Ok(out)
+}
+
+/// Adds a peer table of 46 peers: 10.0.0.0 to 10.0.0.45.
+fn add_peers(out: &mut Vec<u8>) -> Result<(), Fail> {
+    add_octets(out, MANY_PEERS)?;
+    for peer in 0..PEERS {
+        add_octets(out, "00 C0000201 0A00")?;
+        out.extend_from_slice(&peer.to_be_bytes())?;
+        add_octets(out, "FDE9")?;
+    }
+    Ok(())
+}
+
+/// Adds the RIB entry of a peer: an empty path by 192.0.2.1, and an attribute of type 99 with 2,802 octets and so many
+/// more, the peer's number at their front.
+fn add_entry(out: &mut Vec<u8>, peer: u16, more: u8) -> Result<(), Fail> {
+    out.extend_from_slice(&peer.to_be_bytes())?;
+    add_octets(out, "65920000")?;
+    out.extend_from_slice(&(2820 + more as u16).to_be_bytes())?;
+    add_octets(out, "40010100 400200 400304C0000201 D063")?;
+    out.extend_from_slice(&(2802 + more as u16).to_be_bytes())?;
+    out.extend_from_slice(&peer.to_be_bytes())?;
+    for _ in 0..2800 + more as u16 {
+        out.push(0)?;
+    }
+    Ok(())
+}
+
+/// Adds a RIB record of 10.0.0.0/8 with an entry of each of the 46 peers, the last with so many octets more. Its
+/// admission has 14 octets and for each entry 22 for the peer, 2 and 2,817 for the route, and 8 for the change: 131,068
+/// and these.
+fn add_entries(out: &mut Vec<u8>, more: u8) -> Result<(), Fail> {
+    add_octets(out, "65920080 000D 0002")?;
+    // 8 octets, and 2,828 for each entry.
+    out.extend_from_slice(&(130_096 + more as u32).to_be_bytes())?;
+    add_octets(out, "00000000 08 0A 002E")?;
+    for peer in 0..PEERS - 1 {
+        add_entry(out, peer, 0)?;
+    }
+    add_entry(out, PEERS - 1, more)
 }
 
 /// What a load or a question wrote, and its status.
@@ -268,6 +336,115 @@ fn batches_are_offered_before_they_are_too_large(rt: HostRuntime) -> Result<(), 
     let told = load_octets(alloc, &mut archive, &octets, 100_000, None)?;
     let lines = "B|0|3692|3692\nB|3692|3693|3693\nF|3693|3693|0|0|0\nS|1704067200\n";
     assert!(rt; told.is(lines, "", Status::Done));
+    Ok(())
+}
+
+/// Loads two tables, each of one admission of 131,068 octets and so many more.
+fn two_tables(alloc: Global, first: u8, second: u8, lines: &str) -> Result<bool, Fail> {
+    let mut archive = Archive::plain(alloc, 1)?;
+    let mut octets = Vec::new(alloc);
+    add_peers(&mut octets)?;
+    add_entries(&mut octets, first)?;
+    add_entries(&mut octets, second)?;
+    let told = load_octets(alloc, &mut archive, &octets, 1000, None)?;
+    Ok(told.is(lines, "", Status::Done))
+}
+
+#[test]
+fn a_batch_has_at_most_262144_octets(rt: HostRuntime) -> Result<(), Fail> {
+    let alloc = rt.alloc();
+    // Each admission has 4 octets before it: 131,072 and 131,072.
+    let one = "B|0|2|2\nF|3|2|0|0|0\nS|1704067200\n";
+    assert!(rt; two_tables(alloc, 0, 0, one)?);
+    // 131,072 and 131,073.
+    let two = "B|0|1|1\nB|1|2|2\nF|3|2|0|0|0\nS|1704067200\n";
+    assert!(rt; two_tables(alloc, 0, 1, two)?);
+    Ok(())
+}
+
+#[test]
+fn refused_records_are_told_before_what_waits(rt: HostRuntime) -> Result<(), Fail> {
+    let alloc = rt.alloc();
+    let mut archive = Archive::plain(alloc, 1)?;
+    let records = [UPDATE, LONG_PREFIX, UPDATE, LONG_PREFIX, UPDATE, EMPTY, RIB];
+    let octets = stream(alloc, &records)?;
+    let told = load_octets(alloc, &mut archive, &octets, 2, None)?;
+    assert!(rt; told.is(REFUSED_BETWEEN, "", Status::Done));
+    Ok(())
+}
+
+#[test]
+fn late_records_are_counted_in_each_batch(rt: HostRuntime) -> Result<(), Fail> {
+    let alloc = rt.alloc();
+    let mut archive = Archive::plain(alloc, 1)?;
+    let records = [
+        UPDATE,
+        EARLIER,
+        SKIPPED,
+        EARLIER,
+        UPDATE,
+        LONG_PREFIX,
+        EARLIER,
+        PEER_TABLE,
+    ];
+    let octets = stream(alloc, &records)?;
+    let told = load_octets(alloc, &mut archive, &octets, 2, None)?;
+    assert!(rt; told.is(LATE_IN_EACH, "", Status::Done));
+    Ok(())
+}
+
+/// What a feed wrote, and how it ended.
+fn feed_octets(
+    alloc: Global,
+    archive: &mut Archive,
+    collector: u8,
+    octets: &[u8],
+) -> Result<(End, String), Fail> {
+    let mut out: Vec<u8> = Vec::new(alloc);
+    let mut reader = octets;
+    let end = feed(alloc, archive, collector, 2, &mut reader, &mut out);
+    Ok((end, String::from_utf8(out)?))
+}
+
+#[test]
+fn a_feed_goes_on_behind_earlier_ones(rt: HostRuntime) -> Result<(), Fail> {
+    let alloc = rt.alloc();
+    let mut archive = Archive::plain(alloc, 2)?;
+    let first = stream(alloc, &[UPDATE, EARLIER])?;
+    let (end, lines) = feed_octets(alloc, &mut archive, 1, &first)?;
+    assert_eq!(rt; end, End::Well);
+    assert_eq!(rt;
+        lines.as_str(),
+        "B|0|1|2\nL|1|1704067199|1704067200\nF|2|1|1|0|0\n"
+    );
+    let second = stream(alloc, &[EMPTY, UPDATE, EARLIER])?;
+    let (end, lines) = feed_octets(alloc, &mut archive, 1, &second)?;
+    assert_eq!(rt; end, End::Well);
+    assert_eq!(rt;
+        lines.as_str(),
+        "B|1|3|4\nB|3|3|5\nL|0|1704067199|1704067200\nF|3|2|1|0|0\n"
+    );
+    // The other collector has its own numbers and its own mark.
+    let other = stream(alloc, &[EARLIER])?;
+    let (end, lines) = feed_octets(alloc, &mut archive, 0, &other)?;
+    assert_eq!(rt; end, End::Well);
+    assert_eq!(rt; lines.as_str(), "B|0|1|1\nF|1|1|0|0|0\n");
+    Ok(())
+}
+
+#[test]
+fn a_cut_feed_offers_what_waits(rt: HostRuntime) -> Result<(), Fail> {
+    let alloc = rt.alloc();
+    let mut archive = Archive::plain(alloc, 1)?;
+    let mut octets = stream(alloc, &[UPDATE, LONG_PREFIX, UPDATE])?;
+    // 73 and 77 octets, and the first of the third record.
+    octets.truncate(151);
+    let (end, lines) = feed_octets(alloc, &mut archive, 0, &octets)?;
+    assert_eq!(rt; end, End::Cut);
+    assert_eq!(rt;
+        lines.as_str(),
+        "X|15|Malformed|1\nB|0|1|1\nX|13|Truncated|2\nF|2|1|0|1|0\n"
+    );
     Ok(())
 }
 
@@ -438,6 +615,35 @@ impl Read for Failing<'_> {
         }
         self.octets.read(buf)
     }
+}
+
+/// A reader of these octets, one at a time.
+#[derive(Drop)]
+struct Slow<'a> {
+    octets: &'a [u8],
+}
+
+impl Read for Slow<'_> {
+    fn read(&mut self, buf: &mut [u8]) -> std::io::Result<usize> {
+        let Some(first) = buf.get_mut(..1) else {
+            return Ok(0);
+        };
+        self.octets.read(first)
+    }
+}
+
+#[test]
+fn octets_may_come_one_at_a_time(rt: HostRuntime) -> Result<(), Fail> {
+    let alloc = rt.alloc();
+    let mut archive = Archive::plain(alloc, 1)?;
+    let octets = stream(alloc, &[LONG_PREFIX, UPDATE])?;
+    let mut reader = Slow { octets: &octets };
+    let mut out: Vec<u8> = Vec::new(alloc);
+    let end = feed(alloc, &mut archive, 0, 1000, &mut reader, &mut out);
+    assert_eq!(rt; end, End::Well);
+    let lines = "X|15|Malformed|0\nB|0|1|1\nF|2|1|0|1|0\n";
+    assert!(rt; out.as_slice() == lines.as_bytes());
+    Ok(())
 }
 
 #[test]
