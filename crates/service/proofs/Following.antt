@@ -96,7 +96,7 @@ place_of c limit h records old archive was mid b = b.recorded ∙ ap capped (sym
 -- counts of records and skipped ones tell nothing of what was done
 pub done_counted : (c : ℕ) (h : History) (turns : List Turn) (old new : FeedCounts) (archive : History) (was now : Option (List ℕ))
     → new.admitted ≡ old.admitted → new.late ≡ old.late → new.refused ≡ old.refused → HasDone c h turns old archive was now → HasDone c h turns new archive was now
-done_counted c h turns old new archive was now admitted late refused d = record { carried = d.carried; wrote = d.wrote; admitted = admitted ∙ d.admitted; late = late ∙ d.late; refused = refused ∙ d.refused }
+done_counted c h turns old new archive was now admitted late refused d = record { carried = d.carried; wrote = d.wrote; admitted = admitted ∙ d.admitted; late = late ∙ d.late; refused = refused ∙ d.refused; there = d.there }
 
 -- no record came yet
 pub behind_none : (c limit : ℕ) (h archive : History) (feeding : Feeding) (was : Option (List ℕ))
@@ -118,6 +118,7 @@ behind_none c limit h archive feeding was collector limits fed none empty octets
     admitted = ap (λ (t : FeedCounts). t.admitted) counts;
     late = ap (λ (t : FeedCounts). t.late) counts;
     refused = ap (λ (t : FeedCounts). t.refused) counts;
+    there = λ some. absurd (some refl);
   };
   recorded = ap (λ (t : FeedCounts). t.records) counts;
   skipped = ap (λ (t : FeedCounts). t.skipped) counts;

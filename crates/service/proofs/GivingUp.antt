@@ -34,7 +34,7 @@ use Rattle.service.specs.declared.feeding.Feeding.{Feeding}
 use Rattle.service.specs.declared.refusal.Refusal.{Refusal}
 use Rattle.service.specs.declared.refusal.Refusal.TheVariants as refusals
 use Rattle.service.proofs.Batches.{given_both}
-use Rattle.service.proofs.Turning.{offered_both, as_many}
+use Rattle.service.proofs.Turning.{offered_both, as_many, collector_there}
 use Rattle.service.proofs.Following.{turns_snoc}
 
 -- a reason stays one where more turns would have followed
@@ -64,15 +64,16 @@ gives_more c h turns later archive was now why g = record {
   carried = g.carried;
   reason = reason_more c h g.made g.unmade later why g.reason;
   wrote = g.wrote;
+  there = g.there;
 }
 
 -- all of these turns were made and written, and memory was wanting for what comes then, or the device failed
 pub gives_all : (c : ℕ) (h : History) (turns : List Turn) (counts : FeedCounts) (archive : History) (was now : Option (List ℕ)) (why : Refusal) → IsReason c h turns [] why → HasDone c h turns counts archive was now → GivesUp c h turns archive was now why
-gives_all c h turns counts archive was now why reason d = record { made = turns; unmade = []; parts = sym (append-nil turns); carried = d.carried; reason = reason; wrote = λ written. d.wrote }
+gives_all c h turns counts archive was now why reason d = record { made = turns; unmade = []; parts = sym (append-nil turns); carried = d.carried; reason = reason; wrote = λ written. d.wrote; there = d.there }
 
 -- all of these turns were made, and not all of them written
-pub gives_unwritten : (c : ℕ) (h : History) (turns : List Turn) (archive : History) (was now : Option (List ℕ)) → Carries archive (given h c (offered turns)) → GivesUp c h turns archive was now refusals.Outside
-gives_unwritten c h turns archive was now carried = record { made = turns; unmade = []; parts = sym (append-nil turns); carried = carried; reason = tt; wrote = λ written. absurd (written refl) }
+pub gives_unwritten : (c : ℕ) (h : History) (turns : List Turn) (archive : History) (was now : Option (List ℕ)) → Carries archive (given h c (offered turns)) → ((offered turns ≡ [] → ⊥) → IsCollector h c) → GivesUp c h turns archive was now refusals.Outside
+gives_unwritten c h turns archive was now carried there_ = record { made = turns; unmade = []; parts = sym (append-nil turns); carried = carried; reason = tt; wrote = λ written. absurd (written refl); there = there_ }
 
 -- a batch was taken
 pub carries_batch : (b c : ℕ) (h : History) (turns : List Turn) (batch given_ : List Admitted) (archive later : History) → b ≡ c → given_ ≡ batch
@@ -80,6 +81,16 @@ pub carries_batch : (b c : ℕ) (h : History) (turns : List Turn) (batch given_ 
 carries_batch b c h turns batch given_ archive later one same gives carried =
     let all : offered (turns ++ Offer batch ∷ []) ≡ offered turns ++ batch = offered_both turns (Offer batch ∷ []) ∙ ap (λ (t : List Admitted). offered turns ++ t) (append-nil batch) in
     subst (λ (t : History). Carries later t) ((λ k. given (given h c (offered turns)) (one k) (same k)) ∙ given_both h c (offered turns) batch ∙ ap (given h c) (sym all)) (gives (given h c (offered turns)) carried)
+
+-- a batch was taken, so there is this collector
+pub collector_of : (c : ℕ) (h : History) (turns : List Turn) (b : ℕ) (r : Result Reply AdmitRefusal) (reply : Reply) {archive : History} → b ≡ c → r ≡ Ok reply
+    → ((g : History) → Carries archive g → ((r ≡ Err admits.NoCollector) ↔ (IsCollector g b → ⊥)))
+    → Carries archive (given h c (offered turns)) → IsCollector h c
+collector_of c h turns b r reply one is missing carried =
+    let g = given h c (offered turns) in
+    let here = collector_there g b r reply is (missing g carried) in
+    let n = as_many c (with_batch (offered turns)) h.intakes in
+    omega (arith, here, n, one)
 
 -- why a batch wasn't taken
 why_not : (c : ℕ) (h : History) (turns : List Turn) (batch : List Admitted) (r : Result Reply AdmitRefusal) (e : AdmitRefusal) → r ≡ Err e → batch_octets batch ≤ 262144
@@ -115,6 +126,7 @@ gives_refused b c h turns batch given_ counts archive later was now r e one same
           (subst (λ (t : ℕ). (r ≡ Err admits.CounterFull) ↔ ((batch_octets batch ≤ 262144) × IsCounterFull g t (length batch))) one
           (subst (λ (t : List Admitted). (r ≡ Err admits.CounterFull) ↔ ((batch_octets t ≤ 262144) × IsCounterFull g b (length t))) same (full g d.carried)));
       wrote = λ written. d.wrote;
+      there = d.there;
     }
 
 -- the feed is given up at this record, whose meaning is known
@@ -262,6 +274,7 @@ given_up_told c limit h bytes archive was mid now why s line =
       carried = g.carried;
       reason = g.reason;
       wrote = λ written. Appends-trans was mid now _ (refusal_line why) (g.wrote written) line;
+      there = g.there;
     }
 
 -- the feed is given up, and the refusal couldn't be written
@@ -282,4 +295,5 @@ given_up_untold c limit h bytes archive was mid now why s =
       carried = g.carried;
       reason = tt;
       wrote = λ written. absurd (written refl);
+      there = g.there;
     }

@@ -202,6 +202,7 @@ all_fed c limit h bytes held cut old new archive later was mid then now out is s
       feed = record { items = read.reads.items; framed = read.reads.framed; told_are = refl; means = b.means };
       cut_is = cut_short held read.rest out.0 cut read.holds is;
       carried = subst (λ (t : List Admitted). Carries later (given h c t)) (offered_feed limit b.results) done.carried;
+      there = λ some. done.there (λ none. some (sym (offered_feed limit b.results) ∙ none));
       wrote =
           Appends-trans was then now _ _ done.wrote
           (subst (λ (t : List ℕ). Appends then now t) (λ k. cut_line cut ((same.records ∙ b.recorded) k) ++ counts_line (counted k)) told_);

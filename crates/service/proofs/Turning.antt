@@ -101,6 +101,7 @@ done_offer b c h turns batch given_ old new reply archive later was mid now one 
           let before = d.late in
           late ∙ (λ k. capped (before k + gone k)) ∙ capped_more _ _ ∙ ap capped (sym sum);
       refused = let sum = refusals_both turns (Offer batch ∷ []) in let before = d.refused in omega (arith, refused, sum, before);
+      there = λ some. within;
     }
 
 -- nothing more is done
@@ -125,6 +126,7 @@ done_refuse c h turns old new archive was mid now place n fault is wrote admitte
       admitted = admitted ∙ d.admitted ∙ ap (λ (t : List Admitted). capped (length (admitted_of i t))) (sym same);
       late = late ∙ d.late ∙ ap (λ (t : List Admitted). capped (length (lates admitted_time i.mark [] 0 t))) (sym same);
       refused = let sum = refusals_both turns (Refuse n fault ∷ []) in let before = d.refused in omega (arith, refused, sum, before);
+      there = λ some. d.there (λ none. some (same ∙ none));
     }
 
 pub octets_more : (waiting : List Admitted) (a : Admitted) → batch_octets (waiting ++ a ∷ []) ≡ batch_octets waiting + (4 + length (admission_octets a))

@@ -13,7 +13,7 @@ use Rattle.resolve.specs.Tables.{LastTable}
 use Rattle.resolve.specs.Meanings.{Means}
 use Rattle.resolve.specs.declared.fault.ResolveFault.{ResolveFault}
 use Rattle.archive.specs.Carries.{Carries}
-use Rattle.archive.specs.Steps.{given, batch_octets}
+use Rattle.archive.specs.Steps.{given, batch_octets, IsCollector}
 use Rattle.service.specs.Turns.{Turn, offered, refusals, turns_for, waits_behind, feed_turns}
 use Rattle.service.specs.Feeds.{IsReason}
 use Rattle.service.specs.declared.refusal.Refusal.{Refusal}
@@ -29,6 +29,7 @@ pub record HasDone (c : ℕ) (h : History) (turns : List Turn) (counts : FeedCou
   pub admitted : counts.admitted ≡ capped (length (admitted_of (intake_in h.intakes c) (offered turns)))
   pub late : counts.late ≡ capped (length (lates admitted_time (intake_in h.intakes c).mark [] 0 (offered turns)))
   pub refused : counts.refused ≡ capped (refusals turns)
+  pub there : (offered turns ≡ [] → ⊥) → IsCollector h c
 
 -- of a feed under way all is the same but for what waits and what was done
 pub record IsSameFeed (old new : Feeding) : Type 0 where
@@ -86,6 +87,7 @@ pub record GivesUp (c : ℕ) (h : History) (turns : List Turn) (archive : Histor
   pub carried : Carries archive (given h c (offered made))
   pub reason : IsReason c h made unmade why
   pub wrote : (why ≡ refused_as.Outside → ⊥) → Appends was now (turns_text (intake_in h.intakes c) made)
+  pub there : (offered made ≡ [] → ⊥) → IsCollector h c
 
 -- the feed was given up at one of the items that came behind these records, or before the first of them
 pub record StopsAmong (c limit : ℕ) (h : History) (records : List Told) (items : List Item) (archive : History) (was now : Option (List ℕ)) (why : Refusal) : Type 0 where

@@ -30,7 +30,7 @@ IsCut rest None = rest ≡ []
 IsCut rest (Some why) = ((why ≡ refusals.Truncated) × (rest ≡ [] → ⊥) × (Over rest → ⊥)) ⊎ ((why ≡ refusals.TooLong) × Over rest)
 
 -- The archive carried h; now it carries all that the feed gives too, and what the feed writes was written. It was cut short for
--- this, or it wasn't.
+-- this, or it wasn't. Where the feed gives anything, there is the collector.
 pub record IsFed (c limit : ℕ) (h : History) (bytes : List ℕ) (cut : Option Refusal) (archive : History) (was now : Option (List ℕ)) : Type 0 where
   pub rest : List ℕ
   pub records : List Told
@@ -39,6 +39,7 @@ pub record IsFed (c limit : ℕ) (h : History) (bytes : List ℕ) (cut : Option 
   pub cut_is : IsCut rest cut
   pub carried : Carries archive (given h c (admissions_of results))
   pub wrote : Appends was now (feed_text (intake_in h.intakes c) limit records results cut)
+  pub there : (admissions_of results ≡ [] → ⊥) → IsCollector h c
 
 -- why a feed is given up of which these turns were made and the next ones weren't: there is no such collector, the next batch would
 -- pass the last count of offered records, memory was wanting, or a reader or a writer failed
@@ -75,3 +76,4 @@ pub record IsGivenUp (c limit : ℕ) (h : History) (bytes : List ℕ) (why : Ref
   pub carried : Carries archive (given h c (offered made))
   pub reason : IsReason c h made unmade why
   pub wrote : (why ≡ refusals.Outside → ⊥) → Appends was now (turns_text (intake_in h.intakes c) made ++ refusal_line why)
+  pub there : (offered made ≡ [] → ⊥) → IsCollector h c

@@ -11,7 +11,7 @@ use Rattle.service.specs.Turns.{offered, admissions_of}
 use Rattle.service.specs.FeedTexts.{intake_in, feed_text}
 use Rattle.service.specs.FeedLines.{settled_line}
 use Rattle.service.specs.Refusals.{error_line}
-use Rattle.service.specs.Feeds.{IsFeed, IsCut, IsGivenUp}
+use Rattle.service.specs.Feeds.{IsFeed, IsCut, IsFed, IsGivenUp}
 use Rattle.service.specs.declared.refusal.Refusal.{Refusal}
 use Rattle.service.specs.declared.refusal.Refusal.TheVariants as refusals
 
@@ -54,47 +54,49 @@ pub record IsGivenUpLoad (c limit : ℕ) (h : History) (bytes : List ℕ) (archi
   pub applied : IsSettled (given h c (offered given_up.made)).intakes archive
   pub wrote : Appends between now (settled_line (settled applied.now))
 
--- the whole feed was taken in, and its mark isn't above the collector's, which stays
-pub record IsMarkedBack (c : ℕ) (mark : Option ℕ) (h : History) (bytes : List ℕ) (archive : History) : Type 0 where
+-- the whole feed was taken in, and the mark that was asked for is below the collector's, which stays
+pub record IsMarkedBack (c limit : ℕ) (mark : Option ℕ) (h : History) (bytes : List ℕ) (archive : History) (was now : Option (List ℕ)) : Type 0 where
   pub lower : ℕ
   pub asked : mark ≡ Some lower
   pub records : List Told
   pub results : List (Result (Option Admitted) ResolveFault)
   pub feed : IsFeed c bytes [] records results
   pub above : IsMarkAbove (given h c (admissions_of results)) c lower
+  pub wrote : Appends was now (feed_text (intake_in h.intakes c) limit records results None)
   pub carried : Carries archive (given h c (admissions_of results))
 
--- some of the feed was taken in, and perhaps the mark was set
-pub record IsPartLoaded (c : ℕ) (h : History) (archive : History) : Type 0 where
-  pub gave : List Admitted
-  pub set : Option ℕ
-  pub kept : HasIntakes (marked_if c set (given h c gave)).intakes archive
+-- the archive carries what the feed gave, and its mark where the feed ended well; what the feed writes was written
+abbrev pub IsPartLoaded : ℕ → ℕ → Option ℕ → History → List ℕ → History → Option (List ℕ) → Option (List ℕ) → Type 0
+IsPartLoaded c limit mark h bytes archive was now =
+    ((fed : History) × (f : IsFed c limit h bytes None fed was now) × HasIntakes (marked_if c mark (given h c (admissions_of f.results))).intakes archive)
+    ⊎ (((fed : History) × (why : Refusal) × (f : IsFed c limit h bytes (Some why) fed was now) × HasIntakes (given h c (admissions_of f.results)).intakes archive)
+    ⊎ ((fed : History) × (why : Refusal) × (g : IsGivenUp c limit h bytes why fed was now) × HasIntakes (given h c (offered g.made)).intakes archive))
 
 -- why a load ends outside its feed
-abbrev pub IsUnloaded : ℕ → Option ℕ → History → List ℕ → History → Refusal → Type 0
-IsUnloaded c mark h bytes archive refusals.NoCollector = (IsCollector h c → ⊥) × Carries archive h
-IsUnloaded c mark h bytes archive refusals.MarkBack = IsMarkedBack c mark h bytes archive
-IsUnloaded c mark h bytes archive refusals.OutOfMemory = IsPartLoaded c h archive
-IsUnloaded c mark h bytes archive refusals.BadText = ⊥
-IsUnloaded c mark h bytes archive refusals.Truncated = ⊥
-IsUnloaded c mark h bytes archive refusals.TooLong = ⊥
-IsUnloaded c mark h bytes archive refusals.Malformed = ⊥
-IsUnloaded c mark h bytes archive refusals.RouteTooLarge = ⊥
-IsUnloaded c mark h bytes archive refusals.NoPeerTable = ⊥
-IsUnloaded c mark h bytes archive refusals.BadPeerIndex = ⊥
-IsUnloaded c mark h bytes archive refusals.AdmissionTooLarge = ⊥
-IsUnloaded c mark h bytes archive refusals.BatchTooLarge = ⊥
-IsUnloaded c mark h bytes archive refusals.CounterFull = ⊥
-IsUnloaded c mark h bytes archive refusals.BadRequest = ⊥
-IsUnloaded c mark h bytes archive refusals.Outside = ⊥
-IsUnloaded c mark h bytes archive (refusals.AboveWatermark settled) = ⊥
+abbrev pub IsUnloaded : ℕ → ℕ → Option ℕ → History → List ℕ → History → Option (List ℕ) → Option (List ℕ) → Refusal → Type 0
+IsUnloaded c limit mark h bytes archive was now refusals.NoCollector = (IsCollector h c → ⊥) × Carries archive h × (now ≡ was)
+IsUnloaded c limit mark h bytes archive was now refusals.MarkBack = IsMarkedBack c limit mark h bytes archive was now
+IsUnloaded c limit mark h bytes archive was now refusals.OutOfMemory = IsPartLoaded c limit mark h bytes archive was now
+IsUnloaded c limit mark h bytes archive was now refusals.BadText = ⊥
+IsUnloaded c limit mark h bytes archive was now refusals.Truncated = ⊥
+IsUnloaded c limit mark h bytes archive was now refusals.TooLong = ⊥
+IsUnloaded c limit mark h bytes archive was now refusals.Malformed = ⊥
+IsUnloaded c limit mark h bytes archive was now refusals.RouteTooLarge = ⊥
+IsUnloaded c limit mark h bytes archive was now refusals.NoPeerTable = ⊥
+IsUnloaded c limit mark h bytes archive was now refusals.BadPeerIndex = ⊥
+IsUnloaded c limit mark h bytes archive was now refusals.AdmissionTooLarge = ⊥
+IsUnloaded c limit mark h bytes archive was now refusals.BatchTooLarge = ⊥
+IsUnloaded c limit mark h bytes archive was now refusals.CounterFull = ⊥
+IsUnloaded c limit mark h bytes archive was now refusals.BadRequest = ⊥
+IsUnloaded c limit mark h bytes archive was now refusals.Outside = ⊥
+IsUnloaded c limit mark h bytes archive was now (refusals.AboveWatermark settled) = ⊥
 
 -- something was refused, and told: the feed was cut short, or it was given up, or the load ended outside its feed
 abbrev pub IsRefusedLoad : ℕ → ℕ → Option ℕ → History → List ℕ → History → Option (List ℕ) → Option (List ℕ) → Option (List ℕ) → Option (List ℕ) → Type 0
 IsRefusedLoad c limit mark h bytes archive was now err_was err_now =
-    ((why : Refusal) × IsLoaded c limit None h bytes (Some why) archive was now)
-    ⊎ (IsGivenUpLoad c limit h bytes archive was now
-    ⊎ ((why : Refusal) × IsUnloaded c mark h bytes archive why × Appends err_was err_now (error_line why)))
+    ((why : Refusal) × IsLoaded c limit None h bytes (Some why) archive was now × (err_now ≡ err_was))
+    ⊎ ((IsGivenUpLoad c limit h bytes archive was now × (err_now ≡ err_was))
+    ⊎ ((why : Refusal) × IsUnloaded c limit mark h bytes archive was now why × Appends err_was err_now (error_line why)))
 
 -- why a mark isn't set, or what may be applied isn't. Contracts of private functions alone cite this.
 abbrev pub IsUnsettled : ℕ → Option ℕ → History → History → Refusal → Type 0

@@ -4,6 +4,7 @@ ghost use Rattle.std.specs.Prelude.{◌≡◌, ℕ, List, Some, None, OnOk, OnEr
 ghost use Rattle.std.specs.Io.KnownBytes.{Appends};
 ghost use Rattle.route_meaning.specs.History.{History, settled};
 ghost use Rattle.archive.specs.Carries.{Carries};
+ghost use Rattle.archive.specs.Steps.{IsCollector};
 ghost use Rattle.service.specs.FeedLines.{settled_line};
 ghost use Rattle.service.specs.Refusals.{error_line};
 ghost use Rattle.service.specs.declared.refusal.Refusal.{Refusal};
@@ -23,7 +24,7 @@ use std::io::{Read, Write};
 pub struct LoadSettings {
     /// Whose feed the file is.
     pub collector: u8,
-    /// The most admissions of a batch.
+    /// The most admissions of a batch; 0 counts as 1.
     pub limit: usize,
     /// The mark that is set once the feed has ended well.
     pub mark: Option<Mark>,
@@ -148,6 +149,7 @@ pub fn load<R: Read, W: Write, E: Write>(
     err: &mut E,
 ) -> Status
     ensures loaded { (h : History) (bytes : List ℕ) → R.remaining reader.old ≡ Some bytes → Carries archive.old h → result ≡ Status.Done → IsLoaded how.collector how.limit how.mark h bytes None archive.new (W.contents out.old) (W.contents out.new) }
+    ensures there { (h : History) → Carries archive.old h → result ≡ Status.Done → IsCollector h how.collector }
     ensures quiet { result ≡ Status.Done → E.contents err.new ≡ E.contents err.old }
     ensures refused { (h : History) (bytes : List ℕ) → R.remaining reader.old ≡ Some bytes → Carries archive.old h → result ≡ Status.Refused → IsRefusedLoad how.collector how.limit how.mark h bytes archive.new (W.contents out.old) (W.contents out.new) (E.contents err.old) (E.contents err.new) }
 {

@@ -8,7 +8,7 @@ ghost use Rattle.service.specs.Statuses.{code_of};
 pub enum Status {
     /// All is done.
     Done,
-    /// Something was refused, and a line tells it.
+    /// Something was refused. A line tells it, unless that line couldn't be written.
     Refused,
     /// Not all lines could be written.
     Failed,

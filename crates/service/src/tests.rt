@@ -664,3 +664,40 @@ fn failures_outside_end_a_feed(rt: HostRuntime) -> Result<(), Fail> {
     assert!(rt; err.as_slice() == "rha: 29 Outside\n".as_bytes());
     Ok(())
 }
+
+#[test]
+fn a_feed_of_a_missing_collector_is_given_up(rt: HostRuntime) -> Result<(), Fail> {
+    let alloc = rt.alloc();
+    let mut archive = Archive::plain(alloc, 1)?;
+    let octets = stream(alloc, &[LONG_PREFIX, UPDATE])?;
+    let mut reader = octets.as_slice();
+    let mut out: Vec<u8> = Vec::new(alloc);
+    let end = feed(alloc, &mut archive, 1, 1000, &mut reader, &mut out);
+    assert_eq!(rt; end, End::Refused(Refusal::NoCollector));
+    let lines = "X|15|Malformed|0\nX|22|NoCollector\n";
+    assert!(rt; out.as_slice() == lines.as_bytes());
+    Ok(())
+}
+
+#[test]
+fn a_writer_that_is_full_ends_feeds_and_loads(rt: HostRuntime) -> Result<(), Fail> {
+    let alloc = rt.alloc();
+    let mut archive = Archive::plain(alloc, 1)?;
+    let octets = stream(alloc, &[UPDATE])?;
+    let mut small = [0u8; 4];
+    let mut full: &mut [u8] = &mut small;
+    let mut reader = octets.as_slice();
+    let end = feed(alloc, &mut archive, 0, 1000, &mut reader, &mut full);
+    assert_eq!(rt; end, End::Refused(Refusal::Outside));
+    let how = LoadSettings {
+        collector: 0,
+        limit: 1000,
+        mark: None,
+    };
+    let mut err: Vec<u8> = Vec::new(alloc);
+    let mut none: &[u8] = &[];
+    let status = load(alloc, &mut archive, how, &mut none, &mut full, &mut err);
+    assert_eq!(rt; status, Status::Failed);
+    assert!(rt; err.as_slice() == "rha: 29 Outside\n".as_bytes());
+    Ok(())
+}

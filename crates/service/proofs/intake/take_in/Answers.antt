@@ -50,4 +50,4 @@ returns-in_err-tell_end-clause-given_up g c = λ h bytes e carried.
     let d = c.in_ok-offer_rest.ensures.done k h (turns_for limit 0 [] r.behind.results) was r.behind.collector r.behind.done in
     rw p.1 (rw p.2
     (stops_last k limit h bytes _ c.take_stream.new.self c.take_stream.new.archive c.offer_rest.new.archive was _ _ _ r
-    (gives_unwritten k h (turns_for limit 0 [] r.behind.results ++ last_turns c.take_stream.new.self.gathered.items) c.offer_rest.new.archive was _ d.carried)))
+    (gives_unwritten k h (turns_for limit 0 [] r.behind.results ++ last_turns c.take_stream.new.self.gathered.items) c.offer_rest.new.archive was _ d.carried d.there)))

@@ -1,7 +1,7 @@
 use Rattle.std.proofs.Common.{◌≤◌, ℕ, subst}
 use Rattle.std.proofs.lemmas.Result.{err_from_is_err_and}
 use Rattle.service.proofs.Turning.{done_offer, collector_there}
-use Rattle.service.proofs.GivingUp.{gives_refused, gives_unwritten, carries_batch}
+use Rattle.service.proofs.GivingUp.{gives_refused, gives_unwritten, carries_batch, collector_of}
 use Rattle.service.proofs.feeding.Feeding.offer.Goals as goal
 
 pub returns-clause-done : goal.returns-clause-done
@@ -20,4 +20,5 @@ pub returns-in_err-write_admitted-clause-given_up : goal.returns-in_err-write_ad
 returns-in_err-write_admitted-clause-given_up g c = λ k h turns was same counted d.
     let p = err_from_is_err_and c.from_residual.result c.from_residual.ensures.1 in
     rw p.1 (rw p.2
-    (gives_unwritten k h _ c.admit.new.self was _ (carries_batch c.args.self.now.collector k h turns c.args.self.now.gathered.items _ c.args.archive.now c.admit.new.self same c.deref.ensures.value c.in-Ok.ensures.admitted d.carried)))
+    (gives_unwritten k h _ c.admit.new.self was _ (carries_batch c.args.self.now.collector k h turns c.args.self.now.gathered.items _ c.args.archive.now c.admit.new.self same c.deref.ensures.value c.in-Ok.ensures.admitted d.carried)
+    (λ some. collector_of k h turns c.args.self.now.collector _ _ same c.in-Ok.is (λ past carried. c.admit.ensures.no_collector past carried) d.carried)))
