@@ -6,11 +6,10 @@ use archive::Archive;
 use service::{
     Attempt, CommandError, Invocation, LoadSettings, Refusal, ask, command, load, write_error,
 };
-use std::env;
 use std::fs::File;
 use std::io::{BufWriter, Write};
-use std::mem;
 use std::process::ExitCode;
+use std::{env, mem};
 
 /// The most admissions of a batch.
 const BATCH: usize = 1000;
