@@ -1,15 +1,13 @@
-//! Measures what the spelling of admissions costs. With the word `measure` it prints times, and else
-//! only how to ask for them, so that its stored run is the same everywhere.
-#![tactic(auto)]
+//! Measures what the spelling of admissions costs.
 
 use route_model::{
     Address, Admission, AsNumbers, Attributes, Change, Moment, NextHop, Origin, Path, Peer, Prefix,
     Route, Segment, SharedRoute,
 };
 use std::alloc::Global;
+use std::io;
 use std::rt::CpuClock;
 use std::time::Duration;
-use std::{env, io};
 
 fn peer() -> Peer {
     Peer {
@@ -101,17 +99,11 @@ fn measure(rt: &HostRuntime, count: u32, rounds: u32) -> io::Result<()> {
     )
 }
 
-fn main(rt: HostRuntime) -> io::Result<()> {
-    let mut words = env::args(&rt)?;
-    let _program = words.next();
-    if words.next().is_none() {
-        return println!(rt;
-            "route_bench measure: prints what encoding and decoding of admissions cost"
-        );
-    }
-    measure(&rt, 1, 200_000)?;
-    measure(&rt, 10, 100_000)?;
-    measure(&rt, 100, 10_000)?;
-    measure(&rt, 1_000, 1_000)?;
-    measure(&rt, 10_000, 100)
+/// Prints what encoding and decoding cost, for admissions of 1 to 10,000 changes.
+pub fn measure_all(rt: &HostRuntime) -> io::Result<()> {
+    measure(rt, 1, 200_000)?;
+    measure(rt, 10, 100_000)?;
+    measure(rt, 100, 10_000)?;
+    measure(rt, 1_000, 1_000)?;
+    measure(rt, 10_000, 100)
 }

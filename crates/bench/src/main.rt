@@ -1,0 +1,146 @@
+//! Programs that measure the crates: a word for each. What they count of a file can be compared with other readers.
+#![tactic(auto)]
+
+mod admissions;
+mod codec;
+mod framing;
+mod messages;
+mod reading;
+
+use admissions::Admissions;
+use anyhow::{Context, Result, bail};
+use clap::{Arg, ArgAction, ArgMatches, Command};
+use framing::Framing;
+use messages::Messages;
+use reading::{PIECE, count_file};
+use std::alloc::{AllocError, Global};
+use std::env;
+use std::process::ExitCode;
+
+fn file<'a>(alloc: Global) -> Arg<'a> {
+    Arg::new(alloc, "FILE")
+        .help("An MRT file")
+        .required(true)
+        .action(ArgAction::Set)
+}
+
+fn number<'a>(alloc: Global, name: &'a str, help: &'a str) -> Arg<'a> {
+    Arg::new(alloc, name)
+        .long(name)
+        .value_name("N")
+        .help(help)
+        .action(ArgAction::Set)
+}
+
+/// The command line: a word for each measure, and `counts` for all that is counted.
+fn program<'a>(alloc: Global) -> Result<Command<'a>, AllocError> {
+    let codec = Command::new(alloc, "codec").about("Times encoding and decoding of admissions");
+    let framing = Command::new(alloc, "framing")
+        .about("Frames a file, and counts its items by kind")
+        .arg(file(alloc))?
+        .arg(number(alloc, "piece", "Octets that are read at once"))?;
+    let messages = Command::new(alloc, "messages")
+        .about("Frames a file, and reads its messages and the routes of its RIB entries")
+        .arg(file(alloc))?
+        .arg(number(alloc, "times", "How often each is read"))?;
+    let admissions = Command::new(alloc, "admissions")
+        .about("Frames a file, and resolves its records")
+        .arg(file(alloc))?;
+    let counts = Command::new(alloc, "counts")
+        .about("Prints what the three words above count, of each file")
+        .arg(file(alloc).num_args(1..))?;
+    Command::new(alloc, "bench")
+        .about("Measures the crates of rha")
+        .subcommand_required(true)
+        .disable_help_subcommand(true)
+        .subcommand(codec)?
+        .subcommand(framing)?
+        .subcommand(messages)?
+        .subcommand(admissions)?
+        .subcommand(counts)
+}
+
+/// The number of an option, or another one where the option isn't there.
+fn number_or(matches: &ArgMatches<'_>, name: &str, or: u32) -> Result<u32> {
+    match matches.get_str(name) {
+        Some(text) => text.parse::<u32>().context("a number is wanted"),
+        None => Ok(or),
+    }
+}
+
+fn print_framing(rt: &HostRuntime, path: &str, piece: usize) -> Result<()> {
+    let mut framing = Framing::NONE;
+    count_file(rt, path, piece, &mut framing)?;
+    framing.print(rt)?;
+    Ok(())
+}
+
+fn print_messages(rt: &HostRuntime, path: &str, times: u32) -> Result<()> {
+    let mut messages = Messages::new(times);
+    count_file(rt, path, PIECE, &mut messages)?;
+    messages.print(rt)?;
+    Ok(())
+}
+
+fn print_admissions(rt: &HostRuntime, path: &str) -> Result<()> {
+    let mut admissions = Admissions::new();
+    count_file(rt, path, PIECE, &mut admissions)?;
+    admissions.print(rt)?;
+    Ok(())
+}
+
+fn print_counts(rt: &HostRuntime, paths: &[&str]) -> Result<()> {
+    for path in paths {
+        print_framing(rt, path, PIECE)?;
+        print_messages(rt, path, 1)?;
+        print_admissions(rt, path)?;
+    }
+    Ok(())
+}
+
+/// Does what a word asks for.
+fn measure(rt: &HostRuntime, word: &str, matches: &ArgMatches<'_>) -> Result<()> {
+    let path = matches.get_str("FILE").unwrap_or("");
+    match word {
+        "framing" => {
+            print_framing(
+                rt,
+                path,
+                number_or(matches, "piece", PIECE as u32)? as usize,
+            )
+        }
+        "messages" => print_messages(rt, path, number_or(matches, "times", 1)?),
+        "admissions" => print_admissions(rt, path),
+        "counts" => print_counts(rt, matches.get_strs("FILE").unwrap_or(&[])),
+        _ => Ok(codec::measure_all(rt)?),
+    }
+}
+
+/// Reads the command line and does what it asks for: the exit status.
+fn run(rt: &HostRuntime) -> Result<u8> {
+    let words = env::args(rt)?.collect::<Vec<String>>(rt.alloc())?;
+    let program = program(rt.alloc())?;
+    match program.try_get_matches_from(words.as_slice()) {
+        Ok(matches) => {
+            let Some((word, matches)) = matches.subcommand() else {
+                bail!("a word is wanted")
+            };
+            measure(rt, word, matches)?;
+            Ok(0)
+        }
+        Err(error) => {
+            error.print(rt)?;
+            Ok(if error.use_stderr() { 2 } else { 0 })
+        }
+    }
+}
+
+fn main(rt: HostRuntime) -> ExitCode {
+    match run(&rt) {
+        Ok(code) => ExitCode::from(code),
+        Err(error) => {
+            let _ = eprintln!(rt; "bench: {error:?}");
+            ExitCode::from(1)
+        }
+    }
+}
