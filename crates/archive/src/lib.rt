@@ -12,6 +12,3 @@ pub use admit::{AdmitRefusal, Admitted, MAX_BATCH_LEN, Receipt};
 pub use archive::{Archive, Flush, MarkRefusal, Resume, Step};
 pub use laws::batches_are_one;
 pub use question::{Answer, Cursor, DescendRefusal, Query, Turn};
-
-#[cfg(test)]
-mod tests;

@@ -31,6 +31,3 @@ pub use message::Message;
 pub use messages::read_message;
 pub use reading::PathAttributes;
 pub use update::{Announcement, Update};
-
-#[cfg(test)]
-mod tests;

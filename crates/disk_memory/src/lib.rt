@@ -5,19 +5,13 @@
 #![tactic(auto)]
 
 mod both;
-#[cfg(test)]
-mod both_tests;
 mod burn;
 mod call;
 mod erase;
-#[cfg(test)]
-mod erase_tests;
 mod failure;
 mod lay;
 mod once;
 mod once_failure;
-#[cfg(test)]
-mod once_tests;
 mod pen;
 mod seen;
 mod torn;

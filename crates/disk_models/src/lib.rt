@@ -11,8 +11,6 @@ mod erase;
 mod fault;
 mod once;
 mod page;
-#[cfg(test)]
-mod tests;
 
 pub use block::{BLOCK_SIZE, Block};
 pub use erase::EraseDisk;

@@ -21,6 +21,3 @@ pub use item::Item;
 pub use laws::{body_law, frames_law};
 pub use neighbor::Neighbor;
 pub use route_model::wire::{AsWidth, Family};
-
-#[cfg(test)]
-mod tests;

@@ -12,6 +12,3 @@ pub use fault::ResolveFault;
 pub use feed::resolve_all;
 pub use laws::feeds_have_one_meaning;
 pub use resolver::Resolver;
-
-#[cfg(test)]
-mod tests;

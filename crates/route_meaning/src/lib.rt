@@ -16,6 +16,3 @@ pub use question::{
 };
 pub use replay::{answer_rows, rows_in};
 pub use telling::answer_events;
-
-#[cfg(test)]
-mod tests;

@@ -39,6 +39,3 @@ pub use peer::Peer;
 pub use prefix::Prefix;
 pub use route::{Aggregator, NextHop, Origin, Route};
 pub use shared::SharedRoute;
-
-#[cfg(test)]
-mod tests;

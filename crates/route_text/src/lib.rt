@@ -25,6 +25,3 @@ pub use number::{read_number, write_number};
 pub use prefix::{read_prefix, write_prefix};
 pub use route_reading::read_route;
 pub use route_writing::write_route;
-
-#[cfg(test)]
-mod tests;

@@ -9,6 +9,3 @@ mod sequencer;
 
 pub use late::{Late, Sieved, sieve};
 pub use sequencer::{MarkBack, Sequencer};
-
-#[cfg(test)]
-mod tests;

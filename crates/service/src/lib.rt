@@ -26,8 +26,3 @@ pub use refusal::{Refusal, write_error, write_refusal, write_refused_record};
 pub use request::{RequestError, read_query};
 pub use request_laws::lines_ask_one_question;
 pub use status::Status;
-
-#[cfg(test)]
-mod command_tests;
-#[cfg(test)]
-mod tests;

@@ -1,0 +1,9 @@
+//! Tests of archive and service: worked examples from outside, and what is done where a reader or a writer fails.
+#![tactic(auto)]
+
+#[cfg(test)]
+mod commands;
+#[cfg(test)]
+mod feeds;
+#[cfg(test)]
+mod plain;

@@ -1,0 +1,526 @@
+//! The journal over a disk in memory that fails, tears and crashes.
+ghost use Rattle.std.specs.Prelude.{IfOk};
+ghost use Rattle.page_journal.specs.Layout.{pages_of};
+ghost use Rattle.page_journal.specs.Recovers.{AreBelow, AreDistinct};
+
+use disk_memory::{Call, Failure, MemErase, Torn};
+use disk_models::{EraseDisk, Page};
+use page_journal::{Journal, JournalError};
+use std::alloc::{AllocError, Global};
+use std::test::Fail;
+
+const PAGE: u64 = 16_384;
+
+const OLD: [u8; 4] = [10, 11, 12, 13];
+
+const NEW: [u8; 4] = [10, 21, 22, 13];
+
+fn filled(alloc: Global, octet: u8) -> Result<Page, AllocError> {
+    let mut page = Page::new(alloc)?;
+    page.octets_mut().fill(octet);
+    Ok(page)
+}
+
+// How many kinds of torn ranges are tried.
+const KINDS: u8 = 4;
+
+// What a torn range holds: the last kind is octets that nobody wrote, an open gate's first of all.
+fn torn(alloc: Global, kind: u8) -> Result<Torn, AllocError> {
+    Ok(match kind {
+        0 => Torn::Old,
+        1 => Torn::New,
+        2 => Torn::Half,
+        _ => Torn::Octets(Vec::from_slice(alloc, &[0xa5, 1, 2, 3, 4, 5, 6, 7, 8, 9])?),
+    })
+}
+
+// So many ranges torn alike.
+fn all_torn(alloc: Global, kind: u8, count: u64) -> Result<Vec<Torn>, AllocError> {
+    let mut choice = Vec::new(alloc);
+    for _ in 0..count {
+        choice.push(torn(alloc, kind)?)?;
+    }
+    Ok(choice)
+}
+
+// The n-th of the failures of four writes and of three syncs, the first of which has this number.
+fn failure(alloc: Global, n: u64, kind: u8, first_sync: u64) -> Result<Failure, AllocError> {
+    if n < 4 {
+        Ok(Failure::Write(n, torn(alloc, kind)?))
+    } else {
+        Ok(Failure::Sync((n - 4).saturating_add(first_sync)))
+    }
+}
+
+fn opened(alloc: Global, disk: MemErase) -> Result<Journal<MemErase>, JournalError> {
+    match Journal::open(alloc, disk) {
+        Ok(journal) => Ok(journal),
+        Err(refused) => Err(refused.error),
+    }
+}
+
+// A disk with four home pages, each filled with one octet.
+fn made(alloc: Global) -> Result<MemErase, JournalError> {
+    let first = [
+        (0, filled(alloc, 10)?),
+        (1, filled(alloc, 11)?),
+        (2, filled(alloc, 12)?),
+        (3, filled(alloc, 13)?),
+    ];
+    let disk = MemErase::new(alloc, 269 * PAGE);
+    match Journal::create_with(alloc, disk, 4, *b"eleven here", &first) {
+        Ok(journal) => Ok(journal.into_disk()),
+        Err(refused) => Err(refused.error),
+    }
+}
+
+// The first octet of each page, where the last one is the same.
+fn shown(alloc: Global, journal: &mut Journal<MemErase>) -> Result<[u8; 4], JournalError> {
+    let mut page = Page::new(alloc)?;
+    let mut all = [0u8; 4];
+    for (n, octet) in all.iter_mut().enumerate() {
+        if (n as u64) < journal.home_pages() {
+            journal.read(n as u64, &mut page)?;
+            if page.octets()[0] == page.octets()[16_383] {
+                *octet = page.octets()[0];
+            }
+        }
+    }
+    Ok(all)
+}
+
+// Posts new pages 1 and 2.
+fn post(alloc: Global, journal: &mut Journal<MemErase>) -> Result<(), JournalError> {
+    if journal.home_pages() != 4 {
+        return Err(JournalError::NotAJournal);
+    }
+    let images = [(1, filled(alloc, 21)?), (2, filled(alloc, 22)?)];
+    journal.post(alloc, &images)
+}
+
+fn home(
+    alloc: Global,
+    journal: &mut Journal<MemErase>,
+    n: u64,
+    octet: u8,
+) -> Result<(), JournalError> {
+    if n >= journal.home_pages() {
+        return Err(JournalError::NotAJournal);
+    }
+    journal.home(n, &filled(alloc, octet)?)
+}
+
+fn checkpoint(journal: &mut Journal<MemErase>) -> Result<(), JournalError> {
+    if journal.unhomed() != 0 {
+        return Err(JournalError::NotAJournal);
+    }
+    journal.checkpoint()
+}
+
+fn scripted(alloc: Global, mut disk: MemErase, failure: Failure) -> Result<MemErase, AllocError> {
+    let mut script = Vec::new(alloc);
+    script.push(failure)?;
+    disk.set_script(script);
+    Ok(disk)
+}
+
+// What is shown after a crash that tears all unsynced ranges alike.
+fn after_crash(alloc: Global, disk: &MemErase, kind: u8) -> Result<[u8; 4], Fail> {
+    let left = disk.crash(&all_torn(alloc, kind, 4)?)?;
+    let mut journal = opened(alloc, left)?;
+    Ok(shown(alloc, &mut journal)?)
+}
+
+#[test]
+fn four_pages_are_created_and_read(rt: HostRuntime) -> Result<(), Fail> {
+    let alloc = rt.alloc();
+    let mut journal = opened(alloc, made(alloc)?)?;
+    assert_eq!(rt; journal.home_pages(), 4);
+    assert_eq!(rt; journal.note(), *b"eleven here");
+    assert_eq!(rt; journal.unhomed(), 0);
+    assert_eq!(rt; journal.closed(), 1);
+    assert_eq!(rt; shown(alloc, &mut journal)?, OLD);
+    Ok(())
+}
+
+#[test]
+fn a_second_post_waits_for_a_checkpoint(rt: HostRuntime) -> Result<(), Fail> {
+    let alloc = rt.alloc();
+    let mut journal = opened(alloc, made(alloc)?)?;
+    post(alloc, &mut journal)?;
+    assert_eq!(rt; shown(alloc, &mut journal)?, NEW);
+    assert_eq!(rt; journal.unhomed(), 2);
+    assert_eq!(rt; journal.closed(), 0);
+    assert_eq!(rt; post(alloc, &mut journal), Err(JournalError::JournalFull));
+    home(alloc, &mut journal, 1, 21)?;
+    home(alloc, &mut journal, 2, 22)?;
+    checkpoint(&mut journal)?;
+    assert_eq!(rt; journal.closed(), 1);
+    assert_eq!(rt; shown(alloc, &mut journal)?, NEW);
+    post(alloc, &mut journal)?;
+    Ok(())
+}
+
+// Thirty-two pages: one more than a post takes.
+fn too_many(alloc: Global) -> Result<Vec<(u64, Page)>, JournalError>
+    ensures below { IfOk result (λ v. AreBelow 32 (pages_of v.items)) }
+    ensures distinct { IfOk result (λ v. AreDistinct (pages_of v.items)) }
+{
+    let mut images = Vec::new(alloc);
+    for n in 0..32u64 {
+        images.push((n, filled(alloc, 9)?))?;
+    }
+    Ok(images)
+}
+
+#[test]
+fn a_post_of_32_pages_is_refused(rt: HostRuntime) -> Result<(), Fail> {
+    let alloc = rt.alloc();
+    let mut journal = match Journal::create(alloc, MemErase::new(alloc, 297 * PAGE), 32) {
+        Ok(journal) => journal,
+        Err(refused) => return Err(refused.error.into()),
+    };
+    let images = too_many(alloc)?;
+    assert_eq!(rt; images.len(), 32);
+    if journal.home_pages() == 32 {
+        let refused = journal.post(alloc, &images);
+        assert_eq!(rt; refused, Err(JournalError::TooManyImages));
+    }
+    assert_eq!(rt; journal.closed(), 1);
+    assert_eq!(rt; journal.unhomed(), 0);
+    assert_eq!(rt; shown(alloc, &mut journal)?, [0; 4]);
+    Ok(())
+}
+
+#[test]
+fn a_post_that_is_stopped_leaves_all_or_none(rt: HostRuntime) -> Result<(), Fail> {
+    let alloc = rt.alloc();
+    for n in 0..6u64 {
+        for kind in 0..KINDS {
+            let disk = scripted(alloc, made(alloc)?, failure(alloc, n, kind, 2)?)?;
+            let mut journal = opened(alloc, disk)?;
+            assert_eq!(rt; post(alloc, &mut journal), Err(JournalError::Fault));
+            assert_eq!(rt; post(alloc, &mut journal), Err(JournalError::NeedsRecovery));
+            let disk = journal.into_disk();
+            for choice in 0..KINDS {
+                let left = after_crash(alloc, &disk, choice)?;
+                assert!(rt;
+                    left == OLD || left == NEW,
+                    "stopped at {n}, {kind}, {choice}"
+                );
+            }
+        }
+    }
+    Ok(())
+}
+
+#[test]
+fn a_post_that_is_done_stays(rt: HostRuntime) -> Result<(), Fail> {
+    let alloc = rt.alloc();
+    let mut journal = opened(alloc, made(alloc)?)?;
+    post(alloc, &mut journal)?;
+    home(alloc, &mut journal, 1, 21)?;
+    let disk = journal.into_disk();
+    for choice in 0..KINDS {
+        assert_eq!(rt; after_crash(alloc, &disk, choice)?, NEW, "torn as {choice}");
+    }
+    Ok(())
+}
+
+#[test]
+fn an_opening_whose_read_fails_loses_nothing(rt: HostRuntime) -> Result<(), Fail> {
+    let alloc = rt.alloc();
+    // The identity page, eight gates, a number, a count, two page numbers, two images: 15 reads.
+    for n in 0..15u64 {
+        let mut journal = opened(alloc, made(alloc)?)?;
+        post(alloc, &mut journal)?;
+        let disk = scripted(alloc, journal.into_disk(), Failure::Read(n))?;
+        let disk = match Journal::open(alloc, disk) {
+            Ok(_) => return Err(JournalError::NotAJournal.into()),
+            Err(refused) => {
+                assert_eq!(rt; refused.error, JournalError::Fault);
+                refused.disk
+            }
+        };
+        for choice in 0..KINDS {
+            assert_eq!(rt; after_crash(alloc, &disk, choice)?, NEW, "{n}, {choice}");
+        }
+    }
+    Ok(())
+}
+
+#[test]
+fn an_opening_that_is_stopped_loses_nothing(rt: HostRuntime) -> Result<(), Fail> {
+    let alloc = rt.alloc();
+    for n in 0..7u64 {
+        for kind in 0..KINDS {
+            let mut journal = opened(alloc, made(alloc)?)?;
+            post(alloc, &mut journal)?;
+            let disk = scripted(alloc, journal.into_disk(), failure(alloc, n, kind, 0)?)?;
+            let disk = match Journal::open(alloc, disk) {
+                Ok(journal) => journal.into_disk(),
+                Err(refused) => refused.disk,
+            };
+            for choice in 0..KINDS {
+                assert_eq!(rt;
+                    after_crash(alloc, &disk, choice)?,
+                    NEW,
+                    "{n}, {kind}, {choice}"
+                );
+            }
+        }
+    }
+    Ok(())
+}
+
+#[test]
+fn a_creation_that_is_stopped_hands_the_disk_back(rt: HostRuntime) -> Result<(), Fail> {
+    let alloc = rt.alloc();
+    // Eight gates and the identity page, each synced.
+    for n in 0..11u64 {
+        let failure = if n < 9 {
+            Failure::Write(n, Torn::Half)
+        } else {
+            Failure::Sync(n - 9)
+        };
+        let disk = scripted(alloc, MemErase::new(alloc, 269 * PAGE), failure)?;
+        let disk = match Journal::create(alloc, disk, 4) {
+            Ok(_) => return Err(JournalError::NotAJournal.into()),
+            Err(refused) => {
+                assert_eq!(rt; refused.error, JournalError::Fault);
+                refused.disk
+            }
+        };
+        assert_eq!(rt; disk.faults(), 1);
+        let mut journal = match Journal::create(alloc, disk, 4) {
+            Ok(journal) => journal,
+            Err(refused) => return Err(refused.error.into()),
+        };
+        assert_eq!(rt; journal.note(), [0; 11]);
+        assert_eq!(rt; shown(alloc, &mut journal)?, [0; 4]);
+    }
+    Ok(())
+}
+
+// A call that left something on a disk.
+#[derive(Clone, Copy, Debug, PartialEq)]
+enum Step {
+    // A write: where it begins, its size, and its first octet.
+    Write { at: u64, size: u64, first: u8 },
+    Sync,
+}
+
+fn write(at: u64, size: u64, first: u8) -> Step {
+    Step::Write { at, size, first }
+}
+
+// What a disk's calls were, but for so many first ones.
+fn steps(alloc: Global, disk: &MemErase, skipped: usize) -> Result<Vec<Step>, AllocError> {
+    let mut steps = Vec::new(alloc);
+    for call in disk.calls().iter().skip(skipped) {
+        steps.push(match call {
+            Call::Write(written) => write(
+                written.at(),
+                written.length(),
+                written.octets().first().copied().unwrap_or(0),
+            ),
+            Call::Sync => Step::Sync,
+        })?;
+    }
+    Ok(steps)
+}
+
+// The octets of a disk's call, where that is a write.
+fn written(disk: &MemErase, n: usize) -> &[u8] {
+    match disk.calls().get(n) {
+        Some(Call::Write(written)) => written.octets(),
+        _ => &[],
+    }
+}
+
+#[test]
+fn a_creation_writes_the_identity_page_last(rt: HostRuntime) -> Result<(), Fail> {
+    let alloc = rt.alloc();
+    let disk = made(alloc)?;
+    let calls = [
+        write(16_384, 1, 0),
+        write(34 * PAGE, 1, 0),
+        write(67 * PAGE, 1, 0),
+        write(100 * PAGE, 1, 0),
+        write(133 * PAGE, 1, 0),
+        write(166 * PAGE, 1, 0),
+        write(199 * PAGE, 1, 0),
+        write(232 * PAGE, 1, 0),
+        write(265 * PAGE, PAGE, 10),
+        write(266 * PAGE, PAGE, 11),
+        write(267 * PAGE, PAGE, 12),
+        write(268 * PAGE, PAGE, 13),
+        Step::Sync,
+        write(0, PAGE, b'R'),
+        Step::Sync,
+    ];
+    assert_eq!(rt; steps(alloc, &disk, 0)?.as_slice(), calls.as_slice());
+    let page = written(&disk, 13);
+    assert!(rt; page.starts_with(b"RHAPAGE1\0\0\0\0\0\0\0\x04eleven here"));
+    assert!(rt; page.iter().skip(27).all(|octet| *octet == 0));
+    Ok(())
+}
+
+#[test]
+fn each_call_writes_and_syncs_in_its_order(rt: HostRuntime) -> Result<(), Fail> {
+    let alloc = rt.alloc();
+    let mut journal = opened(alloc, made(alloc)?)?;
+    post(alloc, &mut journal)?;
+    let disk = journal.into_disk();
+    // The opening has nothing to do but for its two syncs.
+    let calls = [
+        Step::Sync,
+        Step::Sync,
+        write(2 * PAGE, 25, 0),
+        write(3 * PAGE, PAGE, 21),
+        write(4 * PAGE, PAGE, 22),
+        Step::Sync,
+        write(PAGE, 1, 0xa5),
+        Step::Sync,
+    ];
+    assert_eq!(rt; steps(alloc, &disk, 15)?.as_slice(), calls.as_slice());
+    let header = b"\0\0\0\0\0\0\0\x01\x02\0\0\0\0\0\0\0\x01\0\0\0\0\0\0\0\x02";
+    assert_eq!(rt; written(&disk, 17), header.as_slice());
+    let mut journal = opened(alloc, disk)?;
+    post(alloc, &mut journal)?;
+    home(alloc, &mut journal, 2, 22)?;
+    home(alloc, &mut journal, 1, 21)?;
+    checkpoint(&mut journal)?;
+    let calls = [
+        Step::Sync,
+        write(266 * PAGE, PAGE, 21),
+        write(267 * PAGE, PAGE, 22),
+        Step::Sync,
+        write(PAGE, 1, 0),
+        Step::Sync,
+        write(2 * PAGE, 25, 0),
+        write(3 * PAGE, PAGE, 21),
+        write(4 * PAGE, PAGE, 22),
+        Step::Sync,
+        write(PAGE, 1, 0xa5),
+        Step::Sync,
+        write(267 * PAGE, PAGE, 22),
+        write(266 * PAGE, PAGE, 21),
+        Step::Sync,
+        write(PAGE, 1, 0),
+        Step::Sync,
+    ];
+    let disk = journal.into_disk();
+    assert_eq!(rt; steps(alloc, &disk, 23)?.as_slice(), calls.as_slice());
+    assert_eq!(rt; written(&disk, 29), header.as_slice());
+    Ok(())
+}
+
+#[test]
+fn disks_that_are_no_journal(rt: HostRuntime) -> Result<(), Fail> {
+    let alloc = rt.alloc();
+    let small = match Journal::create(alloc, MemErase::new(alloc, 268 * PAGE), 4) {
+        Ok(_) => None,
+        Err(refused) => Some((refused.error, refused.disk.calls().len())),
+    };
+    assert_eq!(rt; small, Some((JournalError::PagesFull, 0)));
+    let blank = opened(alloc, MemErase::new(alloc, 300 * PAGE)).err();
+    assert_eq!(rt; blank, Some(JournalError::NotAJournal));
+    let short = opened(alloc, MemErase::new(alloc, 3 * PAGE)).err();
+    assert_eq!(rt; short, Some(JournalError::NotAJournal));
+    Ok(())
+}
+
+#[test]
+fn an_open_slot_without_images_is_damage(rt: HostRuntime) -> Result<(), Fail> {
+    let alloc = rt.alloc();
+    let mut disk = made(alloc)?;
+    if disk.size() > 1_000_000 {
+        disk.write_at(PAGE * 34, &[0xa5])?;
+    }
+    assert_eq!(rt; opened(alloc, disk).err(), Some(JournalError::BadNode(35)));
+    Ok(())
+}
+
+#[test]
+fn each_other_call_fails_once(rt: HostRuntime) -> Result<(), Fail> {
+    let alloc = rt.alloc();
+    for n in 0..4u64 {
+        let mut journal = opened(alloc, made(alloc)?)?;
+        post(alloc, &mut journal)?;
+        let failure = match n {
+            0 => Failure::Write(3, Torn::Half),
+            1 => Failure::Write(6, Torn::New),
+            2 => Failure::Sync(4),
+            _ => Failure::Sync(5),
+        };
+        let disk = journal.into_disk();
+        let mut journal = opened(alloc, scripted(alloc, disk, failure)?)?;
+        post(alloc, &mut journal).ok();
+        home(alloc, &mut journal, 1, 21).ok();
+        home(alloc, &mut journal, 2, 22).ok();
+        checkpoint(&mut journal).ok();
+        let asks = shown(alloc, &mut journal).err();
+        assert_eq!(rt; asks, Some(JournalError::NeedsRecovery), "call {n}");
+        let disk = journal.into_disk();
+        for choice in 0..KINDS {
+            assert_eq!(rt; after_crash(alloc, &disk, choice)?, NEW, "{n}, {choice}");
+        }
+    }
+    Ok(())
+}
+
+#[test]
+fn a_read_that_fails_keeps_all(rt: HostRuntime) -> Result<(), Fail> {
+    let alloc = rt.alloc();
+    let mut journal = opened(alloc, made(alloc)?)?;
+    post(alloc, &mut journal)?;
+    let disk = scripted(alloc, journal.into_disk(), Failure::Read(40))?;
+    let mut journal = opened(alloc, disk)?;
+    let mut faults = 0;
+    for _ in 0..10 {
+        match shown(alloc, &mut journal) {
+            Ok(all) => assert_eq!(rt; all, NEW),
+            Err(error) => {
+                assert_eq!(rt; error, JournalError::Fault);
+                faults = 1;
+            }
+        }
+    }
+    assert_eq!(rt; faults, 1);
+    Ok(())
+}
+
+// An open slot with one image, of page 1, under this number.
+fn write_slot(
+    alloc: Global,
+    disk: &mut MemErase,
+    slot: u64,
+    number: u8,
+    octet: u8,
+) -> Result<(), Fail> {
+    if disk.size() == 269 * PAGE && slot < 8 {
+        let header = [0, 0, 0, 0, 0, 0, 0, number, 1, 0, 0, 0, 0, 0, 0, 0, 1];
+        disk.write_at(PAGE * (2 + 33 * slot), &header)?;
+        disk.write_at(PAGE * (3 + 33 * slot), filled(alloc, octet)?.octets())?;
+        disk.write_at(PAGE * (1 + 33 * slot), &[0xa5])?;
+    }
+    Ok(())
+}
+
+#[test]
+fn open_slots_are_laid_by_their_numbers(rt: HostRuntime) -> Result<(), Fail> {
+    let alloc = rt.alloc();
+    for (first, second, last) in [(1, 2, 32), (2, 1, 31)] {
+        let mut disk = made(alloc)?;
+        write_slot(alloc, &mut disk, 0, first, 31)?;
+        write_slot(alloc, &mut disk, 5, second, 32)?;
+        let mut journal = opened(alloc, disk)?;
+        assert_eq!(rt; shown(alloc, &mut journal)?, [10, last, 12, 13]);
+    }
+    let mut disk = made(alloc)?;
+    write_slot(alloc, &mut disk, 0, 7, 31)?;
+    write_slot(alloc, &mut disk, 5, 7, 32)?;
+    assert_eq!(rt; opened(alloc, disk).err(), Some(JournalError::BadNode(167)));
+    Ok(())
+}

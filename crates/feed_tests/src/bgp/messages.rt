@@ -1,0 +1,223 @@
+//! Whole messages.
+
+use super::{PLAIN, PLAIN_ROUTE, fault_of, gives, is_spelled, message, octets, told, update};
+use bgp_update::{Message, MessageFault, read_message};
+use route_model::wire::AsWidth;
+use route_model::{Address, Prefix};
+use std::alloc::Global;
+use std::test::Fail;
+
+/// MP_REACH_NLRI of 2001:db8::/32 over 2001:db8::1, with an octet of any value before the prefix.
+const REACH: &str = "800E1A 0002 01 10 20010DB8000000000000000000000001 05 20 20010DB8";
+
+/// Whether this prefix stands at the place.
+fn stands(prefixes: &[Prefix], place: usize, wanted: Prefix) -> bool {
+    match prefixes.get(place) {
+        Some(found) => *found == wanted,
+        None => false,
+    }
+}
+
+/// Whether one prefix stands there, of this length.
+fn is_one(prefixes: &[Prefix], length: u8) -> bool {
+    match prefixes {
+        [only] => only.length() == length,
+        _ => false,
+    }
+}
+
+#[test]
+fn an_announced_prefix_has_the_route_of_the_attributes(rt: HostRuntime) -> Result<(), Fail> {
+    assert!(rt; gives(rt.alloc(), PLAIN, AsWidth::Two, PLAIN_ROUTE)?);
+    let update = told(rt.alloc(), PLAIN, "080A 090AFF", AsWidth::Two)?;
+    let announced = update.announced.ok_or("nothing announced")?;
+    assert!(rt; announced.prefixes.len() == 2);
+    let second = Prefix::containing(Address::V4([10, 128, 0, 0]), 9);
+    assert!(rt; stands(&announced.prefixes, 1, second));
+    assert!(rt; update.withdrawn.is_empty() && update.unreachable.is_empty());
+    assert!(rt; update.reachable.is_none());
+    Ok(())
+}
+
+#[test]
+fn ipv6_by_mp_reach(rt: HostRuntime) -> Result<(), Fail> {
+    let attributes = format!(in rt.alloc(); "40010100 40020A02020000FDE90000FDEA {REACH}")?;
+    let update = told(rt.alloc(), &attributes, "", AsWidth::Four)?;
+    let reachable = update.reachable.ok_or("nothing announced")?;
+    assert!(rt; is_one(&reachable.prefixes, 32));
+    assert!(rt; update.announced.is_none());
+    assert!(rt;
+        is_spelled(
+            rt.alloc(),
+            &reachable.route,
+            "00 0001 0202 0000FDE9 0000FDEA 10 20010DB8000000000000000000000001 00 0000"
+        )?
+    );
+    Ok(())
+}
+
+#[test]
+fn nlri_and_mp_reach_have_their_own_next_hops(rt: HostRuntime) -> Result<(), Fail> {
+    let attributes = format!(in rt.alloc(); "{PLAIN} {REACH}")?;
+    let update = told(rt.alloc(), &attributes, "080A", AsWidth::Two)?;
+    let announced = update.announced.ok_or("nothing announced")?;
+    let reachable = update.reachable.ok_or("nothing reachable")?;
+    assert!(rt; is_spelled(rt.alloc(), &announced.route, PLAIN_ROUTE)?);
+    assert!(rt;
+        is_spelled(
+            rt.alloc(),
+            &reachable.route,
+            "00 0001 0202 0000FDE9 0000FDEA 10 20010DB8000000000000000000000001 00 0000"
+        )?
+    );
+    assert!(rt; is_one(&announced.prefixes, 8) && is_one(&reachable.prefixes, 32));
+    Ok(())
+}
+
+#[test]
+fn withdrawn_prefixes_of_both_kinds(rt: HostRuntime) -> Result<(), Fail> {
+    let behind = octets(rt.alloc(), "0004 18C63364 000A 800F07 0002 01 1020 01")?;
+    let bytes = message(rt.alloc(), 2, &behind)?;
+    assert!(rt;
+        fault_of(rt.alloc(), &bytes, AsWidth::Two) == Some(MessageFault::Malformed),
+        "16 bits in 2 octets are 3"
+    );
+    let behind = octets(rt.alloc(), "0004 18C63364 0009 800F06 0002 01 1020 01")?;
+    let bytes = message(rt.alloc(), 2, &behind)?;
+    let Ok(Message::Update(update)) = read_message(rt.alloc(), &bytes, AsWidth::Two) else {
+        return Err("no update".into());
+    };
+    let lost = Prefix::containing(Address::V4([198, 51, 100, 0]), 24);
+    assert!(rt; update.withdrawn.len() == 1 && stands(&update.withdrawn, 0, lost));
+    assert!(rt; is_one(&update.unreachable, 16));
+    Ok(())
+}
+
+#[test]
+fn other_types_are_read_by_their_header(rt: HostRuntime) -> Result<(), Fail> {
+    let empty = vec![in rt.alloc(); 0u8; 0]?;
+    let one = vec![in rt.alloc(); 7u8; 1]?;
+    let keepalive = message(rt.alloc(), 4, &empty)?;
+    assert!(rt;
+        matches!(
+            &read_message(rt.alloc(), &keepalive, AsWidth::Two),
+            Ok(Message::Other(4))
+        )
+    );
+    let longer = message(rt.alloc(), 4, &one)?;
+    assert!(rt; fault_of(rt.alloc(), &longer, AsWidth::Two) == Some(MessageFault::Malformed));
+    let notification = message(rt.alloc(), 3, &one)?;
+    assert!(rt;
+        matches!(
+            &read_message(rt.alloc(), &notification, AsWidth::Two),
+            Ok(Message::Notification)
+        )
+    );
+    let refresh = message(rt.alloc(), 5, &one)?;
+    assert!(rt;
+        matches!(
+            &read_message(rt.alloc(), &refresh, AsWidth::Two),
+            Ok(Message::Other(5))
+        )
+    );
+    Ok(())
+}
+
+/// Whether an UPDATE with these attributes and this NLRI is malformed.
+fn is_malformed(alloc: Global, attributes: &str, nlri: &str) -> Result<bool, Fail> {
+    let bytes = update(alloc, &octets(alloc, attributes)?, nlri)?;
+    Ok(fault_of(alloc, &bytes, AsWidth::Two) == Some(MessageFault::Malformed))
+}
+
+/// Attributes and NLRI of malformed UPDATEs.
+const UNANNOUNCED: [(&str, &str); 6] = [
+    ("4002060202FDE9FDEA 400304C0000201", "080A"),
+    ("40010100 400304C0000201", "080A"),
+    ("40010100 4002060202FDE9FDEA", "080A"),
+    (PLAIN, "210A00000000"),
+    (PLAIN, "100A"),
+    ("40010100 800E09 0001 01 04 C0000201 00 08 0A", ""),
+];
+
+#[test]
+fn an_announcement_needs_its_attributes(rt: HostRuntime) -> Result<(), Fail> {
+    for (attributes, nlri) in &UNANNOUNCED {
+        assert!(rt;
+            is_malformed(rt.alloc(), attributes, nlri)?,
+            "{attributes} {nlri}"
+        );
+    }
+    assert!(rt; !is_malformed(rt.alloc(), "", "")?, "nothing announced");
+    Ok(())
+}
+
+/// 2001:db8::1 and fe80::1.
+const TWO_HOPS: &str = "20010DB8000000000000000000000001 FE800000000000000000000000000001";
+
+/// Faults of MP_REACH_NLRI and MP_UNREACH_NLRI.
+const MP_FAULTS: [&str; 13] = [
+    "800E00",
+    "800E02 0001",
+    "800E03 0001 01",
+    "800E05 0001 01 00 00",
+    "800E08 0001 01 04 C0000201",
+    "800E09 0002 01 04 C0000201 00",
+    "800E0D 0001 01 08 C0000201C0000202 00",
+    "800E0A 0001 01 04 C0000201 00 08",
+    "800E0F 0001 01 04 C0000201 00 210A00000000",
+    "800F00",
+    "800F02 0001",
+    "800F04 0002 01 08",
+    "800F15 0002 01 81 20010DB8000000000000000000000001 80",
+];
+
+#[test]
+fn attributes_of_many_protocols_have_their_faults(rt: HostRuntime) -> Result<(), Fail> {
+    for fault in &MP_FAULTS {
+        let attributes = format!(in rt.alloc(); "{PLAIN} {fault}")?;
+        assert!(rt; is_malformed(rt.alloc(), &attributes, "")?, "{fault}");
+    }
+    Ok(())
+}
+
+/// MP_REACH_NLRI and MP_UNREACH_NLRI without a prefix.
+const MP_WHOLE: [&str; 6] = [
+    "800E03 0001 80",
+    "800E05 0019 41 0102",
+    "800F03 0001 02",
+    "800E09 0001 01 04 C0000201 FF",
+    "800E15 0001 01 10 20010DB8000000000000000000000001 00",
+    "800F03 0002 01",
+];
+
+#[test]
+fn attributes_of_many_protocols_are_read(rt: HostRuntime) -> Result<(), Fail> {
+    for text in &MP_WHOLE {
+        let attributes = format!(in rt.alloc(); "{PLAIN} {text}")?;
+        let update = told(rt.alloc(), &attributes, "080A", AsWidth::Two)?;
+        assert!(rt;
+            update.unreachable.is_empty() && update.reachable.is_none(),
+            "{text}"
+        );
+        assert!(rt; update.announced.is_some(), "{text}");
+    }
+    let attributes = format!(in rt.alloc(); "{PLAIN} 800E27 0001 01 20 {TWO_HOPS} 00 080B")?;
+    let update = told(rt.alloc(), &attributes, "", AsWidth::Two)?;
+    let reachable = update.reachable.ok_or("nothing reachable")?;
+    let route = format!(in rt.alloc(); "00 0001 0202 0000FDE9 0000FDEA 20 {TWO_HOPS} 00 0000")?;
+    assert!(rt; is_spelled(rt.alloc(), &reachable.route, &route)?);
+    Ok(())
+}
+
+#[test]
+fn a_message_is_its_length(rt: HostRuntime) -> Result<(), Fail> {
+    let bytes = update(rt.alloc(), &octets(rt.alloc(), PLAIN)?, "080A")?;
+    for len in 0..bytes.len() {
+        let (cut, _) = bytes.split_at_checked(len).ok_or("cut")?;
+        assert!(rt;
+            fault_of(rt.alloc(), cut, AsWidth::Two) == Some(MessageFault::Malformed),
+            "cut at {len}"
+        );
+    }
+    Ok(())
+}

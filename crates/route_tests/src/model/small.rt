@@ -1,0 +1,124 @@
+//! Peers, prefixes, moments, marks, and numbers among octets.
+
+use route_model::octets::{u16_at, u32_at, u64_at};
+use route_model::{Address, Mark, Moment, Peer, Prefix};
+use std::test::Fail;
+
+/// Peer 192.0.2.1 of AS 65001 at collector 0.
+pub(crate) const PEER: [u8; 22] = [
+    0, 4, 0xC0, 0, 2, 1, 0, 0, 0, 0, 0, 0, 0, 0, 0, 0, 0, 0, 0, 0, 0xFD, 0xE9,
+];
+
+pub(crate) fn peer() -> Peer {
+    Peer {
+        collector: 0,
+        address: Address::V4([192, 0, 2, 1]),
+        as_number: 65001,
+    }
+}
+
+fn ipv6_peer() -> Peer {
+    Peer {
+        collector: 15,
+        address: Address::V6([0x20, 1, 0x0D, 0xB8, 0, 0, 0, 0, 0, 0, 0, 0, 0, 0, 0, 1]),
+        as_number: 4_200_000_001,
+    }
+}
+
+#[test]
+fn peers_have_one_spelling(rt: HostRuntime) -> Result<(), Fail> {
+    assert_eq!(rt; peer().encode(), PEER);
+    assert_eq!(rt; peer().encoded_len(), 22);
+    assert_eq!(rt; Peer::decode(&PEER), Some(peer()));
+    let octets = [
+        15, 6, 0x20, 1, 0x0D, 0xB8, 0, 0, 0, 0, 0, 0, 0, 0, 0, 0, 0, 1, 0xFA, 0x56, 0xEA, 1,
+    ];
+    assert_eq!(rt; ipv6_peer().encode(), octets);
+    assert_eq!(rt; Peer::decode(&octets), Some(ipv6_peer()));
+    Ok(())
+}
+
+#[test]
+fn other_octets_are_no_peer(rt: HostRuntime) -> Result<(), Fail> {
+    let mut octets = PEER;
+    octets[1] = 5;
+    assert_eq!(rt; Peer::decode(&octets), None, "no family");
+    let mut octets = PEER;
+    octets[6] = 1;
+    assert_eq!(rt;
+        Peer::decode(&octets),
+        None,
+        "no zeros behind an IPv4 address"
+    );
+    assert_eq!(rt; Peer::decode(&PEER[..21]), None, "cut");
+    let mut long = [0u8; 23];
+    long[0..22].copy_from_slice(&PEER);
+    assert_eq!(rt; Peer::decode(&long), None, "an octet left");
+    assert_eq!(rt; Peer::decode(&[]), None);
+    Ok(())
+}
+
+#[test]
+fn prefixes_have_one_spelling(rt: HostRuntime) -> Result<(), Fail> {
+    let ten = Prefix::containing(Address::V4([10, 1, 2, 3]), 8);
+    assert_eq!(rt; ten.address(), Address::V4([10, 0, 0, 0]));
+    assert_eq!(rt; ten.length(), 8);
+    assert_eq!(rt; ten.encoded_len(), 3);
+    assert_eq!(rt; ten.encode(rt.alloc())?.as_slice(), [4, 8, 10].as_slice());
+    assert_eq!(rt; Prefix::decode(&[4, 8, 10]), Some(ten));
+    let all = Prefix::containing(Address::V4([255, 255, 255, 255]), 0);
+    assert_eq!(rt; all.encode(rt.alloc())?.as_slice(), [4, 0].as_slice());
+    let odd = Prefix::containing(Address::V4([9, 10, 255, 255]), 9);
+    assert_eq!(rt; odd.encode(rt.alloc())?.as_slice(), [4, 9, 9, 0].as_slice());
+    let six = Prefix::containing(
+        Address::V6([0x20, 1, 0x0D, 0xB8, 0, 0, 0, 0, 0, 0, 0, 0, 0, 0, 0, 1]),
+        32,
+    );
+    assert_eq!(rt;
+        six.encode(rt.alloc())?.as_slice(),
+        [6, 32, 0x20, 1, 0x0D, 0xB8].as_slice()
+    );
+    assert_eq!(rt; Prefix::decode(&[6, 32, 0x20, 1, 0x0D, 0xB8]), Some(six));
+    Ok(())
+}
+
+/// Octets that are no prefix, and why.
+const NO_PREFIXES: [(&str, &[u8]); 8] = [
+    ("bits past the length", &[4, 9, 10, 255]),
+    ("a length above 32", &[4, 33, 10, 0, 0, 0, 0]),
+    ("a length above 128", &[6, 129, 0]),
+    ("no family", &[5, 8, 10]),
+    ("cut", &[4, 16, 10]),
+    ("an octet left", &[4, 8, 10, 0]),
+    ("no length", &[4]),
+    ("nothing", &[]),
+];
+
+#[test]
+fn other_octets_are_no_prefix(rt: HostRuntime) {
+    for (fault, octets) in &NO_PREFIXES {
+        assert!(rt; Prefix::decode(octets).is_none(), "{fault}");
+    }
+}
+
+#[test]
+fn moments_and_marks_have_their_range(rt: HostRuntime) -> Result<(), Fail> {
+    let last = Moment::new(4_294_967_295).ok_or("no moment")?;
+    assert_eq!(rt; last.seconds(), 4_294_967_295);
+    assert_eq!(rt; Moment::new(4_294_967_296), None);
+    assert_eq!(rt; Moment::from(1_704_067_200u32).seconds(), 1_704_067_200);
+    let end = Mark::new(4_294_967_296).ok_or("no mark")?;
+    assert_eq!(rt; end.seconds(), 4_294_967_296);
+    assert_eq!(rt; Mark::new(4_294_967_297), None);
+    assert_eq!(rt; Mark::at(last).seconds(), 4_294_967_295);
+    assert!(rt; Mark::at(last) < end);
+    Ok(())
+}
+
+#[test]
+fn numbers_stand_in_network_order(rt: HostRuntime) {
+    let octets = [0, 0xFD, 0xE9, 0x65, 0x92, 0, 0x80, 0, 0, 1];
+    assert_eq!(rt; u16_at(&octets, 1), 65001);
+    assert_eq!(rt; u32_at(&octets, 3), 1_704_067_200);
+    assert_eq!(rt; u64_at(&octets, 2), 0xE965_9200_8000_0001);
+}
