@@ -7,8 +7,8 @@ use Rattle.route_model.specs.Admission.{Admitted}
 use Rattle.route_meaning.specs.Holds.{time_of, until}
 use Rattle.route_meaning.specs.Merged.{Placed}
 use Rattle.route_meaning.specs.History.{all_of, waiting, applied, settled}
-use Rattle.route_meaning.proofs.Settling.{until-applied, until-late, waiting_after_settled}
-use Rattle.route_meaning.proofs.Agreeing.{IsAnswer-until, IsEventsAnswer-until}
+use Rattle.route_meaning.proofs.api.Settling.{until-applied, until-late, waiting_after_settled}
+use Rattle.route_meaning.proofs.api.Agreeing.{IsAnswer-until, IsEventsAnswer-until}
 use Rattle.sequencer.specs.Lanes.{Waiting}
 use Rattle.archive.specs.declared.question.Query.{Query}
 use Rattle.archive.specs.declared.question.Query.TheVariants.{Rows, Events}

@@ -7,12 +7,12 @@ use Rattle.route_model.specs.Admission.{Admitted}
 use Rattle.route_meaning.specs.Holds.{admitted_time, time_of}
 use Rattle.route_meaning.specs.Merged.{Placed, placed, part, insert_by, by_time, all_placed, merged, IsRising}
 use Rattle.route_meaning.specs.History.{History, IsIntake, IsHistory, IsBelowMarks, all_of, begun, waiting}
-use Rattle.route_meaning.proofs.Sorting.{all_weaker, all_append}
-use Rattle.route_meaning.proofs.OneOrder.{merged-first}
-use Rattle.route_meaning.proofs.Front.{all_left, take_next, length_of_drop}
+use Rattle.route_meaning.proofs.api.Sorting.{all_weaker, all_append}
+use Rattle.route_meaning.proofs.api.OneOrder.{merged-first}
+use Rattle.route_meaning.proofs.api.Front.{all_left, take_next, length_of_drop}
 use Rattle.sequencer.specs.Lanes.{Waiting, marks, waiting_times, in_order, IsOpen, NoneOpen, Releases}
 use Rattle.sequencer.specs.First.{IsNext}
-use Rattle.sequencer.proofs.Setting.{one_there, marks_same, times_set}
+use Rattle.sequencer.proofs.api.Setting.{one_there, marks_same, times_set}
 use Rattle.archive.proofs.Batches.{times_at}
 use Rattle.archive.specs.Kept.{Queued, intakes_of, history_of, waiting_of, AreCounted, IsKept}
 use Rattle.archive.specs.Steps.{Applies, NothingToApply, moved}

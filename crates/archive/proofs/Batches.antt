@@ -5,15 +5,15 @@ use Rattle.std.proofs.lemmas.List.{take_more, map-append}
 use Rattle.std.proofs.lemmas.Bool.{lt-ltb, le-ltb, cases_Bool}
 use Rattle.route_model.specs.Admission.{Admitted, admission_octets, IsAdmission}
 use Rattle.route_meaning.specs.Holds.{admitted_time}
-use Rattle.route_meaning.proofs.Sorting.{all_append}
+use Rattle.route_meaning.proofs.api.Sorting.{all_append}
 use Rattle.sequencer.specs.declared.late.Late.{Late}
 use Rattle.sequencer.specs.declared.late.Sieved.{Sieved}
 use Rattle.sequencer.specs.Late.{greatest, is_late, timely, lates}
 use Rattle.sequencer.specs.Lanes.{Waiting, marks, waiting_times, SameLanes}
 use Rattle.sequencer.specs.Taking.{IsSieved, TakesIn}
-use Rattle.sequencer.proofs.Sieving.{timely-push, greatest-push}
-use Rattle.sequencer.proofs.Rising.{few_timely}
-use Rattle.sequencer.proofs.Setting.{one_there}
+use Rattle.sequencer.proofs.api.Sieving.{timely-push, greatest-push}
+use Rattle.sequencer.proofs.api.Rising.{few_timely}
+use Rattle.sequencer.proofs.api.Setting.{one_there}
 use Rattle.archive.specs.Steps.{batch_octets}
 
 pub timely-map : {X : Type 0} (f : X → ℕ) (mark : ℕ) (earlier : List ℕ) (xs : List X) → timely (λ t. t) mark earlier (map f xs) ≡ map f (timely f mark earlier xs)

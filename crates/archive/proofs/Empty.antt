@@ -3,7 +3,7 @@ use Rattle.std.proofs.Common.{◌≡◌, ℕ, ◌≤◌, List, [], ◌∷◌, �
 use Rattle.std.specs.List.{AllByRecursion}
 use Rattle.route_meaning.specs.Holds.{admitted_time}
 use Rattle.route_meaning.specs.History.{Intake, IsIntake, IsHistory}
-use Rattle.route_meaning.proofs.Sorting.{all_append}
+use Rattle.route_meaning.proofs.api.Sorting.{all_append}
 use Rattle.sequencer.specs.Lanes.{Waiting, marks, waiting_times}
 use Rattle.archive.specs.Kept.{Queued, intakes_of, history_of, AreCounted, IsKept}
 use Rattle.archive.specs.Carries.{Carries}

@@ -7,18 +7,18 @@ use Rattle.route_model.specs.Admission.{Admitted, IsAdmission}
 use Rattle.route_meaning.specs.Holds.{admitted_time, time_of}
 use Rattle.route_meaning.specs.Merged.{Placed, part, IsRising}
 use Rattle.route_meaning.specs.History.{Intake, History, IsIntake, IsHistory, IsBelowMarks, GoesOn, floor, Begins, all_of, begun, waiting, applied}
-use Rattle.route_meaning.proofs.Sorting.{all_weaker, all_append}
-use Rattle.route_meaning.proofs.Beginning.{GoesOn-refl, each-refl}
-use Rattle.route_meaning.proofs.Front.{front_kept, front_stays, all_left, all_right, take_next, drop_same, begun_time, length_of_drop}
+use Rattle.route_meaning.proofs.api.Sorting.{all_weaker, all_append}
+use Rattle.route_meaning.proofs.api.Beginning.{GoesOn-refl, each-refl}
+use Rattle.route_meaning.proofs.api.Front.{front_kept, front_stays, all_left, all_right, take_next, drop_same, begun_time, length_of_drop}
 use Rattle.sequencer.specs.Late.{greatest, timely}
 use Rattle.sequencer.specs.Lanes.{Waiting, IsLane, marks, waiting_times}
-use Rattle.sequencer.proofs.Rising.{taken_in, greatest-above, timely_above}
+use Rattle.sequencer.proofs.api.Rising.{taken_in, greatest-above, timely_above}
 use Rattle.archive.specs.Kept.{Queued, intakes_of, history_of, AreCounted, IsKept}
 use Rattle.sequencer.specs.Lanes.{SameLanes}
-use Rattle.sequencer.proofs.Setting.{one_there, all_at}
+use Rattle.sequencer.proofs.api.Setting.{one_there, all_at}
 use Rattle.archive.specs.declared.admit.Admitted.{Admitted as Reply}
 use Rattle.archive.specs.Replies.{IsReply}
-use Rattle.archive.specs.Taking.{IsTaken, SameQueue}
+use Rattle.archive.specs.inner.Taking.{IsTaken, SameQueue}
 use Rattle.archive.specs.Steps.{changed, with_batch, given, IsCounterFull}
 use Rattle.archive.proofs.Keeping.{same_number}
 use Rattle.archive.proofs.Marking.{same_marks}

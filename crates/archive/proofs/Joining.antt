@@ -6,7 +6,7 @@ use Rattle.route_model.specs.Admission.{Admitted}
 use Rattle.route_meaning.specs.Holds.{admitted_time}
 use Rattle.route_meaning.specs.History.{Intake, History}
 use Rattle.sequencer.specs.Late.{greatest, is_late, timely}
-use Rattle.sequencer.proofs.Sieving.{is_late-greatest}
+use Rattle.sequencer.proofs.api.Sieving.{is_late-greatest}
 use Rattle.archive.specs.Steps.{changed, with_batch, given}
 
 max_swap : (x y n : ℕ) → max x (max y n) ≡ max y (max x n)

@@ -7,9 +7,9 @@ use Rattle.route_model.specs.Admission.{Admitted}
 use Rattle.route_meaning.specs.Holds.{admitted_time, time_of}
 use Rattle.route_meaning.specs.Merged.{Placed, all_placed, merged, part, parts, IsInOrder, IsRising}
 use Rattle.route_meaning.specs.History.{Intake, IsIntake, all_of, waiting, first_or, bounds, settled, least}
-use Rattle.route_meaning.proofs.Sorting.{all_weaker, all_by_time}
-use Rattle.route_meaning.proofs.OneOrder.{merged-parts, parts-merged, IsInOrder-merged}
-use Rattle.route_meaning.proofs.Settling.{all_drop, all_placed_within}
+use Rattle.route_meaning.proofs.api.Sorting.{all_weaker, all_by_time}
+use Rattle.route_meaning.proofs.api.OneOrder.{merged-parts, parts-merged, IsInOrder-merged}
+use Rattle.route_meaning.proofs.api.Settling.{all_drop, all_placed_within}
 use Rattle.sequencer.specs.Lanes.{Waiting, waiting_times, bound_of, least as least_bound}
 use Rattle.archive.specs.Kept.{Queued, intakes_of, history_of, waiting_of, IsKept}
 

@@ -5,9 +5,9 @@ use Rattle.route_model.specs.Admission.{Admitted}
 use Rattle.route_meaning.specs.Holds.{admitted_time, time_of}
 use Rattle.route_meaning.specs.Merged.{Placed, part, merged}
 use Rattle.route_meaning.specs.History.{Intake, History, IsIntake, IsHistory, IsBelowMarks, all_of, front, applied}
-use Rattle.route_meaning.proofs.Sorting.{all_weaker}
+use Rattle.route_meaning.proofs.api.Sorting.{all_weaker}
 use Rattle.sequencer.specs.Lanes.{Waiting, marks, Raises, IsAbove}
-use Rattle.sequencer.proofs.Setting.{one_there}
+use Rattle.sequencer.proofs.api.Setting.{one_there}
 use Rattle.archive.specs.Kept.{Queued, intakes_of, history_of, IsKept}
 use Rattle.archive.specs.Steps.{changed, with_mark, marked, IsMarkAbove}
 use Rattle.archive.proofs.Keeping.{same_number}

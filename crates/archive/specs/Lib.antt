@@ -2,4 +2,4 @@ pub mod Carries
 pub mod Steps
 pub mod Replies
 pub mod Kept
-pub mod Taking
+pub mod inner

@@ -7,7 +7,7 @@ ghost use Rattle.route_meaning.specs.Holds.{admitted_time};
 ghost use Rattle.sequencer.specs.Lanes.{SameLanes, marks};
 ghost use Rattle.sequencer.specs.Late.{timely};
 ghost use Rattle.archive.specs.Steps.{batch_octets};
-ghost use Rattle.archive.specs.Taking.{IsTaken, SameQueue};
+ghost use Rattle.archive.specs.inner.Taking.{IsTaken, SameQueue};
 
 use crate::queue::Queue;
 use route_model::{Admission, Mark, Moment};

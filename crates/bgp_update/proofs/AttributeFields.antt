@@ -8,9 +8,9 @@ use Rattle.std.proofs.lemmas.List.Folds.{list_any-append}
 use Rattle.route_model.specs.Octets.{number_at}
 use Rattle.bgp_update.specs.AttributeFields.{IsAttributeField, NoneTwice, AreListed, header_size}
 use Rattle.bgp_update.specs.declared.attribute.PathAttribute.{PathAttribute}
-use Rattle.route_model.proofs.Sequences.{IsPrefixFree, same_fronts, ReadSoFar, read_on, read_front}
+use Rattle.route_model.proofs.api.Sequences.{IsPrefixFree, same_fronts, ReadSoFar, read_on, read_front}
 use Rattle.bgp_update.proofs.SegmentFields.{same_octet}
-use Rattle.route_model.proofs.Fronts.{number_at-append}
+use Rattle.route_model.proofs.api.Fronts.{number_at-append}
 
 abbrev made : ℕ → ℕ → List ℕ → PathAttribute
 made f k v = record { flags = f; kind = k; value = v }

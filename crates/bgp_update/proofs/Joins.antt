@@ -4,7 +4,7 @@ use Rattle.std.proofs.lemmas.Bool.{cases_lt, lt-ltb, le-ltb}
 use Rattle.std.proofs.lemmas.Bool.Decides.{eqb_tells}
 use Rattle.std.proofs.lemmas.List.{take-append-drop, length-take, length-append, append-nil, take_at}
 use Rattle.std.proofs.Math.Seq.{drop-cons, take-suc}
-use Rattle.route_model.proofs.Sequences.{empty_is}
+use Rattle.route_model.proofs.api.Sequences.{empty_is}
 use Rattle.route_model.specs.declared.path.Segment.{Segment}
 use Rattle.route_model.specs.declared.path.Segment.TheVariants as segments
 use Rattle.bgp_update.specs.Paths.{numbers}

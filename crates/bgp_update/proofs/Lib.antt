@@ -3,8 +3,6 @@ pub mod SegmentFields
 pub mod AttributeFields
 pub mod Optional
 pub mod Kept
-pub mod OneReading
 pub mod Laid
-pub mod Reached
 pub mod Updates
-pub mod Told
+pub mod api

@@ -8,7 +8,7 @@ use Rattle.route_model.specs.declared.octets.ReadFault.{ReadFault}
 use Rattle.route_model.specs.declared.octets.ReadFault.TheVariants as faults
 use Rattle.route_model.specs.declared.path.Segment.{Segment}
 use Rattle.route_model.specs.declared.path.Segment.TheVariants as segments
-use Rattle.route_model.proofs.Sequences.{IsPrefixFree, same_fronts, ReadSoFar, read_start, read_on, read_all, read_none, sequence_one}
+use Rattle.route_model.proofs.api.Sequences.{IsPrefixFree, same_fronts, ReadSoFar, read_start, read_on, read_all, read_none, sequence_one}
 use Rattle.bgp_update.specs.Paths.{IsSegmentField, IsPath, has_numbers, code, numbers}
 
 -- an octet of the front is that of the whole

@@ -3,7 +3,7 @@ use Rattle.std.proofs.Common.{◌≡◌, ℕ, List, ◌++◌, length, take, drop
 use Rattle.std.specs.Prelude.{Result, Ok, Err}
 use Rattle.std.proofs.Math.Seq.{drop-append_seam, take-append_seam}
 use Rattle.route_model.specs.Octets.{number_at}
-use Rattle.route_model.proofs.Fronts.{number_at-append}
+use Rattle.route_model.proofs.api.Fronts.{number_at-append}
 use Rattle.route_model.specs.Reading.{Exactly}
 use Rattle.route_model.specs.Sequence.{Sequence}
 use Rattle.route_model.specs.Prefix.{IpPrefix}
@@ -18,8 +18,8 @@ use Rattle.bgp_update.specs.Readings.{AreAttributes}
 use Rattle.bgp_update.specs.NextHops.{IsReached, AreReached, AreUnreached, hop_of}
 use Rattle.bgp_update.specs.Routes.{route_of, four_hop}
 use Rattle.bgp_update.specs.Messages.{Changes, Announced, IsAnnounced, IsCounted, IsUpdateOf, IsUpdate}
-use Rattle.bgp_update.proofs.OneReading.{attributes_one}
-use Rattle.bgp_update.proofs.Reached.{reached_one, prefixes_one, ipv4_one}
+use Rattle.bgp_update.proofs.api.OneReading.{attributes_one}
+use Rattle.bgp_update.proofs.api.Reached.{reached_one, prefixes_one, ipv4_one}
 
 -- where the size, the field and the rest stand
 tells_size : (size more field : List ℕ) → length size ≡ 2 → number_at 2 0 size ≡ length field → number_at 2 0 (size ++ more) ≡ length field

@@ -3,9 +3,9 @@ pub mod Paths
 pub mod Joining
 pub mod Values
 pub mod Readings
-pub mod Parts
 pub mod NextHops
 pub mod Routes
 pub mod Messages
 pub mod Faults
 pub mod Entries
+pub mod inner

@@ -5,7 +5,7 @@ ghost use Rattle.route_model.specs.Octets.{number_at};
 ghost use Rattle.route_model.specs.Widths.{width_of};
 ghost use Rattle.route_model.specs.Reading.{Exactly, AtFrontOr};
 ghost use Rattle.bgp_update.specs.Paths.{IsSegmentField, IsPath, has_numbers};
-ghost use Rattle.bgp_update.specs.Parts.{segment_of};
+ghost use Rattle.bgp_update.specs.inner.Parts.{segment_of};
 
 use route_model::octets::ReadFault;
 use route_model::wire::{AsWidth, as_number_at, octets_of};

@@ -4,8 +4,8 @@ use Rattle.std.proofs.lemmas.List.{take-append-le}
 use Rattle.std.proofs.lemmas.Bool.{cases_lt}
 use Rattle.disk_models.specs.Octets.{octets, Within}
 use Rattle.disk_models.specs.Erase.{MayLeave, MayLeaveBut, Leaves, WritesWithin, Lingers, Syncs, Stays}
-use Rattle.disk_models.proofs.Moments.{leaves_none, within_none, stays_none, as_before_none}
-use Rattle.disk_models.proofs.OctetLemmas.{octets_by_index}
+use Rattle.disk_models.proofs.api.Moments.{leaves_none, within_none, stays_none, as_before_none}
+use Rattle.disk_models.proofs.api.OctetLemmas.{octets_by_index}
 use Rattle.disk_memory.specs.declared.call.Call.{Call}
 use Rattle.disk_memory.specs.declared.call.Call.TheVariants.{Write, Sync}
 use Rattle.disk_memory.specs.Writing.{Writing}

@@ -1,6 +1,4 @@
-pub mod OctetLemmas
-pub mod Moments
-pub mod Overlay
 pub mod Pairs
 pub mod PageLemmas
 pub mod BlockLemmas
+pub mod api

@@ -3,7 +3,7 @@ use Rattle.std.proofs.Common.{◌≡◌, ◌⊎◌, inl, inr, ⊎_elim, ◌≤�
 use Rattle.disk_models.specs.Erase.{DiskState, MayLeave, Leaves, IsSound}
 use Rattle.disk_models.specs.Once.{OnceState, Grows}
 use Rattle.disk_models.specs.Left.{Left, HasSettled, present, CrashPair, LeftNow, IsFound, WithSettled}
-use Rattle.disk_models.proofs.Moments.{leaves_then, leaves_weaker, synced_leave}
+use Rattle.disk_models.proofs.api.Moments.{leaves_then, leaves_weaker, synced_leave}
 
 -- no call of the write-once disk
 pub grows_none : (o : OnceState) → Grows o o

@@ -7,7 +7,7 @@ use Rattle.route_model.specs.Reading.{BeginsWith, NoReading}
 use Rattle.route_model.specs.Prefix.{IpPrefix}
 use Rattle.route_model.specs.declared.octets.ReadFault.{ReadFault}
 use Rattle.route_model.specs.declared.octets.ReadFault.TheVariants as faults
-use Rattle.route_model.proofs.Sequences.{sequence_one}
+use Rattle.route_model.proofs.api.Sequences.{sequence_one}
 use Rattle.mrt_records.specs.declared.neighbor.Neighbor.{Neighbor}
 use Rattle.route_model.specs.declared.wire.AsWidth.{AsWidth}
 use Rattle.route_model.specs.declared.wire.Family.{Family}
@@ -23,7 +23,7 @@ use Rattle.mrt_records.specs.Records.{timestamp, kind, subtype, body}
 use Rattle.mrt_records.specs.Bodies.{Reads, IsTold, IsListed, Body}
 use Rattle.mrt_records.proofs.Peers.{peers_free}
 use Rattle.mrt_records.proofs.EntryFields.{entries_free}
-use Rattle.route_model.proofs.PrefixFields.{prefixes_free}
+use Rattle.route_model.proofs.api.PrefixFields.{prefixes_free}
 
 -- ---- peer tables
 

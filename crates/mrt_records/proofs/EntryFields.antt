@@ -2,11 +2,11 @@
 use Rattle.std.proofs.Common.{◌≡◌, ℕ, ◌+◌, ◌≤◌, List, [], ◌∷◌, ◌++◌, length, take, drop, sym, ap, subst, ◌∙◌, arith}
 use Rattle.std.proofs.lemmas.List.{length-take, drop-take, drop-drop, map_push}
 use Rattle.route_model.specs.Octets.{number_at}
-use Rattle.route_model.proofs.Sequences.{IsPrefixFree, same_fronts, ReadSoFar, read_on}
+use Rattle.route_model.proofs.api.Sequences.{IsPrefixFree, same_fronts, ReadSoFar, read_on}
 use Rattle.mrt_records.specs.Entries.{Entry, IsEntryField}
 use Rattle.mrt_records.specs.Places.{entry_in, entries_in, IsWithin, AreWithin}
 use Rattle.mrt_records.specs.declared.entries.Place.{Place}
-use Rattle.route_model.proofs.Fronts.{number_at-take, same_number}
+use Rattle.route_model.proofs.api.Fronts.{number_at-take, same_number}
 
 abbrev pub made : ℕ → List ℕ → Entry
 made p a = record { peer_index = p; attributes = a }

@@ -3,5 +3,4 @@ pub mod Peers
 pub mod Bodies
 pub mod OneItem
 pub mod SomeItem
-pub mod Streams
-pub mod Pieces
+pub mod api

@@ -6,7 +6,7 @@ use Rattle.route_model.specs.Octets.{number_at}
 use Rattle.route_model.specs.Sequence.{Sequence}
 use Rattle.route_model.specs.Prefix.{IpPrefix}
 use Rattle.route_model.specs.declared.address.Address.{Address}
-use Rattle.route_model.proofs.Sequences.{sequence_one}
+use Rattle.route_model.proofs.api.Sequences.{sequence_one}
 use Rattle.mrt_records.specs.declared.neighbor.Neighbor.{Neighbor}
 use Rattle.route_model.specs.declared.wire.AsWidth.{AsWidth}
 use Rattle.route_model.specs.declared.wire.AsWidth.TheVariants as widths
@@ -25,7 +25,7 @@ use Rattle.mrt_records.specs.Records.{timestamp, kind, subtype, body}
 use Rattle.mrt_records.specs.Bodies.{IsListed, Reads, Body}
 use Rattle.mrt_records.proofs.Peers.{made, address_one, peers_free}
 use Rattle.mrt_records.proofs.EntryFields.{entries_free}
-use Rattle.route_model.proofs.PrefixFields.{prefixes_free}
+use Rattle.route_model.proofs.api.PrefixFields.{prefixes_free}
 use Rattle.mrt_records.proofs.Bodies.{rib_parts}
 
 -- ---- a type and subtype have one form

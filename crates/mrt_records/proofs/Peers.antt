@@ -3,7 +3,7 @@ use Rattle.std.proofs.Common.{◌≡◌, ℕ, ◌+◌, ◌≤◌, List, length, 
 use Rattle.std.proofs.lemmas.List.{length-take, drop-take, take-take, take-append-drop}
 use Rattle.route_model.specs.Octets.{number_at}
 use Rattle.route_model.specs.declared.address.Address.{Address}
-use Rattle.route_model.proofs.Sequences.{IsPrefixFree, same_fronts}
+use Rattle.route_model.proofs.api.Sequences.{IsPrefixFree, same_fronts}
 use Rattle.mrt_records.specs.declared.neighbor.Neighbor.{Neighbor}
 use Rattle.route_model.specs.declared.wire.AsWidth.{AsWidth}
 use Rattle.route_model.specs.declared.wire.Family.{Family}
@@ -12,7 +12,7 @@ use Rattle.route_model.specs.PrefixFields.{address_size}
 use Rattle.mrt_records.specs.Sessions.{IsAddressOf}
 use Rattle.route_model.specs.Widths.{width_of}
 use Rattle.mrt_records.specs.PeerTables.{IsPeer, IsPeerField, family_of_type, width_of_type}
-use Rattle.route_model.proofs.Fronts.{number_at-take, same_first, first_octet}
+use Rattle.route_model.proofs.api.Fronts.{number_at-take, same_first, first_octet}
 
 abbrev pub made : Address → ℕ → Neighbor
 made a n = record { address = a; as_number = n }

@@ -9,7 +9,7 @@ use Rattle.route_model.specs.Reading.{BeginsWith}
 use Rattle.route_model.specs.Prefix.{IpPrefix, cleared}
 use Rattle.route_model.specs.declared.address.Address.{Address}
 use Rattle.route_model.specs.declared.address.Address.TheVariants.{V4, V6}
-use Rattle.route_model.proofs.Sequences.{IsPrefixFree, empty_is, read_start, read_none, sequence_one}
+use Rattle.route_model.proofs.api.Sequences.{IsPrefixFree, empty_is, read_start, read_none, sequence_one}
 use Rattle.mrt_records.specs.declared.neighbor.Neighbor.{Neighbor}
 use Rattle.route_model.specs.declared.wire.AsWidth.{AsWidth}
 use Rattle.route_model.specs.declared.wire.AsWidth.TheVariants as widths
@@ -26,10 +26,10 @@ use Rattle.mrt_records.specs.Ribs.{IsRib}
 use Rattle.mrt_records.specs.Values.{Reading, Message, StateChange, PeerTable, Rib, Told, Read, Skipped, Malformed}
 use Rattle.mrt_records.specs.Records.{timestamp, kind, subtype, body}
 use Rattle.mrt_records.specs.Bodies.{IsSessionKind, IsListed, Reads, Body}
-use Rattle.route_model.proofs.Fronts.{number_at-append, first_octet}
+use Rattle.route_model.proofs.api.Fronts.{number_at-append, first_octet}
 use Rattle.mrt_records.proofs.Peers.{made, peers_free, peer_front}
 use Rattle.mrt_records.proofs.EntryFields.{entries_free, entry_front}
-use Rattle.route_model.proofs.PrefixFields.{prefixes_free}
+use Rattle.route_model.proofs.api.PrefixFields.{prefixes_free}
 use Rattle.mrt_records.proofs.Bodies.{rib_parts, rib_begins, message_none, told_state_change, table_told_none, rib_told_none}
 use Rattle.mrt_records.proofs.OneItem.{family_one, session_one}
 

@@ -9,4 +9,4 @@ pub mod Ribs
 pub mod Bodies
 pub mod Streams
 pub mod Feeding
-pub mod Front
+pub mod inner

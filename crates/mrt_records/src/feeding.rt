@@ -4,7 +4,7 @@ ghost use Rattle.std.specs.Prelude.{◌≡◌, ◌+◌, ◌<◌, ◌≤◌, ℕ,
 ghost use Rattle.mrt_records.specs.Records.{IsRecord, Over, BeginsWithRecord};
 ghost use Rattle.mrt_records.specs.Streams.{Gains, GainsFrames};
 ghost use Rattle.mrt_records.specs.Feeding.{IsHeld, Goes};
-ghost use Rattle.mrt_records.specs.Front.{IsToppedUp, IsFilled};
+ghost use Rattle.mrt_records.specs.inner.Front.{IsToppedUp, IsFilled};
 
 use crate::body::item_of;
 use crate::front::{Front, HEADER, LIMIT, front_of};

@@ -2,7 +2,7 @@
 
 ghost use Rattle.std.specs.Prelude.{◌≡◌, ◌↔◌, IsTrue};
 ghost use Rattle.mrt_records.specs.Records.{Over};
-ghost use Rattle.mrt_records.specs.Front.{IsFront};
+ghost use Rattle.mrt_records.specs.inner.Front.{IsFront};
 
 use route_model::octets::u32_at;
 

@@ -5,8 +5,8 @@ use Rattle.std.proofs.lemmas.Bool.{cases_eq}
 use Rattle.std.proofs.lemmas.Option.{slice_get-get_or, get_or_from_slice_get}
 use Rattle.disk_models.specs.Octets.{octets, Within}
 use Rattle.disk_models.specs.Erase.{DiskState, MayLeave, MayLeaveBut, Leaves, WritesWithin, Syncs}
-use Rattle.disk_models.proofs.OctetLemmas.{octets_agree}
-use Rattle.disk_models.proofs.Moments.{leaves_then, leaves_weaker, may_leave_now, synced_leave}
+use Rattle.disk_models.proofs.api.OctetLemmas.{octets_agree}
+use Rattle.disk_models.proofs.api.Moments.{leaves_then, leaves_weaker, may_leave_now, synced_leave}
 use Rattle.page_journal.specs.Layout.{Image, pages_of, home_place, images, homes_from}
 use Rattle.page_journal.specs.Writing.{Fills, OpensGate, ImagesStand}
 use Rattle.page_journal.specs.Recovers.{laid, AreDistinct, IsListed, RecoversBy, Recovers, Carries}

@@ -4,8 +4,8 @@ use Rattle.std.proofs.lemmas.Bool.{cases_eq}
 use Rattle.std.specs.List.{AllByRecursion}
 use Rattle.disk_models.specs.Octets.{octets, Within}
 use Rattle.disk_models.specs.Erase.{DiskState, MayLeave, MayLeaveBut, Leaves}
-use Rattle.disk_models.proofs.Overlay.{overlay, overlay_out, before_crash}
-use Rattle.disk_models.proofs.Moments.{leaves_then, leaves_weaker}
+use Rattle.disk_models.proofs.api.Overlay.{overlay, overlay_out, before_crash}
+use Rattle.disk_models.proofs.api.Moments.{leaves_then, leaves_weaker}
 use Rattle.page_journal.specs.Layout.{Image, gate_place, header_place, image_place, IsOpen, transaction, images, pages_of}
 use Rattle.page_journal.specs.Writing.{header_octets, Fills, OpensGate, ImagesStand}
 use Rattle.page_journal.specs.Bookkeeping.{open_slots}
@@ -14,7 +14,7 @@ use Rattle.page_journal.proofs.Staging.{ReadsAs, staged, length-header_octets}
 use Rattle.page_journal.proofs.Frame.{InBody, InSlot, SameSlot, same_open, same_reading, closed_same}
 use Rattle.page_journal.proofs.Opening.{opened}
 use Rattle.page_journal.proofs.Placing.{none_open}
-use Rattle.disk_models.proofs.OctetLemmas.{octets_agree}
+use Rattle.disk_models.proofs.api.OctetLemmas.{octets_agree}
 
 -- images that stand where nothing was written since
 stand_same : (f g : ℕ → ℕ) (slot : ℕ) → ((i : ℕ) → image_place slot 0 ≤ i → g i ≡ f i) → (named : List Image) (j : ℕ) → ImagesStand f slot j named → ImagesStand g slot j named

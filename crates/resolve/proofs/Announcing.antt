@@ -5,7 +5,7 @@ use Rattle.std.proofs.lemmas.Option.{slice_get_within}
 use Rattle.std.specs.List.{slice_get}
 use Rattle.route_model.specs.Prefix.{IpPrefix}
 use Rattle.route_model.specs.Sequence.{Each}
-use Rattle.route_model.proofs.Sequences.{Each-append}
+use Rattle.route_model.proofs.api.Sequences.{Each-append}
 use Rattle.route_model.specs.declared.change.Change.{Change}
 use Rattle.mrt_records.specs.Entries.{Entry}
 use Rattle.mrt_records.specs.declared.neighbor.Neighbor.{Neighbor}

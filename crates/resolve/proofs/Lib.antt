@@ -5,4 +5,4 @@ pub mod PrefixSets
 pub mod Tables
 pub mod OneTable
 pub mod OneMeaning
-pub mod Feeds
+pub mod api

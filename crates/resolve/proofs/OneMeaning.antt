@@ -20,9 +20,9 @@ use Rattle.bgp_update.specs.Entries.{IsEntryRoute}
 use Rattle.bgp_update.specs.Messages.{Told, IsMessage, HasLarge}
 use Rattle.bgp_update.specs.Routes.{four_hop, entry_hop, entry_route_of}
 use Rattle.bgp_update.specs.declared.reading.PathAttributes.{PathAttributes}
-use Rattle.bgp_update.proofs.OneReading.{attributes_one}
-use Rattle.bgp_update.proofs.Reached.{entry_reach_one}
-use Rattle.bgp_update.proofs.Told.{message_one}
+use Rattle.bgp_update.proofs.api.OneReading.{attributes_one}
+use Rattle.bgp_update.proofs.api.Reached.{entry_reach_one}
+use Rattle.bgp_update.proofs.api.Told.{message_one}
 use Rattle.resolve.specs.Changes.{peer_of, message_changes}
 use Rattle.resolve.specs.Entries.{family_of, IsRouteOf, IsChangeOf, IsFaultOf, AreChangesOf, IsFirstFault}
 use Rattle.resolve.specs.Meanings.{IsMeaning, Means}

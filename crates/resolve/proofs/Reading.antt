@@ -15,7 +15,7 @@ use Rattle.bgp_update.specs.Faults.{message_fault}
 use Rattle.bgp_update.specs.declared.fault.MessageFault.{MessageFault}
 use Rattle.bgp_update.specs.declared.fault.MessageFault.TheVariants as messages
 use Rattle.bgp_update.specs.declared.reading.PathAttributes.{PathAttributes}
-use Rattle.bgp_update.proofs.OneReading.{attributes_one}
+use Rattle.bgp_update.proofs.api.OneReading.{attributes_one}
 use Rattle.resolve.specs.Entries.{RouteRead, IsFaultOf, family_of}
 use Rattle.resolve.specs.Faults.{of_message}
 

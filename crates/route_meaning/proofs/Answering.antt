@@ -29,7 +29,7 @@ use Rattle.route_meaning.specs.Merged.{Placed}
 use Rattle.route_meaning.specs.Holds.{same_address, same_peer, same_prefix, until, changes_of, Holds}
 use Rattle.route_meaning.specs.Rows.{Covers, Selects, row_number, spot_number, IsAbove, IsWithin, AreRising, IsRow, AreRows, IsAnswer, most_rows}
 use Rattle.route_meaning.specs.declared.question.RowsRange.{RowsRange}
-use Rattle.route_meaning.specs.Replay.{spot_cmp, spot, IsSpot, covers, selects, is_above, is_within, is_wanted, route_after, IsTable, row_at}
+use Rattle.route_meaning.specs.inner.Replay.{spot_cmp, spot, IsSpot, covers, selects, is_above, is_within, is_wanted, route_after, IsTable, row_at}
 use Rattle.route_meaning.proofs.Holding.{both, all_true, same_address-true, same_address-itself, same_peer-true, same_prefix-true, same_peer-itself, same_prefix-itself, Holds-after, after-Holds}
 use Rattle.route_meaning.proofs.Spots.{spot_cmp_total, spot_cmp-itself, same_spot, spots_below}
 

@@ -6,7 +6,7 @@ use Rattle.route_model.specs.Admission.{Admitted}
 use Rattle.route_meaning.specs.Merged.{Placed}
 use Rattle.route_meaning.specs.Holds.{changes_of}
 use Rattle.route_meaning.specs.History.{History, IsHistory, Begins, all_of, begun, front, applied}
-use Rattle.route_meaning.proofs.Front.{front_kept}
+use Rattle.route_meaning.proofs.api.Front.{front_kept}
 
 -- the one list begins the other
 pub record IsFrontOf (xs ys : List Change) : Type 0 where

@@ -15,7 +15,7 @@ use Rattle.route_model.specs.Prefix.{IpPrefix}
 use Rattle.route_model.specs.Admission.{Admitted}
 use Rattle.route_meaning.specs.Merged.{Placed}
 use Rattle.route_meaning.specs.Holds.{same_address, same_peer, same_prefix, concerns, until, changes_of, Holds}
-use Rattle.route_meaning.specs.Replay.{after_change, route_after}
+use Rattle.route_meaning.specs.inner.Replay.{after_change, route_after}
 
 -- ---- equal peers and prefixes
 

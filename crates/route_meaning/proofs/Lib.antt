@@ -1,11 +1,5 @@
-pub mod Sorting
-pub mod OneOrder
 pub mod Merging
-pub mod Settling
-pub mod Agreeing
 pub mod Ranges
-pub mod Beginning
-pub mod Front
 pub mod Holding
 pub mod Stable
 pub mod Placing
@@ -14,3 +8,4 @@ pub mod Replays
 pub mod Answering
 pub mod Told
 pub mod Growing
+pub mod api

@@ -10,7 +10,7 @@ use Rattle.route_meaning.specs.Merged.{insert_by, by_time}
 use Rattle.route_meaning.specs.Merged.{IsRising, Placed, placed, all_placed, merged, part}
 use Rattle.route_meaning.specs.Holds.{until}
 use Rattle.route_meaning.specs.History.{Intake, GoesOn, floor}
-use Rattle.route_meaning.proofs.Sorting.{IsFront, all_weaker, filter-none, filter-by_time, rises_by_time}
+use Rattle.route_meaning.proofs.api.Sorting.{IsFront, all_weaker, filter-none, filter-by_time, rises_by_time}
 
 pub until-IsFront : (moment : ℕ) → IsFront time_of (λ p. leb (time_of p) moment)
 until-IsFront moment x y le h = le-leb _ _ (omega (arith, leb-true _ _ h))

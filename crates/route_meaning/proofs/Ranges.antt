@@ -13,7 +13,7 @@ use Rattle.route_meaning.specs.declared.question.EventsQuestion.{EventsQuestion}
 use Rattle.route_meaning.specs.Merged.{Placed}
 use Rattle.route_meaning.specs.Rows.{row_number, spot_number, IsAbove, IsWithin, IsRange, AreRising, IsRow, AreRows, IsAnswer, most_rows}
 use Rattle.route_meaning.specs.Events.{IsEventsAnswer}
-use Rattle.route_meaning.proofs.Sorting.{all_weaker, all_append}
+use Rattle.route_meaning.proofs.api.Sorting.{all_weaker, all_append}
 
 -- ---- neighbouring ranges
 

@@ -20,7 +20,7 @@ use Rattle.route_model.specs.declared.change.Change.{Change}
 use Rattle.route_model.specs.declared.change.Change.TheVariants.{Announce, Withdraw, Down}
 use Rattle.route_meaning.specs.Holds.{same_peer, until, changes_of}
 use Rattle.route_meaning.specs.declared.question.RowsRange.{RowsRange}
-use Rattle.route_meaning.specs.Replay.{spot_cmp, spot, IsSpot, is_wanted, route_after, IsTable}
+use Rattle.route_meaning.specs.inner.Replay.{spot_cmp, spot, IsSpot, is_wanted, route_after, IsTable}
 use Rattle.route_meaning.proofs.Holding.{same_peer-sym, route_after-append}
 use Rattle.route_meaning.proofs.Spots.{spot_cmp-eq, same_spot}
 

@@ -18,14 +18,14 @@ use Rattle.route_model.specs.declared.route.Route.{Route}
 use Rattle.route_model.specs.Prefix.{IpPrefix, IsPrefix}
 use Rattle.route_model.specs.Spelling.{IsPeer}
 use Rattle.route_model.specs.Keys.{address_order, peer_order, prefix_order}
-use Rattle.route_model.proofs.Keys.{prefixes_cmp}
+use Rattle.route_model.proofs.api.Keys.{prefixes_cmp}
 use Rattle.route_meaning.specs.declared.question.Spot.{Spot}
 use Rattle.route_model.specs.contracts.address.AddressOrd.TheImpl as address_ord
 use Rattle.route_meaning.specs.contracts.question.SpotOrd.TheImpl as spot_ord
 use Rattle.route_meaning.specs.contracts.question.SpotOrd.TheImpl.Laws as spot_laws
 use Rattle.route_meaning.specs.Holds.{same_address, same_peer, same_prefix}
 use Rattle.route_meaning.specs.Rows.{spot_number}
-use Rattle.route_meaning.specs.Replay.{spot, spot_cmp, IsSpot}
+use Rattle.route_meaning.specs.inner.Replay.{spot, spot_cmp, IsSpot}
 use Rattle.route_meaning.proofs.Holding.{both, all_true, same_peer-true, same_prefix-true, same_peer-itself, same_prefix-itself}
 
 -- ---- the derived order

@@ -11,7 +11,7 @@ use Rattle.std.specs.Ordering.{nat_cmp, is_lt}
 use Rattle.std.proofs.lemmas.Bool.{cases_Bool, cases_eq, cases_lt, leb-true, leb-false, le-leb, lt-leb, eq-eqb, ne_eqb}
 use Rattle.std.proofs.lemmas.Bool.Decides.{nat_tests}
 use Rattle.route_meaning.specs.Merged.{insert_by, by_time, IsRising}
-use Rattle.route_meaning.proofs.Sorting.{all_weaker, filter-none, rises_by_time}
+use Rattle.route_meaning.proofs.api.Sorting.{all_weaker, filter-none, rises_by_time}
 
 ties-eqb : (a b : ℕ) → (not (is_lt (nat_cmp a b)) && not (is_lt (nat_cmp b a))) ≡ eqb b a
 ties-eqb a b = grind (arith, nat_tests)

@@ -3,4 +3,4 @@ pub mod Holds
 pub mod Rows
 pub mod Events
 pub mod History
-pub mod Replay
+pub mod inner

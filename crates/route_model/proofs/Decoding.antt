@@ -14,8 +14,8 @@ use Rattle.route_model.specs.Prefix.{IpPrefix, IsPrefix, prefix_octets}
 use Rattle.route_model.specs.Spelling.{IsPeer, peer_octets, IsRoute, route_octets, SpellsRoute}
 use Rattle.route_model.specs.Tables.{distinct, place_of, has_row}
 use Rattle.route_model.specs.Admission.{change_octets, sized, IsChange}
-use Rattle.route_model.specs.Codec.{number_at, whole, peer_at, route_at}
-use Rattle.route_model.specs.Codec.Admissions.{prefix_at, row_at, change_at}
+use Rattle.route_model.specs.inner.Codec.{number_at, whole, peer_at, route_at}
+use Rattle.route_model.specs.inner.Codec.Admissions.{prefix_at, row_at, change_at}
 use Rattle.route_model.proofs.Fields.{some, some_is, wide16, number_again, octets_again}
 use Rattle.route_model.proofs.Peers.{peer_again}
 use Rattle.route_model.proofs.Routes.{route_again}

@@ -1,19 +1,14 @@
 pub mod Numbers
-pub mod Sequences
-pub mod Readings
 pub mod Fields
 pub mod Loop
 pub mod Peers
 pub mod Routes
 pub mod Sizes
 pub mod TableRows
-pub mod Admissions
 pub mod Measures
 pub mod Decoding
 mod PeersTold
 pub mod Prefixes
 pub mod Whole
 pub mod KeyNumbers
-pub mod Keys
-pub mod Fronts
-pub mod PrefixFields
+pub mod api

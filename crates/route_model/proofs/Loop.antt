@@ -3,7 +3,7 @@ use Rattle.std.proofs.Common.{◌≡◌, ℕ, suc, ◌-◌, ◌+◌, ◌≤◌, 
 use Rattle.std.proofs.lemmas.List.{append-nil}
 use Rattle.route_model.specs.declared.fault.ReadError.{ReadError}
 use Rattle.route_model.specs.declared.fault.ReadError.TheVariants as errors
-use Rattle.route_model.specs.Codec.{◌>>=◌, Fails, repeat}
+use Rattle.route_model.specs.inner.Codec.{◌>>=◌, Fails, repeat}
 
 -- what was read before, and what is still read
 abbrev pub with_front : {A : Type 0} → List A → Option (List A × List ℕ) → Option (List A × List ℕ)

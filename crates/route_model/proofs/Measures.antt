@@ -4,7 +4,7 @@ use Rattle.std.specs.List.{flat_map, AllByRecursion}
 use Rattle.std.specs.Int.{w32, to_be_bytes}
 use Rattle.std.proofs.lemmas.List.{length-append, append-nil, take_all}
 use Rattle.std.proofs.lemmas.List.Concat.{flat_map-append}
-use Rattle.route_model.proofs.Admissions.{take_item}
+use Rattle.route_model.proofs.api.Admissions.{take_item}
 
 pub length-numbers : (ns : List ℕ) → length (flat_map (to_be_bytes w32) ns) ≡ 4 * length ns
 length-numbers [] = refl

@@ -7,7 +7,7 @@ use Rattle.route_model.specs.declared.address.Address.TheVariants.{V4, V6}
 use Rattle.route_model.specs.declared.peer.Peer.{Peer}
 use Rattle.route_model.specs.Address.{IsAddress, family, wide}
 use Rattle.route_model.specs.Spelling.{IsPeer, peer_octets, SpellsPeer}
-use Rattle.route_model.specs.Codec.{wide_address, peer_at, whole}
+use Rattle.route_model.specs.inner.Codec.{wide_address, peer_at, whole}
 use Rattle.route_model.proofs.Fields.{some_is, wide32, number_again, octets_again}
 
 pub length-wide : (a : Address) → IsAddress a → length (wide a) ≡ 16

@@ -9,7 +9,7 @@ use Rattle.route_model.specs.declared.address.Address.TheVariants.{V4, V6}
 use Rattle.route_model.specs.Octets.{AreOctets}
 use Rattle.route_model.specs.Address.{octets}
 use Rattle.route_model.specs.Prefix.{IpPrefix, cleared, IsPrefix, prefix_octets, SpellsPrefix}
-use Rattle.route_model.specs.Codec.Admissions.{prefix_at}
+use Rattle.route_model.specs.inner.Codec.Admissions.{prefix_at}
 use Rattle.route_model.proofs.Fields.{octets_again}
 
 -- bits that are zero stay so

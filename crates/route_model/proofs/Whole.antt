@@ -15,8 +15,8 @@ use Rattle.route_model.specs.declared.change.Change.TheVariants.{Announce, Withd
 use Rattle.route_model.specs.Spelling.{IsPeer, peer_octets, IsRoute, route_octets}
 use Rattle.route_model.specs.Tables.{first_uses, has_row}
 use Rattle.route_model.specs.Admission.{peer_of, announced, Admitted, peer_table, route_table, change_octets, sized, counted, peer_rows, route_rows, admission_octets, IsChange, IsAdmission, SpellsAdmission}
-use Rattle.route_model.specs.Codec.{number_at, repeat, whole, peer_at}
-use Rattle.route_model.specs.Codec.Admissions.{row_at, change_at, admission_at}
+use Rattle.route_model.specs.inner.Codec.{number_at, repeat, whole, peer_at}
+use Rattle.route_model.specs.inner.Codec.Admissions.{row_at, change_at, admission_at}
 use Rattle.route_model.proofs.Fields.{wide16, wide64, number_again, repeat_again}
 use Rattle.route_model.proofs.Peers.{peer_again}
 use Rattle.route_model.proofs.TableRows.{bool_cases, map-first_uses}

@@ -8,6 +8,6 @@ pub mod Tables
 pub mod Admission
 pub mod Keys
 pub mod KeyWords
-pub mod Codec
 pub mod Widths
 pub mod PrefixFields
+pub mod inner

@@ -12,7 +12,7 @@ pub enum Address {
 }
 
 impl Address {
-    ghost use Rattle.route_model.specs.Codec.{wide_address};
+    ghost use Rattle.route_model.specs.inner.Codec.{wide_address};
 
     /// The version of IP: 4 or 6. (It is no address family number of RFC 4760.)
     pub fn family(&self) -> u8

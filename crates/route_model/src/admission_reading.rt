@@ -3,8 +3,8 @@
 //! Room is made for as many items as are counted, but for no more than the octets left can hold.
 
 ghost use Rattle.std.specs.Prelude.{◌≡◌, slice_get};
-ghost use Rattle.route_model.specs.Codec.{Gives, repeat, whole, peer_at};
-ghost use Rattle.route_model.specs.Codec.Admissions.{row_at, change_at, admission_at};
+ghost use Rattle.route_model.specs.inner.Codec.{Gives, repeat, whole, peer_at};
+ghost use Rattle.route_model.specs.inner.Codec.Admissions.{row_at, change_at, admission_at};
 
 use crate::change::Change;
 use crate::fault::ReadError;
@@ -15,7 +15,7 @@ use crate::route::whole_route;
 use crate::shared::SharedRoute;
 use std::alloc::Global;
 
-#[tactic(auto, unfolding(crate::specs::Codec::Admissions::row_at))]
+#[tactic(auto, unfolding(crate::specs::inner::Codec::Admissions::row_at))]
 fn read_row(alloc: Global, bytes: &[u8]) -> Result<(SharedRoute, &[u8]), ReadError>
     ensures { Gives (λ x. (x.0, x.1.now)) result (row_at bytes.now) }
 {
@@ -77,7 +77,7 @@ fn peer_in(peers: &[Peer], place: u16) -> Result<Peer, ReadError>
     Ok(peers[place])
 }
 
-#[tactic(auto, unfolding(crate::specs::Codec::Admissions::change_at))]
+#[tactic(auto, unfolding(crate::specs::inner::Codec::Admissions::change_at))]
 fn read_change<'a>(
     peers: &[Peer],
     routes: &[SharedRoute],
@@ -121,7 +121,7 @@ fn read_changes<'a>(
 }
 
 /// The time and the changes that all of the octets are read as.
-#[tactic(auto, unfolding(crate::specs::Codec::Admissions::admission_at))]
+#[tactic(auto, unfolding(crate::specs::inner::Codec::Admissions::admission_at))]
 pub(crate) fn read_admission(alloc: Global, bytes: &[u8]) -> Result<(u64, Vec<Change>), ReadError>
     ensures { Gives (λ x. record { time = x.0; changes = x.1.items }) result (whole (admission_at bytes.now)) }
 {

@@ -8,8 +8,8 @@ ghost use Rattle.std.specs.Ordering.{nat_cmp, ordering_then, as_partial_cmp};
 ghost use Rattle.std.specs.declared.cmp.Ordering.TheVariants.{Less};
 ghost use Rattle.std.proofs.Common.{rules};
 ghost use Rattle.route_model.specs.Octets.{AreOctets};
-ghost use Rattle.route_model.specs.Codec.{Reads};
-ghost use Rattle.route_model.specs.Codec.Admissions.{parts_at};
+ghost use Rattle.route_model.specs.inner.Codec.{Reads};
+ghost use Rattle.route_model.specs.inner.Codec.Admissions.{parts_at};
 ghost use Rattle.route_model.specs.Keys.{number_of, key_number, session_number, peer_order, prefix_order};
 ghost use Rattle.route_model.specs.Prefix.{IpPrefix, IsPrefix};
 ghost use Rattle.route_model.specs.Spelling.{IsPeer};
@@ -161,7 +161,7 @@ impl KeyParts {
 }
 
 /// What octets are read as, liberally: it is made into a key again.
-#[tactic(auto, unfolding(crate::specs::Codec::Admissions::parts_at))]
+#[tactic(auto, unfolding(crate::specs::inner::Codec::Admissions::parts_at))]
 fn read_parts(octets: &[u8]) -> Result<KeyParts, NoSpelling>
     ensures { Reads (λ parts. parts) result (parts_at octets.now) }
 {

@@ -4,8 +4,8 @@ ghost use Rattle.std.specs.Prelude.{◌≡◌, ◌+◌, ◌/◌, ◌*◌, ◌≤
 ghost use Rattle.std.specs.Str.{bytes_eq};
 ghost use Rattle.route_model.specs.Octets.{AreOctets};
 ghost use Rattle.route_model.specs.Address.{octets};
-ghost use Rattle.route_model.specs.Codec.{Reads};
-ghost use Rattle.route_model.specs.Codec.Admissions.{prefix_at};
+ghost use Rattle.route_model.specs.inner.Codec.{Reads};
+ghost use Rattle.route_model.specs.inner.Codec.Admissions.{prefix_at};
 ghost use Rattle.route_model.specs.Prefix.{IpPrefix, IsPrefix, prefix_octets, front_octets, SpellsPrefix, cleared, cleared_address};
 
 use crate::address::{Address, slice_of};
@@ -173,7 +173,7 @@ pub(crate) fn filled_octets<const N: usize>(front: &[u8]) -> [u8; N]
 }
 
 /// The address and the length of a prefix.
-#[tactic(auto, unfolding(crate::specs::Codec::Admissions::prefix_at))]
+#[tactic(auto, unfolding(crate::specs::inner::Codec::Admissions::prefix_at))]
 pub(crate) fn read_prefix(bytes: &[u8]) -> Result<(Address, u8, &[u8]), NoSpelling>
     ensures read { Reads (λ x. (record { address = cleared_address x.1 x.0; length = x.1 }, x.2.now)) result (prefix_at bytes.now) }
     ensures fits { IfOk result (λ x. x.1 ≤ 8 * bytes_len (octets x.0)) }

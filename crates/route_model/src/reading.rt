@@ -2,7 +2,7 @@
 
 ghost use Rattle.std.specs.Prelude.{◌≡◌, List, length, IfOk, Ok};
 ghost use Rattle.std.specs.Int.{w16, w32, w64};
-ghost use Rattle.route_model.specs.Codec.{Gives, Reads, octet_at, octets_at, number_at, repeat, peer_at, segment_at, path_at, next_hop_at, optional_at, aggregator_at, attribute_at, attributes_at, route_at};
+ghost use Rattle.route_model.specs.inner.Codec.{Gives, Reads, octet_at, octets_at, number_at, repeat, peer_at, segment_at, path_at, next_hop_at, optional_at, aggregator_at, attribute_at, attributes_at, route_at};
 
 use crate::address::Address;
 use crate::attribute::{Attribute, AttributeValue, Attributes};
@@ -54,7 +54,7 @@ pub(crate) fn read_u32(bytes: &[u8]) -> Result<(u32, &[u8]), NoSpelling>
     ))
 }
 
-#[tactic(auto, unfolding(crate::specs::Codec::peer_at))]
+#[tactic(auto, unfolding(crate::specs::inner::Codec::peer_at))]
 pub(crate) fn read_peer(bytes: &[u8]) -> Result<(Peer, &[u8]), NoSpelling>
     ensures { Reads (λ x. (x.0, x.1.now)) result (peer_at bytes.now) }
 {
@@ -87,7 +87,7 @@ fn read_numbers(alloc: Global, count: u8, bytes: &[u8]) -> Result<(Vec<u32>, &[u
     Ok((items, rest))
 }
 
-#[tactic(auto, unfolding(crate::specs::Codec::segment_at))]
+#[tactic(auto, unfolding(crate::specs::inner::Codec::segment_at))]
 fn read_segment(alloc: Global, bytes: &[u8]) -> Result<(Segment, &[u8]), ReadError>
     ensures { Gives (λ x. (x.0, x.1.now)) result (segment_at bytes.now) }
 {
@@ -123,7 +123,7 @@ fn read_segments(
     Ok((items, rest))
 }
 
-#[tactic(auto, unfolding(crate::specs::Codec::path_at))]
+#[tactic(auto, unfolding(crate::specs::inner::Codec::path_at))]
 fn read_path(alloc: Global, bytes: &[u8]) -> Result<(Path, &[u8]), ReadError>
     ensures { Gives (λ x. (x.0, x.1.now)) result (path_at bytes.now) }
 {
@@ -132,7 +132,7 @@ fn read_path(alloc: Global, bytes: &[u8]) -> Result<(Path, &[u8]), ReadError>
     Ok((Path::new(segments), rest))
 }
 
-#[tactic(auto, unfolding(crate::specs::Codec::next_hop_at))]
+#[tactic(auto, unfolding(crate::specs::inner::Codec::next_hop_at))]
 fn read_next_hop(bytes: &[u8]) -> Result<(NextHop, &[u8]), NoSpelling>
     ensures { Reads (λ x. (x.0, x.1.now)) result (next_hop_at bytes.now) }
 {
@@ -147,7 +147,7 @@ fn read_next_hop(bytes: &[u8]) -> Result<(NextHop, &[u8]), NoSpelling>
     Ok((hop, rest))
 }
 
-#[tactic(auto, unfolding(crate::specs::Codec::optional_at))]
+#[tactic(auto, unfolding(crate::specs::inner::Codec::optional_at))]
 fn read_optional(present: bool, bytes: &[u8]) -> Result<(Option<u32>, &[u8]), NoSpelling>
     ensures { Reads (λ x. (x.0, x.1.now)) result (optional_at present bytes.now) }
 {
@@ -158,7 +158,7 @@ fn read_optional(present: bool, bytes: &[u8]) -> Result<(Option<u32>, &[u8]), No
     Ok((Some(number), rest))
 }
 
-#[tactic(auto, unfolding(crate::specs::Codec::aggregator_at))]
+#[tactic(auto, unfolding(crate::specs::inner::Codec::aggregator_at))]
 fn read_aggregator(present: bool, bytes: &[u8]) -> Result<(Option<Aggregator>, &[u8]), NoSpelling>
     ensures { Reads (λ x. (x.0, x.1.now)) result (aggregator_at present bytes.now) }
 {
@@ -171,7 +171,7 @@ fn read_aggregator(present: bool, bytes: &[u8]) -> Result<(Option<Aggregator>, &
     Ok((Some(Aggregator { as_number, address }), rest))
 }
 
-#[tactic(auto, unfolding(crate::specs::Codec::attribute_at))]
+#[tactic(auto, unfolding(crate::specs::inner::Codec::attribute_at))]
 fn read_attribute(alloc: Global, bytes: &[u8]) -> Result<(Attribute, &[u8]), ReadError>
     ensures { Gives (λ x. (x.0, x.1.now)) result (attribute_at bytes.now) }
 {
@@ -201,7 +201,7 @@ fn read_each_attribute(
     Ok((items, rest))
 }
 
-#[tactic(auto, unfolding(crate::specs::Codec::attributes_at))]
+#[tactic(auto, unfolding(crate::specs::inner::Codec::attributes_at))]
 fn read_attributes(alloc: Global, bytes: &[u8]) -> Result<(Attributes, &[u8]), ReadError>
     ensures { Gives (λ x. (x.0, x.1.now)) result (attributes_at bytes.now) }
 {
@@ -213,7 +213,7 @@ fn read_attributes(alloc: Global, bytes: &[u8]) -> Result<(Attributes, &[u8]), R
     }
 }
 
-#[tactic(auto, unfolding(crate::specs::Codec::route_at))]
+#[tactic(auto, unfolding(crate::specs::inner::Codec::route_at))]
 pub(crate) fn read_route(alloc: Global, bytes: &[u8]) -> Result<(Route, &[u8]), ReadError>
     ensures { Gives (λ x. (x.0, x.1.now)) result (route_at bytes.now) }
 {

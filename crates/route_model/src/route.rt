@@ -1,7 +1,7 @@
 //! Routes (RFC 4271 section 3.1).
 
 ghost use Rattle.std.specs.Prelude.{◌≡◌, IfOk, IfSome, Some, length};
-ghost use Rattle.route_model.specs.Codec.{Gives, whole, route_at};
+ghost use Rattle.route_model.specs.inner.Codec.{Gives, whole, route_at};
 ghost use Rattle.route_model.specs.Spelling.{route_octets, IsRoute, SpellsRoute};
 
 use crate::address::Address;

@@ -23,7 +23,7 @@ use Rattle.route_model.specs.Spelling.{IsAggregator, IsNextHop, IsAttribute}
 use Rattle.route_text.specs.AddressText.{address_text, ipv6_text, IsIpv6Text, IsAddressText}
 use Rattle.route_text.specs.Octets.{Lacks}
 use Rattle.route_text.specs.RouteText.{next_hop_text, optional_text, aggregator_text, octet_text, attribute_text, attributes_text}
-use Rattle.route_text.proofs.Addresses.{IsDotted-written, IsIpv6Text-ipv6_text, Lacks-ipv4_text, Lacks-ipv6_text}
+use Rattle.route_text.proofs.api.Addresses.{IsDotted-written, IsIpv6Text-ipv6_text, Lacks-ipv4_text, Lacks-ipv6_text}
 use Rattle.route_text.proofs.Cuts.{Lacks-nil, Lacks-cons, Lacks-append, Lacks-same}
 use Rattle.route_text.proofs.Numbers.{Lacks-decimal}
 

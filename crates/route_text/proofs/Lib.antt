@@ -1,4 +1,3 @@
-pub mod Addresses
 pub mod Cuts
 pub mod Fields
 pub mod Hexadecimals
@@ -13,4 +12,4 @@ pub mod RouteFields
 pub mod Separated
 pub mod StepWords
 mod Timestamps
-pub mod OneValue
+pub mod api

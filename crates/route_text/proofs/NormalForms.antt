@@ -11,7 +11,7 @@ use Rattle.route_text.specs.declared.step.Step.{Step}
 use Rattle.route_text.specs.declared.step.Step.TheVariants.{Number, Set}
 use Rattle.route_text.specs.NormalPath.{IsNormalPath}
 use Rattle.route_text.specs.RouteText.{path_text, route_text}
-use Rattle.route_text.specs.Steps.{step_text, steps}
+use Rattle.route_text.specs.inner.Steps.{step_text, steps}
 use Rattle.route_text.proofs.PathTexts.{path_text-steps, length-steps}
 use Rattle.route_text.proofs.Separated.{AllByRecursion-append}
 

@@ -6,7 +6,7 @@ use Rattle.route_model.specs.declared.path.Segment.{Segment}
 use Rattle.route_model.specs.declared.path.Segment.TheVariants as segments
 use Rattle.route_model.specs.Spelling.{AreNumbers, IsSegment}
 use Rattle.route_text.specs.NormalPath.{MayPrecede, IsNormalPath}
-use Rattle.route_text.specs.Steps.{run, IsBuilt}
+use Rattle.route_text.specs.inner.Steps.{run, IsBuilt}
 use Rattle.route_text.proofs.Separated.{AllByRecursion-push, AllByRecursion-append}
 
 -- ---- what may stand at the end

@@ -10,7 +10,7 @@ use Rattle.route_text.specs.declared.step.Step.TheVariants.{Number, Set}
 use Rattle.route_text.specs.NormalPath.{IsNormalPath}
 use Rattle.route_text.specs.Octets.{Lacks}
 use Rattle.route_text.specs.RouteText.{numbers_text, segment_text, path_text}
-use Rattle.route_text.specs.Steps.{step_text, IsStep, segment_steps, steps}
+use Rattle.route_text.specs.inner.Steps.{step_text, IsStep, segment_steps, steps}
 use Rattle.route_text.proofs.Cuts.{Lacks-nil, Lacks-cons, Lacks-append, Lacks-head, Lacks-same}
 use Rattle.route_text.proofs.Numbers.{Lacks-decimal}
 use Rattle.route_text.proofs.Separated.{AllByRecursion-append, left_begin, left_last}

@@ -3,7 +3,7 @@ use Rattle.std.proofs.Common.{◌≡◌, ℕ, ◌<◌, ◌^◌, List, [], ◌∷
 use Rattle.route_model.specs.Prefix.{IpPrefix}
 use Rattle.route_text.specs.Octets.{Lacks}
 use Rattle.route_text.specs.PrefixText.{IsPrefixText}
-use Rattle.route_text.proofs.Addresses.{length-IsAddressText}
+use Rattle.route_text.proofs.api.Addresses.{length-IsAddressText}
 use Rattle.route_text.proofs.Cuts.{last_cut}
 use Rattle.route_text.proofs.Numbers.{Lacks-decimal}
 

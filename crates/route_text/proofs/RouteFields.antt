@@ -13,8 +13,8 @@ use Rattle.route_model.specs.declared.route.Route.{Route}
 use Rattle.route_model.specs.Spelling.{IsRoute, IsSegment, IsNextHop, IsAggregator}
 use Rattle.route_text.specs.Octets.{Lacks}
 use Rattle.route_text.specs.RouteText.{path_text, origin_text, next_hop_text, optional_text, aggregate_text, aggregator_text, attributes_text, route_text}
-use Rattle.route_text.specs.Steps.{step_text, IsStep, steps}
-use Rattle.route_text.proofs.Addresses.{Lacks-ipv4_text, Lacks-ipv6_text}
+use Rattle.route_text.specs.inner.Steps.{step_text, IsStep, steps}
+use Rattle.route_text.proofs.api.Addresses.{Lacks-ipv4_text, Lacks-ipv6_text}
 use Rattle.route_text.proofs.Cuts.{Lacks-nil, Lacks-cons, Lacks-append, Lacks-same}
 use Rattle.route_text.proofs.Fields.{Lacks-address_text, take_octets, drop_octets}
 use Rattle.route_text.proofs.Numbers.{Lacks-decimal}

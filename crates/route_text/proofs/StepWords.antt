@@ -4,7 +4,7 @@ use Rattle.route_model.specs.Spelling.{AreNumbers}
 use Rattle.route_text.specs.declared.step.Step.{Step}
 use Rattle.route_text.specs.declared.step.Step.TheVariants.{Number, Set}
 use Rattle.route_text.specs.RouteText.{numbers_text}
-use Rattle.route_text.specs.Steps.{step_text, IsStep}
+use Rattle.route_text.specs.inner.Steps.{step_text, IsStep}
 use Rattle.route_text.proofs.Cuts.{Lacks-head, Lacks-same}
 use Rattle.route_text.proofs.Numbers.{Lacks-decimal}
 

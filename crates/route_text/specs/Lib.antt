@@ -1,4 +1,3 @@
-pub mod Fields
 pub mod NormalPath
 pub mod Octets
 pub mod AddressText
@@ -6,5 +5,5 @@ pub mod PrefixText
 pub mod MomentText
 pub mod Reads
 pub mod RouteText
-pub mod Steps
 pub mod TextLaws
+pub mod inner

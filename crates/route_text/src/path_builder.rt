@@ -6,7 +6,7 @@ ghost use Rattle.route_model.specs.declared.path.Segment.TheVariants as segments
 ghost use Rattle.route_model.specs.Spelling.{AreNumbers, IsSegment};
 ghost use Rattle.route_text.specs.NormalPath.{IsNormalPath};
 ghost use Rattle.route_text.specs.declared.step.Step.TheVariants.{Number, Set};
-ghost use Rattle.route_text.specs.Steps.{IsStep, steps, run, IsBuilt};
+ghost use Rattle.route_text.specs.inner.Steps.{IsStep, steps, run, IsBuilt};
 
 use crate::step::Step;
 use route_model::{AsNumbers, Segment};

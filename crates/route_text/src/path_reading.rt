@@ -7,7 +7,7 @@ ghost use Rattle.route_model.specs.Spelling.{IsSegment};
 ghost use Rattle.route_text.specs.NormalPath.{IsNormalPath};
 ghost use Rattle.route_text.specs.Reads.{Reads, ReadsBy};
 ghost use Rattle.route_text.specs.RouteText.{path_text};
-ghost use Rattle.route_text.specs.Steps.{IsStep, step_text, steps, run, IsBuilt};
+ghost use Rattle.route_text.specs.inner.Steps.{IsStep, step_text, steps, run, IsBuilt};
 ghost use Rattle.route_text.specs.declared.step.Step.{Step};
 
 use crate::cut::cut_at_first;

@@ -3,7 +3,7 @@
 ghost use Rattle.std.specs.Prelude.{◌≡◌, ◌≢◌, IfOk, IsErrOf, IsSomeAnd};
 ghost use Rattle.route_model.specs.declared.route.Route.{Route};
 ghost use Rattle.route_model.specs.Spelling.{IsRoute};
-ghost use Rattle.route_text.specs.Fields.{AreFieldsOf};
+ghost use Rattle.route_text.specs.inner.Fields.{AreFieldsOf};
 ghost use Rattle.route_text.specs.NormalPath.{IsNormalPath};
 ghost use Rattle.route_text.specs.Reads.{Reads};
 ghost use Rattle.route_text.specs.RouteText.{route_text};

@@ -5,7 +5,7 @@ ghost use Rattle.std.specs.List.{AllByRecursion};
 ghost use Rattle.route_model.specs.Spelling.{AreNumbers};
 ghost use Rattle.route_text.specs.Reads.{Reads, ReadsBy};
 ghost use Rattle.route_text.specs.RouteText.{numbers_text};
-ghost use Rattle.route_text.specs.Steps.{IsStep, step_text};
+ghost use Rattle.route_text.specs.inner.Steps.{IsStep, step_text};
 ghost use Rattle.route_text.specs.declared.step.Step.{Step};
 
 use crate::cut::cut_at_first;

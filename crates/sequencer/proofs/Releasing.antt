@@ -3,12 +3,12 @@ use Rattle.std.proofs.Common.{◌≡◌, ℕ, ◌<◌, ◌≤◌, List, [], ◌�
 use Rattle.std.specs.List.{AllByRecursion, slice_get, slice_set}
 use Rattle.route_meaning.specs.Merged.{by_time}
 use Rattle.route_meaning.specs.Merged.{Placed, placed, all_placed, merged, IsRising}
-use Rattle.route_meaning.proofs.Sorting.{all_weaker, rises_by_time}
-use Rattle.route_meaning.proofs.OneOrder.{merged-first}
+use Rattle.route_meaning.proofs.api.Sorting.{all_weaker, rises_by_time}
+use Rattle.route_meaning.proofs.api.OneOrder.{merged-first}
 use Rattle.sequencer.specs.Lanes.{Waiting, waiting_times, in_order, IsOpen, IsLane, NoneOpen, Releases}
 use Rattle.sequencer.specs.First.{IsFirstLane, NoneWaits}
 use Rattle.sequencer.proofs.Firsts.{at_lane, past_end}
-use Rattle.sequencer.proofs.Setting.{times_set}
+use Rattle.sequencer.proofs.api.Setting.{times_set}
 
 pub lane_in : (lanes : List Waiting) (c t : ℕ) → IsFirstLane lanes c t → c < length lanes
 lane_in lanes c t f = past_end lanes c (t ∷ f.rest) f.here

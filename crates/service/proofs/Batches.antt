@@ -5,7 +5,7 @@ use Rattle.route_model.specs.Admission.{Admitted}
 use Rattle.route_meaning.specs.Holds.{admitted_time}
 use Rattle.route_meaning.specs.History.{Intake, History}
 use Rattle.sequencer.specs.Late.{greatest, is_late, timely, lates}
-use Rattle.sequencer.proofs.Sieving.{greatest-push, is_late-greatest}
+use Rattle.sequencer.proofs.api.Sieving.{greatest-push, is_late-greatest}
 use Rattle.archive.specs.Steps.{changed, with_batch, given}
 
 -- what is late depends on the greatest time alone

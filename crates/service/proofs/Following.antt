@@ -2,7 +2,7 @@
 use Rattle.std.proofs.Common.{◌≡◌, ℕ, ◌+◌, ◌<◌, length, length-append, take, get_or, map, suc, List, [], ◌∷◌, ◌++◌, Option, None, Result, Ok, Err, OnOk, inl, refl, sym, ap, ◌∙◌, subst, append_assoc, arith}
 use Rattle.std.proofs.lemmas.List.{append-nil, map-append}
 use Rattle.std.proofs.KnownBytes.{Appends-nil}
-use Rattle.route_model.proofs.Admissions.{take_item}
+use Rattle.route_model.proofs.api.Admissions.{take_item}
 use Rattle.route_model.specs.Admission.{Admitted}
 use Rattle.route_meaning.specs.History.{History}
 use Rattle.mrt_records.specs.Values.{Told, told, Read, Skipped, Malformed}
@@ -11,12 +11,12 @@ use Rattle.resolve.specs.Tables.{LastTable}
 use Rattle.resolve.specs.Records.{Gives}
 use Rattle.resolve.specs.declared.fault.ResolveFault.{ResolveFault}
 use Rattle.resolve.specs.declared.fault.ResolveFault.TheVariants as faults
-use Rattle.resolve.proofs.Feeds.{one_more}
+use Rattle.resolve.proofs.api.Feeds.{one_more}
 use Rattle.archive.specs.Carries.{Carries}
 use Rattle.archive.specs.Steps.{batch_octets}
 use Rattle.service.specs.Turns.{Turn, turns_at, waits_after, turns_for, waits_behind}
 use Rattle.service.specs.FeedTexts.{capped, skips}
-use Rattle.service.specs.Feeding.{HasDone, IsCounted, IsBehind}
+use Rattle.service.specs.inner.Feeding.{HasDone, IsCounted, IsBehind}
 use Rattle.service.specs.declared.feed_lines.FeedCounts.{FeedCounts}
 use Rattle.service.specs.declared.feeding.Feeding.{Feeding}
 use Rattle.service.specs.declared.refusal.Refusal.{Refusal}

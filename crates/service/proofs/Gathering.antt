@@ -4,7 +4,7 @@ use Rattle.std.proofs.lemmas.Bool.{cases_lt, lt-ltb}
 use Rattle.route_model.specs.Admission.{Admitted, admission_octets}
 use Rattle.archive.specs.Steps.{batch_octets}
 use Rattle.service.specs.Turns.{is_crowded, wait_unless, joined}
-use Rattle.service.specs.Feeding.{IsCounted}
+use Rattle.service.specs.inner.Feeding.{IsCounted}
 use Rattle.service.specs.declared.feeding.Feeding.{Feeding}
 use Rattle.service.proofs.Turning.{octets_more}
 

@@ -6,14 +6,14 @@ use Rattle.std.proofs.KnownBytes.{Appends-trans}
 use Rattle.std.proofs.lemmas.List.{append-nil, map-append, take-append-drop}
 use Rattle.route_model.specs.Admission.{Admitted}
 use Rattle.route_model.specs.Sequence.{Each, joined}
-use Rattle.route_model.proofs.Sequences.{joined-append}
-use Rattle.route_model.proofs.Admissions.{take_item}
+use Rattle.route_model.proofs.api.Sequences.{joined-append}
+use Rattle.route_model.proofs.api.Admissions.{take_item}
 use Rattle.route_meaning.specs.History.{History}
 use Rattle.mrt_records.specs.Values.{Told, told}
 use Rattle.mrt_records.specs.Records.{IsRecord}
 use Rattle.mrt_records.specs.Streams.{IsItem, GainsFrames}
 use Rattle.mrt_records.specs.declared.item.Item.{Item}
-use Rattle.mrt_records.proofs.Streams.{part_begins_none}
+use Rattle.mrt_records.proofs.api.Streams.{part_begins_none}
 use Rattle.archive.specs.Carries.{Carries}
 use Rattle.archive.specs.Steps.{with_batch, given, batch_octets, IsCollector, IsCounterFull}
 use Rattle.archive.specs.declared.admit.Admitted.{Admitted as Reply}
@@ -23,12 +23,12 @@ use Rattle.resolve.specs.Records.{Gives}
 use Rattle.resolve.specs.Meanings.{Means}
 use Rattle.resolve.specs.declared.fault.ResolveFault.{ResolveFault}
 use Rattle.resolve.specs.declared.fault.ResolveFault.TheVariants as faults
-use Rattle.resolve.proofs.Feeds.{one_more}
+use Rattle.resolve.proofs.api.Feeds.{one_more}
 use Rattle.service.specs.Faults.{of_admit}
 use Rattle.service.specs.Turns.{Turn, Offer, offered, turns_at, turns_for, waits_behind, last_turns}
 use Rattle.service.specs.Refusals.{refusal_line}
 use Rattle.service.specs.Feeds.{IsReason, IsGivenUp}
-use Rattle.service.specs.Feeding.{HasDone, IsBehind, Reads, GivesUp, StopsAmong, StopsWithin}
+use Rattle.service.specs.inner.Feeding.{HasDone, IsBehind, Reads, GivesUp, StopsAmong, StopsWithin}
 use Rattle.service.specs.declared.feed_lines.FeedCounts.{FeedCounts}
 use Rattle.service.specs.declared.feeding.Feeding.{Feeding}
 use Rattle.service.specs.declared.refusal.Refusal.{Refusal}

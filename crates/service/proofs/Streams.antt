@@ -9,15 +9,15 @@ use Rattle.mrt_records.specs.Values.{Told, told}
 use Rattle.mrt_records.specs.Records.{Over}
 use Rattle.mrt_records.specs.Streams.{GainsFrames, EndsOver}
 use Rattle.mrt_records.specs.declared.item.Item.{Item}
-use Rattle.mrt_records.proofs.Pieces.{frames_then}
-use Rattle.mrt_records.proofs.Streams.{frames_none, part_begins_none, over_begins_none, over-append}
+use Rattle.mrt_records.proofs.api.Pieces.{frames_then}
+use Rattle.mrt_records.proofs.api.Streams.{frames_none, part_begins_none, over_begins_none, over-append}
 use Rattle.archive.specs.Carries.{Carries}
 use Rattle.archive.specs.Steps.{given}
 use Rattle.service.specs.Feeds.{IsCut, IsFed}
 use Rattle.service.specs.Turns.{Turn, turns_for, last_turns, feed_turns}
 use Rattle.service.specs.FeedTexts.{intake_in, cut_line, counts_of}
 use Rattle.service.specs.FeedLines.{counts_line}
-use Rattle.service.specs.Feeding.{IsBehind, HasDone, Reads, IsHeld, IsRead, IsReadOut, IsSameFeed, StopsWithin}
+use Rattle.service.specs.inner.Feeding.{IsBehind, HasDone, Reads, IsHeld, IsRead, IsReadOut, IsSameFeed, StopsWithin}
 use Rattle.service.specs.declared.refusal.Refusal.TheVariants as refusals
 use Rattle.service.proofs.GivingUp.{within_more, stops_behind}
 use Rattle.service.specs.declared.feeding.Feeding.{Feeding}

@@ -21,7 +21,7 @@ use Rattle.service.specs.FeedLines.{admitted_text, batch_line, late_line}
 use Rattle.service.specs.Refusals.{refused_record_line}
 use Rattle.service.specs.Turns.{Turn, Offer, Refuse, offered, refusals, admissions_of, is_crowded, is_full, offer_where, wait_unless, joined, turns_at, waits_after, turns_for, waits_behind, last_turns, feed_turns}
 use Rattle.service.specs.FeedTexts.{capped, intake_in, admitted_of, batch_text, turns_text}
-use Rattle.service.specs.Feeding.{HasDone}
+use Rattle.service.specs.inner.Feeding.{HasDone}
 use Rattle.service.specs.declared.feed_lines.FeedCounts.{FeedCounts}
 use Rattle.service.proofs.Batches.{timely_both, lates_both, with_both, with_none, given_both}
 

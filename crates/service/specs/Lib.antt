@@ -8,7 +8,7 @@ pub mod Faults
 pub mod Turns
 pub mod FeedTexts
 pub mod Feeds
-pub mod Feeding
 pub mod Loads
 pub mod CommandLines
 pub mod RequestLaws
+pub mod inner

@@ -6,7 +6,7 @@ ghost use Rattle.mrt_records.specs.Values.{Told, told};
 ghost use Rattle.archive.specs.Carries.{Carries};
 ghost use Rattle.service.specs.Turns.{Turn, Offer, Refuse, offer_where, wait_unless, is_full, turns_at, waits_after, last_turns};
 ghost use Rattle.service.specs.FeedTexts.{capped};
-ghost use Rattle.service.specs.Feeding.{HasDone, IsSameFeed, IsCounted, IsBehind, GivesUp, StopsAmong};
+ghost use Rattle.service.specs.inner.Feeding.{HasDone, IsSameFeed, IsCounted, IsBehind, GivesUp, StopsAmong};
 
 use crate::faults::{of_admit, of_record};
 use crate::feed_lines::{FeedCounts, write_admitted};

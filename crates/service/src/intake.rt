@@ -7,7 +7,7 @@ ghost use Rattle.archive.specs.Carries.{Carries};
 ghost use Rattle.service.specs.FeedLines.{counts_line};
 ghost use Rattle.service.specs.FeedTexts.{cut_line};
 ghost use Rattle.service.specs.Feeds.{IsCut, IsFed, IsGivenUp};
-ghost use Rattle.service.specs.Feeding.{Reads, IsRead, IsReadOut, StopsWithin};
+ghost use Rattle.service.specs.inner.Feeding.{Reads, IsRead, IsReadOut, StopsWithin};
 ghost use Rattle.service.specs.declared.refusal.Refusal.{Refusal};
 
 use crate::feed_lines::{FeedCounts, write_counts};

@@ -2,7 +2,7 @@ use Rattle.std.proofs.Common.{◌≡◌, ℕ, List, [], arith, refl, ◌∙◌, 
 use Rattle.std.specs.List.{slice_get, slice_set}
 use Rattle.sequencer.specs.Lanes.{marks}
 use Rattle.sequencer.specs.Late.{greatest, timely}
-use Rattle.sequencer.proofs.Setting.{one_there}
+use Rattle.sequencer.proofs.api.Setting.{one_there}
 use Rattle.route_meaning.specs.Holds.{admitted_time}
 use Rattle.archive.proofs.Batches.{few, marks_taken, times_taken, lates_taken}
 use Rattle.archive.proofs.admit.take_in.Goals as goal

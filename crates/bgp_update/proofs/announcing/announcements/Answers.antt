@@ -6,7 +6,7 @@ use Rattle.bgp_update.specs.Readings.{AreAttributes}
 use Rattle.bgp_update.specs.Routes.{route_of, four_hop}
 use Rattle.bgp_update.specs.Messages.{Announced, IsAnnounced, option_told}
 use Rattle.bgp_update.proofs.Optional.{none_of_part, read_before}
-use Rattle.bgp_update.proofs.OneReading.{attributes_one}
+use Rattle.bgp_update.proofs.api.OneReading.{attributes_one}
 use Rattle.bgp_update.proofs.announcing.announcements.Goals as goal
 
 pub returns-in_err-again : goal.returns-in_err-again

@@ -2,7 +2,7 @@ use Rattle.std.proofs.Common.{rules, ◌≡◌, ◌<◌, length, sym, ap, false,
 use Rattle.std.specs.List.{list_any}
 use Rattle.bgp_update.specs.declared.attribute.PathAttribute.{PathAttribute}
 use Rattle.bgp_update.specs.AttributeFields.{IsAttributeField}
-use Rattle.route_model.proofs.Sequences.{read_on, read_none}
+use Rattle.route_model.proofs.api.Sequences.{read_on, read_none}
 use Rattle.bgp_update.proofs.AttributeFields.{attributes_free, Has, none_twice_push, read_twice}
 use Rattle.bgp_update.proofs.attribute.attribute_list.Goals as goal
 

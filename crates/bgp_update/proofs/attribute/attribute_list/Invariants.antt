@@ -1,6 +1,6 @@
 use Rattle.std.proofs.Common.{length}
 use Rattle.bgp_update.specs.AttributeFields.{IsAttributeField, NoneTwice}
-use Rattle.route_model.proofs.Sequences.{ReadSoFar}
+use Rattle.route_model.proofs.api.Sequences.{ReadSoFar}
 use Rattle.bgp_update.proofs.attribute.attribute_list.Given as goal
 
 abbrev pub invariant-loop-rest : goal.invariant-loop-rest

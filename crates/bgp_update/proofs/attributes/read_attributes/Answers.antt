@@ -1,7 +1,7 @@
 use Rattle.std.proofs.Common.{List, sym, subst}
 use Rattle.bgp_update.specs.declared.attribute.PathAttribute.{PathAttribute}
 use Rattle.bgp_update.specs.AttributeFields.{AreListed}
-use Rattle.bgp_update.proofs.OneReading.{of_listed}
+use Rattle.bgp_update.proofs.api.OneReading.{of_listed}
 use Rattle.bgp_update.proofs.attributes.read_attributes.Goals as goal
 
 pub returns : goal.returns

@@ -6,7 +6,7 @@ use Rattle.bgp_update.specs.AttributeFields.{value_of}
 use Rattle.bgp_update.specs.Values.{IsAggregator}
 use Rattle.bgp_update.specs.Readings.{IsWholePath, IsReading}
 use Rattle.bgp_update.proofs.Optional.{none_of_part, optional_one}
-use Rattle.bgp_update.proofs.OneReading.{aggregator_one}
+use Rattle.bgp_update.proofs.api.OneReading.{aggregator_one}
 use Rattle.bgp_update.proofs.attributes.reading_of.Goals as goal
 
 pub returns-in_err-path : goal.returns-in_err-path

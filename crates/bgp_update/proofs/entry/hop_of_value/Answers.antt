@@ -1,6 +1,6 @@
 use Rattle.std.proofs.Common.{subst, sym, List, ℕ}
 use Rattle.bgp_update.specs.NextHops.{IsEntryHop}
-use Rattle.bgp_update.proofs.Reached.{no_entry_hop}
+use Rattle.bgp_update.proofs.api.Reached.{no_entry_hop}
 use Rattle.bgp_update.proofs.entry.hop_of_value.Goals as goal
 
 pub returns-in_default-short_hop : goal.returns-in_default-short_hop

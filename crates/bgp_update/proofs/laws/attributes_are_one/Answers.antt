@@ -1,4 +1,4 @@
-use Rattle.bgp_update.proofs.OneReading.{attributes_one}
+use Rattle.bgp_update.proofs.api.OneReading.{attributes_one}
 use Rattle.bgp_update.proofs.laws.attributes_are_one.Goals as goal
 
 pub returns : goal.returns

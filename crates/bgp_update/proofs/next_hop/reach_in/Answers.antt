@@ -1,6 +1,6 @@
 use Rattle.std.proofs.Common.{ap, ◌∙◌, List, ℕ, drop}
 use Rattle.bgp_update.specs.NextHops.{family_at}
-use Rattle.bgp_update.proofs.Reached.{no_reach}
+use Rattle.bgp_update.proofs.api.Reached.{no_reach}
 use Rattle.bgp_update.proofs.next_hop.reach_in.Goals as goal
 
 pub returns-in_default-hop_and_prefixes : goal.returns-in_default-hop_and_prefixes

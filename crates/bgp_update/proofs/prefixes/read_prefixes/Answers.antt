@@ -1,7 +1,7 @@
 use Rattle.std.proofs.Common.{rules}
 use Rattle.route_model.specs.PrefixFields.{IsPrefixField}
-use Rattle.route_model.proofs.Sequences.{read_on, read_none}
-use Rattle.route_model.proofs.PrefixFields.{prefixes_free}
+use Rattle.route_model.proofs.api.Sequences.{read_on, read_none}
+use Rattle.route_model.proofs.api.PrefixFields.{prefixes_free}
 use Rattle.bgp_update.proofs.prefixes.read_prefixes.Goals as goal
 
 pub returns-in_default : goal.returns-in_default

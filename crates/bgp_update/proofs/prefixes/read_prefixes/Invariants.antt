@@ -1,6 +1,6 @@
 use Rattle.std.proofs.Common.{length}
 use Rattle.route_model.specs.PrefixFields.{IsPrefixField}
-use Rattle.route_model.proofs.Sequences.{ReadSoFar}
+use Rattle.route_model.proofs.api.Sequences.{ReadSoFar}
 use Rattle.bgp_update.proofs.prefixes.read_prefixes.Given as goal
 
 abbrev pub invariant-loop-rest : goal.invariant-loop-rest

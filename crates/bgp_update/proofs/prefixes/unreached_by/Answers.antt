@@ -1,6 +1,6 @@
 use Rattle.std.proofs.Common.{ap, ◌∙◌, List, ℕ, drop, length, arith}
 use Rattle.bgp_update.specs.NextHops.{family_at}
-use Rattle.bgp_update.proofs.Reached.{unreached_exactly}
+use Rattle.bgp_update.proofs.api.Reached.{unreached_exactly}
 use Rattle.bgp_update.proofs.prefixes.unreached_by.Goals as goal
 
 pub returns-in-Some-family_in : goal.returns-in-Some-family_in

@@ -4,7 +4,7 @@ use Rattle.bgp_update.specs.Paths.{has_numbers}
 use Rattle.std.proofs.lemmas.List.{length-take}
 use Rattle.std.proofs.lemmas.Result.{err_from_is_err_and}
 use Rattle.route_model.specs.Widths.{width_of}
-use Rattle.bgp_update.specs.Parts.{segment_of}
+use Rattle.bgp_update.specs.inner.Parts.{segment_of}
 use Rattle.bgp_update.proofs.SegmentFields.{path_on, path_err, kept_one}
 use Rattle.bgp_update.proofs.segments.read_segments.Goals as goal
 

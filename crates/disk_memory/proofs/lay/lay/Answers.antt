@@ -2,7 +2,7 @@ use Rattle.std.proofs.Common.{⊎_elim, ◌≡◌, ◌≤◌, ◌<◌, ◌+◌, 
 use Rattle.std.proofs.lemmas.List.{get_or-take, get_or-drop, length-take, length-drop}
 use Rattle.std.proofs.lemmas.Bool.{cases_lt}
 use Rattle.disk_models.specs.Octets.{octets}
-use Rattle.disk_models.proofs.OctetLemmas.{octets-put, octets_agree}
+use Rattle.disk_models.proofs.api.OctetLemmas.{octets-put, octets_agree}
 use Rattle.disk_memory.specs.Writing.{Writing}
 use Rattle.disk_memory.specs.Replay.{written}
 use Rattle.disk_memory.proofs.Laying.{written_low, written_high, written_in}

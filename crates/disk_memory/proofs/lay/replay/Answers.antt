@@ -1,7 +1,7 @@
 use Rattle.std.proofs.Common.{◌≡◌, ◌∙◌, ◌-◌, ◌++◌, ◌∷◌, [], ℕ, List, length, take, drop, replicate, ap, sym, arith, take_all}
 use Rattle.std.proofs.lemmas.List.{take_more, length-drop}
 use Rattle.disk_models.specs.Octets.{octets}
-use Rattle.disk_models.proofs.OctetLemmas.{octets_agree}
+use Rattle.disk_models.proofs.api.OctetLemmas.{octets_agree}
 use Rattle.disk_memory.specs.declared.call.Call.{Call}
 use Rattle.disk_memory.specs.Replay.{replayed}
 use Rattle.disk_memory.proofs.Covering.{octets_zeros}

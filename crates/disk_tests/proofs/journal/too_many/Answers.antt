@@ -1,7 +1,7 @@
 use Rattle.std.proofs.Common.{◌+◌, ap, ◌∙◌, sym, subst}
 use Rattle.page_journal.specs.Layout.{pages_of}
 use Rattle.page_journal.specs.Recovers.{AreBelow, AreDistinct}
-use Rattle.page_journal.proofs.Numbering.{pages-push, below-push, distinct-push}
+use Rattle.page_journal.proofs.api.Numbering.{pages-push, below-push, distinct-push}
 use Rattle.disk_tests.proofs.journal.too_many.Goals as goal
 
 pub loop-n-preserved : goal.loop-n-preserved

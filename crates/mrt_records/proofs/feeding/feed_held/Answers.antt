@@ -1,8 +1,8 @@
 use Rattle.std.proofs.Common.{subst, List, ℕ}
-use Rattle.mrt_records.specs.Front.{IsFront, IsPart}
+use Rattle.mrt_records.specs.inner.Front.{IsFront, IsPart}
 use Rattle.mrt_records.specs.Records.{Over}
 use Rattle.mrt_records.specs.declared.front.Front.TheVariants as fronts
-use Rattle.mrt_records.proofs.Streams.{filled_record, filled_part, filled_beyond}
+use Rattle.mrt_records.proofs.api.Streams.{filled_record, filled_part, filled_beyond}
 use Rattle.mrt_records.proofs.feeding.feed_held.Goals as goal
 
 pub feed_whole-requires : goal.feed_whole-requires

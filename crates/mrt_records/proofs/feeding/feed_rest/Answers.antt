@@ -1,4 +1,4 @@
-use Rattle.mrt_records.proofs.Streams.{goes_held}
+use Rattle.mrt_records.proofs.api.Streams.{goes_held}
 use Rattle.mrt_records.proofs.feeding.feed_rest.Goals as goal
 
 pub returns-in-Ok-clause-ok : goal.returns-in-Ok-clause-ok

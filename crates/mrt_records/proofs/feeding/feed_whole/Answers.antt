@@ -1,6 +1,6 @@
 use Rattle.std.proofs.Common.{◌∷◌, []}
 use Rattle.mrt_records.specs.Streams.{Gains}
-use Rattle.mrt_records.proofs.Streams.{goes_cons}
+use Rattle.mrt_records.proofs.api.Streams.{goes_cons}
 use Rattle.mrt_records.proofs.feeding.feed_whole.Goals as goal
 
 pub returns-in-Ok-clause-ok : goal.returns-in-Ok-clause-ok

@@ -1,8 +1,8 @@
 use Rattle.std.proofs.Common.{◌≡◌, ◌+◌, List, ℕ, length, drop, subst, arith}
 use Rattle.std.proofs.lemmas.Slice.{between_to_end}
 use Rattle.mrt_records.specs.Records.{body_length}
-use Rattle.mrt_records.specs.Front.{IsToppedUp}
-use Rattle.mrt_records.proofs.Streams.{filled_whole}
+use Rattle.mrt_records.specs.inner.Front.{IsToppedUp}
+use Rattle.mrt_records.proofs.api.Streams.{filled_whole}
 use Rattle.mrt_records.proofs.feeding.fill.Goals as goal
 
 pub returns-in-Ok-clause-ok : goal.returns-in-Ok-clause-ok

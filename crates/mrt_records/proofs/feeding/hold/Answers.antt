@@ -1,7 +1,7 @@
 use Rattle.std.proofs.Common.{◌≡◌, take, drop, sym, subst, List, ℕ}
 use Rattle.std.proofs.lemmas.List.{take-append-drop}
 use Rattle.mrt_records.specs.Records.{Over}
-use Rattle.mrt_records.proofs.Streams.{over-take}
+use Rattle.mrt_records.proofs.api.Streams.{over-take}
 use Rattle.mrt_records.proofs.feeding.hold.Goals as goal
 
 pub returns-in_ok-held-in-Over-clause-ok : goal.returns-in_ok-held-in-Over-clause-ok

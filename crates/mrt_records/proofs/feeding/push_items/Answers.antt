@@ -1,7 +1,7 @@
 use Rattle.std.proofs.Common.{◌≡◌, ◌++◌, take, drop, sym, subst, List, ℕ}
 use Rattle.std.proofs.lemmas.List.{take-append-drop}
 use Rattle.mrt_records.specs.Records.{IsRecord}
-use Rattle.mrt_records.proofs.Streams.{progress_on, progress_ends, not_whole}
+use Rattle.mrt_records.proofs.api.Streams.{progress_on, progress_ends, not_whole}
 use Rattle.mrt_records.proofs.feeding.push_items.Goals as goal
 
 pub loop-len-preserved : goal.loop-len-preserved

@@ -1,5 +1,5 @@
 use Rattle.std.proofs.Common.{◌≡◌, length}
-use Rattle.mrt_records.proofs.Streams.{Progress}
+use Rattle.mrt_records.proofs.api.Streams.{Progress}
 use Rattle.mrt_records.proofs.feeding.push_items.Given as goal
 
 abbrev pub invariant-loop-len : goal.invariant-loop-len

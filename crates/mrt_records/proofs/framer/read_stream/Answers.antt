@@ -3,7 +3,7 @@ use Rattle.std.proofs.lemmas.Result.{err_from_is_err_and}
 use Rattle.std.proofs.lemmas.List.{drop_all}
 use Rattle.std.proofs.Math.Seq.{drop-cons}
 use Rattle.mrt_records.specs.Streams.{GainsFrames}
-use Rattle.mrt_records.proofs.Pieces.{Reached, reached_start, reached_on, reached_err, reached_finish}
+use Rattle.mrt_records.proofs.api.Pieces.{Reached, reached_start, reached_on, reached_err, reached_finish}
 use Rattle.mrt_records.proofs.framer.read_stream.Goals as goal
 
 -- the pieces from one on

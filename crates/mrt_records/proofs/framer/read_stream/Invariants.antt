@@ -1,5 +1,5 @@
 use Rattle.std.proofs.Common.{drop}
-use Rattle.mrt_records.proofs.Pieces.{Reached}
+use Rattle.mrt_records.proofs.api.Pieces.{Reached}
 use Rattle.mrt_records.proofs.framer.read_stream.Given as goal
 
 abbrev pub invariant-loop-piece : goal.invariant-loop-piece

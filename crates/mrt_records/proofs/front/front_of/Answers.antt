@@ -1,5 +1,5 @@
 use Rattle.std.proofs.Common.{arith}
-use Rattle.mrt_records.proofs.Streams.{whole_front}
+use Rattle.mrt_records.proofs.api.Streams.{whole_front}
 use Rattle.mrt_records.proofs.front.front_of.Goals as goal
 
 pub returns-else-bytes-whole : goal.returns-else-bytes-whole

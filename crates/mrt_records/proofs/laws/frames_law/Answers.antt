@@ -1,4 +1,4 @@
-use Rattle.mrt_records.proofs.Streams.{frames_one}
+use Rattle.mrt_records.proofs.api.Streams.{frames_one}
 use Rattle.mrt_records.proofs.laws.frames_law.Goals as goal
 
 pub returns : goal.returns

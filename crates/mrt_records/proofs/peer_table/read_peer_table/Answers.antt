@@ -2,7 +2,7 @@ use Rattle.std.proofs.Common.{◌≡◌, ◌+◌, List, arith}
 use Rattle.std.proofs.lemmas.Result.{err_from_is_err_and}
 use Rattle.route_model.specs.Octets.{number_at}
 use Rattle.route_model.specs.Sequence.{Sequence}
-use Rattle.route_model.proofs.Readings.{no_reading_of_part}
+use Rattle.route_model.proofs.api.Readings.{no_reading_of_part}
 use Rattle.mrt_records.specs.declared.neighbor.Neighbor.{Neighbor}
 use Rattle.mrt_records.specs.PeerTables.{IsPeerField, IsPeerTable}
 use Rattle.mrt_records.proofs.Bodies.{table_peers, table_none}

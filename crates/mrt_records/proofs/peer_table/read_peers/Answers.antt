@@ -1,5 +1,5 @@
 use Rattle.std.proofs.Common.{rules}
-use Rattle.route_model.proofs.Sequences.{read_on, read_none}
+use Rattle.route_model.proofs.api.Sequences.{read_on, read_none}
 use Rattle.mrt_records.specs.PeerTables.{IsPeerField}
 use Rattle.mrt_records.proofs.Peers.{peers_free}
 use Rattle.mrt_records.proofs.peer_table.read_peers.Goals as goal

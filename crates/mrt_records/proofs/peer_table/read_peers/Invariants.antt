@@ -1,5 +1,5 @@
 use Rattle.std.proofs.Common.{length}
-use Rattle.route_model.proofs.Sequences.{ReadSoFar}
+use Rattle.route_model.proofs.api.Sequences.{ReadSoFar}
 use Rattle.mrt_records.specs.PeerTables.{IsPeerField}
 use Rattle.mrt_records.proofs.peer_table.read_peers.Given as goal
 

@@ -1,6 +1,6 @@
 use Rattle.std.proofs.Common.{◌≡◌, ◌+◌, ◌++◌, ◌∷◌, [], ◌≤◌, ℕ, List, length, take, drop, refl, sym, subst, arith, length-drop}
 use Rattle.route_model.specs.Reading.{BeginsWith}
-use Rattle.route_model.proofs.Sequences.{read_none}
+use Rattle.route_model.proofs.api.Sequences.{read_none}
 use Rattle.mrt_records.specs.Entries.{IsEntryField}
 use Rattle.mrt_records.specs.Places.{entries_in}
 use Rattle.mrt_records.specs.declared.entries.Place.{Place}

@@ -1,5 +1,5 @@
 use Rattle.std.proofs.Common.{length, drop, ◌≤◌, ◌-◌}
-use Rattle.route_model.proofs.Sequences.{ReadSoFar}
+use Rattle.route_model.proofs.api.Sequences.{ReadSoFar}
 use Rattle.mrt_records.specs.Entries.{IsEntryField}
 use Rattle.mrt_records.specs.Places.{entries_in, AreWithin}
 use Rattle.mrt_records.proofs.rib.places_of.Given as goal

@@ -2,7 +2,7 @@ use Rattle.std.proofs.Common.{◌≡◌, List, length, arith}
 use Rattle.std.proofs.lemmas.Result.{err_from_is_err_and}
 use Rattle.std.proofs.lemmas.List.{length-map}
 use Rattle.route_model.specs.Sequence.{Sequence}
-use Rattle.route_model.proofs.Readings.{no_reading_of_part}
+use Rattle.route_model.proofs.api.Readings.{no_reading_of_part}
 use Rattle.mrt_records.specs.Entries.{Entry, IsEntryField}
 use Rattle.mrt_records.specs.Places.{entry_in, entries_in}
 use Rattle.mrt_records.proofs.Bodies.{entries_none}

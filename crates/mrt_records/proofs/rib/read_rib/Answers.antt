@@ -2,7 +2,7 @@ use Rattle.std.proofs.Common.{◌≡◌, List, length}
 use Rattle.std.proofs.lemmas.Result.{err_from_is_err_and}
 use Rattle.route_model.specs.Sequence.{Sequence}
 use Rattle.route_model.specs.Prefix.{IpPrefix}
-use Rattle.route_model.proofs.Readings.{no_reading_of_part}
+use Rattle.route_model.proofs.api.Readings.{no_reading_of_part}
 use Rattle.mrt_records.specs.Entries.{Entry, IsEntryField}
 use Rattle.mrt_records.specs.Ribs.{IsRib}
 use Rattle.mrt_records.proofs.Bodies.{rib_begins, rib_short, rib_entries}

@@ -3,7 +3,7 @@ use Rattle.route_model.specs.Admission.{Admitted}
 use Rattle.mrt_records.specs.Values.{Told, told}
 use Rattle.resolve.specs.declared.fault.ResolveFault.{ResolveFault}
 use Rattle.resolve.specs.declared.fault.ResolveFault.TheVariants as faults
-use Rattle.resolve.proofs.Feeds.{IsBehind, goes_on, one_told}
+use Rattle.resolve.proofs.api.Feeds.{IsBehind, goes_on, one_told}
 use Rattle.resolve.proofs.feed.resolve_all.Goals as goal
 
 pub loop-item-preserved : goal.loop-item-preserved

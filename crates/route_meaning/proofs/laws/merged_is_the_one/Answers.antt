@@ -1,7 +1,7 @@
 use Rattle.std.proofs.Common.{sym, ap, ◌∙◌, length}
 use Rattle.route_meaning.specs.Holds.{admitted_time}
 use Rattle.route_meaning.specs.Merged.{merged}
-use Rattle.route_meaning.proofs.OneOrder.{merged-parts, parts-merged, IsInOrder-merged}
+use Rattle.route_meaning.proofs.api.OneOrder.{merged-parts, parts-merged, IsInOrder-merged}
 use Rattle.route_meaning.proofs.laws.merged_is_the_one.Goals as goal
 
 pub returns : goal.returns

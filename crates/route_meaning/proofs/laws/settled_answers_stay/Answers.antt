@@ -1,7 +1,7 @@
 use Rattle.std.proofs.Common.{sym}
 use Rattle.route_meaning.specs.History.{applied, all_of}
-use Rattle.route_meaning.proofs.Settling.{Holds-until}
-use Rattle.route_meaning.proofs.Agreeing.{AreRows-until, IsAnswer-until, IsEventsAnswer-until, until-later}
+use Rattle.route_meaning.proofs.api.Settling.{Holds-until}
+use Rattle.route_meaning.proofs.api.Agreeing.{AreRows-until, IsAnswer-until, IsEventsAnswer-until, until-later}
 use Rattle.route_meaning.proofs.laws.settled_answers_stay.Goals as goal
 
 pub returns : goal.returns

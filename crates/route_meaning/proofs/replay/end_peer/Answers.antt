@@ -4,7 +4,7 @@ use Rattle.std.specs.Ordering.{is_eq}
 use Rattle.std.specs.BTreeMap.{get, keys}
 use Rattle.route_meaning.specs.declared.question.Spot.{Spot}
 use Rattle.route_meaning.specs.Holds.{same_peer}
-use Rattle.route_meaning.specs.Replay.{spot_cmp}
+use Rattle.route_meaning.specs.inner.Replay.{spot_cmp}
 use Rattle.route_meaning.proofs.Replays.{one_out, peer_ends, take_whole}
 use Rattle.route_meaning.proofs.replay.end_peer.Goals as goal
 

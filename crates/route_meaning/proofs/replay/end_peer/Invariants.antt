@@ -3,7 +3,7 @@ use Rattle.std.specs.List.{list_any}
 use Rattle.std.specs.Ordering.{is_eq}
 use Rattle.std.specs.BTreeMap.{get}
 use Rattle.route_meaning.specs.declared.question.Spot.{Spot}
-use Rattle.route_meaning.specs.Replay.{spot_cmp}
+use Rattle.route_meaning.specs.inner.Replay.{spot_cmp}
 use Rattle.route_meaning.proofs.replay.end_peer.Given as goal
 
 abbrev pub invariant-loop-spot : goal.invariant-loop-spot

@@ -2,7 +2,7 @@ use Rattle.std.proofs.Common.{◌≡◌, ◌++◌, ap, ◌∙◌, sym, rules, ma
 use Rattle.std.specs.Map.Iter.{deref_pair}
 use Rattle.std.proofs.lemmas.Map.Iter.{iter_end}
 use Rattle.route_meaning.specs.declared.question.Row.{Row}
-use Rattle.route_meaning.specs.Replay.{row_at}
+use Rattle.route_meaning.specs.inner.Replay.{row_at}
 use Rattle.route_meaning.proofs.Answering.{rows_shown}
 use Rattle.route_meaning.proofs.replay.put_rows.Goals as goal
 

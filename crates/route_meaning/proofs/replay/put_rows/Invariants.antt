@@ -1,5 +1,5 @@
 use Rattle.std.proofs.Common.{◌≡◌, ◌++◌, map}
-use Rattle.route_meaning.specs.Replay.{row_at}
+use Rattle.route_meaning.specs.inner.Replay.{row_at}
 use Rattle.route_meaning.proofs.replay.put_rows.Given as goal
 
 abbrev pub invariant-loop-spot : goal.invariant-loop-spot

@@ -1,7 +1,7 @@
 use Rattle.std.proofs.Common.{◌≡◌, ◌++◌, ap, ◌∙◌, sym, subst, map, List}
 use Rattle.route_meaning.specs.declared.question.Row.{Row}
 use Rattle.route_meaning.specs.Rows.{AreRows}
-use Rattle.route_meaning.specs.Replay.{row_at}
+use Rattle.route_meaning.specs.inner.Replay.{row_at}
 use Rattle.route_meaning.proofs.Spots.{ordered_as}
 use Rattle.route_meaning.proofs.Answering.{answered}
 use Rattle.route_meaning.proofs.replay.rows_in.Goals as goal

@@ -1,7 +1,7 @@
 use Rattle.std.proofs.Common.{◌≡◌, ◌++◌, take, ◌∙◌, sym, subst, leb, true, false}
 use Rattle.route_model.specs.Admission.{Admitted}
 use Rattle.route_meaning.specs.Holds.{time_of, until, changes_of}
-use Rattle.route_meaning.specs.Replay.{IsTable}
+use Rattle.route_meaning.specs.inner.Replay.{IsTable}
 use Rattle.route_meaning.proofs.Replays.{IsTable-none, taken, left}
 use Rattle.route_meaning.proofs.replay.table_at.Goals as goal
 use Rattle.route_meaning.proofs.replay.table_at.Goals.{then-counts_at+in_ok-take_admission, else-counts_at}

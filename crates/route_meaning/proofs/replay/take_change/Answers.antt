@@ -4,7 +4,7 @@ use Rattle.route_model.specs.declared.route.Route.{Route}
 use Rattle.route_model.specs.declared.change.Change.{Change}
 use Rattle.route_model.specs.declared.change.Change.TheVariants.{Announce}
 use Rattle.route_model.specs.Admission.{IsChange}
-use Rattle.route_meaning.specs.Replay.{IsTable, IsSpot, spot}
+use Rattle.route_meaning.specs.inner.Replay.{IsTable, IsSpot, spot}
 use Rattle.route_meaning.proofs.Spots.{updated_as}
 use Rattle.route_meaning.proofs.Replays.{announced, announced_spot, withdrawn, ended, passed_over}
 use Rattle.route_meaning.proofs.replay.take_change.Goals as goal

@@ -2,7 +2,7 @@ use Rattle.std.proofs.Common.{◌+◌, ◌∙◌, arith, List, length, ap}
 use Rattle.std.proofs.lemmas.List.{take_all}
 use Rattle.route_model.specs.declared.change.Change.{Change}
 use Rattle.route_model.specs.Admission.{admission_octets}
-use Rattle.route_model.proofs.Admissions.{take_item}
+use Rattle.route_model.proofs.api.Admissions.{take_item}
 use Rattle.route_model.proofs.Sizes.{size-take, size-empty}
 use Rattle.route_model.proofs.admission_measuring.measure.Goals as goal
 

@@ -1,6 +1,6 @@
 use Rattle.std.proofs.lemmas.Result.{err_from_is_err_and}
-use Rattle.route_model.specs.Codec.{repeat}
-use Rattle.route_model.specs.Codec.{peer_at}
+use Rattle.route_model.specs.inner.Codec.{repeat}
+use Rattle.route_model.specs.inner.Codec.{peer_at}
 use Rattle.route_model.specs.declared.fault.ReadError.TheVariants as errors
 use Rattle.route_model.proofs.Loop.{goes_on, ends, is_done}
 use Rattle.route_model.proofs.admission_reading.read_peers.Goals as goal

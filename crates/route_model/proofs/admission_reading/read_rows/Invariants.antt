@@ -1,6 +1,6 @@
 use Rattle.std.proofs.Common.{◌≡◌, ◌-◌}
-use Rattle.route_model.specs.Codec.{repeat}
-use Rattle.route_model.specs.Codec.Admissions.{row_at}
+use Rattle.route_model.specs.inner.Codec.{repeat}
+use Rattle.route_model.specs.inner.Codec.Admissions.{row_at}
 use Rattle.route_model.proofs.Loop.{with_front}
 use Rattle.route_model.proofs.admission_reading.read_rows.Given as goal
 

@@ -1,4 +1,4 @@
-use Rattle.route_model.proofs.Keys.{prefixes_cmp, sessions_cmp, session_below, session_above}
+use Rattle.route_model.proofs.api.Keys.{prefixes_cmp, sessions_cmp, session_below, session_above}
 use Rattle.route_model.proofs.KeyNumbers.{number_cmp, number_one}
 use Rattle.route_model.proofs.key.keys_in_order.Goals as goal
 

@@ -1,7 +1,7 @@
 use Rattle.std.proofs.Common.{[], sym, ap, ◌∙◌}
-use Rattle.route_model.specs.Codec.{whole}
-use Rattle.route_model.specs.Codec.Admissions.{prefix_at, admission_at}
-use Rattle.route_model.specs.Codec.{peer_at}
+use Rattle.route_model.specs.inner.Codec.{whole}
+use Rattle.route_model.specs.inner.Codec.Admissions.{prefix_at, admission_at}
+use Rattle.route_model.specs.inner.Codec.{peer_at}
 use Rattle.route_model.proofs.Fields.{some_is}
 use Rattle.route_model.proofs.Peers.{read_one, peer_spelled}
 use Rattle.route_model.proofs.Prefixes.{prefix_again, prefix_spelled}

@@ -1,5 +1,5 @@
 use Rattle.std.proofs.Common.{◌≡◌, ◌-◌, length}
-use Rattle.route_model.specs.Codec.{attribute_at, repeat}
+use Rattle.route_model.specs.inner.Codec.{attribute_at, repeat}
 use Rattle.route_model.proofs.Loop.{with_front}
 use Rattle.route_model.proofs.reading.read_each_attribute.Given as goal
 

@@ -1,7 +1,7 @@
 use Rattle.std.proofs.Common.{◌∷◌, [], arith, length-append}
 use Rattle.std.specs.Int.{w32}
 use Rattle.std.proofs.lemmas.Result.{err_from_is_err_and}
-use Rattle.route_model.specs.Codec.{number_at, repeat}
+use Rattle.route_model.specs.inner.Codec.{number_at, repeat}
 use Rattle.route_model.proofs.Loop.{goes_on, ends, is_done}
 use Rattle.route_model.specs.declared.fault.ReadError.TheVariants as errors
 use Rattle.route_model.proofs.reading.read_numbers.Goals as goal

@@ -1,6 +1,6 @@
 use Rattle.std.proofs.Common.{◌≡◌, ◌-◌, length}
 use Rattle.std.specs.Int.{w32}
-use Rattle.route_model.specs.Codec.{number_at, repeat}
+use Rattle.route_model.specs.inner.Codec.{number_at, repeat}
 use Rattle.route_model.proofs.Loop.{with_front}
 use Rattle.route_model.proofs.reading.read_numbers.Given as goal
 

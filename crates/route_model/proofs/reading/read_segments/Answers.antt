@@ -1,6 +1,6 @@
 use Rattle.std.proofs.Common.{◌∷◌, [], arith, length-append}
 use Rattle.std.proofs.lemmas.Result.{err_from_is_err_and}
-use Rattle.route_model.specs.Codec.{segment_at, repeat}
+use Rattle.route_model.specs.inner.Codec.{segment_at, repeat}
 use Rattle.route_model.proofs.Loop.{goes_on, ends, is_done}
 use Rattle.route_model.proofs.reading.read_segments.Goals as goal
 

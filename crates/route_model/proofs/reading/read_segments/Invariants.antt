@@ -1,5 +1,5 @@
 use Rattle.std.proofs.Common.{◌≡◌, ◌-◌, length}
-use Rattle.route_model.specs.Codec.{segment_at, repeat}
+use Rattle.route_model.specs.inner.Codec.{segment_at, repeat}
 use Rattle.route_model.proofs.Loop.{with_front}
 use Rattle.route_model.proofs.reading.read_segments.Given as goal
 

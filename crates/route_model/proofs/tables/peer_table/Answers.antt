@@ -1,5 +1,5 @@
 use Rattle.std.proofs.Common.{◌∙◌, sym}
-use Rattle.route_model.proofs.Admissions.{peers_push, peers_done}
+use Rattle.route_model.proofs.api.Admissions.{peers_push, peers_done}
 use Rattle.route_model.proofs.tables.peer_table.Goals as goal
 
 pub loop-c-preserved : goal.loop-c-preserved

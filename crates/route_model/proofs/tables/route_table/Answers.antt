@@ -1,6 +1,6 @@
 use Rattle.std.proofs.Common.{◌∙◌, sym, ap}
 use Rattle.route_model.specs.Admission.{announced}
-use Rattle.route_model.proofs.Admissions.{routes_push, routes_same, routes_done}
+use Rattle.route_model.proofs.api.Admissions.{routes_push, routes_same, routes_done}
 use Rattle.route_model.proofs.tables.route_table.Goals.{in-Announce+in_ok-enter_route-in-Announce, in-Withdraw, in-Down}
 use Rattle.route_model.proofs.tables.route_table.Goals as goal
 

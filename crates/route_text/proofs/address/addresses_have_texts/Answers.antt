@@ -1,4 +1,4 @@
-use Rattle.route_text.proofs.Addresses.{IsAddressText_unique}
+use Rattle.route_text.proofs.api.Addresses.{IsAddressText_unique}
 use Rattle.route_text.proofs.Fields.{address_text_read}
 use Rattle.route_text.proofs.address.addresses_have_texts.Goals as goal
 

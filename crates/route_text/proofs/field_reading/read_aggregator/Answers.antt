@@ -1,7 +1,7 @@
 use Rattle.std.proofs.Common.{◌≡◌, ap, sym, ◌∙◌, Ok, Some, subst, List, ℕ, decimal}
 use Rattle.std.specs.Net.Grammar.{IsDotted}
 use Rattle.std.specs.Net.Text.{ipv4_text}
-use Rattle.route_text.proofs.Addresses.{IsDotted_unique}
+use Rattle.route_text.proofs.api.Addresses.{IsDotted_unique}
 use Rattle.route_text.proofs.Cuts.{first_cut, Lacks-at, Lacks-same}
 use Rattle.route_text.proofs.Fields.{not_nil, aggregator_parts}
 use Rattle.route_text.proofs.Outcomes.{ok_or_err, ok_same}

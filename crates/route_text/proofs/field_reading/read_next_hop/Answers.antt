@@ -2,7 +2,7 @@ use Rattle.std.proofs.Common.{◌++◌, ap, sym, ◌∙◌, Ok, subst, List, ℕ
 use Rattle.std.proofs.lemmas.List.{take-append-drop}
 use Rattle.route_model.specs.declared.route.NextHop.TheVariants.{One, Pair}
 use Rattle.route_text.specs.AddressText.{IsIpv6Text}
-use Rattle.route_text.proofs.Addresses.{IsAddressText_unique, IsIpv6Text_same}
+use Rattle.route_text.proofs.api.Addresses.{IsAddressText_unique, IsIpv6Text_same}
 use Rattle.route_text.proofs.Cuts.{first_cut, Lacks-at, Lacks-same}
 use Rattle.route_text.proofs.Fields.{one, pair, hop_text}
 use Rattle.route_text.proofs.field_reading.read_next_hop.Goals as goal

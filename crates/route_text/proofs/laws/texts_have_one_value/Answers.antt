@@ -1,5 +1,5 @@
 use Rattle.std.proofs.Common.{arith}
-use Rattle.route_text.proofs.OneValue.{one_prefix, one_instant}
+use Rattle.route_text.proofs.api.OneValue.{one_prefix, one_instant}
 use Rattle.route_text.proofs.laws.texts_have_one_value.Goals as goal
 
 pub returns-clause-prefix : goal.returns-clause-prefix

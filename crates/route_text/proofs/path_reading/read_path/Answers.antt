@@ -1,7 +1,7 @@
 use Rattle.std.proofs.Common.{◌≢◌, [], ◌∷◌, length, sym, ap, ◌∙◌, arith}
 use Rattle.std.proofs.lemmas.Bool.{false≢true}
 use Rattle.std.proofs.lemmas.Slice.Eq.{bytes_eq-Decides}
-use Rattle.route_text.specs.Steps.{steps}
+use Rattle.route_text.specs.inner.Steps.{steps}
 use Rattle.route_text.proofs.Outcomes.{reads_ok, reads_err, reads_passed}
 use Rattle.route_text.proofs.PathTexts.{dash, some_segment, steps_valid, length-steps, path_text-steps, normal_unique}
 use Rattle.route_text.proofs.path_reading.read_path.Goals as goal

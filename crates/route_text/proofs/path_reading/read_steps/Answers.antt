@@ -1,7 +1,7 @@
 use Rattle.std.proofs.Common.{List, [], ◌∷◌, ◌++◌, subst, sym, ap, ◌∙◌, arith, rules}
 use Rattle.route_text.specs.declared.step.Step.{Step}
 use Rattle.route_text.specs.Octets.{Lacks}
-use Rattle.route_text.specs.Steps.{IsStep, step_text, steps, run}
+use Rattle.route_text.specs.inner.Steps.{IsStep, step_text, steps, run}
 use Rattle.route_text.proofs.NormalPaths.{built_at}
 use Rattle.route_text.proofs.Outcomes.{reads_ok, reads_err, reads_passed}
 use Rattle.route_text.proofs.PathTexts.{Lacks-step_text}

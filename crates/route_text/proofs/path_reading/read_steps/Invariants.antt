@@ -3,7 +3,7 @@ use Rattle.std.specs.List.{AllByRecursion, join_with_byte}
 use denote.Shadow.{shadow}
 use denote.Text.{Utf8}
 use Rattle.route_text.specs.declared.step.Step.{Step}
-use Rattle.route_text.specs.Steps.{IsStep, step_text, steps, run, IsBuilt}
+use Rattle.route_text.specs.inner.Steps.{IsStep, step_text, steps, run, IsBuilt}
 use Rattle.route_text.proofs.Separated.{Left}
 use Rattle.route_text.proofs.path_reading.read_steps.Given as goal
 

@@ -3,7 +3,7 @@ use Rattle.std.proofs.lemmas.Result.{err_from_is_err_and}
 use Rattle.route_model.specs.declared.address.Address.{Address}
 use Rattle.route_model.specs.Address.{octets}
 use Rattle.route_text.specs.AddressText.{IsAddressText}
-use Rattle.route_text.proofs.Addresses.{IsAddressText_unique}
+use Rattle.route_text.proofs.api.Addresses.{IsAddressText_unique}
 use Rattle.route_text.proofs.Prefixes.{prefix_parts}
 use Rattle.route_text.proofs.prefix.read_prefix.Goals as goal
 

@@ -1,6 +1,6 @@
 use Rattle.std.proofs.Common.{arith, refl, ◌<◌, ◌≤◌, take}
 use Rattle.sequencer.specs.Late.{greatest}
-use Rattle.sequencer.proofs.Sieving.{late_step, kept_step}
+use Rattle.sequencer.proofs.api.Sieving.{late_step, kept_step}
 use Rattle.sequencer.proofs.late.sieve.Goals as goal
 use Rattle.sequencer.proofs.late.sieve.Goals.{then-seconds+in_ok-push, else-seconds+in_ok-push-2}
 

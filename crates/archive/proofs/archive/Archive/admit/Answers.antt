@@ -6,7 +6,7 @@ use Rattle.archive.specs.Carries.{Carries}
 use Rattle.archive.specs.Steps.{IsCollector, IsCounterFull, batch_octets, given}
 use Rattle.archive.specs.Replies.{IsReply}
 use Rattle.archive.specs.Kept.{history_of}
-use Rattle.sequencer.proofs.Setting.{get_some}
+use Rattle.sequencer.proofs.api.Setting.{get_some}
 use Rattle.archive.proofs.Telling.{carried, carries_step, collectors_are}
 use Rattle.archive.proofs.Marking.{there}
 use Rattle.archive.proofs.Giving.{of_queue, full_is, not_full, reply_is, given_is, kept_given, same_is, kept_same}

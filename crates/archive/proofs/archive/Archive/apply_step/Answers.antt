@@ -3,8 +3,8 @@ use Rattle.std.specs.List.{slice_set}
 use Rattle.route_model.specs.Admission.{Admitted}
 use Rattle.route_meaning.specs.Merged.{Placed, placed}
 use Rattle.route_meaning.specs.History.{History}
-use Rattle.sequencer.proofs.Calls.{first_in}
-use Rattle.sequencer.proofs.Setting.{get_some, one_there}
+use Rattle.sequencer.proofs.api.Calls.{first_in}
+use Rattle.sequencer.proofs.api.Setting.{get_some, one_there}
 use Rattle.archive.specs.Carries.{Carries}
 use Rattle.archive.specs.Steps.{Applies, NothingToApply}
 use Rattle.archive.specs.Kept.{Queued, history_of, IsKept}

@@ -1,6 +1,6 @@
 use Rattle.std.proofs.Common.{List, ℕ, subst, ◌∙◌}
 use Rattle.mrt_records.specs.Records.{Over}
-use Rattle.mrt_records.proofs.Streams.{over_stays}
+use Rattle.mrt_records.proofs.api.Streams.{over_stays}
 use Rattle.mrt_records.proofs.framer.Framer.feed.Goals as goal
 
 pub returns-then-is_over-clause-fed : goal.returns-then-is_over-clause-fed

@@ -1,6 +1,6 @@
 use Rattle.std.proofs.Common.{◌∙◌, ℕ, ap, sym, Some}
 use Rattle.disk_models.specs.Octets.{octets}
-use Rattle.disk_models.proofs.Moments.{stays_may_leave}
+use Rattle.disk_models.proofs.api.Moments.{stays_may_leave}
 use Rattle.page_journal.specs.Bookkeeping.{place_of}
 use Rattle.page_journal.proofs.journal.Journal.read.Goals as goal
 

@@ -1,7 +1,7 @@
 use Rattle.std.proofs.Common.{sym, ap, ◌∙◌, List, ℕ}
 use Rattle.route_model.specs.Admission.{Admitted}
-use Rattle.route_model.specs.Codec.{whole}
-use Rattle.route_model.specs.Codec.Admissions.{admission_at}
+use Rattle.route_model.specs.inner.Codec.{whole}
+use Rattle.route_model.specs.inner.Codec.Admissions.{admission_at}
 use Rattle.route_model.proofs.Fields.{some_is}
 use Rattle.route_model.proofs.Prefixes.{prefix_again}
 use Rattle.route_model.proofs.Whole.{admission_only, compared, none_some}

@@ -1,8 +1,8 @@
 use Rattle.std.proofs.Common.{◌≡◌, sym, ap, ◌∙◌, eq-eqb}
 use Rattle.route_model.specs.Keys.{key_of}
-use Rattle.route_model.specs.Codec.Admissions.{parts_at}
+use Rattle.route_model.specs.inner.Codec.Admissions.{parts_at}
 use Rattle.route_model.proofs.Fields.{some_is}
-use Rattle.route_model.proofs.Keys.{key_octets_are, parts_again}
+use Rattle.route_model.proofs.api.Keys.{key_octets_are, parts_again}
 use Rattle.route_model.proofs.Whole.{none_some}
 use Rattle.route_model.proofs.key.Key.parts.Goals as goal
 

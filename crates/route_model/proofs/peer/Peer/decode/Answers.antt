@@ -2,7 +2,7 @@ use Rattle.std.proofs.Common.{◌≡◌, Some, sym, ap, ◌∙◌}
 use Rattle.std.proofs.lemmas.Slice.Eq.{bytes_eq-Decides}
 use Rattle.route_model.specs.declared.peer.Peer.{Peer}
 use Rattle.route_model.specs.Spelling.{peer_octets}
-use Rattle.route_model.specs.Codec.{peer_at}
+use Rattle.route_model.specs.inner.Codec.{peer_at}
 use Rattle.route_model.proofs.Peers.{read_one, read_some, peer_spelled}
 use Rattle.route_model.proofs.peer.Peer.decode.Goals as goal
 

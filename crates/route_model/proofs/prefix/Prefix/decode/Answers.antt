@@ -1,7 +1,7 @@
 use Rattle.std.proofs.Common.{◌≡◌, Some, sym, ap, ◌∙◌}
 use Rattle.std.proofs.lemmas.Slice.Eq.{bytes_eq-Decides}
 use Rattle.route_model.specs.Prefix.{IpPrefix, prefix_octets}
-use Rattle.route_model.specs.Codec.Admissions.{prefix_at}
+use Rattle.route_model.specs.inner.Codec.Admissions.{prefix_at}
 use Rattle.route_model.proofs.Peers.{read_one, read_some}
 use Rattle.route_model.proofs.Prefixes.{prefix_spelled}
 use Rattle.route_model.proofs.prefix.Prefix.decode.Goals as goal

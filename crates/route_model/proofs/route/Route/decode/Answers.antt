@@ -1,7 +1,7 @@
 use Rattle.std.proofs.Common.{◌≡◌, sym, ap, ◌∙◌}
 use Rattle.std.proofs.lemmas.Slice.Eq.{bytes_eq-Decides}
 use Rattle.route_model.specs.Spelling.{route_octets}
-use Rattle.route_model.specs.Codec.{whole, route_at}
+use Rattle.route_model.specs.inner.Codec.{whole, route_at}
 use Rattle.route_model.proofs.Fields.{some_is}
 use Rattle.route_model.proofs.Decoding.{route_spelled}
 use Rattle.route_model.proofs.Whole.{none_some}

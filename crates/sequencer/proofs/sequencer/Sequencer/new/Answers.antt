@@ -1,5 +1,5 @@
 use Rattle.std.proofs.Common.{◌≡◌, ℕ, [], length, arith, ap, ◌∙◌, replicate}
-use Rattle.sequencer.proofs.Setting.{all_empty}
+use Rattle.sequencer.proofs.api.Setting.{all_empty}
 use Rattle.sequencer.proofs.sequencer.Sequencer.new.Goals as goal
 
 pub invariant_of-result : goal.invariant_of-result

@@ -1,7 +1,7 @@
 use Rattle.std.proofs.Common.{◌<◌, List, length, arith, sym, subst}
 use Rattle.std.specs.List.{slice_set}
 use Rattle.sequencer.specs.Lanes.{Waiting, Raises, IsAbove}
-use Rattle.sequencer.proofs.Calls.{raises_lanes, not_above}
+use Rattle.sequencer.proofs.api.Calls.{raises_lanes, not_above}
 use Rattle.sequencer.proofs.sequencer.Sequencer.raise.Goals as goal
 
 pub returns-clause-raised : goal.returns-clause-raised

@@ -2,7 +2,7 @@ use Rattle.std.proofs.Common.{◌≡◌, ◌<◌, ℕ, List, length, sym, subst,
 use Rattle.std.specs.List.{slice_set, slice_get}
 use Rattle.sequencer.specs.Lanes.{Waiting, SameLanes, marks}
 use Rattle.sequencer.specs.Taking.{IsSieved, MayTakeIn}
-use Rattle.sequencer.proofs.Calls.{same_lanes, same_right, ready, at_mark, all_sieved, if_ok}
+use Rattle.sequencer.proofs.api.Calls.{same_lanes, same_right, ready, at_mark, all_sieved, if_ok}
 use Rattle.sequencer.proofs.sequencer.Sequencer.sieve.Goals as goal
 
 pub invariant_of-self : goal.invariant_of-self

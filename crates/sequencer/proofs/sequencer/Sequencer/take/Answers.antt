@@ -2,7 +2,7 @@ use Rattle.std.proofs.Common.{List, arith, sym, subst}
 use Rattle.std.specs.List.{slice_set}
 use Rattle.sequencer.specs.Lanes.{Waiting, Releases}
 use Rattle.sequencer.specs.First.{IsNext}
-use Rattle.sequencer.proofs.Calls.{first_in, pops, popped_right}
+use Rattle.sequencer.proofs.api.Calls.{first_in, pops, popped_right}
 use Rattle.sequencer.proofs.sequencer.Sequencer.take.Goals as goal
 
 pub index_mut-requires : goal.index_mut-requires

@@ -2,7 +2,7 @@ use Rattle.std.proofs.Common.{◌++◌, ℕ, List, sym, subst, ap, ◌∙◌}
 use Rattle.std.specs.List.{slice_set}
 use Rattle.sequencer.specs.Lanes.{Waiting}
 use Rattle.sequencer.specs.Taking.{MayTakeIn, TakesIn}
-use Rattle.sequencer.proofs.Calls.{takes_in, taken_right, inside}
+use Rattle.sequencer.proofs.api.Calls.{takes_in, taken_right, inside}
 use Rattle.sequencer.proofs.sequencer.Sequencer.take_in.Goals as goal
 
 pub invariant_of-self : goal.invariant_of-self

@@ -1,7 +1,7 @@
 use Rattle.std.proofs.Common.{◌≡◌, ◌≤◌, ◌+◌, ◌++◌, ◌∙◌, List, ltb, refl, sym, subst, append_assoc, arith, IfErr}
 use Rattle.std.proofs.lemmas.Result.{err_from_is_err_and}
 use Rattle.service.specs.Turns.{Turn, offer_where, wait_unless, is_full, joined}
-use Rattle.service.specs.Feeding.{HasDone, GivesUp}
+use Rattle.service.specs.inner.Feeding.{HasDone, GivesUp}
 use Rattle.service.specs.declared.refusal.Refusal.TheVariants as refusals
 use Rattle.service.specs.declared.feed_lines.FeedCounts.{FeedCounts}
 use Rattle.service.proofs.Following.{on_ok_more}

@@ -1,7 +1,7 @@
 use Rattle.std.proofs.Common.{◌++◌, List, sym, subst, map, arith, take_all}
 use Rattle.std.proofs.lemmas.List.{append-nil}
 use Rattle.mrt_records.specs.Values.{Told, told}
-use Rattle.service.specs.Feeding.{IsBehind}
+use Rattle.service.specs.inner.Feeding.{IsBehind}
 use Rattle.std.proofs.lemmas.Result.{err_from_is_err_and}
 use Rattle.service.proofs.GivingUp.{stops_among}
 use Rattle.service.proofs.Following.{told_more}

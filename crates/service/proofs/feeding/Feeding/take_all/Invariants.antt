@@ -1,7 +1,7 @@
 use Rattle.std.proofs.Common.{◌++◌, ℕ, List, Option, map, take}
 use Rattle.route_meaning.specs.History.{History}
 use Rattle.mrt_records.specs.Values.{Told, told}
-use Rattle.service.specs.Feeding.{IsBehind}
+use Rattle.service.specs.inner.Feeding.{IsBehind}
 use Rattle.service.proofs.feeding.Feeding.take_all.Given as goal
 
 abbrev pub invariant-loop-item : goal.invariant-loop-item

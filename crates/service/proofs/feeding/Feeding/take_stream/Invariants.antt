@@ -1,6 +1,6 @@
 use Rattle.std.proofs.Common.{◌≡◌, ℕ, List, Option, Some, length}
 use Rattle.route_meaning.specs.History.{History}
-use Rattle.service.specs.Feeding.{Reads}
+use Rattle.service.specs.inner.Feeding.{Reads}
 use Rattle.service.proofs.Streams.{Left}
 use Rattle.service.proofs.feeding.Feeding.take_stream.Given as goal
 

@@ -4,7 +4,7 @@ use Rattle.std.specs.List.{AllByRecursion, AllZip}
 use Rattle.route_model.specs.Admission.{Admitted}
 use Rattle.route_meaning.specs.Holds.{admitted_time, time_of}
 use Rattle.route_meaning.specs.History.{Intake, History, GoesOn, floor, Begins}
-use Rattle.route_meaning.proofs.Sorting.{all_weaker, all_append}
+use Rattle.route_meaning.proofs.api.Sorting.{all_weaker, all_append}
 
 pub GoesOn-refl : (i : Intake) → GoesOn (floor i) i i
 GoesOn-refl i = record { more = []; begins = sym (append-nil i.admitted); after = tt; mark = omega arith; offered = omega arith }

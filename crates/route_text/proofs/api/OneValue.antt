@@ -7,7 +7,7 @@ use Rattle.jiff_core.specs.declared.error.Error.{Error}
 use Rattle.route_model.specs.Prefix.{IpPrefix, cleared_address}
 use Rattle.route_text.specs.MomentText.{IsTimestamp, IsInstant}
 use Rattle.route_text.specs.PrefixText.{IsPrefixText}
-use Rattle.route_text.proofs.Addresses.{IsAddressText_unique, length-IsAddressText}
+use Rattle.route_text.proofs.api.Addresses.{IsAddressText_unique, length-IsAddressText}
 use Rattle.route_text.proofs.Numbers.{Lacks-decimal}
 use Rattle.route_text.proofs.Prefixes.{prefix_parts}
 use Rattle.route_text.proofs.Timestamps.{digits-not_timestamp}

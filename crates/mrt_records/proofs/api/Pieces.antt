@@ -10,8 +10,8 @@ use Rattle.mrt_records.specs.Feeding.{Fed, MayEnd, stream, IsStream}
 use Rattle.mrt_records.specs.declared.framer.FrameError.{FrameError}
 use Rattle.mrt_records.specs.declared.framer.FrameError.TheVariants as errors
 use Rattle.mrt_records.specs.declared.item.Item.{Item}
-use Rattle.route_model.proofs.Sequences.{joined-append}
-use Rattle.mrt_records.proofs.Streams.{all-append, gains_then, frames_none, part_begins_none, over_begins_none, over-append}
+use Rattle.route_model.proofs.api.Sequences.{joined-append}
+use Rattle.mrt_records.proofs.api.Streams.{all-append, gains_then, frames_none, part_begins_none, over_begins_none, over-append}
 
 -- which of the pieces were read, with these still to come
 pub record Reached (pieces left : List (Vec ℕ Global)) (held : List ℕ) (old new : List Item) : Type 0 where

@@ -11,7 +11,7 @@ use Rattle.route_model.specs.declared.route.Route.{Route}
 use Rattle.route_model.specs.declared.wire.Family.{Family}
 use Rattle.route_model.specs.declared.wire.Family.TheVariants as families
 use Rattle.bgp_update.specs.NextHops.{family_at, AreOf, AreUnreached}
-use Rattle.bgp_update.proofs.Reached.{ipv4_one}
+use Rattle.bgp_update.proofs.api.Reached.{ipv4_one}
 use Rattle.bgp_update.proofs.Updates.{its_announcements, still_unreachable, same_parts}
 
 -- octets without a header are no message

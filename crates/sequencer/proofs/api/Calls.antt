@@ -7,8 +7,8 @@ use Rattle.sequencer.specs.Late.{greatest, timely, lates}
 use Rattle.sequencer.specs.Lanes.{Waiting, marks, waiting_times, IsLane, IsOpen, Releases, SameLanes, Raises, IsAbove}
 use Rattle.sequencer.specs.First.{IsFirstLane}
 use Rattle.sequencer.specs.Taking.{IsSieved, MayTakeIn, TakesIn}
-use Rattle.sequencer.proofs.Setting.{get_some, marks_at, marks_set, times_set, marks_same, times_same, all_set, all_at, set_there, one_there}
-use Rattle.sequencer.proofs.Rising.{few_timely, taken_in, popped}
+use Rattle.sequencer.proofs.api.Setting.{get_some, marks_at, marks_set, times_set, marks_same, times_same, all_set, all_at, set_there, one_there}
+use Rattle.sequencer.proofs.api.Rising.{few_timely, taken_in, popped}
 use Rattle.sequencer.proofs.Releasing.{lane_in, lane_times, releases}
 
 -- a lane with this mark and these times

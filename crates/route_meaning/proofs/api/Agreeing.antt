@@ -17,8 +17,8 @@ use Rattle.route_meaning.specs.Holds.{until, Holds}
 use Rattle.route_meaning.specs.Rows.{IsRow, AreRows, IsAnswer}
 use Rattle.route_meaning.specs.Events.{IsEventsAnswer, events}
 use Rattle.route_meaning.specs.History.{History, IsHistory, Begins, all_of, applied, settled}
-use Rattle.route_meaning.proofs.Sorting.{all_weaker}
-use Rattle.route_meaning.proofs.Settling.{until-applied, until-begins, Holds-until}
+use Rattle.route_meaning.proofs.api.Sorting.{all_weaker}
+use Rattle.route_meaning.proofs.api.Settling.{until-applied, until-begins, Holds-until}
 
 pub IsRow-until : (ps qs : List (Placed Admitted)) (moment : ℕ) (select : Select) (low high : Option Spot) (row : Row) → until moment ps ≡ until moment qs → IsRow ps moment select low high row → IsRow qs moment select low high row
 IsRow-until ps qs moment select low high row e h = record { selected = h.selected; above = h.above; within = h.within; holds = Holds-until ps qs moment row.peer row.prefix row.route e h.holds }

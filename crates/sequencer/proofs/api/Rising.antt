@@ -3,10 +3,10 @@ use Rattle.std.proofs.Common.{◌≡◌, ℕ, ◌≤◌, List, [], ◌∷◌, �
 use Rattle.std.specs.List.{AllByRecursion}
 use Rattle.std.proofs.lemmas.Bool.{lt-ltb, le-ltb, cases_lt}
 use Rattle.route_meaning.specs.Merged.{IsRising}
-use Rattle.route_meaning.proofs.Sorting.{all_weaker, all_append}
+use Rattle.route_meaning.proofs.api.Sorting.{all_weaker, all_append}
 use Rattle.sequencer.specs.Late.{greatest, timely}
 use Rattle.sequencer.specs.Lanes.{Waiting, IsLane}
-use Rattle.sequencer.proofs.Sieving.{greatest-push, is_late-greatest}
+use Rattle.sequencer.proofs.api.Sieving.{greatest-push, is_late-greatest}
 
 -- the times that aren't below a running mark
 abbrev pub rising_part : ℕ → List ℕ → List ℕ

@@ -10,7 +10,7 @@ use Rattle.route_model.specs.declared.route.Aggregator.{Aggregator}
 use Rattle.route_model.specs.declared.path.Segment.{Segment}
 use Rattle.route_model.specs.declared.wire.AsWidth.{AsWidth}
 use Rattle.route_model.specs.Widths.{width_of}
-use Rattle.route_model.proofs.Sequences.{sequence_one}
+use Rattle.route_model.proofs.api.Sequences.{sequence_one}
 use Rattle.bgp_update.specs.declared.attribute.PathAttribute.{PathAttribute}
 use Rattle.bgp_update.specs.declared.reading.PathAttributes.{PathAttributes}
 use Rattle.bgp_update.specs.AttributeFields.{IsAttributeField, AreListed, value_of}

@@ -9,14 +9,14 @@ use Rattle.route_model.specs.Sequence.{joined, Each}
 use Rattle.route_model.specs.Octets.{number_at}
 use Rattle.mrt_records.specs.Records.{body_length, IsRecord, Over, BeginsWithRecord, Frames}
 use Rattle.mrt_records.specs.Streams.{IsItem, Gains, GainsFrames, EndsOver}
-use Rattle.route_model.proofs.Fronts.{number_at-append}
-use Rattle.mrt_records.specs.Front.{IsPart, IsFront, IsToppedUp, IsFilled}
+use Rattle.route_model.proofs.api.Fronts.{number_at-append}
+use Rattle.mrt_records.specs.inner.Front.{IsPart, IsFront, IsToppedUp, IsFilled}
 use Rattle.mrt_records.specs.declared.front.Front.{Front}
 use Rattle.mrt_records.specs.declared.front.Front.TheVariants as fronts
 use Rattle.mrt_records.specs.Feeding.{IsHeld, Goes}
 use Rattle.mrt_records.specs.declared.item.Item.{Item}
 use Rattle.route_model.specs.Reading.{BeginsWith}
-use Rattle.route_model.proofs.Sequences.{joined-push, Each-append, same_fronts, IsPrefixFree, sequences_agree}
+use Rattle.route_model.proofs.api.Sequences.{joined-push, Each-append, same_fronts, IsPrefixFree, sequences_agree}
 
 pub body_length-take : (n : ℕ) (bytes : List ℕ) → 12 ≤ n → n ≤ length bytes → body_length (take n bytes) ≡ body_length bytes
 body_length-take n bytes low high =

@@ -13,7 +13,7 @@ use Rattle.route_meaning.specs.Merged.{insert_by, by_time}
 use Rattle.route_meaning.specs.Merged.{IsRising, Placed, placed, all_placed, merged, part}
 use Rattle.route_meaning.specs.Holds.{until, changes_of, Holds}
 use Rattle.route_meaning.specs.History.{Intake, History, GoesOn, floor, IsIntake, IsHistory, Begins, all_of, waiting, begun, applied, first_or, bounds, least, settled}
-use Rattle.route_meaning.proofs.Sorting.{IsFront, all_weaker, all_append, all_by_time, filter-none, filter-by_time, rises_by_time}
+use Rattle.route_meaning.proofs.api.Sorting.{IsFront, all_weaker, all_append, all_by_time, filter-none, filter-by_time, rises_by_time}
 use Rattle.route_meaning.proofs.Merging.{until-merged, until-all_placed}
 
 pub all_drop : {X : Type 0} (P : X → Type 0) (n : ℕ) (xs : List X) → AllByRecursion P xs → AllByRecursion P (drop n xs)

@@ -6,7 +6,7 @@ use Rattle.std.proofs.lemmas.List.Elements.{filter-append}
 use Rattle.std.proofs.lemmas.Bool.{cond_both, cases_Bool, cases_eq, leb-true, leb-false, le-leb, lt-leb, eqb-true, eq-eqb, ne_eqb, false≢true}
 use Rattle.route_meaning.specs.Merged.{insert_by, by_time}
 use Rattle.route_meaning.specs.Merged.{Placed, placed, all_placed, merged, part, parts, IsBefore, IsInOrder, IsRising}
-use Rattle.route_meaning.proofs.Sorting.{all_weaker, all_append, all_filter, filter-none, all_insert_by, all_by_time, by_time-first}
+use Rattle.route_meaning.proofs.api.Sorting.{all_weaker, all_append, all_filter, filter-none, all_insert_by, all_by_time, by_time-first}
 
 pub all_both : {X : Type 0} (P Q : X → Type 0) (xs : List X) → AllByRecursion P xs → AllByRecursion Q xs → AllByRecursion (λ x. P x × Q x) xs
 all_both P Q [] a b = tt

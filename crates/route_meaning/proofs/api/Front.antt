@@ -10,9 +10,9 @@ use Rattle.route_meaning.specs.Merged.{by_time}
 use Rattle.route_meaning.specs.Merged.{IsRising, Placed, all_placed, merged, part}
 use Rattle.route_meaning.specs.Holds.{until}
 use Rattle.route_meaning.specs.History.{Intake, History, GoesOn, floor, IsHistory, IsPlace, IsBelowMarks, Begins, all_of, waiting, begun, front, applied, first_or, bounds, least, settled}
-use Rattle.route_meaning.proofs.Sorting.{all_weaker, all_append, all_filter, rises_by_time}
+use Rattle.route_meaning.proofs.api.Sorting.{all_weaker, all_append, all_filter, rises_by_time}
 use Rattle.route_meaning.proofs.Merging.{until-merged, until-all_placed}
-use Rattle.route_meaning.proofs.Settling.{all_take, rises_drop, marks_above_settled, waiting_after_settled, until-late, until-begins}
+use Rattle.route_meaning.proofs.api.Settling.{all_take, rises_drop, marks_above_settled, waiting_after_settled, until-late, until-begins}
 
 -- below every mark nothing more can come
 pub until-marks : (h g : History) (moment : ℕ) → AllZip (λ i j. GoesOn (floor i) i j) h.intakes g.intakes → AllByRecursion (λ i. moment < i.mark) h.intakes → until moment (all_of g) ≡ until moment (all_of h)

@@ -12,7 +12,7 @@ use Rattle.route_model.specs.declared.key.KeyParts.TheVariants.{Session, Prefix 
 use Rattle.route_model.specs.Address.{octets}
 use Rattle.route_model.specs.Prefix.{IpPrefix, cleared_address}
 use Rattle.route_model.specs.Admission.{Admitted}
-use Rattle.route_model.specs.Codec.{◌>>=◌, octet_at, octets_at, number_at, repeat, whole, peer_at, route_at, wide_address}
+use Rattle.route_model.specs.inner.Codec.{◌>>=◌, octet_at, octets_at, number_at, repeat, whole, peer_at, route_at, wide_address}
 
 -- the address whose octets begin so and go on with zeros
 abbrev pub filled : ℕ → List ℕ → Option Address

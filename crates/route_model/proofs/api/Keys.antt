@@ -18,7 +18,7 @@ use Rattle.std.proofs.lemmas.Bool.{le-ltb}
 use Rattle.route_model.specs.declared.key.KeyParts.{KeyParts}
 use Rattle.route_model.specs.declared.key.KeyParts.TheVariants.{Session, Prefix as OfPrefix}
 use Rattle.route_model.specs.Octets.{AreOctets}
-use Rattle.route_model.specs.Codec.Admissions.{parts_at}
+use Rattle.route_model.specs.inner.Codec.Admissions.{parts_at}
 use Rattle.route_model.proofs.Fields.{octets_again}
 use Rattle.route_model.proofs.KeyNumbers.{number_cmp, number_one, cmp_less_is}
 use Rattle.route_model.proofs.Peers.{length-wide, wide_again, peer_again}

@@ -12,8 +12,8 @@ use Rattle.route_model.specs.declared.address.Address.TheVariants.{V4, V6}
 use Rattle.route_model.specs.declared.route.NextHop.{NextHop}
 use Rattle.route_model.specs.declared.route.NextHop.TheVariants.{One, Pair}
 use Rattle.route_model.specs.declared.wire.Family.{Family}
-use Rattle.route_model.proofs.Sequences.{same_fronts, sequence_one}
-use Rattle.route_model.proofs.PrefixFields.{prefixes_free}
+use Rattle.route_model.proofs.api.Sequences.{same_fronts, sequence_one}
+use Rattle.route_model.proofs.api.PrefixFields.{prefixes_free}
 use Rattle.bgp_update.specs.declared.reach.Reach.{Reach}
 use Rattle.bgp_update.specs.NextHops.{IsHop, family_at, IsBehind, IsReachOf, IsReach, IsReached, AreReached, AreOf, AreUnreached, IsShort, IsEntryHop, IsEntryReach, hop_of}
 

@@ -4,10 +4,10 @@ use Rattle.route_model.specs.declared.address.Address.{Address}
 use Rattle.route_model.specs.declared.address.Address.TheVariants.{V4, V6}
 use Rattle.route_model.specs.Address.{octets, family}
 use Rattle.route_model.specs.Prefix.{IpPrefix, cleared}
-use Rattle.route_model.proofs.Sequences.{IsPrefixFree, same_fronts}
+use Rattle.route_model.proofs.api.Sequences.{IsPrefixFree, same_fronts}
 use Rattle.route_model.specs.declared.wire.Family.{Family}
 use Rattle.route_model.specs.PrefixFields.{address_size, IsPrefixField}
-use Rattle.route_model.proofs.Fronts.{same_first}
+use Rattle.route_model.proofs.api.Fronts.{same_first}
 
 -- an address is its family and its octets
 same_address : (x y : Address) → family x ≡ family y → octets x ≡ octets y → x ≡ y

@@ -1,0 +1,6 @@
+pub mod Sorting
+pub mod OneOrder
+pub mod Settling
+pub mod Agreeing
+pub mod Beginning
+pub mod Front

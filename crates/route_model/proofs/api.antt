@@ -1,0 +1,6 @@
+pub mod Sequences
+pub mod Readings
+pub mod Admissions
+pub mod Keys
+pub mod Fronts
+pub mod PrefixFields

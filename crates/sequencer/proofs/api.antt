@@ -1,0 +1,4 @@
+pub mod Sieving
+pub mod Setting
+pub mod Rising
+pub mod Calls
