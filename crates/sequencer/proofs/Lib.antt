@@ -1,4 +1,5 @@
 pub mod Firsts
 pub mod Releasing
 pub mod Leasts
+pub mod Running
 pub mod api

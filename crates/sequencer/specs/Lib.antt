@@ -2,3 +2,4 @@ pub mod Late
 pub mod Lanes
 pub mod First
 pub mod Taking
+pub mod Runs

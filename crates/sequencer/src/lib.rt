@@ -5,7 +5,9 @@
 mod first;
 mod lane;
 mod late;
+mod laws;
 mod sequencer;
 
 pub use late::{Late, Sieved, sieve};
+pub use laws::runs_release_in_order;
 pub use sequencer::{MarkBack, Sequencer};

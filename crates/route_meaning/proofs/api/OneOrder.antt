@@ -15,7 +15,7 @@ all_both P Q (x ∷ xs) a b = ((a.0, b.0), all_both P Q xs a.1 b.1)
 -- ---- what is in order is merged from its parts
 
 module _ {X : Type 0} where
-  all_part : (P : Placed X → Type 0) (c : ℕ) (ps : List (Placed X)) → AllByRecursion P ps → AllByRecursion P (map (placed c) (part c ps))
+  pub all_part : (P : Placed X → Type 0) (c : ℕ) (ps : List (Placed X)) → AllByRecursion P ps → AllByRecursion P (map (placed c) (part c ps))
   all_part P c [] a = tt
   all_part P c (p ∷ ps) a =
       elim (cases_eq p.collector c) [

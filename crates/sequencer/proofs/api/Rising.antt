@@ -55,7 +55,8 @@ part_below m (t ∷ ts) = elim (cases_lt t m) [
   | inr ge ↦ rw (le-ltb t m ge) ((let g = greatest-above m ts in omega arith), all_weaker (λ u. u ≤ greatest t ts) (λ u. u ≤ max t (greatest m ts)) (λ u le. let g = greatest-mono t m ts in omega arith) (rising_part t ts) (part_below t ts))
 ]
 
-rises_append : (m : ℕ) (xs ys : List ℕ) → IsRising (λ t. t) xs → AllByRecursion (λ t. t ≤ m) xs → AllByRecursion (λ t. m ≤ t) ys → IsRising (λ t. t) ys → IsRising (λ t. t) (xs ++ ys)
+-- what rises up to m, and then what rises from m on
+pub rises_append : (m : ℕ) (xs ys : List ℕ) → IsRising (λ t. t) xs → AllByRecursion (λ t. t ≤ m) xs → AllByRecursion (λ t. m ≤ t) ys → IsRising (λ t. t) ys → IsRising (λ t. t) (xs ++ ys)
 rises_append m [] ys rx bx ay ry = ry
 rises_append m (x ∷ xs) ys rx bx ay ry = (all_append (λ y. x ≤ y) xs ys rx.0 (all_weaker (λ y. m ≤ y) (λ y. x ≤ y) (λ y le. let b = bx.0 in omega arith) ys ay), rises_append m xs ys rx.1 bx.1 ay ry)
 
@@ -73,6 +74,14 @@ few_timely m earlier ts = subst (λ (l : List ℕ). length l ≤ length ts) (sym
 -- none of the timely is below the mark
 pub timely_above : (m : ℕ) (ts : List ℕ) → AllByRecursion (λ t. m ≤ t) (timely (λ t. t) m [] ts)
 timely_above m ts = subst (AllByRecursion (λ t. m ≤ t)) (sym (part_is m [] ts)) (part_above m ts)
+
+-- the timely rise
+pub timely_rises : (m : ℕ) (ts : List ℕ) → IsRising (λ t. t) (timely (λ t. t) m [] ts)
+timely_rises m ts = subst (IsRising (λ t. t)) (sym (part_is m [] ts)) (part_rises m ts)
+
+-- none of them is above the mark behind them
+pub timely_below : (m : ℕ) (ts : List ℕ) → AllByRecursion (λ t. t ≤ greatest m ts) (timely (λ t. t) m [] ts)
+timely_below m ts = subst (AllByRecursion (λ t. t ≤ greatest m ts)) (sym (part_is m [] ts)) (part_below m ts)
 
 -- a lane takes in what was sieved at its mark
 pub taken_in : (w : Waiting) (room : ℕ) (ts : List ℕ) → IsLane w → IsLane (record { mark = greatest w.mark ts; times = w.times ++ timely (λ t. t) w.mark [] ts; room = room })
