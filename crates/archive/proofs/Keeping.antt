@@ -1,5 +1,5 @@
 -- What is kept, and what of the history waits.
-use Rattle.std.proofs.Common.{◌≡◌, ℕ, ◌+◌, ◌<◌, List, [], ◌∷◌, ◌++◌, length, drop, map, min, refl, sym, ap, ◌∙◌, subst, arith, zero, suc, eqb}
+use Rattle.std.proofs.Common.{◌≡◌, ℕ, ◌+◌, ◌<◌, List, [], ◌∷◌, ◌++◌, length, drop, map, refl, sym, ap, ◌∙◌, subst, arith, zero, suc, eqb}
 use Rattle.std.specs.List.{AllByRecursion, filter}
 use Rattle.std.proofs.lemmas.List.{map-append, take-append-drop}
 use Rattle.std.proofs.lemmas.List.Elements.{filter-append}
@@ -10,7 +10,7 @@ use Rattle.route_meaning.specs.History.{Intake, IsIntake, all_of, waiting, first
 use Rattle.route_meaning.proofs.api.Sorting.{all_weaker, all_by_time}
 use Rattle.route_meaning.proofs.api.OneOrder.{merged-parts, parts-merged, IsInOrder-merged}
 use Rattle.route_meaning.proofs.api.Settling.{all_drop, all_placed_within}
-use Rattle.sequencer.specs.Lanes.{Waiting, waiting_times, bound_of, least as least_bound}
+use Rattle.sequencer.specs.Lanes.{Waiting, waiting_times, bound_of}
 use Rattle.archive.specs.Kept.{Queued, intakes_of, history_of, waiting_of, IsKept}
 
 cancel : {X : Type 0} (xs ys zs : List X) → xs ++ ys ≡ xs ++ zs → ys ≡ zs
@@ -94,18 +94,13 @@ bounds_are c applied ps (w ∷ lanes) (q ∷ queues) e t =
     let tail : parts (suc c) (length queues) ps ≡ waiting_of queues = cc in
     let times : w.times ≡ map admitted_time q.waiting = cc in
     let times' : waiting_times lanes ≡ map (λ q. map admitted_time q.waiting) queues = cc in
-    ap (λ (n : ℕ). n ∷ bounds (suc c) (intakes_of (suc c) applied lanes queues) ps) (ap (first_or w.mark) head ∙ same_bound w q.waiting times)
+    ap (λ (n : ℕ). n ∷ bounds (suc c) (intakes_of (suc c) applied lanes queues) ps) (ap (first_or admitted_time w.mark) head ∙ same_bound w q.waiting times)
     ∙ ap (λ (l : List ℕ). bound_of w ∷ l) (bounds_are (suc c) applied ps lanes queues tail times')
   where
-    same_bound : (w : Waiting) (waits : List Admitted) → w.times ≡ map admitted_time waits → first_or w.mark waits ≡ bound_of w
+    same_bound : (w : Waiting) (waits : List Admitted) → w.times ≡ map admitted_time waits → first_or admitted_time w.mark waits ≡ bound_of w
     same_bound w [] e = rw e refl
     same_bound w (a ∷ others) e = rw e refl
 
-least_same : (lanes : List Waiting) → least_bound lanes ≡ least (map bound_of lanes)
-least_same [] = refl
-least_same (w ∷ []) = refl
-least_same (w ∷ v ∷ lanes) = ap (λ (n : ℕ). min (bound_of w) n) (least_same (v ∷ lanes))
-
-pub settled_is : (lanes : List Waiting) (queues : List Queued) (applied : List (Placed Admitted)) (begun : ℕ) → IsKept lanes queues applied begun → least_bound lanes ≡ settled (history_of lanes queues applied begun)
+pub settled_is : (lanes : List Waiting) (queues : List Queued) (applied : List (Placed Admitted)) (begun : ℕ) → IsKept lanes queues applied begun → least (map bound_of lanes) ≡ settled (history_of lanes queues applied begun)
 settled_is lanes queues applied begun k =
-    least_same lanes ∙ ap least (sym (bounds_are 0 applied (waiting (history_of lanes queues applied begun)) lanes queues (waiting-parts lanes queues applied begun k) k.times))
+    ap least (sym (bounds_are 0 applied (waiting (history_of lanes queues applied begun)) lanes queues (waiting-parts lanes queues applied begun k) k.times))

@@ -40,14 +40,14 @@ abbrev pub applied : History → List (Placed Admitted)
 applied h = front h.whole h.some (all_of h)
 
 -- the time of the first, or the mark where there is none
-abbrev pub first_or : ℕ → List Admitted → ℕ
-first_or mark [] = mark
-first_or mark (a ∷ others) = a.time
+abbrev pub first_or : {X : Type 0} → (X → ℕ) → ℕ → List X → ℕ
+first_or time mark [] = mark
+first_or time mark (x ∷ xs) = time x
 
 -- for each collector, of which the first has the number c: the time of the first of its admissions that wait, or its mark
 abbrev pub bounds : ℕ → List Intake → List (Placed Admitted) → List ℕ
 bounds c [] ps = []
-bounds c (i ∷ is) ps = first_or i.mark (part c ps) ∷ bounds (suc c) is ps
+bounds c (i ∷ is) ps = first_or admitted_time i.mark (part c ps) ∷ bounds (suc c) is ps
 
 -- the least of the numbers, 0 where there is none
 abbrev pub least : List ℕ → ℕ

@@ -1,7 +1,8 @@
 -- What waits of each collector, and what is next.
-use Rattle.std.specs.Prelude.{ℕ, List, [], ◌∷◌, ◌≡◌, ◌<◌, ◌≤◌, map, min, Some, slice_get, slice_set}
+use Rattle.std.specs.Prelude.{ℕ, List, ◌∷◌, ◌≡◌, ◌<◌, ◌≤◌, map, Some, slice_get, slice_set}
 use Rattle.std.specs.List.{AllByRecursion}
 use Rattle.route_meaning.specs.Merged.{Placed, placed, merged, IsRising}
+use Rattle.route_meaning.specs.History.{first_or}
 
 -- of one collector: the mark, the times that wait, in order, and how many more times need no memory
 pub record Waiting : Type 0 where
@@ -25,20 +26,9 @@ in_order lanes = merged (λ t. t) (waiting_times lanes)
 abbrev pub IsOpen : List Waiting → ℕ → Type 0
 IsOpen lanes t = AllByRecursion (λ w. t < w.mark) lanes
 
--- the first of the times, or the mark where there is none
-abbrev pub first_or : ℕ → List ℕ → ℕ
-first_or mark [] = mark
-first_or mark (t ∷ ts) = t
-
 -- the first time that waits, or the mark
 abbrev pub bound_of : Waiting → ℕ
-bound_of w = first_or w.mark w.times
-
--- the least of the bounds, 0 where there is none
-abbrev pub least : List Waiting → ℕ
-least [] = 0
-least (w ∷ []) = bound_of w
-least (w ∷ v ∷ ws) = min (bound_of w) (least (v ∷ ws))
+bound_of w = first_or (λ t. t) w.mark w.times
 
 -- the times rise and are no later than the mark
 pub record IsLane (w : Waiting) : Type 0 where

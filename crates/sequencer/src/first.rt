@@ -1,7 +1,8 @@
 //! Which collector's first time goes before each other's.
 
-ghost use Rattle.std.specs.Prelude.{◌≡◌, ◌<◌, ℕ, List, IfSome, IfNone, IsTrue, ◌↔◌, length};
-ghost use Rattle.sequencer.specs.Lanes.{IsOpen, least};
+ghost use Rattle.std.specs.Prelude.{map, ◌≡◌, ◌<◌, ℕ, List, IfSome, IfNone, IsTrue, ◌↔◌, length};
+ghost use Rattle.sequencer.specs.Lanes.{IsOpen, bound_of};
+ghost use Rattle.route_meaning.specs.History.{least};
 ghost use Rattle.sequencer.specs.First.{better_of, IsFirstLane, NoneWaits};
 
 use crate::lane::Lane;
@@ -53,7 +54,7 @@ pub(crate) fn first_lane(lanes: &[Lane]) -> Option<Candidate>
 /// The least of the first times that wait, and of the marks where none waits.
 pub(crate) fn least_bound(lanes: &[Lane]) -> Mark
     requires { 0 < length lanes.now }
-    ensures { result ≡ least lanes.now }
+    ensures { result ≡ least (map bound_of lanes.now) }
 {
     let mut settled = lanes[0].bound();
     for lane in lanes {

@@ -1,8 +1,9 @@
 //! The lanes of all collectors: what is released, and what is settled.
 
-ghost use Rattle.std.specs.Prelude.{◌≡◌, ◌<◌, ◌≤◌, ◌++◌, [], ℕ, List, IfOk, IfSome, IfNone, OnOk, OnErr, Some, IsErr, slice_get, length, replicate, ◌↔◌};
+ghost use Rattle.std.specs.Prelude.{map, ◌≡◌, ◌<◌, ◌≤◌, ◌++◌, [], ℕ, List, IfOk, IfSome, IfNone, OnOk, OnErr, Some, IsErr, slice_get, length, replicate, ◌↔◌};
 ghost use Rattle.std.specs.List.{AllByRecursion};
-ghost use Rattle.sequencer.specs.Lanes.{Waiting, Releases, NoneOpen, SameLanes, Raises, IsAbove, marks, waiting_times, least};
+ghost use Rattle.sequencer.specs.Lanes.{Waiting, Releases, NoneOpen, SameLanes, Raises, IsAbove, marks, waiting_times, bound_of};
+ghost use Rattle.route_meaning.specs.History.{least};
 ghost use Rattle.sequencer.specs.First.{IsNext};
 ghost use Rattle.sequencer.specs.Taking.{IsSieved, MayTakeIn, TakesIn};
 
@@ -148,7 +149,7 @@ impl Sequencer {
     /// The settled watermark: the least of the first times that wait, and of the marks where none waits.
     pub fn settled(&self) -> Mark
         requires { 0 < length self.now }
-        ensures least { result ≡ least self.now }
+        ensures least { result ≡ least (map bound_of self.now) }
     {
         least_bound(&self.lanes)
     }

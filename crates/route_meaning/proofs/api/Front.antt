@@ -168,7 +168,7 @@ front_kept h g is b =
 
 -- ---- the settled moment
 
-first_above : (n mark : ℕ) (ts : List Admitted) → n < mark → AllByRecursion (λ t. n < t.time) ts → n < first_or mark ts
+first_above : (n mark : ℕ) (ts : List Admitted) → n < mark → AllByRecursion (λ t. n < t.time) ts → n < first_or admitted_time mark ts
 first_above n mark [] lt a = lt
 first_above n mark (t ∷ ts) lt a = a.0
 

@@ -70,7 +70,7 @@ below_marks c (i ∷ is) a =
     (all_map_placed _ c i.admitted (all_weaker _ _ (λ t h. rw (eq-eqb c c refl) h) i.admitted a.0.below))
     (all_weaker _ _ (λ p h. let ge : suc c ≤ p.collector = h.1.0 in rw (ne_eqb p.collector c (λ e. omega arith)) h.0) _ (all_both _ _ _ (below_marks (suc c) is a.1) (all_placed_within (suc c) (map (λ i. i.admitted) is))))
 
-first_or_le : (mark : ℕ) (ts : List Admitted) → AllByRecursion (λ t. t.time ≤ mark) ts → first_or mark ts ≤ mark
+first_or_le : (mark : ℕ) (ts : List Admitted) → AllByRecursion (λ t. t.time ≤ mark) ts → first_or admitted_time mark ts ≤ mark
 first_or_le mark [] a = omega arith
 first_or_le mark (t ∷ ts) a = a.0
 
@@ -87,8 +87,8 @@ marks_above moment c [] ps a b = tt
 marks_above moment c (i ∷ is) ps a b =
     let own : AllByRecursion (λ p. p.collector ≡ c → time_of p ≤ i.mark) ps =
     all_weaker _ _ (λ p h e. let le : c ≤ p.collector = omega arith in let m = h le in rw (eq-eqb p.collector c e) at m) ps b in
-    let le : first_or i.mark (part c ps) ≤ i.mark = first_or_le i.mark (part c ps) (part_below c i.mark ps own) in
-    let lt : moment < first_or i.mark (part c ps) = a.0 in (
+    let le : first_or admitted_time i.mark (part c ps) ≤ i.mark = first_or_le i.mark (part c ps) (part_below c i.mark ps own) in
+    let lt : moment < first_or admitted_time i.mark (part c ps) = a.0 in (
       omega arith,
       marks_above moment (suc c) is ps a.1 (all_weaker _ _ (λ p h le'. let le'' : c ≤ p.collector = omega arith in let m = h le'' in rw (ne_eqb p.collector c (λ e. omega arith)) at m) ps b),
     )
