@@ -10,5 +10,5 @@ mod queue;
 
 pub use admit::{AdmitRefusal, Admitted, MAX_BATCH_LEN, Receipt};
 pub use archive::{Archive, Flush, MarkRefusal, Resume, Step};
-pub use laws::batches_are_one;
+pub use laws::{batches_are_one, steps_go_on};
 pub use question::{Answer, Cursor, DescendRefusal, Query, Turn};
