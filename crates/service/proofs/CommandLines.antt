@@ -17,8 +17,7 @@ use Rattle.std.specs.Prelude.{Box}
 use Rattle.std.specs.Box.{box_value}
 use Rattle.service.specs.CommandLines.{program, AreTryWords}
 use Rattle.service.specs.declared.command_line.CommandError.{CommandError}
-use Rattle.service.specs.declared.command_line.CommandError.TheVariants.{Usage, Refused}
-use Rattle.service.specs.declared.refusal.Refusal.TheVariants.{OutOfMemory}
+use Rattle.service.specs.declared.command_line.CommandError.TheVariants.{Usage, OutOfMemory}
 
 -- ---- words joined
 
@@ -97,7 +96,7 @@ try_named app words m is accepted matches =
 -- an error that is shown has a kind that the words give rise to
 pub shown_kind : (app : App) (words : List Text) (error e : Error) (r : CommandError) → app ≡ program
     → (is_simple_and_free app ≡ true → HasKind (fault_of app words) error)
-    → (kind_of error ≡ kind.OutOfMemory → r ≡ Refused OutOfMemory) → (kind_of error ≡ kind.OutOfMemory) ⊎ (r ≡ Usage error)
+    → (kind_of error ≡ kind.OutOfMemory → r ≡ OutOfMemory) → (kind_of error ≡ kind.OutOfMemory) ⊎ (r ≡ Usage error)
     → r ≡ Usage e → IsAmong (kind_of e) (fault_of program words)
 shown_kind app words error e r is fails memory told shown =
     let bad : kind_of error ≡ kind.OutOfMemory → ⊥ = λ m. not_both e (sym shown ∙ memory m) in
@@ -105,7 +104,7 @@ shown_kind app words error e r is fails memory told shown =
     let among : IsAmong (kind_of error) (fault_of app words) = ⊎_elim (λ m. absurd (bad m)) (λ k. k) (fails (ap is_simple_and_free is)) in
     subst (λ (x : Error). IsAmong (kind_of x) (fault_of program words)) same (subst (λ (a : App). IsAmong (kind_of error) (fault_of a words)) is among)
   where
-    not_both : (e : Error) → ◌≡◌ {A = CommandError} (Usage e) (Refused OutOfMemory) → ⊥
+    not_both : (e : Error) → ◌≡◌ {A = CommandError} (Usage e) OutOfMemory → ⊥
     not_both e same = absurd cc
 
     same_error : (a b : Error) → ◌≡◌ {A = CommandError} (Usage a) (Usage b) → a ≡ b

@@ -19,7 +19,7 @@ use Rattle.service.specs.FeedTexts.{capped, skips}
 use Rattle.service.specs.inner.Feeding.{HasDone, IsCounted, IsBehind}
 use Rattle.service.specs.declared.feed_lines.FeedCounts.{FeedCounts}
 use Rattle.service.specs.declared.feeding.Feeding.{Feeding}
-use Rattle.service.specs.declared.refusal.Refusal.{Refusal}
+use Rattle.service.specs.declared.faults.FeedStop.{FeedStop}
 use Rattle.service.proofs.Batches.{given_none}
 
 pub turns_snoc : (limit place : ℕ) (waiting : List Admitted) (results : List (Result (Option Admitted) ResolveFault)) (r : Result (Option Admitted) ResolveFault)
@@ -76,7 +76,7 @@ behind_more c limit h records r x old new archive later was mid now b collector 
     }
 
 -- the same where the turns may fail
-pub behind_where : (t : Result (Unit {0}) Refusal) (c limit : ℕ) (h : History) (records : List Told) (r : Told) (x : Result (Option Admitted) ResolveFault) (old new : Feeding) (archive later : History) (was mid now : Option (List ℕ))
+pub behind_where : (t : Result (Unit {0}) FeedStop) (c limit : ℕ) (h : History) (records : List Told) (r : Told) (x : Result (Option Admitted) ResolveFault) (old new : Feeding) (archive later : History) (was mid now : Option (List ℕ))
     (b : IsBehind c limit h records old archive was mid)
     → new.collector ≡ old.collector → new.limit ≡ old.limit → new.resolver.collector ≡ old.resolver.collector
     → Gives old.resolver.collector old.resolver.table r x → OnOk t (x ≡ Err faults.OutOfMemory → ⊥)
@@ -136,7 +136,7 @@ pub ok_is_none : (o : Option Admitted) → (◌≡◌ {A = Result (Option Admitt
 ok_is_none o e = absurd cc
 
 -- what is refused for want of memory isn't told as the record's fault
-pub remembered : (t : Result (Unit {0}) Refusal) (fault : ResolveFault) → OnOk t (fault ≡ faults.OutOfMemory → ⊥) → OnOk t ((◌≡◌ {A = Result (Option Admitted) ResolveFault} (Err fault) (Err faults.OutOfMemory)) → ⊥)
+pub remembered : (t : Result (Unit {0}) FeedStop) (fault : ResolveFault) → OnOk t (fault ≡ faults.OutOfMemory → ⊥) → OnOk t ((◌≡◌ {A = Result (Option Admitted) ResolveFault} (Err fault) (Err faults.OutOfMemory)) → ⊥)
 remembered (Ok x) fault enough = λ e. enough cc
 remembered (Err x) fault enough = tt
 

@@ -24,39 +24,27 @@ use Rattle.resolve.specs.Meanings.{Means}
 use Rattle.resolve.specs.declared.fault.ResolveFault.{ResolveFault}
 use Rattle.resolve.specs.declared.fault.ResolveFault.TheVariants as faults
 use Rattle.resolve.proofs.api.Feeds.{one_more}
-use Rattle.service.specs.Faults.{of_admit}
+use Rattle.service.specs.Faults.{of_stop}
 use Rattle.service.specs.Turns.{Turn, Offer, offered, turns_at, turns_for, waits_behind, last_turns}
 use Rattle.service.specs.Refusals.{refusal_line}
 use Rattle.service.specs.Feeds.{IsReason, IsGivenUp}
-use Rattle.service.specs.inner.Feeding.{HasDone, IsBehind, Reads, GivesUp, StopsAmong, StopsWithin}
+use Rattle.service.specs.inner.Feeding.{of_admit, HasDone, IsBehind, Reads, GivesUp, StopsAmong, StopsWithin}
 use Rattle.service.specs.declared.feed_lines.FeedCounts.{FeedCounts}
 use Rattle.service.specs.declared.feeding.Feeding.{Feeding}
-use Rattle.service.specs.declared.refusal.Refusal.{Refusal}
-use Rattle.service.specs.declared.refusal.Refusal.TheVariants as refusals
+use Rattle.service.specs.declared.faults.FeedStop.{FeedStop}
+use Rattle.service.specs.declared.faults.FeedStop.TheVariants as stops
 use Rattle.service.proofs.Batches.{given_both}
 use Rattle.service.proofs.Turning.{offered_both, as_many, collector_there}
 use Rattle.service.proofs.Following.{turns_snoc}
 
 -- a reason stays one where more turns would have followed
-reason_more : (c : ℕ) (h : History) (made unmade later : List Turn) (why : Refusal) → IsReason c h made unmade why → IsReason c h made (unmade ++ later) why
-reason_more c h made unmade later refusals.NoCollector r = r
-reason_more c h made unmade later refusals.CounterFull r = (r.0, r.1 ++ later, ap (λ (t : List Turn). t ++ later) r.2, r.3)
-reason_more c h made unmade later refusals.OutOfMemory r = tt
-reason_more c h made unmade later refusals.Outside r = tt
-reason_more c h made unmade later refusals.BadText r = absurd r
-reason_more c h made unmade later refusals.Truncated r = absurd r
-reason_more c h made unmade later refusals.TooLong r = absurd r
-reason_more c h made unmade later refusals.Malformed r = absurd r
-reason_more c h made unmade later refusals.RouteTooLarge r = absurd r
-reason_more c h made unmade later refusals.NoPeerTable r = absurd r
-reason_more c h made unmade later refusals.BadPeerIndex r = absurd r
-reason_more c h made unmade later refusals.AdmissionTooLarge r = absurd r
-reason_more c h made unmade later refusals.MarkBack r = absurd r
-reason_more c h made unmade later refusals.BatchTooLarge r = absurd r
-reason_more c h made unmade later refusals.BadRequest r = absurd r
-reason_more c h made unmade later (refusals.AboveWatermark settled) r = absurd r
+reason_more : (c : ℕ) (h : History) (made unmade later : List Turn) (why : FeedStop) → IsReason c h made unmade why → IsReason c h made (unmade ++ later) why
+reason_more c h made unmade later stops.NoCollector r = r
+reason_more c h made unmade later stops.CounterFull r = (r.0, r.1 ++ later, ap (λ (t : List Turn). t ++ later) r.2, r.3)
+reason_more c h made unmade later stops.OutOfMemory r = tt
+reason_more c h made unmade later stops.Outside r = tt
 
-pub gives_more : (c : ℕ) (h : History) (turns later : List Turn) (archive : History) (was now : Option (List ℕ)) (why : Refusal) → GivesUp c h turns archive was now why → GivesUp c h (turns ++ later) archive was now why
+pub gives_more : (c : ℕ) (h : History) (turns later : List Turn) (archive : History) (was now : Option (List ℕ)) (why : FeedStop) → GivesUp c h turns archive was now why → GivesUp c h (turns ++ later) archive was now why
 gives_more c h turns later archive was now why g = record {
   made = g.made;
   unmade = g.unmade ++ later;
@@ -68,11 +56,11 @@ gives_more c h turns later archive was now why g = record {
 }
 
 -- all of these turns were made and written, and memory was wanting for what comes then, or the device failed
-pub gives_all : (c : ℕ) (h : History) (turns : List Turn) (counts : FeedCounts) (archive : History) (was now : Option (List ℕ)) (why : Refusal) → IsReason c h turns [] why → HasDone c h turns counts archive was now → GivesUp c h turns archive was now why
+pub gives_all : (c : ℕ) (h : History) (turns : List Turn) (counts : FeedCounts) (archive : History) (was now : Option (List ℕ)) (why : FeedStop) → IsReason c h turns [] why → HasDone c h turns counts archive was now → GivesUp c h turns archive was now why
 gives_all c h turns counts archive was now why reason d = record { made = turns; unmade = []; parts = sym (append-nil turns); carried = d.carried; reason = reason; wrote = λ written. d.wrote; there = d.there }
 
 -- all of these turns were made, and not all of them written
-pub gives_unwritten : (c : ℕ) (h : History) (turns : List Turn) (archive : History) (was now : Option (List ℕ)) → Carries archive (given h c (offered turns)) → ((offered turns ≡ [] → ⊥) → IsCollector h c) → GivesUp c h turns archive was now refusals.Outside
+pub gives_unwritten : (c : ℕ) (h : History) (turns : List Turn) (archive : History) (was now : Option (List ℕ)) → Carries archive (given h c (offered turns)) → ((offered turns ≡ [] → ⊥) → IsCollector h c) → GivesUp c h turns archive was now stops.Outside
 gives_unwritten c h turns archive was now carried there_ = record { made = turns; unmade = []; parts = sym (append-nil turns); carried = carried; reason = tt; wrote = λ written. absurd (written refl); there = there_ }
 
 -- a batch was taken
@@ -130,7 +118,7 @@ gives_refused b c h turns batch given_ counts archive later was now r e one same
     }
 
 -- the feed is given up at this record, whose meaning is known
-pub stops_at : (t : Result (Unit {0}) Refusal) (c limit : ℕ) (h : History) (records : List Told) (item : Item) (x : Result (Option Admitted) ResolveFault) (old : Feeding) (archive later : History) (was mid now : Option (List ℕ))
+pub stops_at : (t : Result (Unit {0}) FeedStop) (c limit : ℕ) (h : History) (records : List Told) (item : Item) (x : Result (Option Admitted) ResolveFault) (old : Feeding) (archive later : History) (was mid now : Option (List ℕ))
     (b : IsBehind c limit h records old archive was mid)
     → Gives old.resolver.collector old.resolver.table (told item) x → (x ≡ Err faults.OutOfMemory → ⊥)
     → IfErr t (GivesUp c h (turns_for limit 0 [] b.results ++ turns_at old.limit (length b.results) old.gathered.items x) later was now)
@@ -152,7 +140,7 @@ stops_at (Err why) c limit h records item x old archive later was mid now b give
     }
 
 -- the feed is given up before this record has a meaning
-pub stops_before : (t : Result (Unit {0}) Refusal) (c limit : ℕ) (h : History) (records : List Told) (item : Item) (old : Feeding) (archive later : History) (was mid now : Option (List ℕ))
+pub stops_before : (t : Result (Unit {0}) FeedStop) (c limit : ℕ) (h : History) (records : List Told) (item : Item) (old : Feeding) (archive later : History) (was mid now : Option (List ℕ))
     (b : IsBehind c limit h records old archive was mid)
     → IfErr t (GivesUp c h (turns_for limit 0 [] b.results) later was now) → IfErr t (StopsAmong c limit h records (item ∷ []) later was now)
 stops_before (Ok done_) c limit h records item old archive later was mid now b g = tt
@@ -160,7 +148,7 @@ stops_before (Err why) c limit h records item old archive later was mid now b g 
     record { front = []; back = item ∷ []; parts = refl; results = b.results; means = subst (λ (t : List Told). Means c t b.results) (sym (append-nil records)) b.means; gives_up = g }
 
 -- the feed is given up at one of the items, behind those that were taken
-pub stops_among : (c limit : ℕ) (h : History) (records : List Told) (items : List Item) (i : ℕ) (item : Item) (archive : History) (was now : Option (List ℕ)) (why : Refusal)
+pub stops_among : (c limit : ℕ) (h : History) (records : List Told) (items : List Item) (i : ℕ) (item : Item) (archive : History) (was now : Option (List ℕ)) (why : FeedStop)
     → i < length items → item ≡ get_or items i item → StopsAmong c limit h (records ++ map told (take i items)) (item ∷ []) archive was now why → StopsAmong c limit h records items archive was now why
 stops_among c limit h records items i item archive was now why lt is s =
     let first = take i items in
@@ -200,7 +188,7 @@ framed_front bytes rest front back g =
     )
 
 -- the feed is given up among the items of the whole records of the octets
-pub stops_within : (c limit : ℕ) (h : History) (bytes rest : List ℕ) (before items : List Item) (archive : History) (was now : Option (List ℕ)) (why : Refusal)
+pub stops_within : (c limit : ℕ) (h : History) (bytes rest : List ℕ) (before items : List Item) (archive : History) (was now : Option (List ℕ)) (why : FeedStop)
     → GainsFrames bytes rest [] (before ++ items) → StopsAmong c limit h (map told before) items archive was now why → StopsWithin c limit h bytes archive was now why
 stops_within c limit h bytes rest before items archive was now why framed s =
     let f = framed_front bytes rest (before ++ s.front) s.back (subst (λ (t : List Item). GainsFrames bytes rest [] t) (ap (λ (t : List Item). before ++ t) s.parts ∙ sym (append_assoc before s.front s.back)) framed) in
@@ -216,12 +204,12 @@ stops_within c limit h bytes rest before items archive was now why framed s =
     }
 
 -- what comes behind is left too
-pub within_more : (c limit : ℕ) (h : History) (bytes more : List ℕ) (archive : History) (was now : Option (List ℕ)) (why : Refusal) → StopsWithin c limit h bytes archive was now why → StopsWithin c limit h (bytes ++ more) archive was now why
+pub within_more : (c limit : ℕ) (h : History) (bytes more : List ℕ) (archive : History) (was now : Option (List ℕ)) (why : FeedStop) → StopsWithin c limit h bytes archive was now why → StopsWithin c limit h (bytes ++ more) archive was now why
 within_more c limit h bytes more archive was now why s =
     record { seen = s.seen; later = s.later ++ more; parts = ap (λ (t : List ℕ). t ++ more) s.parts ∙ append_assoc s.seen s.later more; items = s.items; framed = s.framed; results = s.results; means = s.means; gives_up = s.gives_up }
 
 -- the feed is given up behind all that was read, and nothing of it is untold
-pub stops_behind : (c limit : ℕ) (h : History) (bytes rest : List ℕ) (feeding : Feeding) (archive : History) (was now : Option (List ℕ)) (why : Refusal)
+pub stops_behind : (c limit : ℕ) (h : History) (bytes rest : List ℕ) (feeding : Feeding) (archive : History) (was now : Option (List ℕ)) (why : FeedStop)
     → ((made : List Turn) → IsReason c h made [] why) → Reads c limit h bytes rest feeding archive was now → StopsWithin c limit h bytes archive was now why
 stops_behind c limit h bytes rest feeding archive was now why reason r =
     let f = framed_front bytes rest r.items [] (subst (λ (t : List Item). GainsFrames bytes rest [] t) (sym (append-nil r.items)) r.framed) in
@@ -239,7 +227,7 @@ stops_behind c limit h bytes rest feeding archive was now why reason r =
     }
 
 -- the feed is given up while its last batch is offered, or its end told
-pub stops_last : (c limit : ℕ) (h : History) (bytes rest : List ℕ) (feeding : Feeding) (archive later : History) (was mid now : Option (List ℕ)) (why : Refusal)
+pub stops_last : (c limit : ℕ) (h : History) (bytes rest : List ℕ) (feeding : Feeding) (archive later : History) (was mid now : Option (List ℕ)) (why : FeedStop)
     (r : Reads c limit h bytes rest feeding archive was mid)
     → GivesUp c h (turns_for limit 0 [] r.behind.results ++ last_turns feeding.gathered.items) later was now why → StopsWithin c limit h bytes later was now why
 stops_last c limit h bytes rest feeding archive later was mid now why r g =
@@ -257,8 +245,8 @@ stops_last c limit h bytes rest feeding archive later was mid now why r g =
     }
 
 -- the feed is given up, and the refusal was written
-pub given_up_told : (c limit : ℕ) (h : History) (bytes : List ℕ) (archive : History) (was mid now : Option (List ℕ)) (why : Refusal)
-    → StopsWithin c limit h bytes archive was mid why → Appends mid now (refusal_line why) → IsGivenUp c limit h bytes why archive was now
+pub given_up_told : (c limit : ℕ) (h : History) (bytes : List ℕ) (archive : History) (was mid now : Option (List ℕ)) (why : FeedStop)
+    → StopsWithin c limit h bytes archive was mid why → Appends mid now (refusal_line (of_stop why)) → IsGivenUp c limit h bytes why archive was now
 given_up_told c limit h bytes archive was mid now why s line =
     let g = s.gives_up in
     record {
@@ -273,13 +261,13 @@ given_up_told c limit h bytes archive was mid now why s line =
       turns = g.parts;
       carried = g.carried;
       reason = g.reason;
-      wrote = λ written. Appends-trans was mid now _ (refusal_line why) (g.wrote written) line;
+      wrote = λ written. Appends-trans was mid now _ (refusal_line (of_stop why)) (g.wrote written) line;
       there = g.there;
     }
 
 -- the feed is given up, and the refusal couldn't be written
-pub given_up_untold : (c limit : ℕ) (h : History) (bytes : List ℕ) (archive : History) (was mid now : Option (List ℕ)) (why : Refusal)
-    → StopsWithin c limit h bytes archive was mid why → IsGivenUp c limit h bytes refusals.Outside archive was now
+pub given_up_untold : (c limit : ℕ) (h : History) (bytes : List ℕ) (archive : History) (was mid now : Option (List ℕ)) (why : FeedStop)
+    → StopsWithin c limit h bytes archive was mid why → IsGivenUp c limit h bytes stops.Outside archive was now
 given_up_untold c limit h bytes archive was mid now why s =
     let g = s.gives_up in
     record {

@@ -1,7 +1,7 @@
 -- A stream that is read piece by piece.
 use Rattle.std.proofs.Common.{◌≡◌, ℕ, List, [], ◌++◌, Option, Some, None, Bool, true, false, map, arith, inl, inr, refl, sym, ap, ◌∙◌, subst, append_assoc}
 use Rattle.std.specs.Io.KnownBytes.{Consumes, IsAtEnd, Appends}
-use Rattle.std.proofs.KnownBytes.{Appends-trans}
+use Rattle.std.proofs.KnownBytes.{Appends-trans, Consumes-nil, Consumes-trans}
 use Rattle.std.proofs.lemmas.List.{append-nil, map-append}
 use Rattle.route_model.specs.Admission.{Admitted}
 use Rattle.route_meaning.specs.History.{History}
@@ -13,15 +13,17 @@ use Rattle.mrt_records.proofs.api.Pieces.{frames_then}
 use Rattle.mrt_records.proofs.api.Streams.{frames_none, part_begins_none, over_begins_none, over-append}
 use Rattle.archive.specs.Carries.{Carries}
 use Rattle.archive.specs.Steps.{given}
-use Rattle.service.specs.Feeds.{IsCut, IsFed}
+use Rattle.service.specs.Feeds.{IsCut, IsFed, MayGive}
 use Rattle.service.specs.Turns.{Turn, turns_for, last_turns, feed_turns}
 use Rattle.service.specs.FeedTexts.{intake_in, cut_line, counts_of}
 use Rattle.service.specs.FeedLines.{counts_line}
 use Rattle.service.specs.inner.Feeding.{IsBehind, HasDone, Reads, IsHeld, IsRead, IsReadOut, IsSameFeed, StopsWithin}
-use Rattle.service.specs.declared.refusal.Refusal.TheVariants as refusals
+use Rattle.service.specs.declared.faults.FeedCut.{FeedCut}
+use Rattle.service.specs.declared.faults.FeedCut.TheVariants as cuts
+use Rattle.service.specs.declared.faults.FeedStop.{FeedStop}
+use Rattle.service.specs.declared.faults.FeedStop.TheVariants as stops
 use Rattle.service.proofs.GivingUp.{within_more, stops_behind}
 use Rattle.service.specs.declared.feeding.Feeding.{Feeding}
-use Rattle.service.specs.declared.refusal.Refusal.{Refusal}
 use Rattle.service.proofs.Turning.{offered_feed}
 
 -- the same items behind others
@@ -68,99 +70,120 @@ piece_stops c limit h bytes held piece now_held old new archive later was mid no
       reads = piece_read c limit h bytes held piece (now_held ++ ends.0) old new archive later was mid now none items got empty same ends.1 behind r;
     })
 
--- of what a reader had left some is read, and this is still left
-pub record Left (c limit : ℕ) (h : History) (bytes all : List ℕ) (reader : Option (List ℕ)) (held : List ℕ) (feeding : Feeding) (archive : History) (was now : Option (List ℕ)) : Type 0 where
+-- what a reader still has, where it tells that
+pub left_of : Option (List ℕ) → List ℕ
+left_of None = []
+left_of (Some rest) = rest
+
+-- what was read and what is left are what the reader would give
+may_give : (known now : Option (List ℕ)) (done : List ℕ) → Consumes known now done → MayGive known (done ++ left_of now)
+unfolding left_of
+may_give None now done gone = tt
+may_give (Some all) None done gone = absurd gone
+may_give (Some all) (Some rest) done gone = sym gone
+
+-- there are octets that the reader may give
+pub some_given : (known : Option (List ℕ)) → (bytes : List ℕ) × MayGive known bytes
+some_given known = (left_of known, may_give known known [] (Consumes-nil known))
+
+none_left : (now : Option (List ℕ)) → IsAtEnd now → left_of now ≡ []
+unfolding left_of
+none_left None end = refl
+none_left (Some rest) end = end
+
+pieces_join : (bytes done piece rest : List ℕ) → ((bytes ++ done) ++ piece) ++ rest ≡ bytes ++ ((done ++ piece) ++ rest)
+pieces_join bytes done piece rest = append_assoc (bytes ++ done) piece rest ∙ append_assoc bytes done (piece ++ rest) ∙ ap (λ (t : List ℕ). bytes ++ t) (sym (append_assoc done piece rest))
+
+-- of what a reader gives, known beforehand or not, these octets are read
+pub record Taken (c limit : ℕ) (h : History) (bytes : List ℕ) (known reader : Option (List ℕ)) (held : List ℕ) (feeding : Feeding) (archive : History) (was now : Option (List ℕ)) : Type 0 where
   pub done : List ℕ
-  pub rest : List ℕ
-  pub parts : all ≡ done ++ rest
-  pub left : reader ≡ Some rest
+  pub gone : Consumes known reader done
   pub reads : Reads c limit h (bytes ++ done) held feeding archive was now
 
-pub left_first : (c limit : ℕ) (h : History) (bytes all : List ℕ) (reader : Option (List ℕ)) (held : List ℕ) (feeding : Feeding) (archive : History) (was now : Option (List ℕ))
-    → reader ≡ Some all → Reads c limit h bytes held feeding archive was now → Left c limit h bytes all reader held feeding archive was now
-left_first c limit h bytes all reader held feeding archive was now e r = record {
+pub taken_first : (c limit : ℕ) (h : History) (bytes : List ℕ) (reader : Option (List ℕ)) (held : List ℕ) (feeding : Feeding) (archive : History) (was now : Option (List ℕ))
+    → Reads c limit h bytes held feeding archive was now → Taken c limit h bytes reader reader held feeding archive was now
+taken_first c limit h bytes reader held feeding archive was now r = record {
   done = [];
-  rest = all;
-  parts = refl;
-  left = e;
+  gone = Consumes-nil reader;
   reads = subst (λ (t : List ℕ). Reads c limit h t held feeding archive was now) (sym (append-nil bytes)) r;
 }
 
-pub consumed : (old new : Option (List ℕ)) (rest bs : List ℕ) → old ≡ Some rest → Consumes old new bs → (more : List ℕ) × (new ≡ Some more) × (rest ≡ bs ++ more)
-consumed None new rest bs e c = absurd cc
-consumed (Some xs) None rest bs e c = absurd c
-consumed (Some xs) (Some ys) rest bs e c = let same : xs ≡ rest = cc in (ys, refl, sym same ∙ c)
-
 -- the reader is at its end
-pub left_none : (c limit : ℕ) (h : History) (bytes all : List ℕ) (reader new : Option (List ℕ)) (held : List ℕ) (feeding : Feeding) (archive : History) (was now : Option (List ℕ))
-    → Consumes reader new [] → IsAtEnd new → Left c limit h bytes all reader held feeding archive was now → IsReadOut c limit h (bytes ++ all) held feeding archive was now
-left_none c limit h bytes all reader new held feeding archive was now gone end l =
-    let more = consumed reader new l.rest [] l.left gone in
-    let none : more.0 ≡ [] = subst IsAtEnd more.1 end in
-    let whole : l.done ≡ all = sym (l.parts ∙ ap (λ (t : List ℕ). l.done ++ t) (more.2 ∙ none) ∙ append-nil l.done) in
-    (true, record { rest = held; holds = refl; reads = subst (λ (t : List ℕ). Reads c limit h (bytes ++ t) held feeding archive was now) whole l.reads })
+pub taken_none : (c limit : ℕ) (h : History) (bytes : List ℕ) (known reader new : Option (List ℕ)) (held : List ℕ) (feeding : Feeding) (archive : History) (was now : Option (List ℕ))
+    → Consumes reader new [] → IsAtEnd new → Taken c limit h bytes known reader held feeding archive was now
+    → (more : List ℕ) × MayGive known more × IsReadOut c limit h (bytes ++ more) held feeding archive was now
+taken_none c limit h bytes known reader new held feeding archive was now gone end l =
+    let gives = may_give known new (l.done ++ []) (Consumes-trans known reader new l.done [] l.gone gone) in
+    let same : (l.done ++ []) ++ left_of new ≡ l.done = ap (λ (t : List ℕ). (l.done ++ []) ++ t) (none_left new end) ∙ append-nil (l.done ++ []) ∙ append-nil l.done in
+    (l.done, subst (MayGive known) same gives, (true, record { rest = held; holds = refl; reads = l.reads }))
 
 -- some more is read and taken, and the feed goes on
-pub left_more : (c limit : ℕ) (h : History) (bytes all piece : List ℕ) (reader next : Option (List ℕ)) (held left : List ℕ) (old new : Feeding) (archive later : History) (was mid now : Option (List ℕ)) (on : Bool)
-    → on ≡ true → Consumes reader next piece → Left c limit h bytes all reader held old archive was mid
+pub taken_more : (c limit : ℕ) (h : History) (bytes piece : List ℕ) (known reader next : Option (List ℕ)) (held left : List ℕ) (old new : Feeding) (archive later : History) (was mid now : Option (List ℕ)) (on : Bool)
+    → on ≡ true → Consumes reader next piece → Taken c limit h bytes known reader held old archive was mid
     → ((seen : List ℕ) → Reads c limit h seen held old archive was mid → IsRead c limit h (seen ++ piece) left on new later was now)
-    → Left c limit h bytes all next left new later was now
-left_more c limit h bytes all piece reader next held left old new archive later was mid now on goes_on gone l takes =
-    let more = consumed reader next l.rest piece l.left gone in
+    → Taken c limit h bytes known next left new later was now
+taken_more c limit h bytes piece known reader next held left old new archive later was mid now on goes_on gone l takes =
     let read = subst (λ (t : Bool). IsRead c limit h ((bytes ++ l.done) ++ piece) left t new later was now) goes_on (takes (bytes ++ l.done) l.reads) in
     record {
       done = l.done ++ piece;
-      rest = more.0;
-      parts = l.parts ∙ ap (λ (t : List ℕ). l.done ++ t) more.2 ∙ sym (append_assoc l.done piece more.0);
-      left = more.1;
+      gone = Consumes-trans known reader next l.done piece l.gone gone;
       reads = subst (λ (t : List ℕ). Reads c limit h t left new later was now) (append_assoc bytes l.done piece)
           (subst (λ (t : List ℕ). Reads c limit h ((bytes ++ l.done) ++ piece) t new later was now) (sym read.holds) read.reads);
     }
 
--- the device fails behind what was read
-pub left_gives : (c limit : ℕ) (h : History) (bytes all : List ℕ) (reader : Option (List ℕ)) (held : List ℕ) (feeding : Feeding) (archive : History) (was now : Option (List ℕ))
-    → Left c limit h bytes all reader held feeding archive was now → StopsWithin c limit h (bytes ++ all) archive was now refusals.Outside
-left_gives c limit h bytes all reader held feeding archive was now l =
-    subst (λ (t : List ℕ). StopsWithin c limit h t archive was now refusals.Outside) (append_assoc bytes l.done l.rest ∙ ap (λ (t : List ℕ). bytes ++ t) (sym l.parts))
-    (within_more c limit h (bytes ++ l.done) l.rest archive was now refusals.Outside (stops_behind c limit h (bytes ++ l.done) held feeding archive was now refusals.Outside (λ made. tt) l.reads))
+-- the feed is given up where nothing more is read
+pub taken_gives : (c limit : ℕ) (h : History) (bytes : List ℕ) (known reader : Option (List ℕ)) (held : List ℕ) (feeding : Feeding) (archive : History) (was now : Option (List ℕ))
+    → Taken c limit h bytes known reader held feeding archive was now
+    → (more : List ℕ) × MayGive known more × StopsWithin c limit h (bytes ++ more) archive was now stops.Outside
+taken_gives c limit h bytes known reader held feeding archive was now l =
+    let rest = left_of reader in (
+      l.done ++ rest,
+      may_give known reader l.done l.gone,
+      subst (λ (t : List ℕ). StopsWithin c limit h t archive was now stops.Outside) (append_assoc bytes l.done rest)
+          (within_more c limit h (bytes ++ l.done) rest archive was now stops.Outside (stops_behind c limit h (bytes ++ l.done) held feeding archive was now stops.Outside (λ made. tt) l.reads)),
+    )
 
 -- the feed is given up in the next piece
-pub left_piece_gives : (c limit : ℕ) (h : History) (bytes all piece : List ℕ) (reader next : Option (List ℕ)) (held : List ℕ) (feeding : Feeding) (archive later : History) (was mid now : Option (List ℕ)) (why : Refusal)
-    → Consumes reader next piece → Left c limit h bytes all reader held feeding archive was mid
+pub taken_piece_gives : (c limit : ℕ) (h : History) (bytes piece : List ℕ) (known reader next : Option (List ℕ)) (held : List ℕ) (feeding : Feeding) (archive later : History) (was mid now : Option (List ℕ)) (why : FeedStop)
+    → Consumes reader next piece → Taken c limit h bytes known reader held feeding archive was mid
     → ((seen : List ℕ) → Reads c limit h seen held feeding archive was mid → StopsWithin c limit h (seen ++ piece) later was now why)
-    → StopsWithin c limit h (bytes ++ all) later was now why
-left_piece_gives c limit h bytes all piece reader next held feeding archive later was mid now why gone l stops =
-    let more = consumed reader next l.rest piece l.left gone in
-    subst (λ (t : List ℕ). StopsWithin c limit h t later was now why)
-    (append_assoc (bytes ++ l.done) piece more.0 ∙ append_assoc bytes l.done (piece ++ more.0) ∙ ap (λ (t : List ℕ). bytes ++ t) (ap (λ (t : List ℕ). l.done ++ t) (sym more.2) ∙ sym l.parts))
-    (within_more c limit h ((bytes ++ l.done) ++ piece) more.0 later was now why (stops (bytes ++ l.done) l.reads))
+    → (more : List ℕ) × MayGive known more × StopsWithin c limit h (bytes ++ more) later was now why
+taken_piece_gives c limit h bytes piece known reader next held feeding archive later was mid now why gone l stops_ =
+    let rest = left_of next in (
+      (l.done ++ piece) ++ rest,
+      may_give known next (l.done ++ piece) (Consumes-trans known reader next l.done piece l.gone gone),
+      subst (λ (t : List ℕ). StopsWithin c limit h t later was now why) (pieces_join bytes l.done piece rest)
+          (within_more c limit h ((bytes ++ l.done) ++ piece) rest later was now why (stops_ (bytes ++ l.done) l.reads)),
+    )
 
 -- what stands behind a Length above the limit is left with it
 over_more : (bytes rest more : List ℕ) (items : List Item) → Over rest → GainsFrames bytes rest [] items → GainsFrames (bytes ++ more) (rest ++ more) [] items
 over_more bytes rest more items over g = (g.0, record { whole = ap (λ (t : List ℕ). t ++ more) g.1.whole ∙ append_assoc _ rest more; each = g.1.each; ended = over_begins_none (rest ++ more) (over-append rest more over) }, g.2)
 
 -- some more is read and taken, and the feed stops
-pub left_stops : (c limit : ℕ) (h : History) (bytes all piece : List ℕ) (reader next : Option (List ℕ)) (held left : List ℕ) (old new : Feeding) (archive later : History) (was mid now : Option (List ℕ)) (on : Bool)
-    → on ≡ false → Consumes reader next piece → Left c limit h bytes all reader held old archive was mid
+pub taken_stops : (c limit : ℕ) (h : History) (bytes piece : List ℕ) (known reader next : Option (List ℕ)) (held left : List ℕ) (old new : Feeding) (archive later : History) (was mid now : Option (List ℕ)) (on : Bool)
+    → on ≡ false → Consumes reader next piece → Taken c limit h bytes known reader held old archive was mid
     → ((seen : List ℕ) → Reads c limit h seen held old archive was mid → IsRead c limit h (seen ++ piece) left on new later was now)
-    → IsReadOut c limit h (bytes ++ all) left new later was now
-left_stops c limit h bytes all piece reader next held left old new archive later was mid now on stops gone l takes =
-    let more = consumed reader next l.rest piece l.left gone in
-    let read = subst (λ (t : Bool). IsRead c limit h ((bytes ++ l.done) ++ piece) left t new later was now) stops (takes (bytes ++ l.done) l.reads) in
+    → (more : List ℕ) × MayGive known more × IsReadOut c limit h (bytes ++ more) left new later was now
+taken_stops c limit h bytes piece known reader next held left old new archive later was mid now on ends gone l takes =
+    let rest = left_of next in
+    let read = subst (λ (t : Bool). IsRead c limit h ((bytes ++ l.done) ++ piece) left t new later was now) ends (takes (bytes ++ l.done) l.reads) in
     let held_ = read.holds in
-    let over : Over read.rest = subst Over (sym held_.1) (over-append left held_.0 held_.2) in
-    let whole : ((bytes ++ l.done) ++ piece) ++ more.0 ≡ bytes ++ all =
-    append_assoc (bytes ++ l.done) piece more.0 ∙ append_assoc bytes l.done (piece ++ more.0) ∙ ap (λ (t : List ℕ). bytes ++ t) (ap (λ (t : List ℕ). l.done ++ t) (sym more.2) ∙ sym l.parts) in (
-      false,
-      record {
-        rest = read.rest ++ more.0;
-        holds = (held_.0 ++ more.0, ap (λ (t : List ℕ). t ++ more.0) held_.1 ∙ append_assoc left held_.0 more.0, held_.2);
-        reads = record {
-          items = read.reads.items;
-          framed = subst (λ (t : List ℕ). GainsFrames t (read.rest ++ more.0) [] read.reads.items) whole (over_more ((bytes ++ l.done) ++ piece) read.rest more.0 read.reads.items over read.reads.framed);
-          behind = read.reads.behind;
-        };
-      },
+    let over : Over read.rest = subst Over (sym held_.1) (over-append left held_.0 held_.2) in (
+      (l.done ++ piece) ++ rest,
+      may_give known next (l.done ++ piece) (Consumes-trans known reader next l.done piece l.gone gone),
+      (
+        false,
+        record {
+          rest = read.rest ++ rest;
+          holds = (held_.0 ++ rest, ap (λ (t : List ℕ). t ++ rest) held_.1 ∙ append_assoc left held_.0 rest, held_.2);
+          reads = record {
+            items = read.reads.items;
+            framed = subst (λ (t : List ℕ). GainsFrames t (read.rest ++ rest) [] read.reads.items) (pieces_join bytes l.done piece rest) (over_more ((bytes ++ l.done) ++ piece) read.rest rest read.reads.items over read.reads.framed);
+            behind = read.reads.behind;
+          };
+        },
+      ),
     )
 
 -- nothing is read yet
@@ -173,14 +196,14 @@ reads_none c limit h held feeding archive was empty b = record {
 }
 
 -- why a feed is cut that has this rest, by what the framer holds of it
-pub cut_short : (held rest : List ℕ) (on : Bool) (cut : Option Refusal) → IsHeld held rest on → IsCut held cut → IsCut rest cut
+pub cut_short : (held rest : List ℕ) (on : Bool) (cut : Option FeedCut) → IsHeld held rest on → IsCut held cut → IsCut rest cut
 cut_short held rest true cut same is = subst (λ (t : List ℕ). IsCut t cut) same is
 cut_short held rest false None over is = let long = (subst (λ (t : List ℕ). Over t) is over.2).header in absurd (omega (arith, long))
-cut_short held rest false (Some why) over (inl is) = absurd (is.2 over.2)
-cut_short held rest false (Some why) over (inr is) = inr (is.0, subst Over (sym over.1) (over-append held over.0 over.2))
+cut_short held rest false (Some cuts.Truncated) over is = absurd (is.1 over.2)
+cut_short held rest false (Some cuts.TooLong) over is = subst Over (sym over.1) (over-append held over.0 over.2)
 
 -- all is read, and its end is told
-pub all_fed : (c limit : ℕ) (h : History) (bytes held : List ℕ) (cut : Option Refusal) (old new : Feeding) (archive later : History) (was mid then now : Option (List ℕ))
+pub all_fed : (c limit : ℕ) (h : History) (bytes held : List ℕ) (cut : Option FeedCut) (old new : Feeding) (archive later : History) (was mid then now : Option (List ℕ))
     → IsReadOut c limit h bytes held old archive was mid → IsCut held cut → IsSameFeed old new
     → ((turns : List Turn) → old.collector ≡ c → HasDone c h turns old.counts archive was mid → HasDone c h (turns ++ last_turns old.gathered.items) new.counts later was then)
     → Appends then now (cut_line cut new.counts.records ++ counts_line new.counts)

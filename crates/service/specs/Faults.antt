@@ -1,17 +1,21 @@
--- The refusals of the layers below, by number and name.
+-- The refusals of each call and of the layers below, in the one list of refusals.
+use Rattle.std.specs.Prelude.{ℕ}
 use Rattle.archive.specs.declared.admit.AdmitRefusal.{AdmitRefusal}
 use Rattle.archive.specs.declared.admit.AdmitRefusal.TheVariants as admits
 use Rattle.resolve.specs.declared.fault.ResolveFault.{ResolveFault}
 use Rattle.resolve.specs.declared.fault.ResolveFault.TheVariants as faults
+use Rattle.service.specs.declared.faults.FeedCut.{FeedCut}
+use Rattle.service.specs.declared.faults.FeedCut.TheVariants as cuts
+use Rattle.service.specs.declared.faults.FeedStop.{FeedStop}
+use Rattle.service.specs.declared.faults.FeedStop.TheVariants as stops
+use Rattle.service.specs.declared.faults.LoadStop.{LoadStop}
+use Rattle.service.specs.declared.faults.LoadStop.TheVariants as ends
+use Rattle.service.specs.declared.faults.Unanswered.{Unanswered}
+use Rattle.service.specs.declared.faults.Unanswered.TheVariants as unanswered
 use Rattle.service.specs.declared.refusal.Refusal.{Refusal}
 use Rattle.service.specs.declared.refusal.Refusal.TheVariants as refusals
 
-abbrev pub of_admit : AdmitRefusal → Refusal
-of_admit admits.NoCollector = refusals.NoCollector
-of_admit admits.BatchTooLarge = refusals.BatchTooLarge
-of_admit admits.CounterFull = refusals.CounterFull
-of_admit admits.OutOfMemory = refusals.OutOfMemory
-
+-- why a record gives no admission
 abbrev pub of_record : ResolveFault → Refusal
 of_record faults.Malformed = refusals.Malformed
 of_record faults.RouteTooLarge = refusals.RouteTooLarge
@@ -19,3 +23,27 @@ of_record faults.NoPeerTable = refusals.NoPeerTable
 of_record faults.BadPeerIndex = refusals.BadPeerIndex
 of_record faults.AdmissionTooLarge = refusals.AdmissionTooLarge
 of_record faults.OutOfMemory = refusals.OutOfMemory
+
+-- why a feed is cut short
+abbrev pub of_cut : FeedCut → Refusal
+of_cut cuts.Truncated = refusals.Truncated
+of_cut cuts.TooLong = refusals.TooLong
+
+-- why a feed is given up
+abbrev pub of_stop : FeedStop → Refusal
+of_stop stops.NoCollector = refusals.NoCollector
+of_stop stops.CounterFull = refusals.CounterFull
+of_stop stops.OutOfMemory = refusals.OutOfMemory
+of_stop stops.Outside = refusals.Outside
+
+-- why a load ends outside its feed
+abbrev pub of_load : LoadStop → Refusal
+of_load ends.NoCollector = refusals.NoCollector
+of_load ends.MarkBack = refusals.MarkBack
+of_load ends.OutOfMemory = refusals.OutOfMemory
+
+-- why a line isn't answered
+abbrev pub of_unanswered : Unanswered → Refusal
+of_unanswered unanswered.BadRequest = refusals.BadRequest
+of_unanswered (unanswered.AboveWatermark settled) = refusals.AboveWatermark settled
+of_unanswered unanswered.OutOfMemory = refusals.OutOfMemory

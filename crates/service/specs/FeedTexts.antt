@@ -8,12 +8,12 @@ use Rattle.sequencer.specs.Late.{timely, lates}
 use Rattle.mrt_records.specs.Values.{Told, Read, Skipped, Malformed}
 use Rattle.archive.specs.Steps.{with_batch}
 use Rattle.resolve.specs.declared.fault.ResolveFault.{ResolveFault}
-use Rattle.service.specs.Faults.{of_record}
+use Rattle.service.specs.Faults.{of_cut, of_record}
 use Rattle.service.specs.FeedLines.{batch_line, late_line, counts_line}
 use Rattle.service.specs.Refusals.{refused_record_line}
 use Rattle.service.specs.Turns.{Turn, Offer, Refuse, offered, refusals, feed_turns}
 use Rattle.service.specs.declared.feed_lines.FeedCounts.{FeedCounts}
-use Rattle.service.specs.declared.refusal.Refusal.{Refusal}
+use Rattle.service.specs.declared.faults.FeedCut.{FeedCut}
 
 -- a count that stops at 18446744073709551615
 abbrev pub capped : ℕ → ℕ
@@ -57,11 +57,11 @@ counts_of i records turns = record {
 }
 
 -- why the feed was cut short, if it was, told with the count of its whole records
-abbrev pub cut_line : Option Refusal → ℕ → List ℕ
+abbrev pub cut_line : Option FeedCut → ℕ → List ℕ
 cut_line None records = []
-cut_line (Some why) records = refused_record_line why records
+cut_line (Some why) records = refused_record_line (of_cut why) records
 
 -- all that a feed writes: its turns, why it was cut if it was, and its counts
-abbrev pub feed_text : Intake → ℕ → List Told → List (Result (Option Admitted) ResolveFault) → Option Refusal → List ℕ
+abbrev pub feed_text : Intake → ℕ → List Told → List (Result (Option Admitted) ResolveFault) → Option FeedCut → List ℕ
 feed_text i limit records results cut =
     turns_text i (feed_turns limit results) ++ (cut_line cut (capped (length records)) ++ counts_line (counts_of i records (feed_turns limit results)))

@@ -1,5 +1,5 @@
 -- What a feed of MRT records is, and what an archive carries once it took it in.
-use Rattle.std.specs.Prelude.{◌≡◌, ◌⊎◌, ℕ, map, length, List, [], ◌∷◌, ◌++◌, Option, Some, None, Result}
+use Rattle.std.specs.Prelude.{◌≡◌, ℕ, map, length, List, [], ◌∷◌, ◌++◌, Option, Some, None, Result}
 use Rattle.std.specs.Io.KnownBytes.{Appends}
 use Rattle.route_model.specs.Admission.{Admitted}
 use Rattle.route_meaning.specs.History.{History}
@@ -14,8 +14,13 @@ use Rattle.archive.specs.Steps.{given, IsCollector, IsCounterFull}
 use Rattle.service.specs.Turns.{Turn, Offer, offered, admissions_of, feed_turns}
 use Rattle.service.specs.FeedTexts.{intake_in, turns_text, feed_text}
 use Rattle.service.specs.Refusals.{refusal_line}
-use Rattle.service.specs.declared.refusal.Refusal.{Refusal}
-use Rattle.service.specs.declared.refusal.Refusal.TheVariants as refusals
+use Rattle.service.specs.Faults.{of_stop}
+use Rattle.service.specs.declared.faults.FeedCut.{FeedCut}
+use Rattle.service.specs.declared.faults.FeedCut.TheVariants as cuts
+use Rattle.service.specs.declared.faults.FeedStop.{FeedStop}
+use Rattle.service.specs.declared.faults.FeedStop.TheVariants as stops
+use Rattle.service.specs.declared.intake.End.{End}
+use Rattle.service.specs.declared.intake.End.TheVariants as ends
 
 -- the octets are these whole records, which mean this, and then a rest at whose front no whole record stands
 pub record IsFeed (c : ℕ) (bytes rest : List ℕ) (records : List Told) (results : List (Result (Option Admitted) ResolveFault)) : Type 0 where
@@ -24,14 +29,20 @@ pub record IsFeed (c : ℕ) (bytes rest : List ℕ) (records : List Told) (resul
   pub told_are : map told items ≡ records
   pub means : Means c records results
 
+-- The octets that a reader gives in all, where it tells them beforehand, as memory does. A file tells nothing: any octets may be those that it gave.
+abbrev pub MayGive : Option (List ℕ) → List ℕ → Type 0
+MayGive None bytes = Unit {0}
+MayGive (Some all) bytes = bytes ≡ all
+
 -- why a feed is cut short that has this rest behind its whole records: it ends inside a record, or the next record's Length is above the limit
-abbrev pub IsCut : List ℕ → Option Refusal → Type 0
+abbrev pub IsCut : List ℕ → Option FeedCut → Type 0
 IsCut rest None = rest ≡ []
-IsCut rest (Some why) = ((why ≡ refusals.Truncated) × (rest ≡ [] → ⊥) × (Over rest → ⊥)) ⊎ ((why ≡ refusals.TooLong) × Over rest)
+IsCut rest (Some cuts.Truncated) = (rest ≡ [] → ⊥) × (Over rest → ⊥)
+IsCut rest (Some cuts.TooLong) = Over rest
 
 -- The archive carried h; now it carries all that the feed gives too, and what the feed writes was written. It was cut short for
 -- this, or it wasn't. Where the feed gives anything, there is the collector.
-pub record IsFed (c limit : ℕ) (h : History) (bytes : List ℕ) (cut : Option Refusal) (archive : History) (was now : Option (List ℕ)) : Type 0 where
+pub record IsFed (c limit : ℕ) (h : History) (bytes : List ℕ) (cut : Option FeedCut) (archive : History) (was now : Option (List ℕ)) : Type 0 where
   pub rest : List ℕ
   pub records : List Told
   pub results : List (Result (Option Admitted) ResolveFault)
@@ -43,27 +54,15 @@ pub record IsFed (c limit : ℕ) (h : History) (bytes : List ℕ) (cut : Option 
 
 -- why a feed is given up of which these turns were made and the next ones weren't: there is no such collector, the next batch would
 -- pass the last count of offered records, memory was wanting, or a reader or a writer failed
-abbrev pub IsReason : ℕ → History → List Turn → List Turn → Refusal → Type 0
-IsReason c h made unmade refusals.NoCollector = IsCollector h c → ⊥
-IsReason c h made unmade refusals.CounterFull = (batch : List Admitted) × (later : List Turn) × (unmade ≡ Offer batch ∷ later) × IsCounterFull (given h c (offered made)) c (length batch)
-IsReason c h made unmade refusals.OutOfMemory = Unit {0}
-IsReason c h made unmade refusals.Outside = Unit {0}
-IsReason c h made unmade refusals.BadText = ⊥
-IsReason c h made unmade refusals.Truncated = ⊥
-IsReason c h made unmade refusals.TooLong = ⊥
-IsReason c h made unmade refusals.Malformed = ⊥
-IsReason c h made unmade refusals.RouteTooLarge = ⊥
-IsReason c h made unmade refusals.NoPeerTable = ⊥
-IsReason c h made unmade refusals.BadPeerIndex = ⊥
-IsReason c h made unmade refusals.AdmissionTooLarge = ⊥
-IsReason c h made unmade refusals.MarkBack = ⊥
-IsReason c h made unmade refusals.BatchTooLarge = ⊥
-IsReason c h made unmade refusals.BadRequest = ⊥
-IsReason c h made unmade (refusals.AboveWatermark settled) = ⊥
+abbrev pub IsReason : ℕ → History → List Turn → List Turn → FeedStop → Type 0
+IsReason c h made unmade stops.NoCollector = IsCollector h c → ⊥
+IsReason c h made unmade stops.CounterFull = (batch : List Admitted) × (later : List Turn) × (unmade ≡ Offer batch ∷ later) × IsCounterFull (given h c (offered made)) c (length batch)
+IsReason c h made unmade stops.OutOfMemory = Unit {0}
+IsReason c h made unmade stops.Outside = Unit {0}
 
 -- The archive carried h; now it carries what the first turns for the first records of the feed offer too. These turns were written and
 -- then the refusal, unless it is that a reader or a writer failed.
-pub record IsGivenUp (c limit : ℕ) (h : History) (bytes : List ℕ) (why : Refusal) (archive : History) (was now : Option (List ℕ)) : Type 0 where
+pub record IsGivenUp (c limit : ℕ) (h : History) (bytes : List ℕ) (why : FeedStop) (archive : History) (was now : Option (List ℕ)) : Type 0 where
   pub seen : List ℕ
   pub later : List ℕ
   pub parts : bytes ≡ seen ++ later
@@ -75,5 +74,11 @@ pub record IsGivenUp (c limit : ℕ) (h : History) (bytes : List ℕ) (why : Ref
   pub turns : feed_turns limit results ≡ made ++ unmade
   pub carried : Carries archive (given h c (offered made))
   pub reason : IsReason c h made unmade why
-  pub wrote : (why ≡ refusals.Outside → ⊥) → Appends was now (turns_text (intake_in h.intakes c) made ++ refusal_line why)
+  pub wrote : (why ≡ stops.Outside → ⊥) → Appends was now (turns_text (intake_in h.intakes c) made ++ refusal_line (of_stop why))
   pub there : (offered made ≡ [] → ⊥) → IsCollector h c
+
+-- how a feed of these octets ended: all of it was read, or it was cut short, or it was given up for this
+abbrev pub IsEnd : ℕ → ℕ → History → List ℕ → End → History → Option (List ℕ) → Option (List ℕ) → Type 0
+IsEnd c limit h bytes ends.Well archive was now = IsFed c limit h bytes None archive was now
+IsEnd c limit h bytes ends.Cut archive was now = (why : FeedCut) × IsFed c limit h bytes (Some why) archive was now
+IsEnd c limit h bytes (ends.Refused why) archive was now = IsGivenUp c limit h bytes why archive was now

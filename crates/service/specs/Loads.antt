@@ -12,8 +12,13 @@ use Rattle.service.specs.FeedTexts.{intake_in, feed_text}
 use Rattle.service.specs.FeedLines.{settled_line}
 use Rattle.service.specs.Refusals.{error_line}
 use Rattle.service.specs.Feeds.{IsFeed, IsCut, IsFed, IsGivenUp}
-use Rattle.service.specs.declared.refusal.Refusal.{Refusal}
-use Rattle.service.specs.declared.refusal.Refusal.TheVariants as refusals
+use Rattle.service.specs.Faults.{of_load}
+use Rattle.service.specs.declared.faults.FeedCut.{FeedCut}
+use Rattle.service.specs.declared.faults.FeedStop.{FeedStop}
+use Rattle.service.specs.declared.faults.LoadStop.{LoadStop}
+use Rattle.service.specs.declared.faults.LoadStop.TheVariants as stops
+use Rattle.service.specs.declared.status.Status.{Status}
+use Rattle.service.specs.declared.status.Status.TheVariants as statuses
 
 -- the collector's mark is this one where there is one
 abbrev pub marked_if : ℕ → Option ℕ → History → History
@@ -35,7 +40,7 @@ pub record IsSettled (intakes : List Intake) (archive : History) : Type 0 where
 
 -- The archive carried h; now it carries all that the feed of the collector gives too, and its mark, applied as far as may be.
 -- What the feed writes was written, and then the settled watermark.
-pub record IsLoaded (c limit : ℕ) (mark : Option ℕ) (h : History) (bytes : List ℕ) (cut : Option Refusal) (archive : History) (was now : Option (List ℕ)) : Type 0 where
+pub record IsLoaded (c limit : ℕ) (mark : Option ℕ) (h : History) (bytes : List ℕ) (cut : Option FeedCut) (archive : History) (was now : Option (List ℕ)) : Type 0 where
   pub rest : List ℕ
   pub records : List Told
   pub results : List (Result (Option Admitted) ResolveFault)
@@ -47,7 +52,7 @@ pub record IsLoaded (c limit : ℕ) (mark : Option ℕ) (h : History) (bytes : L
 -- The feed was given up; the archive carries what it gave until then too, applied as far as may be. What the feed wrote is followed by the
 -- settled watermark.
 pub record IsGivenUpLoad (c limit : ℕ) (h : History) (bytes : List ℕ) (archive : History) (was now : Option (List ℕ)) : Type 0 where
-  pub why : Refusal
+  pub why : FeedStop
   pub fed : History
   pub between : Option (List ℕ)
   pub given_up : IsGivenUp c limit h bytes why fed was between
@@ -69,50 +74,29 @@ pub record IsMarkedBack (c limit : ℕ) (mark : Option ℕ) (h : History) (bytes
 abbrev pub IsPartLoaded : ℕ → ℕ → Option ℕ → History → List ℕ → History → Option (List ℕ) → Option (List ℕ) → Type 0
 IsPartLoaded c limit mark h bytes archive was now =
     ((fed : History) × (f : IsFed c limit h bytes None fed was now) × HasIntakes (marked_if c mark (given h c (admissions_of f.results))).intakes archive)
-    ⊎ (((fed : History) × (why : Refusal) × (f : IsFed c limit h bytes (Some why) fed was now) × HasIntakes (given h c (admissions_of f.results)).intakes archive)
-    ⊎ ((fed : History) × (why : Refusal) × (g : IsGivenUp c limit h bytes why fed was now) × HasIntakes (given h c (offered g.made)).intakes archive))
+    ⊎ (((fed : History) × (why : FeedCut) × (f : IsFed c limit h bytes (Some why) fed was now) × HasIntakes (given h c (admissions_of f.results)).intakes archive)
+    ⊎ ((fed : History) × (why : FeedStop) × (g : IsGivenUp c limit h bytes why fed was now) × HasIntakes (given h c (offered g.made)).intakes archive))
 
--- why a load ends outside its feed
-abbrev pub IsUnloaded : ℕ → ℕ → Option ℕ → History → List ℕ → History → Option (List ℕ) → Option (List ℕ) → Refusal → Type 0
-IsUnloaded c limit mark h bytes archive was now refusals.NoCollector = (IsCollector h c → ⊥) × Carries archive h × (now ≡ was)
-IsUnloaded c limit mark h bytes archive was now refusals.MarkBack = IsMarkedBack c limit mark h bytes archive was now
-IsUnloaded c limit mark h bytes archive was now refusals.OutOfMemory = IsPartLoaded c limit mark h bytes archive was now
-IsUnloaded c limit mark h bytes archive was now refusals.BadText = ⊥
-IsUnloaded c limit mark h bytes archive was now refusals.Truncated = ⊥
-IsUnloaded c limit mark h bytes archive was now refusals.TooLong = ⊥
-IsUnloaded c limit mark h bytes archive was now refusals.Malformed = ⊥
-IsUnloaded c limit mark h bytes archive was now refusals.RouteTooLarge = ⊥
-IsUnloaded c limit mark h bytes archive was now refusals.NoPeerTable = ⊥
-IsUnloaded c limit mark h bytes archive was now refusals.BadPeerIndex = ⊥
-IsUnloaded c limit mark h bytes archive was now refusals.AdmissionTooLarge = ⊥
-IsUnloaded c limit mark h bytes archive was now refusals.BatchTooLarge = ⊥
-IsUnloaded c limit mark h bytes archive was now refusals.CounterFull = ⊥
-IsUnloaded c limit mark h bytes archive was now refusals.BadRequest = ⊥
-IsUnloaded c limit mark h bytes archive was now refusals.Outside = ⊥
-IsUnloaded c limit mark h bytes archive was now (refusals.AboveWatermark settled) = ⊥
+-- why a load ends outside its feed: there is no such collector, the mark is below the collector's, or memory was wanting while changes were applied
+abbrev pub IsUnloaded : ℕ → ℕ → Option ℕ → History → List ℕ → History → Option (List ℕ) → Option (List ℕ) → LoadStop → Type 0
+IsUnloaded c limit mark h bytes archive was now stops.NoCollector = (IsCollector h c → ⊥) × Carries archive h × (now ≡ was)
+IsUnloaded c limit mark h bytes archive was now stops.MarkBack = IsMarkedBack c limit mark h bytes archive was now
+IsUnloaded c limit mark h bytes archive was now stops.OutOfMemory = IsPartLoaded c limit mark h bytes archive was now
 
 -- something was refused, and told: the feed was cut short, or it was given up, or the load ended outside its feed
 abbrev pub IsRefusedLoad : ℕ → ℕ → Option ℕ → History → List ℕ → History → Option (List ℕ) → Option (List ℕ) → Option (List ℕ) → Option (List ℕ) → Type 0
 IsRefusedLoad c limit mark h bytes archive was now err_was err_now =
-    ((why : Refusal) × IsLoaded c limit None h bytes (Some why) archive was now × (err_now ≡ err_was))
+    ((why : FeedCut) × IsLoaded c limit None h bytes (Some why) archive was now × (err_now ≡ err_was))
     ⊎ ((IsGivenUpLoad c limit h bytes archive was now × (err_now ≡ err_was))
-    ⊎ ((why : Refusal) × IsUnloaded c limit mark h bytes archive was now why × Appends err_was err_now (error_line why)))
+    ⊎ ((why : LoadStop) × IsUnloaded c limit mark h bytes archive was now why × Appends err_was err_now (error_line (of_load why))))
 
--- why a mark isn't set, or what may be applied isn't. Contracts of private functions alone cite this.
-abbrev pub IsUnsettled : ℕ → Option ℕ → History → History → Refusal → Type 0
-IsUnsettled c mark h archive refusals.NoCollector = (IsCollector h c → ⊥) × Carries archive h
-IsUnsettled c mark h archive refusals.MarkBack = (lower : ℕ) × (mark ≡ Some lower) × IsMarkAbove h c lower × Carries archive h
-IsUnsettled c mark h archive refusals.OutOfMemory = HasIntakes (marked_if c mark h).intakes archive
-IsUnsettled c mark h archive refusals.BadText = ⊥
-IsUnsettled c mark h archive refusals.Truncated = ⊥
-IsUnsettled c mark h archive refusals.TooLong = ⊥
-IsUnsettled c mark h archive refusals.Malformed = ⊥
-IsUnsettled c mark h archive refusals.RouteTooLarge = ⊥
-IsUnsettled c mark h archive refusals.NoPeerTable = ⊥
-IsUnsettled c mark h archive refusals.BadPeerIndex = ⊥
-IsUnsettled c mark h archive refusals.AdmissionTooLarge = ⊥
-IsUnsettled c mark h archive refusals.BatchTooLarge = ⊥
-IsUnsettled c mark h archive refusals.CounterFull = ⊥
-IsUnsettled c mark h archive refusals.BadRequest = ⊥
-IsUnsettled c mark h archive refusals.Outside = ⊥
-IsUnsettled c mark h archive (refusals.AboveWatermark settled) = ⊥
+-- The watermark couldn't be written behind the lines of the feed, or the line of what ended the load couldn't: the archive carries what it gave all the same.
+abbrev pub IsFailedLoad : ℕ → ℕ → Option ℕ → History → List ℕ → History → Option (List ℕ) → Type 0
+IsFailedLoad c limit mark h bytes archive was =
+    (then : Option (List ℕ)) × (IsPartLoaded c limit mark h bytes archive was then ⊎ ((why : LoadStop) × IsUnloaded c limit mark h bytes archive was then why))
+
+-- how a load of these octets ended, by its status
+abbrev pub IsLoadEnd : ℕ → ℕ → Option ℕ → History → List ℕ → Status → History → Option (List ℕ) → Option (List ℕ) → Option (List ℕ) → Option (List ℕ) → Type 0
+IsLoadEnd c limit mark h bytes statuses.Done archive was now err_was err_now = IsCollector h c × IsLoaded c limit mark h bytes None archive was now × (err_now ≡ err_was)
+IsLoadEnd c limit mark h bytes statuses.Refused archive was now err_was err_now = IsRefusedLoad c limit mark h bytes archive was now err_was err_now
+IsLoadEnd c limit mark h bytes statuses.Failed archive was now err_was err_now = IsFailedLoad c limit mark h bytes archive was

@@ -5,9 +5,11 @@ ghost use Rattle.std.specs.Io.KnownBytes.{Appends};
 ghost use Rattle.route_meaning.specs.History.{History};
 ghost use Rattle.archive.specs.Carries.{Carries};
 ghost use Rattle.service.specs.AnswerLines.{answer_text};
-ghost use Rattle.service.specs.Replies.{IsReplyText, IsRefused, ToldReply, ToldRefusal, IsEventsTurn, unanswered};
+ghost use Rattle.service.specs.Replies.{IsReplyText, IsRefused, ToldReply, ToldRefusal};
+ghost use Rattle.service.specs.inner.Asking.{IsEventsTurn, of_descend};
 
 use crate::answer_lines::write_answer;
+use crate::faults::Unanswered;
 use crate::refusal::{Refusal, write_error, write_refusal};
 use crate::request::{RequestError, read_query};
 use crate::status::Status;
@@ -36,39 +38,39 @@ fn rows_of(turn: Turn) -> Option<RowsAnswer>
     }
 }
 
-/// Why a question isn't answered, as a refusal.
-fn unanswered(refusal: &DescendRefusal) -> Refusal
-    ensures refusal { result ≡ unanswered refusal.now }
+/// Why a question isn't answered, as a line is told of it.
+fn unanswered(refusal: DescendRefusal) -> Unanswered
+    ensures why { result ≡ of_descend refusal }
 {
     match refusal {
-        DescendRefusal::AboveWatermark(settled) => Refusal::AboveWatermark(*settled),
-        DescendRefusal::OutOfMemory => Refusal::OutOfMemory,
+        DescendRefusal::AboveWatermark(settled) => Unanswered::AboveWatermark(settled),
+        DescendRefusal::OutOfMemory => Unanswered::OutOfMemory,
     }
 }
 
 /// What the archive answers to a request line, which is without its end: the lines of the answer, or why there is
 /// none. The lines that are read are those of [`read_query`].
-pub fn reply(alloc: Global, archive: &Archive, line: &str) -> Result<String, Refusal>
+pub fn reply(alloc: Global, archive: &Archive, line: &str) -> Result<String, Unanswered>
     ensures answered { (h : History) → Carries archive.now h → IfOk result (λ text. IsReplyText h line.now (string_bytes text)) }
     ensures refused { (h : History) → Carries archive.now h → IfErr result (IsRefused h line.now) }
 {
     let query = match read_query(alloc, line) {
         Ok(query) => query,
-        Err(RequestError::BadRequest) => return Err(Refusal::BadRequest),
-        Err(RequestError::OutOfMemory) => return Err(Refusal::OutOfMemory),
+        Err(RequestError::BadRequest) => return Err(Unanswered::BadRequest),
+        Err(RequestError::OutOfMemory) => return Err(Unanswered::OutOfMemory),
     };
     let mut cursor = archive.start(query);
     let turn = match archive.descend(&mut cursor) {
         Ok(turn) => turn,
-        Err(refusal) => return Err(unanswered(&refusal)),
+        Err(refusal) => return Err(unanswered(refusal)),
     };
     let Some(answer) = rows_of(turn) else {
         // No line that is read has an answer of events.
-        return Err(Refusal::BadRequest);
+        return Err(Unanswered::BadRequest);
     };
     match text_of(alloc, &answer) {
         Ok(text) => Ok(text),
-        Err(_) => Err(Refusal::OutOfMemory),
+        Err(_) => Err(Unanswered::OutOfMemory),
     }
 }
 
@@ -91,8 +93,8 @@ pub fn ask<W: Write, E: Write>(
                 return Status::Done;
             }
         }
-        Err(refusal) => {
-            if write_refusal(out, &refusal).is_ok() {
+        Err(why) => {
+            if write_refusal(out, &Refusal::from(why)).is_ok() {
                 return Status::Refused;
             }
         }

@@ -1,6 +1,6 @@
 //! The command line of the program.
 
-ghost use Rattle.std.specs.Prelude.{◌≡◌, ◌⊎◌, IfOk, OnErr, IfErr, false, map, option_map, codes, string_bytes};
+ghost use Rattle.std.specs.Prelude.{◌≡◌, ◌⊎◌, IfOk, OnErr, false, map, option_map, codes, string_bytes};
 ghost use Rattle.clap.specs.Kinds.{IsAmong};
 ghost use Rattle.clap.specs.Faults.{fault_of};
 ghost use Rattle.clap.specs.Simple.{app_of};
@@ -11,7 +11,6 @@ ghost use Rattle.clap.specs.declared.builder.command.Command.TheViews.{out-Comma
 ghost use Rattle.clap.specs.declared.error.Error.{Error};
 ghost use Rattle.service.specs.CommandLines.{file_rule, mark_rule, words_rule, program, attempt, spaced, IsMarkIf, IsNoMark, IsAttempt, IsInvocation, HasBadMark};
 
-use crate::refusal::Refusal;
 use clap::error::ErrorKind;
 use clap::{Arg, ArgAction, ArgMatches, Command, Error};
 use route_model::Mark;
@@ -44,9 +43,12 @@ pub enum CommandError {
     /// The words aren't accepted, or they ask for help: `clap`'s text.
     #[error(transparent)]
     Usage(clap::Error),
-    /// Something else is wrong.
-    #[error(transparent)]
-    Refused(Refusal),
+    /// The text behind `--mark` is that of no mark.
+    #[error("the text behind --mark is that of no mark")]
+    BadMark,
+    /// A growth of memory was refused.
+    #[error("out of memory")]
+    OutOfMemory,
 }
 
 impl CommandError {
@@ -54,12 +56,14 @@ impl CommandError {
     pub fn code(&self) -> u8
         ensures usage { (e : Error) → self.now ≡ CommandError.Usage e → (kind_of e ≡ ErrorKind.DisplayHelp → ⊥) → (kind_of e ≡ ErrorKind.DisplayVersion → ⊥) → result ≡ 2 }
         ensures help { (e : Error) → self.now ≡ CommandError.Usage e → kind_of e ≡ ErrorKind.DisplayHelp → result ≡ 0 }
-        ensures refused { (refusal : Refusal) → self.now ≡ CommandError.Refused refusal → result ≡ 1 }
+        ensures version { (e : Error) → self.now ≡ CommandError.Usage e → kind_of e ≡ ErrorKind.DisplayVersion → result ≡ 0 }
+        ensures bad_mark { self.now ≡ CommandError.BadMark → result ≡ 1 }
+        ensures memory { self.now ≡ CommandError.OutOfMemory → result ≡ 1 }
     {
         match self {
             CommandError::Usage(error) if error.use_stderr() => 2,
             CommandError::Usage(_) => 0,
-            CommandError::Refused(_) => 1,
+            CommandError::BadMark | CommandError::OutOfMemory => 1,
         }
     }
 }
@@ -140,31 +144,31 @@ fn mark_of(text: Option<&str>) -> Result<Option<Mark>, BadText>
 }
 
 /// What the arguments of `try` say.
-fn attempt_of<'a>(alloc: Global, matches: &ArgMatches<'a>) -> Result<Attempt<'a>, Refusal>
+fn attempt_of<'a>(alloc: Global, matches: &ArgMatches<'a>) -> Result<Attempt<'a>, CommandError>
     ensures found { IfOk result (IsAttempt (rows_of (found_of matches.now))) }
-    ensures bad_mark { result ≡ Err Refusal.BadText → IsNoMark (first_of (codes "mark") (rows_of (found_of matches.now))) }
-    ensures refused { IfErr result (λ refusal. (refusal ≡ Refusal.BadText) ⊎ (refusal ≡ Refusal.OutOfMemory)) }
+    ensures bad_mark { result ≡ Err CommandError.BadMark → IsNoMark (first_of (codes "mark") (rows_of (found_of matches.now))) }
+    ensures used { (e : Error) → result ≡ Err (CommandError.Usage e) → ⊥ }
 {
     // clap wants FILE and a WORD, but no clause of its says that they are there: else they count as empty.
     let file = matches.get_str("FILE").unwrap_or("");
     let mark = match mark_of(matches.get_str("mark")) {
         Ok(mark) => mark,
-        Err(BadText) => return Err(Refusal::BadText),
+        Err(BadText) => return Err(CommandError::BadMark),
     };
     let words = matches.get_strs("WORD").unwrap_or(&[]);
     match line_of(alloc, words) {
         Ok(line) => Ok(Attempt { file, mark, line }),
-        Err(_) => Err(Refusal::OutOfMemory),
+        Err(_) => Err(CommandError::OutOfMemory),
     }
 }
 
 /// What an error of `clap` is.
 fn usage(error: clap::Error) -> CommandError
-    ensures memory { kind_of error ≡ ErrorKind.OutOfMemory → result ≡ CommandError.Refused Refusal.OutOfMemory }
+    ensures memory { kind_of error ≡ ErrorKind.OutOfMemory → result ≡ CommandError.OutOfMemory }
     ensures told { (kind_of error ≡ ErrorKind.OutOfMemory) ⊎ (result ≡ CommandError.Usage error) }
 {
     match error.kind() {
-        ErrorKind::OutOfMemory => CommandError::Refused(Refusal::OutOfMemory),
+        ErrorKind::OutOfMemory => CommandError::OutOfMemory,
         _ => CommandError::Usage(error),
     }
 }
@@ -176,16 +180,15 @@ fn usage(error: clap::Error) -> CommandError
 ///
 /// # Errors
 ///
-/// `Usage` where `clap` doesn't accept the words, or they ask for help. `Refused` with `BadText` where M is the text
-/// of no mark, and with `OutOfMemory` where a growth of memory was refused.
+/// `Usage` where `clap` doesn't accept the words, or they ask for help. `BadMark` where M is the text of no mark, and
+/// `OutOfMemory` where a growth of memory was refused.
 pub fn command<'a, S: AsStr>(alloc: Global, words: &'a [S]) -> Result<Invocation<'a>, CommandError>
     ensures found { IfOk result (IsInvocation (map S.text words.now)) }
     ensures usage { (e : Error) → result ≡ Err (CommandError.Usage e) → IsAmong (kind_of e) (fault_of program (map S.text words.now)) }
-    ensures bad_mark { result ≡ Err (CommandError.Refused Refusal.BadText) → HasBadMark (map S.text words.now) }
-    ensures refused { (refusal : Refusal) → result ≡ Err (CommandError.Refused refusal) → (refusal ≡ Refusal.BadText) ⊎ (refusal ≡ Refusal.OutOfMemory) }
+    ensures bad_mark { result ≡ Err CommandError.BadMark → HasBadMark (map S.text words.now) }
 {
     let Ok(program) = program(alloc) else {
-        return Err(CommandError::Refused(Refusal::OutOfMemory));
+        return Err(CommandError::OutOfMemory);
     };
     let matches = match program.try_get_matches_from(words) {
         Ok(matches) => matches,
@@ -197,6 +200,6 @@ pub fn command<'a, S: AsStr>(alloc: Global, words: &'a [S]) -> Result<Invocation
     };
     match attempt_of(alloc, matches) {
         Ok(attempt) => Ok(Invocation::Try(attempt)),
-        Err(refusal) => Err(CommandError::Refused(refusal)),
+        Err(error) => Err(error),
     }
 }

@@ -8,7 +8,7 @@ ghost use Rattle.service.specs.Turns.{Turn, Offer, Refuse, offer_where, wait_unl
 ghost use Rattle.service.specs.FeedTexts.{capped};
 ghost use Rattle.service.specs.inner.Feeding.{HasDone, IsSameFeed, IsCounted, IsBehind, GivesUp, StopsAmong};
 
-use crate::faults::{of_admit, of_record};
+use crate::faults::{FeedStop, stop_of};
 use crate::feed_lines::{FeedCounts, write_admitted};
 use crate::refusal::{Refusal, write_refused_record};
 use archive::{Archive, MAX_BATCH_LEN};
@@ -52,7 +52,7 @@ impl Feeding {
     }
 
     /// Offers what is gathered as a batch, and writes what became of it.
-    fn offer<W: Write>(&mut self, archive: &mut Archive, out: &mut W) -> Result<(), Refusal>
+    fn offer<W: Write>(&mut self, archive: &mut Archive, out: &mut W) -> Result<(), FeedStop>
         ensures same { IsSameFeed self.old self.new }
         ensures gathered { OnOk result (self.new.gathered.items ≡ []) }
         ensures octets { OnOk result (self.new.octets ≡ 0) }
@@ -61,7 +61,7 @@ impl Feeding {
     {
         let admitted = match archive.admit(self.collector, &self.gathered) {
             Ok(admitted) => admitted,
-            Err(refusal) => return Err(of_admit(refusal)),
+            Err(refusal) => return Err(stop_of(refusal)),
         };
         write_admitted(out, &admitted)?;
         self.counts.count_batch(&admitted);
@@ -76,7 +76,7 @@ impl Feeding {
         octets: usize,
         archive: &mut Archive,
         out: &mut W,
-    ) -> Result<(), Refusal>
+    ) -> Result<(), FeedStop>
         ensures same { IsSameFeed self.old self.new }
         ensures gathered { OnOk result (self.new.gathered.items ≡ wait_unless (ltb 262144 (self.old.octets + octets)) self.old.gathered.items) }
         ensures counted { IsCounted self.old → OnOk result (IsCounted self.new) }
@@ -90,7 +90,7 @@ impl Feeding {
     }
 
     /// Offers what is gathered where it has as many admissions as a batch may have.
-    fn offer_full<W: Write>(&mut self, archive: &mut Archive, out: &mut W) -> Result<(), Refusal>
+    fn offer_full<W: Write>(&mut self, archive: &mut Archive, out: &mut W) -> Result<(), FeedStop>
         ensures same { IsSameFeed self.old self.new }
         ensures gathered { OnOk result (self.new.gathered.items ≡ wait_unless (is_full self.old.limit self.old.gathered.items) self.old.gathered.items) }
         ensures counted { IsCounted self.old → OnOk result (IsCounted self.new) }
@@ -108,7 +108,7 @@ impl Feeding {
         &mut self,
         archive: &mut Archive,
         out: &mut W,
-    ) -> Result<(), Refusal>
+    ) -> Result<(), FeedStop>
         ensures same { IsSameFeed self.old self.new }
         ensures done { (c : ℕ) (h : History) (turns : List Turn) (was : Option (List ℕ)) → self.old.collector ≡ c → HasDone c h turns self.old.counts archive.old was (W.contents out.old) → OnOk result (HasDone c h (turns ++ last_turns self.old.gathered.items) self.new.counts archive.new was (W.contents out.new)) }
         ensures given_up { (c : ℕ) (h : History) (turns : List Turn) (was : Option (List ℕ)) → self.old.collector ≡ c → IsCounted self.old → HasDone c h turns self.old.counts archive.old was (W.contents out.old) → IfErr result (GivesUp c h (turns ++ last_turns self.old.gathered.items) archive.new was (W.contents out.new)) }
@@ -138,7 +138,7 @@ impl Feeding {
         archive: &mut Archive,
         admission: Admission,
         out: &mut W,
-    ) -> Result<(), Refusal>
+    ) -> Result<(), FeedStop>
         ensures same { IsSameFeed self.old self.new }
         ensures gathered { IsCounted self.old → OnOk result (self.new.gathered.items ≡ waits_after self.old.limit self.old.gathered.items (Ok (Some admission))) }
         ensures counted { IsCounted self.old → OnOk result (IsCounted self.new) }
@@ -149,7 +149,7 @@ impl Feeding {
         self.make_room(octets, archive, out)?;
         match self.push(admission, octets) {
             Ok(()) => self.offer_full(archive, out),
-            Err(_) => Err(Refusal::OutOfMemory),
+            Err(_) => Err(FeedStop::OutOfMemory),
         }
     }
 
@@ -159,7 +159,7 @@ impl Feeding {
         fault: ResolveFault,
         place: u64,
         out: &mut W,
-    ) -> Result<(), Refusal>
+    ) -> Result<(), FeedStop>
         ensures same { IsSameFeed self.old self.new }
         ensures gathered { self.new.gathered.items ≡ self.old.gathered.items }
         ensures octets { self.new.octets ≡ self.old.octets }
@@ -168,10 +168,10 @@ impl Feeding {
         ensures given_up { (c : ℕ) (h archive : History) (turns : List Turn) (was : Option (List ℕ)) → HasDone c h turns self.old.counts archive was (W.contents out.old) → IfErr result (GivesUp c h turns archive was (W.contents out.new)) }
     {
         if fault == ResolveFault::OutOfMemory {
-            return Err(Refusal::OutOfMemory);
+            return Err(FeedStop::OutOfMemory);
         }
         self.counts.refused = self.counts.refused.saturating_add(1);
-        write_refused_record(out, &of_record(fault), place)?;
+        write_refused_record(out, &Refusal::from(fault), place)?;
         Ok(())
     }
 
@@ -182,7 +182,7 @@ impl Feeding {
         archive: &mut Archive,
         item: &Item,
         out: &mut W,
-    ) -> Result<(), Refusal>
+    ) -> Result<(), FeedStop>
         ensures behind { (c limit : ℕ) (h : History) (records : List Told) (was : Option (List ℕ)) → IsBehind c limit h records self.old archive.old was (W.contents out.old) → OnOk result (IsBehind c limit h (records ++ told item.now ∷ []) self.new archive.new was (W.contents out.new)) }
         ensures given_up { (c limit : ℕ) (h : History) (records : List Told) (was : Option (List ℕ)) → IsBehind c limit h records self.old archive.old was (W.contents out.old) → IfErr result (StopsAmong c limit h records (item.now ∷ []) archive.new was (W.contents out.new)) }
     {
@@ -202,7 +202,7 @@ impl Feeding {
         archive: &mut Archive,
         items: &[Item],
         out: &mut W,
-    ) -> Result<(), Refusal>
+    ) -> Result<(), FeedStop>
         ensures behind { (c limit : ℕ) (h : History) (records : List Told) (was : Option (List ℕ)) → IsBehind c limit h records self.old archive.old was (W.contents out.old) → OnOk result (IsBehind c limit h (records ++ map told items.now) self.new archive.new was (W.contents out.new)) }
         ensures given_up { (c limit : ℕ) (h : History) (records : List Told) (was : Option (List ℕ)) → IsBehind c limit h records self.old archive.old was (W.contents out.old) → IfErr result (StopsAmong c limit h records items.now archive.new was (W.contents out.new)) }
     {

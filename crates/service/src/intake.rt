@@ -1,15 +1,15 @@
 //! Feeds: MRT records that are read, resolved and admitted (RFC 6396).
 
-ghost use Rattle.std.specs.Prelude.{◌≡◌, ◌++◌, ℕ, List, [], Option, Some, None, OnOk, IfOk, IfErr};
+ghost use Rattle.std.specs.Prelude.{◌≡◌, ◌++◌, ℕ, List, [], Option, OnOk, IfOk, IfErr};
 ghost use Rattle.std.specs.Io.KnownBytes.{Appends};
 ghost use Rattle.route_meaning.specs.History.{History};
 ghost use Rattle.archive.specs.Carries.{Carries};
 ghost use Rattle.service.specs.FeedLines.{counts_line};
 ghost use Rattle.service.specs.FeedTexts.{cut_line};
-ghost use Rattle.service.specs.Feeds.{IsCut, IsFed, IsGivenUp};
+ghost use Rattle.service.specs.Feeds.{IsCut, IsEnd, IsFed, MayGive};
 ghost use Rattle.service.specs.inner.Feeding.{Reads, IsRead, IsReadOut, StopsWithin};
-ghost use Rattle.service.specs.declared.refusal.Refusal.{Refusal};
 
+use crate::faults::{FeedCut, FeedStop};
 use crate::feed_lines::{FeedCounts, write_counts};
 use crate::feeding::Feeding;
 use crate::refusal::{Refusal, write_refusal, write_refused_record};
@@ -29,7 +29,7 @@ pub enum End {
     /// It ended inside a record, or a record's Length was above the limit. What came before is admitted.
     Cut,
     /// It was given up for this.
-    Refused(Refusal),
+    Refused(FeedStop),
 }
 
 impl Feeding {
@@ -41,7 +41,7 @@ impl Feeding {
         piece: &[u8],
         archive: &mut Archive,
         out: &mut W,
-    ) -> Result<bool, Refusal>
+    ) -> Result<bool, FeedStop>
         ensures read { (c limit : ℕ) (h : History) (bytes : List ℕ) (was : Option (List ℕ)) → Reads c limit h bytes framer.old self.old archive.old was (W.contents out.old) → IfOk result (λ goes_on. IsRead c limit h (bytes ++ piece.now) framer.new goes_on self.new archive.new was (W.contents out.new)) }
         ensures given_up { (c limit : ℕ) (h : History) (bytes : List ℕ) (was : Option (List ℕ)) → Reads c limit h bytes framer.old self.old archive.old was (W.contents out.old) → IfErr result (StopsWithin c limit h (bytes ++ piece.now) archive.new was (W.contents out.new)) }
     {
@@ -49,7 +49,7 @@ impl Feeding {
         let goes_on = match framer.feed(piece, &mut items) {
             Ok(()) => true,
             Err(FrameError::TooLong) => false,
-            Err(_) => return Err(Refusal::OutOfMemory),
+            Err(_) => return Err(FeedStop::OutOfMemory),
         };
         self.take_all(alloc, archive, &items, out)?;
         Ok(goes_on)
@@ -63,14 +63,14 @@ impl Feeding {
         reader: &mut R,
         archive: &mut Archive,
         out: &mut W,
-    ) -> Result<(), Refusal>
-        ensures read { (c limit : ℕ) (h : History) (bytes left : List ℕ) (was : Option (List ℕ)) → R.remaining reader.old ≡ Some left → Reads c limit h bytes framer.old self.old archive.old was (W.contents out.old) → OnOk result (IsReadOut c limit h (bytes ++ left) framer.new self.new archive.new was (W.contents out.new)) }
-        ensures given_up { (c limit : ℕ) (h : History) (bytes left : List ℕ) (was : Option (List ℕ)) → R.remaining reader.old ≡ Some left → Reads c limit h bytes framer.old self.old archive.old was (W.contents out.old) → IfErr result (StopsWithin c limit h (bytes ++ left) archive.new was (W.contents out.new)) }
+    ) -> Result<(), FeedStop>
+        ensures read { (c limit : ℕ) (h : History) (bytes : List ℕ) (was : Option (List ℕ)) → Reads c limit h bytes framer.old self.old archive.old was (W.contents out.old) → OnOk result ((more : List ℕ) × MayGive (R.remaining reader.old) more × IsReadOut c limit h (bytes ++ more) framer.new self.new archive.new was (W.contents out.new)) }
+        ensures given_up { (c limit : ℕ) (h : History) (bytes : List ℕ) (was : Option (List ℕ)) → Reads c limit h bytes framer.old self.old archive.old was (W.contents out.old) → IfErr result (λ why. (more : List ℕ) × MayGive (R.remaining reader.old) more × StopsWithin c limit h (bytes ++ more) archive.new was (W.contents out.new) why) }
     {
         let mut piece = [0u8; PIECE];
         for _ in 0..u64::MAX {
             let Ok(count) = reader.read(&mut piece) else {
-                return Err(Refusal::Outside);
+                return Err(FeedStop::Outside);
             };
             if count == 0 {
                 return Ok(());
@@ -79,33 +79,33 @@ impl Feeding {
                 return Ok(());
             }
         }
-        Err(Refusal::Outside)
+        Err(FeedStop::Outside)
     }
 }
 
 /// Why a feed ended before the end of its last record, if it did.
-fn cut_of(framer: &Framer) -> Option<Refusal>
+fn cut_of(framer: &Framer) -> Option<FeedCut>
     ensures cut { IsCut framer.now result }
 {
     match framer.finish() {
         Ok(()) => None,
-        Err(FrameError::TooLong) => Some(Refusal::TooLong),
-        Err(_) => Some(Refusal::Truncated),
+        Err(FrameError::TooLong) => Some(FeedCut::TooLong),
+        Err(_) => Some(FeedCut::Truncated),
     }
 }
 
 /// Writes why a feed of so many records is cut short, if it is.
-fn tell_cut<W: Write>(cut: &Option<Refusal>, records: u64, out: &mut W) -> io::Result<()>
+fn tell_cut<W: Write>(cut: &Option<FeedCut>, records: u64, out: &mut W) -> io::Result<()>
     ensures told { OnOk result (Appends (W.contents out.old) (W.contents out.new) (cut_line cut.now records)) }
 {
     match cut {
         None => Ok(()),
-        Some(refusal) => write_refused_record(out, refusal, records),
+        Some(why) => write_refused_record(out, &Refusal::from(*why), records),
     }
 }
 
 /// Writes how a feed ended, and its counts.
-fn tell_end<W: Write>(cut: &Option<Refusal>, counts: &FeedCounts, out: &mut W) -> io::Result<()>
+fn tell_end<W: Write>(cut: &Option<FeedCut>, counts: &FeedCounts, out: &mut W) -> io::Result<()>
     ensures told { OnOk result (Appends (W.contents out.old) (W.contents out.new) (cut_line cut.now counts.now.records ++ counts_line counts.now)) }
 {
     tell_cut(cut, counts.records, out)?;
@@ -121,9 +121,9 @@ fn take_in<R: Read, W: Write>(
     limit: usize,
     reader: &mut R,
     out: &mut W,
-) -> Result<Option<Refusal>, Refusal>
-    ensures fed { (h : History) (bytes : List ℕ) → R.remaining reader.old ≡ Some bytes → Carries archive.old h → IfOk result (λ cut. IsFed collector limit h bytes cut archive.new (W.contents out.old) (W.contents out.new)) }
-    ensures given_up { (h : History) (bytes : List ℕ) → R.remaining reader.old ≡ Some bytes → Carries archive.old h → IfErr result (StopsWithin collector limit h bytes archive.new (W.contents out.old) (W.contents out.new)) }
+) -> Result<Option<FeedCut>, FeedStop>
+    ensures fed { (h : History) → Carries archive.old h → IfOk result (λ cut. (bytes : List ℕ) × MayGive (R.remaining reader.old) bytes × IsFed collector limit h bytes cut archive.new (W.contents out.old) (W.contents out.new)) }
+    ensures given_up { (h : History) → Carries archive.old h → IfErr result (λ why. (bytes : List ℕ) × MayGive (R.remaining reader.old) bytes × StopsWithin collector limit h bytes archive.new (W.contents out.old) (W.contents out.new) why) }
 {
     let mut feeding = Feeding::new(alloc, collector, limit);
     let mut framer = Framer::new(alloc);
@@ -147,16 +147,14 @@ pub fn feed<R: Read, W: Write>(
     reader: &mut R,
     out: &mut W,
 ) -> End
-    ensures well { (h : History) (bytes : List ℕ) → R.remaining reader.old ≡ Some bytes → Carries archive.old h → result ≡ End.Well → IsFed collector limit h bytes None archive.new (W.contents out.old) (W.contents out.new) }
-    ensures cut { (h : History) (bytes : List ℕ) → R.remaining reader.old ≡ Some bytes → Carries archive.old h → result ≡ End.Cut → (why : Refusal) × IsFed collector limit h bytes (Some why) archive.new (W.contents out.old) (W.contents out.new) }
-    ensures given_up { (h : History) (bytes : List ℕ) → R.remaining reader.old ≡ Some bytes → Carries archive.old h → (why : Refusal) → result ≡ End.Refused why → IsGivenUp collector limit h bytes why archive.new (W.contents out.old) (W.contents out.new) }
+    ensures ended { (h : History) → Carries archive.old h → (bytes : List ℕ) × MayGive (R.remaining reader.old) bytes × IsEnd collector limit h bytes result archive.new (W.contents out.old) (W.contents out.new) }
 {
     match take_in(alloc, archive, collector, limit, reader, out) {
         Ok(None) => End::Well,
         Ok(Some(_)) => End::Cut,
-        Err(refusal) => match write_refusal(out, &refusal) {
-            Ok(()) => End::Refused(refusal),
-            Err(_) => End::Refused(Refusal::Outside),
+        Err(why) => match write_refusal(out, &Refusal::from(why)) {
+            Ok(()) => End::Refused(why),
+            Err(_) => End::Refused(FeedStop::Outside),
         },
     }
 }

@@ -18,6 +18,7 @@ mod status;
 pub use answer_lines::write_answer;
 pub use asking::{ask, reply};
 pub use command_line::{Attempt, CommandError, Invocation, command};
+pub use faults::{FeedCut, FeedStop, LoadStop, Unanswered};
 pub use feed_lines::{FeedCounts, write_admitted, write_counts, write_settled};
 pub use intake::{End, feed};
 pub use laws::batches_share_a_feed;

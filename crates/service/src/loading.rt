@@ -1,22 +1,24 @@
 //! Files that are loaded: fed, marked and applied.
 
-ghost use Rattle.std.specs.Prelude.{◌≡◌, ℕ, List, Some, None, OnOk, OnErr, IfErr};
+ghost use Rattle.std.specs.Prelude.{◌≡◌, ℕ, List, OnOk, OnErr, IfErr};
 ghost use Rattle.std.specs.Io.KnownBytes.{Appends};
 ghost use Rattle.route_meaning.specs.History.{History, settled};
 ghost use Rattle.archive.specs.Carries.{Carries};
-ghost use Rattle.archive.specs.Steps.{IsCollector};
 ghost use Rattle.service.specs.FeedLines.{settled_line};
 ghost use Rattle.service.specs.Refusals.{error_line};
-ghost use Rattle.service.specs.declared.refusal.Refusal.{Refusal};
-ghost use Rattle.service.specs.Loads.{IsLoaded, IsRefusedLoad, IsSettled, IsUnsettled, HasIntakes, marked_if};
+ghost use Rattle.service.specs.Faults.{of_load};
+ghost use Rattle.service.specs.Feeds.{MayGive};
+ghost use Rattle.service.specs.Loads.{IsLoadEnd, IsSettled, HasIntakes, marked_if};
+ghost use Rattle.service.specs.inner.Loading.{IsUnsettled, mark_after, status_after};
 
+use crate::faults::LoadStop;
 use crate::feed_lines::write_settled;
 use crate::intake::{End, feed};
 use crate::refusal::{Refusal, write_error};
 use crate::status::Status;
 use archive::{Archive, Flush, MarkRefusal, Step};
 use route_model::Mark;
-use std::alloc::Global;
+use std::alloc::{AllocError, Global};
 use std::io::{Read, Write};
 
 /// How a file is loaded.
@@ -31,7 +33,7 @@ pub struct LoadSettings {
 }
 
 /// Sets the mark of a collector, if there is one to set.
-fn set_mark(archive: &mut Archive, collector: u8, mark: Option<Mark>) -> Result<(), Refusal>
+fn set_mark(archive: &mut Archive, collector: u8, mark: Option<Mark>) -> Result<(), LoadStop>
     ensures marked { (h : History) → Carries archive.old h → OnOk result (Carries archive.new (marked_if collector mark h)) }
     ensures unmarked { (h : History) → Carries archive.old h → IfErr result (IsUnsettled collector mark h archive.new) }
 {
@@ -40,25 +42,24 @@ fn set_mark(archive: &mut Archive, collector: u8, mark: Option<Mark>) -> Result<
     };
     match archive.mark(collector, mark) {
         Ok(()) => Ok(()),
-        Err(MarkRefusal::NoCollector) => Err(Refusal::NoCollector),
-        Err(MarkRefusal::MarkBack) => Err(Refusal::MarkBack),
+        Err(MarkRefusal::NoCollector) => Err(LoadStop::NoCollector),
+        Err(MarkRefusal::MarkBack) => Err(LoadStop::MarkBack),
     }
 }
 
 /// Applies what may be applied.
-fn apply_all(archive: &mut Archive) -> Result<(), Refusal>
+fn apply_all(archive: &mut Archive) -> Result<(), AllocError>
     ensures settled { (h : History) → Carries archive.old h → OnOk result (IsSettled h.intakes archive.new) }
     ensures kept { (h : History) → Carries archive.old h → OnErr result (HasIntakes h.intakes archive.new) }
-    ensures wanting { IfErr result (λ why. why ≡ Refusal.OutOfMemory) }
 {
     for _ in 0..u64::MAX {
         match archive.apply_step() {
             Ok(Step::Applied) => {}
             Ok(Step::Idle) => return Ok(()),
-            Err(_) => return Err(Refusal::OutOfMemory),
+            Err(error) => return Err(error),
         }
     }
-    Err(Refusal::OutOfMemory)
+    Err(AllocError)
 }
 
 /// Flushes until no page waits to go home.
@@ -74,7 +75,7 @@ fn flush_all(archive: &mut Archive)
 }
 
 /// Sets the mark, applies what may be applied, and flushes.
-fn settle(archive: &mut Archive, collector: u8, mark: Option<Mark>) -> Result<(), Refusal>
+fn settle(archive: &mut Archive, collector: u8, mark: Option<Mark>) -> Result<(), LoadStop>
     ensures settled { (h : History) → Carries archive.old h → OnOk result (IsSettled (marked_if collector mark h).intakes archive.new) }
     ensures unsettled { (h : History) → Carries archive.old h → IfErr result (IsUnsettled collector mark h archive.new) }
 {
@@ -85,10 +86,8 @@ fn settle(archive: &mut Archive, collector: u8, mark: Option<Mark>) -> Result<()
 }
 
 /// The mark to set once a feed has ended so.
-fn mark_after(end: &End, mark: Option<Mark>) -> Option<Mark>
-    ensures well { end.now ≡ End.Well → result ≡ mark }
-    ensures cut { end.now ≡ End.Cut → result ≡ None }
-    ensures given_up { (why : Refusal) → end.now ≡ End.Refused why → result ≡ None }
+fn mark_after(end: End, mark: Option<Mark>) -> Option<Mark>
+    ensures mark { result ≡ mark_after end mark }
 {
     match end {
         End::Well => mark,
@@ -97,10 +96,8 @@ fn mark_after(end: &End, mark: Option<Mark>) -> Option<Mark>
 }
 
 /// The status of a load whose feed has ended so.
-fn status_after(end: &End) -> Status
-    ensures done { result ≡ Status.Done → end.now ≡ End.Well }
-    ensures well { end.now ≡ End.Well → result ≡ Status.Done }
-    ensures told { result ≡ Status.Failed → ⊥ }
+fn status_after(end: End) -> Status
+    ensures status { result ≡ status_after end }
 {
     match end {
         End::Well => Status::Done,
@@ -108,12 +105,12 @@ fn status_after(end: &End) -> Status
     }
 }
 
-/// Tells a refusal that has no line of its own.
-fn refused<E: Write>(err: &mut E, refusal: &Refusal) -> Status
+/// Tells what ended a load outside its feed.
+fn tell_stop<E: Write>(err: &mut E, why: LoadStop) -> Status
     ensures undone { result ≡ Status.Done → ⊥ }
-    ensures told { result ≡ Status.Refused → Appends (E.contents err.old) (E.contents err.new) (error_line refusal.now) }
+    ensures told { result ≡ Status.Refused → Appends (E.contents err.old) (E.contents err.new) (error_line (of_load why)) }
 {
-    match write_error(err, refusal) {
+    match write_error(err, &Refusal::from(why)) {
         Ok(()) => Status::Refused,
         Err(_) => Status::Failed,
     }
@@ -148,17 +145,14 @@ pub fn load<R: Read, W: Write, E: Write>(
     out: &mut W,
     err: &mut E,
 ) -> Status
-    ensures loaded { (h : History) (bytes : List ℕ) → R.remaining reader.old ≡ Some bytes → Carries archive.old h → result ≡ Status.Done → IsLoaded how.collector how.limit how.mark h bytes None archive.new (W.contents out.old) (W.contents out.new) }
-    ensures there { (h : History) → Carries archive.old h → result ≡ Status.Done → IsCollector h how.collector }
-    ensures quiet { result ≡ Status.Done → E.contents err.new ≡ E.contents err.old }
-    ensures refused { (h : History) (bytes : List ℕ) → R.remaining reader.old ≡ Some bytes → Carries archive.old h → result ≡ Status.Refused → IsRefusedLoad how.collector how.limit how.mark h bytes archive.new (W.contents out.old) (W.contents out.new) (E.contents err.old) (E.contents err.new) }
+    ensures ended { (h : History) → Carries archive.old h → (bytes : List ℕ) × MayGive (R.remaining reader.old) bytes × IsLoadEnd how.collector how.limit how.mark h bytes result archive.new (W.contents out.old) (W.contents out.new) (E.contents err.old) (E.contents err.new) }
 {
     if how.collector >= archive.collectors() {
-        return refused(err, &Refusal::NoCollector);
+        return tell_stop(err, LoadStop::NoCollector);
     }
     let end = feed(alloc, archive, how.collector, how.limit, reader, out);
-    match settle(archive, how.collector, mark_after(&end, how.mark)) {
-        Ok(()) => tell_settled(archive, status_after(&end), out, err),
-        Err(refusal) => refused(err, &refusal),
+    match settle(archive, how.collector, mark_after(end, how.mark)) {
+        Ok(()) => tell_settled(archive, status_after(end), out, err),
+        Err(why) => tell_stop(err, why),
     }
 }

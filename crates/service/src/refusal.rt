@@ -3,7 +3,6 @@
 ghost use Rattle.std.specs.Prelude.{◌≡◌, OnOk};
 ghost use Rattle.std.specs.Io.KnownBytes.{Appends};
 ghost use Rattle.service.specs.Refusals.{number_of, name_of, refusal_line, refused_record_line, error_line};
-ghost use Rattle.service.specs.declared.refusal.Refusal.TheVariants as refusals;
 
 use route_model::Mark;
 use std::io;
@@ -61,14 +60,6 @@ pub enum Refusal {
     /// A file, address or socket of the program itself failed.
     #[error("a file, address or socket failed")]
     Outside,
-}
-
-impl From<io::Error> for Refusal {
-    ghost from_gives = { λ e f. f ≡ refusals.Outside };
-
-    fn from(_: io::Error) -> Refusal {
-        Refusal::Outside
-    }
 }
 
 impl Refusal {

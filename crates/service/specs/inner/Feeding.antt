@@ -16,11 +16,20 @@ use Rattle.archive.specs.Carries.{Carries}
 use Rattle.archive.specs.Steps.{given, batch_octets, IsCollector}
 use Rattle.service.specs.Turns.{Turn, offered, refusals, turns_for, waits_behind, feed_turns}
 use Rattle.service.specs.Feeds.{IsReason}
-use Rattle.service.specs.declared.refusal.Refusal.{Refusal}
-use Rattle.service.specs.declared.refusal.Refusal.TheVariants as refused_as
+use Rattle.archive.specs.declared.admit.AdmitRefusal.{AdmitRefusal}
+use Rattle.archive.specs.declared.admit.AdmitRefusal.TheVariants as admits
+use Rattle.service.specs.declared.faults.FeedStop.{FeedStop}
+use Rattle.service.specs.declared.faults.FeedStop.TheVariants as stops
 use Rattle.service.specs.FeedTexts.{capped, intake_in, admitted_of, turns_text, skips}
 use Rattle.service.specs.declared.feed_lines.FeedCounts.{FeedCounts}
 use Rattle.service.specs.declared.feeding.Feeding.{Feeding}
+
+-- why a batch of a feed isn't taken; it is never too large
+abbrev pub of_admit : AdmitRefusal → FeedStop
+of_admit admits.NoCollector = stops.NoCollector
+of_admit admits.CounterFull = stops.CounterFull
+of_admit admits.BatchTooLarge = stops.OutOfMemory
+of_admit admits.OutOfMemory = stops.OutOfMemory
 
 -- these turns were made for a collector of an archive that carried h
 pub record HasDone (c : ℕ) (h : History) (turns : List Turn) (counts : FeedCounts) (archive : History) (was now : Option (List ℕ)) : Type 0 where
@@ -80,17 +89,17 @@ abbrev pub IsReadOut : ℕ → ℕ → History → List ℕ → List ℕ → Fee
 IsReadOut c limit h bytes held feeding archive was now = (goes_on : Bool) × IsRead c limit h bytes held goes_on feeding archive was now
 
 -- Some of these turns were made and written when the feed was given up for this, which isn't written yet.
-pub record GivesUp (c : ℕ) (h : History) (turns : List Turn) (archive : History) (was now : Option (List ℕ)) (why : Refusal) : Type 0 where
+pub record GivesUp (c : ℕ) (h : History) (turns : List Turn) (archive : History) (was now : Option (List ℕ)) (why : FeedStop) : Type 0 where
   pub made : List Turn
   pub unmade : List Turn
   pub parts : turns ≡ made ++ unmade
   pub carried : Carries archive (given h c (offered made))
   pub reason : IsReason c h made unmade why
-  pub wrote : (why ≡ refused_as.Outside → ⊥) → Appends was now (turns_text (intake_in h.intakes c) made)
+  pub wrote : (why ≡ stops.Outside → ⊥) → Appends was now (turns_text (intake_in h.intakes c) made)
   pub there : (offered made ≡ [] → ⊥) → IsCollector h c
 
 -- the feed was given up at one of the items that came behind these records, or before the first of them
-pub record StopsAmong (c limit : ℕ) (h : History) (records : List Told) (items : List Item) (archive : History) (was now : Option (List ℕ)) (why : Refusal) : Type 0 where
+pub record StopsAmong (c limit : ℕ) (h : History) (records : List Told) (items : List Item) (archive : History) (was now : Option (List ℕ)) (why : FeedStop) : Type 0 where
   pub front : List Item
   pub back : List Item
   pub parts : items ≡ front ++ back
@@ -99,7 +108,7 @@ pub record StopsAmong (c limit : ℕ) (h : History) (records : List Told) (items
   pub gives_up : GivesUp c h (turns_for limit 0 [] results) archive was now why
 
 -- the feed was given up among the whole records of the octets
-pub record StopsWithin (c limit : ℕ) (h : History) (bytes : List ℕ) (archive : History) (was now : Option (List ℕ)) (why : Refusal) : Type 0 where
+pub record StopsWithin (c limit : ℕ) (h : History) (bytes : List ℕ) (archive : History) (was now : Option (List ℕ)) (why : FeedStop) : Type 0 where
   pub seen : List ℕ
   pub later : List ℕ
   pub parts : bytes ≡ seen ++ later

@@ -1,17 +1,12 @@
 use Rattle.std.proofs.Common.{◌≡◌, Result, Err, map, ap}
 use Rattle.service.specs.declared.command_line.Invocation.{Invocation}
 use Rattle.service.specs.declared.command_line.CommandError.{CommandError}
-use Rattle.service.specs.declared.command_line.CommandError.TheVariants.{Usage, Refused}
-use Rattle.service.specs.declared.refusal.Refusal.{Refusal}
-use Rattle.service.specs.declared.refusal.Refusal.TheVariants.{BadText}
+use Rattle.service.specs.declared.command_line.CommandError.TheVariants.{Usage, BadMark}
 use Rattle.service.proofs.CommandLines.{shown_kind, try_words}
 use Rattle.service.proofs.command_line.command.Goals as goal
 
 same_error : (a b : CommandError) → ◌≡◌ {A = Result Invocation CommandError} (Err a) (Err b) → a ≡ b
 same_error a b e = cc
-
-same_refusal : (a b : Refusal) → ◌≡◌ {A = CommandError} (Refused a) (Refused b) → a ≡ b
-same_refusal a b e = cc
 
 pub returns-in-Err-clause-usage : goal.returns-in-Err-clause-usage
 returns-in-Err-clause-usage g c = λ e shown.
@@ -29,5 +24,5 @@ pub returns-clause-bad_mark : goal.returns-clause-bad_mark
 returns-clause-bad_mark g c = λ bad. (
   _,
   try_words _ _ _ _ c.in-Ok.ensures.app c.in-Ok-try_get_matches_from.ensures.kinds c.in-Ok-try_get_matches_from.ensures.matches c.in-Some.ensures.rows,
-  c.in-Err-attempt_of.ensures.bad_mark (ap Err (same_refusal c.in-Err-attempt_of.refusal BadText (same_error _ _ bad))),
+  c.in-Err-attempt_of.ensures.bad_mark (ap Err (same_error _ _ bad)),
 )

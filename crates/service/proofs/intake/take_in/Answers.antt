@@ -7,47 +7,58 @@ use Rattle.service.proofs.intake.take_in.Goals as goal
 
 pub returns : goal.returns
 returns g c = record {
-  fed = λ h bytes e carried.
+  fed = λ h carried.
       let k = c.args.collector in
       let limit = c.args.limit in
       let was = g.W.Write.contents c.args.out.now in
       let begun = reads_none k limit h c.new-framer.result c.new-feeding.result c.args.archive.now was c.new-framer.ensures.empty (c.new-feeding.ensures.begins h c.args.archive.now was carried) in
-      let read = c.in_ok-take_stream.ensures.read k limit h [] bytes was e begun in
-      all_fed k limit h bytes c.take_stream.new.framer c.cut_of-cut.result c.take_stream.new.self c.offer_rest.new.self c.take_stream.new.archive c.offer_rest.new.archive was _ _ _
-      read c.cut_of-cut.ensures.cut c.offer_rest.ensures.same (λ turns same d. c.in_ok-offer_rest.ensures.done k h turns was same d) c.in_ok-tell_end.ensures.told;
-  given_up = λ h bytes e carried. tt;
+      let read = c.in_ok-take_stream.ensures.read k limit h [] was begun in (
+        read.0,
+        read.1,
+        all_fed k limit h read.0 c.take_stream.new.framer c.cut_of-cut.result c.take_stream.new.self c.offer_rest.new.self c.take_stream.new.archive c.offer_rest.new.archive was _ _ _
+            read.2 c.cut_of-cut.ensures.cut c.offer_rest.ensures.same (λ turns same d. c.in_ok-offer_rest.ensures.done k h turns was same d) c.in_ok-tell_end.ensures.told,
+      );
+  given_up = λ h carried. tt;
 }
 
 pub returns-in_err-take_stream-clause-given_up : goal.returns-in_err-take_stream-clause-given_up
-returns-in_err-take_stream-clause-given_up g c = λ h bytes e carried.
+returns-in_err-take_stream-clause-given_up g c = λ h carried.
     let p = err_from_is_err_and c.from_residual.result c.from_residual.ensures.1 in
     let k = c.args.collector in
     let limit = c.args.limit in
     let was = g.W.Write.contents c.args.out.now in
     let begun = reads_none k limit h c.new-framer.result c.new-feeding.result c.args.archive.now was c.new-framer.ensures.empty (c.new-feeding.ensures.begins h c.args.archive.now was carried) in
-    rw p.1 (rw p.2 (c.in_err-take_stream.ensures.given_up k limit h [] bytes was e begun))
+    rw p.1 (rw p.2 (c.in_err-take_stream.ensures.given_up k limit h [] was begun))
 
 pub returns-in_err-offer_rest-clause-given_up : goal.returns-in_err-offer_rest-clause-given_up
-returns-in_err-offer_rest-clause-given_up g c = λ h bytes e carried.
+returns-in_err-offer_rest-clause-given_up g c = λ h carried.
     let p = err_from_is_err_and c.from_residual-in_err-offer_rest.result c.from_residual-in_err-offer_rest.ensures.1 in
     let k = c.args.collector in
     let limit = c.args.limit in
     let was = g.W.Write.contents c.args.out.now in
     let begun = reads_none k limit h c.new-framer.result c.new-feeding.result c.args.archive.now was c.new-framer.ensures.empty (c.new-feeding.ensures.begins h c.args.archive.now was carried) in
-    let r = (c.in_ok-take_stream.ensures.read k limit h [] bytes was e begun).1.reads in
-    rw p.1 (rw p.2
-    (stops_last k limit h bytes _ c.take_stream.new.self c.take_stream.new.archive c.offer_rest.new.archive was _ _ _ r
-    (c.in_err-offer_rest.ensures.given_up k h (turns_for limit 0 [] r.behind.results) was r.behind.collector r.behind.counted r.behind.done)))
+    let read = c.in_ok-take_stream.ensures.read k limit h [] was begun in
+    let r = read.2.1.reads in
+    rw p.1 (rw p.2 (
+      read.0,
+      read.1,
+      stops_last k limit h read.0 _ c.take_stream.new.self c.take_stream.new.archive c.offer_rest.new.archive was _ _ _ r
+          (c.in_err-offer_rest.ensures.given_up k h (turns_for limit 0 [] r.behind.results) was r.behind.collector r.behind.counted r.behind.done),
+    ))
 
 pub returns-in_err-tell_end-clause-given_up : goal.returns-in_err-tell_end-clause-given_up
-returns-in_err-tell_end-clause-given_up g c = λ h bytes e carried.
+returns-in_err-tell_end-clause-given_up g c = λ h carried.
     let p = err_from_is_err_and c.from_residual-in_err-tell_end.result c.from_residual-in_err-tell_end.ensures.1 in
     let k = c.args.collector in
     let limit = c.args.limit in
     let was = g.W.Write.contents c.args.out.now in
     let begun = reads_none k limit h c.new-framer.result c.new-feeding.result c.args.archive.now was c.new-framer.ensures.empty (c.new-feeding.ensures.begins h c.args.archive.now was carried) in
-    let r = (c.in_ok-take_stream.ensures.read k limit h [] bytes was e begun).1.reads in
+    let read = c.in_ok-take_stream.ensures.read k limit h [] was begun in
+    let r = read.2.1.reads in
     let d = c.in_ok-offer_rest.ensures.done k h (turns_for limit 0 [] r.behind.results) was r.behind.collector r.behind.done in
-    rw p.1 (rw p.2
-    (stops_last k limit h bytes _ c.take_stream.new.self c.take_stream.new.archive c.offer_rest.new.archive was _ _ _ r
-    (gives_unwritten k h (turns_for limit 0 [] r.behind.results ++ last_turns c.take_stream.new.self.gathered.items) c.offer_rest.new.archive was _ d.carried d.there)))
+    rw p.1 (rw p.2 (
+      read.0,
+      read.1,
+      stops_last k limit h read.0 _ c.take_stream.new.self c.take_stream.new.archive c.offer_rest.new.archive was _ _ _ r
+          (gives_unwritten k h (turns_for limit 0 [] r.behind.results ++ last_turns c.take_stream.new.self.gathered.items) c.offer_rest.new.archive was _ d.carried d.there),
+    ))

@@ -11,5 +11,4 @@ pub returns-in-Ok-Idle : goal.returns-in-Ok-Idle
 returns-in-Ok-Idle c = record {
   settled = λ h carried. idle_now h.intakes _ _ (λ k is. (c.in-Ok-Idle.ensures.idle k is).0 c.in-Ok-Idle.field-0-is) (λ k is. c.in-Ok-Idle.ensures.idle_same k is c.in-Ok-Idle.field-0-is) (c.loop.invariant h carried);
   kept = λ h carried. tt;
-  wanting = tt;
 }

@@ -1,47 +1,51 @@
-use Rattle.std.proofs.Common.{◌≡◌, ◌∙◌, sym, inr, refl, arith}
+use Rattle.std.proofs.Common.{ℕ, Option, arith, subst, ◌∙◌}
+use Rattle.route_meaning.specs.History.{History}
+use Rattle.archive.specs.Carries.{Carries}
 use Rattle.archive.specs.Steps.{IsCollector}
-use Rattle.service.specs.declared.status.Status.TheVariants.{Failed}
-use Rattle.service.specs.declared.refusal.Refusal.TheVariants as refusals
-use Rattle.service.proofs.Unloading.{loaded, refused_behind, unloaded}
+use Rattle.service.specs.Loads.{IsSettled, marked_if}
+use Rattle.service.specs.inner.Loading.{IsUnsettled}
+use Rattle.service.proofs.Streams.{some_given}
+use Rattle.service.proofs.Unloading.{load_ends, load_stops, load_nowhere}
 use Rattle.service.proofs.loading.load.Goals as goal
+
+pub returns-then-how-collectors : goal.returns-then-how-collectors
+returns-then-how-collectors g c = record {
+  ended = λ h carried.
+      let how = c.args.how in
+      let count = c.collectors.ensures.count h carried in
+      let few = c.if-how-collectors.true in
+      let given = some_given (g.R.Read.remaining c.args.reader.now) in
+      (given.0, given.1, load_nowhere c.tell_stop.result how.collector how.limit how.mark h given.0 _ _ _ _ (λ here. absurd (omega (arith, here, count, few))) carried c.tell_stop.ensures.undone c.tell_stop.ensures.told);
+}
 
 pub returns-in-Ok : goal.returns-in-Ok
 returns-in-Ok g c = record {
-  loaded = λ h bytes e carried done.
+  ended = λ h carried.
       let how = c.args.how in
-      let written : c.tell_settled.result ≡ Failed → ⊥ = λ failed. absurd cc in
-      let well = c.status_after.ensures.done (sym (c.tell_settled.ensures.same written) ∙ done) in
-      loaded how.collector how.limit how.mark _ h bytes _ _ _ _ _ _ (c.mark_after.ensures.well well) (c.feed-end.ensures.well h bytes e carried well) c.in-Ok.ensures.settled
-      (λ past stands. c.tell_settled.ensures.told past stands written);
-  quiet = λ done. c.tell_settled.ensures.quiet (λ failed. absurd cc);
-  refused = λ h bytes e carried refused_.
-      let how = c.args.how in
-      let written : c.tell_settled.result ≡ Failed → ⊥ = λ failed. absurd cc in
-      refused_behind c.feed-end.result c.status_after.result how.collector how.limit how.mark c.mark_after.result h bytes c.feed-end.new.archive c.settle.new.archive _ _ _ _ _
-      (sym (c.tell_settled.ensures.same written) ∙ refused_) c.status_after.ensures.well (c.feed-end.ensures.cut h bytes e carried) (c.feed-end.ensures.given_up h bytes e carried)
-      c.mark_after.ensures.cut c.mark_after.ensures.given_up c.in-Ok.ensures.settled (λ past stands. c.tell_settled.ensures.told past stands written) (c.tell_settled.ensures.quiet written);
-  there = λ h carried done.
       let count = c.collectors.ensures.count h carried in
       let some = c.if-how-collectors.false in
-      omega (arith, count, some);
+      let here : IsCollector h how.collector = omega (arith, count, some) in
+      let fed = c.feed-end.ensures.ended h carried in (
+        fed.0,
+        fed.1,
+        load_ends c.feed-end.result c.tell_settled.result how.collector how.limit how.mark h fed.0 c.feed-end.new.archive c.settle.new.archive _ _ _ _ _ here fed.2
+            (subst (λ (m : Option ℕ). (past : History) → Carries c.feed-end.new.archive past → IsSettled (marked_if how.collector m past).intakes c.settle.new.archive) c.mark_after.ensures.mark c.in-Ok.ensures.settled)
+            (λ written. c.tell_settled.ensures.same written ∙ c.status_after.ensures.status) c.tell_settled.ensures.told c.tell_settled.ensures.quiet,
+      );
 }
 
-pub returns-then-how-collectors-clause-refused : goal.returns-then-how-collectors-clause-refused
-returns-then-how-collectors-clause-refused g c = λ h bytes e carried is.
-    let count = c.collectors.ensures.count h carried in
-    let few = c.if-how-collectors.true in
-    inr (inr (refusals.NoCollector, (λ here. absurd (omega (arith, here, count, few)), carried, refl), c.refused.ensures.told is))
-
-pub returns-in-Err-clause-refused : goal.returns-in-Err-clause-refused
-returns-in-Err-clause-refused g c = λ h bytes e carried is.
-    let how = c.args.how in
-    let count = c.collectors.ensures.count h carried in
-    let some = c.if-how-collectors.false in
-    let here : IsCollector h how.collector = omega (arith, count, some) in
-    inr (inr (
-      c.in-Err.refusal,
-      unloaded c.feed-end.result how.collector how.limit how.mark c.mark_after.result h bytes c.feed-end.new.archive c.settle.new.archive _ _ c.in-Err.refusal here
-          (c.feed-end.ensures.well h bytes e carried) (c.feed-end.ensures.cut h bytes e carried) (c.feed-end.ensures.given_up h bytes e carried)
-          c.mark_after.ensures.well c.mark_after.ensures.cut c.mark_after.ensures.given_up c.in-Err.ensures.unsettled,
-      c.refused-in-Err.ensures.told is,
-    ))
+pub returns-in-Err : goal.returns-in-Err
+returns-in-Err g c = record {
+  ended = λ h carried.
+      let how = c.args.how in
+      let count = c.collectors.ensures.count h carried in
+      let some = c.if-how-collectors.false in
+      let here : IsCollector h how.collector = omega (arith, count, some) in
+      let fed = c.feed-end.ensures.ended h carried in (
+        fed.0,
+        fed.1,
+        load_stops c.feed-end.result c.tell_stop-in-Err.result how.collector how.limit how.mark h fed.0 c.feed-end.new.archive c.settle.new.archive _ _ _ _ c.in-Err.why here fed.2
+            (subst (λ (m : Option ℕ). (past : History) → Carries c.feed-end.new.archive past → IsUnsettled how.collector m past c.settle.new.archive c.in-Err.why) c.mark_after.ensures.mark c.in-Err.ensures.unsettled)
+            c.tell_stop-in-Err.ensures.undone c.tell_stop-in-Err.ensures.told,
+      );
+}

@@ -2,7 +2,7 @@ use Rattle.std.proofs.Common.{◌≡◌, ◌≤◌, ◌+◌, ◌++◌, ◌∙◌
 use Rattle.std.proofs.lemmas.Result.{err_from_is_err_and}
 use Rattle.service.specs.Turns.{Turn, offer_where, wait_unless, is_full, joined}
 use Rattle.service.specs.inner.Feeding.{HasDone, GivesUp}
-use Rattle.service.specs.declared.refusal.Refusal.TheVariants as refusals
+use Rattle.service.specs.declared.faults.FeedStop.TheVariants as stops
 use Rattle.service.specs.declared.feed_lines.FeedCounts.{FeedCounts}
 use Rattle.service.proofs.Following.{on_ok_more}
 use Rattle.service.proofs.GivingUp.{gives_more, gives_all}
@@ -79,6 +79,6 @@ returns-in-Err-clause-given_up g c = λ k h turns was place same counted d.
     let first = offer_where (ltb 262144 (c.args.self.now.octets + (c.encoded_len-octets.result + 4))) c.args.self.now.gathered.items in
     let j = joined c.args.self.now.gathered.items c.args.admission in
     let second = offer_where (is_full c.args.self.now.limit j) j in
-    subst (λ (t : List Turn). GivesUp k h t c.make_room.new.archive was (g.W.Write.contents c.make_room.new.out) refusals.OutOfMemory)
+    subst (λ (t : List Turn). GivesUp k h t c.make_room.new.archive was (g.W.Write.contents c.make_room.new.out) stops.OutOfMemory)
     (append_assoc turns first second ∙ (λ i. turns ++ (offer_where (crowded i) c.args.self.now.gathered.items ++ second)))
-    (gives_more k h (turns ++ first) second c.make_room.new.archive was _ _ (gives_all k h (turns ++ first) c.make_room.new.self.counts c.make_room.new.archive was _ refusals.OutOfMemory tt (c.in_ok-make_room.ensures.done k h turns was same d)))
+    (gives_more k h (turns ++ first) second c.make_room.new.archive was _ _ (gives_all k h (turns ++ first) c.make_room.new.self.counts c.make_room.new.archive was _ stops.OutOfMemory tt (c.in_ok-make_room.ensures.done k h turns was same d)))

@@ -12,7 +12,7 @@ returns-clause-done g c = λ k h turns was same d.
 
 pub returns-in-Err-clause-given_up : goal.returns-in-Err-clause-given_up
 returns-in-Err-clause-given_up g c = λ k h turns was same counted d.
-    rw c.of_admit.ensures
+    rw c.stop_of.ensures
     (gives_refused c.args.self.now.collector k h turns c.args.self.now.gathered.items _ c.args.self.now.counts c.args.archive.now c.admit.new.self was _ _ c.in-Err.refusal same c.deref.ensures.value c.in-Err.is
     (subst (λ (t : ℕ). t ≤ 262144) counted.octets counted.fit) c.admit.ensures.no_collector c.admit.ensures.too_large c.admit.ensures.counter_full c.in-Err.ensures.same d)
 

@@ -2,7 +2,7 @@ use Rattle.std.proofs.Common.{ℕ, List, [], ◌++◌, map}
 use Rattle.std.proofs.lemmas.Result.{err_from_is_err_and}
 use Rattle.mrt_records.specs.Values.{told}
 use Rattle.mrt_records.specs.Streams.{GainsFrames}
-use Rattle.service.specs.declared.refusal.Refusal.TheVariants as refusals
+use Rattle.service.specs.declared.faults.FeedStop.TheVariants as stops
 use Rattle.service.proofs.GivingUp.{within_more, stops_behind, stops_within}
 use Rattle.service.proofs.Streams.{piece_goes, piece_stops, piece_framed}
 use Rattle.service.proofs.feeding.Feeding.take_piece.Goals.{in-Ok, in-Err-TooLong}
@@ -26,7 +26,7 @@ pub returns-in-Err : goal.returns-in-Err
 returns-in-Err g c = record {
   read = λ k limit h bytes was r. tt;
   given_up = λ k limit h bytes was r.
-      within_more k limit h bytes c.args.piece.now c.args.archive.now was _ refusals.OutOfMemory (stops_behind k limit h bytes c.args.framer.now c.args.self.now c.args.archive.now was _ refusals.OutOfMemory (λ made. tt) r);
+      within_more k limit h bytes c.args.piece.now c.args.archive.now was _ stops.OutOfMemory (stops_behind k limit h bytes c.args.framer.now c.args.self.now c.args.archive.now was _ stops.OutOfMemory (λ made. tt) r);
 }
 
 pub returns-in_err-take_all-clause-given_up : goal.returns-in_err-take_all-clause-given_up

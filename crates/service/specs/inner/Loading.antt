@@ -1,0 +1,30 @@
+-- What a load does behind its feed. Contracts of private functions alone cite this file.
+use Rattle.std.specs.Prelude.{◌≡◌, ℕ, Option, Some, None}
+use Rattle.route_meaning.specs.History.{History}
+use Rattle.archive.specs.Carries.{Carries}
+use Rattle.archive.specs.Steps.{IsCollector, IsMarkAbove}
+use Rattle.service.specs.Loads.{HasIntakes, marked_if}
+use Rattle.service.specs.declared.faults.LoadStop.{LoadStop}
+use Rattle.service.specs.declared.faults.LoadStop.TheVariants as stops
+use Rattle.service.specs.declared.intake.End.{End}
+use Rattle.service.specs.declared.intake.End.TheVariants as ends
+use Rattle.service.specs.declared.status.Status.{Status}
+use Rattle.service.specs.declared.status.Status.TheVariants as statuses
+
+-- the mark that is set behind a feed that ended so: only behind one that ended well
+abbrev pub mark_after : End → Option ℕ → Option ℕ
+mark_after ends.Well mark = mark
+mark_after ends.Cut mark = None
+mark_after (ends.Refused why) mark = None
+
+-- the status of a load whose feed ended so
+abbrev pub status_after : End → Status
+status_after ends.Well = statuses.Done
+status_after ends.Cut = statuses.Refused
+status_after (ends.Refused why) = statuses.Refused
+
+-- why a mark isn't set, or what may be applied isn't
+abbrev pub IsUnsettled : ℕ → Option ℕ → History → History → LoadStop → Type 0
+IsUnsettled c mark h archive stops.NoCollector = (IsCollector h c → ⊥) × Carries archive h
+IsUnsettled c mark h archive stops.MarkBack = (lower : ℕ) × (mark ≡ Some lower) × IsMarkAbove h c lower × Carries archive h
+IsUnsettled c mark h archive stops.OutOfMemory = HasIntakes (marked_if c mark h).intakes archive
