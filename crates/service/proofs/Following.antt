@@ -1,7 +1,8 @@
 -- A feed that is taken in record by record.
+use Rattle.service.specs.Outputs.{OutputState}
 use Rattle.std.proofs.Common.{◌≡◌, ℕ, ◌+◌, ◌<◌, length, length-append, take, get_or, map, suc, List, [], ◌∷◌, ◌++◌, Option, None, Result, Ok, Err, OnOk, inl, refl, sym, ap, ◌∙◌, subst, append_assoc, arith}
 use Rattle.std.proofs.lemmas.List.{append-nil, map-append}
-use Rattle.std.proofs.KnownBytes.{Appends-nil}
+use Rattle.service.proofs.Outputs.{Tells-nil}
 use Rattle.route_model.proofs.api.Admissions.{take_item}
 use Rattle.route_model.specs.Admission.{Admitted}
 use Rattle.route_meaning.specs.History.{History}
@@ -45,7 +46,7 @@ skips_both (Read reading ∷ xs) ys = skips_both xs ys
 skips_both (Malformed kind subtype ∷ xs) ys = skips_both xs ys
 
 -- what comes behind one more record, once its turns are made
-pub behind_more : (c limit : ℕ) (h : History) (records : List Told) (r : Told) (x : Result (Option Admitted) ResolveFault) (old new : Feeding) (archive later : History) (was mid now : Option (List ℕ))
+pub behind_more : (c limit : ℕ) (h : History) (records : List Told) (r : Told) (x : Result (Option Admitted) ResolveFault) (old new : Feeding) (archive later : History) (was mid now : OutputState)
     (b : IsBehind c limit h records old archive was mid)
     → new.collector ≡ old.collector → new.limit ≡ old.limit → new.resolver.collector ≡ old.resolver.collector
     → Gives old.resolver.collector old.resolver.table r x → (x ≡ Err faults.OutOfMemory → ⊥)
@@ -76,7 +77,7 @@ behind_more c limit h records r x old new archive later was mid now b collector 
     }
 
 -- the same where the turns may fail
-pub behind_where : (t : Result (Unit {0}) FeedStop) (c limit : ℕ) (h : History) (records : List Told) (r : Told) (x : Result (Option Admitted) ResolveFault) (old new : Feeding) (archive later : History) (was mid now : Option (List ℕ))
+pub behind_where : (t : Result (Unit {0}) FeedStop) (c limit : ℕ) (h : History) (records : List Told) (r : Told) (x : Result (Option Admitted) ResolveFault) (old new : Feeding) (archive later : History) (was mid now : OutputState)
     (b : IsBehind c limit h records old archive was mid)
     → new.collector ≡ old.collector → new.limit ≡ old.limit → new.resolver.collector ≡ old.resolver.collector
     → Gives old.resolver.collector old.resolver.table r x → OnOk t (x ≡ Err faults.OutOfMemory → ⊥)
@@ -90,16 +91,16 @@ behind_where (Ok done_) c limit h records r x old new archive later was mid now 
 behind_where (Err e) c limit h records r x old new archive later was mid now b collector limits fed gives enough known waits counted done counts skipped = tt
 
 -- the place of the next record
-pub place_of : (c limit : ℕ) (h : History) (records : List Told) (old : Feeding) (archive : History) (was mid : Option (List ℕ)) (b : IsBehind c limit h records old archive was mid) → old.counts.records ≡ capped (length b.results)
+pub place_of : (c limit : ℕ) (h : History) (records : List Told) (old : Feeding) (archive : History) (was mid : OutputState) (b : IsBehind c limit h records old archive was mid) → old.counts.records ≡ capped (length b.results)
 place_of c limit h records old archive was mid b = b.recorded ∙ ap capped (sym b.means.count)
 
 -- counts of records and skipped ones tell nothing of what was done
-pub done_counted : (c : ℕ) (h : History) (turns : List Turn) (old new : FeedCounts) (archive : History) (was now : Option (List ℕ))
+pub done_counted : (c : ℕ) (h : History) (turns : List Turn) (old new : FeedCounts) (archive : History) (was now : OutputState)
     → new.admitted ≡ old.admitted → new.late ≡ old.late → new.refused ≡ old.refused → HasDone c h turns old archive was now → HasDone c h turns new archive was now
 done_counted c h turns old new archive was now admitted late refused d = record { carried = d.carried; wrote = d.wrote; admitted = admitted ∙ d.admitted; late = late ∙ d.late; refused = refused ∙ d.refused; there = d.there }
 
 -- no record came yet
-pub behind_none : (c limit : ℕ) (h archive : History) (feeding : Feeding) (was : Option (List ℕ))
+pub behind_none : (c limit : ℕ) (h archive : History) (feeding : Feeding) (was : OutputState)
     → feeding.collector ≡ c → feeding.limit ≡ limit → feeding.resolver.collector ≡ c → feeding.resolver.table ≡ None → feeding.gathered.items ≡ [] → feeding.octets ≡ 0
     → feeding.counts ≡ record { records = 0; admitted = 0; late = 0; refused = 0; skipped = 0 }
     → Carries archive h → IsBehind c limit h [] feeding archive was was
@@ -114,7 +115,7 @@ behind_none c limit h archive feeding was collector limits fed none empty octets
   counted = record { octets = octets ∙ sym (ap batch_octets empty); fit = omega (arith, octets) };
   done = record {
     carried = subst (λ (t : History). Carries archive t) (sym (given_none h c)) carried;
-    wrote = Appends-nil was;
+    wrote = Tells-nil was;
     admitted = ap (λ (t : FeedCounts). t.admitted) counts;
     late = ap (λ (t : FeedCounts). t.late) counts;
     refused = ap (λ (t : FeedCounts). t.refused) counts;

@@ -1,8 +1,8 @@
 -- Feeds that are given up.
 use Rattle.std.proofs.Common.{◌≡◌, ◌↔◌, ℕ, ◌+◌, ◌<◌, ◌≤◌, List, [], ◌∷◌, ◌++◌, length, map, take, drop, get_or, Option, Result, Ok, Err, IfErr, inl, refl, sym, ap, ◌∙◌, subst, append_assoc, arith}
 use Rattle.std.specs.List.{AllByRecursion}
-use Rattle.std.specs.Io.KnownBytes.{Appends}
-use Rattle.std.proofs.KnownBytes.{Appends-trans}
+use Rattle.service.specs.Outputs.{OutputState, Tells}
+use Rattle.service.proofs.Outputs.{Tells-trans}
 use Rattle.std.proofs.lemmas.List.{append-nil, map-append, take-append-drop}
 use Rattle.route_model.specs.Admission.{Admitted}
 use Rattle.route_model.specs.Sequence.{Each, joined}
@@ -44,7 +44,7 @@ reason_more c h made unmade later stops.CounterFull r = (r.0, r.1 ++ later, ap (
 reason_more c h made unmade later stops.OutOfMemory r = tt
 reason_more c h made unmade later stops.Outside r = tt
 
-pub gives_more : (c : ℕ) (h : History) (turns later : List Turn) (archive : History) (was now : Option (List ℕ)) (why : FeedStop) → GivesUp c h turns archive was now why → GivesUp c h (turns ++ later) archive was now why
+pub gives_more : (c : ℕ) (h : History) (turns later : List Turn) (archive : History) (was now : OutputState) (why : FeedStop) → GivesUp c h turns archive was now why → GivesUp c h (turns ++ later) archive was now why
 gives_more c h turns later archive was now why g = record {
   made = g.made;
   unmade = g.unmade ++ later;
@@ -56,12 +56,8 @@ gives_more c h turns later archive was now why g = record {
 }
 
 -- all of these turns were made and written, and memory was wanting for what comes then, or the device failed
-pub gives_all : (c : ℕ) (h : History) (turns : List Turn) (counts : FeedCounts) (archive : History) (was now : Option (List ℕ)) (why : FeedStop) → IsReason c h turns [] why → HasDone c h turns counts archive was now → GivesUp c h turns archive was now why
-gives_all c h turns counts archive was now why reason d = record { made = turns; unmade = []; parts = sym (append-nil turns); carried = d.carried; reason = reason; wrote = λ written. d.wrote; there = d.there }
-
--- all of these turns were made, and not all of them written
-pub gives_unwritten : (c : ℕ) (h : History) (turns : List Turn) (archive : History) (was now : Option (List ℕ)) → Carries archive (given h c (offered turns)) → ((offered turns ≡ [] → ⊥) → IsCollector h c) → GivesUp c h turns archive was now stops.Outside
-gives_unwritten c h turns archive was now carried there_ = record { made = turns; unmade = []; parts = sym (append-nil turns); carried = carried; reason = tt; wrote = λ written. absurd (written refl); there = there_ }
+pub gives_all : (c : ℕ) (h : History) (turns : List Turn) (counts : FeedCounts) (archive : History) (was now : OutputState) (why : FeedStop) → IsReason c h turns [] why → HasDone c h turns counts archive was now → GivesUp c h turns archive was now why
+gives_all c h turns counts archive was now why reason d = record { made = turns; unmade = []; parts = sym (append-nil turns); carried = d.carried; reason = reason; wrote = d.wrote; there = d.there }
 
 -- a batch was taken
 pub carries_batch : (b c : ℕ) (h : History) (turns : List Turn) (batch given_ : List Admitted) (archive later : History) → b ≡ c → given_ ≡ batch
@@ -92,7 +88,7 @@ why_not c h turns batch r admits.CounterFull is fit missing large full = (batch,
 why_not c h turns batch r admits.OutOfMemory is fit missing large full = tt
 
 -- a batch wasn't taken
-pub gives_refused : (b c : ℕ) (h : History) (turns : List Turn) (batch given_ : List Admitted) (counts : FeedCounts) (archive later : History) (was now : Option (List ℕ)) (r : Result Reply AdmitRefusal) (e : AdmitRefusal)
+pub gives_refused : (b c : ℕ) (h : History) (turns : List Turn) (batch given_ : List Admitted) (counts : FeedCounts) (archive later : History) (was now : OutputState) (r : Result Reply AdmitRefusal) (e : AdmitRefusal)
     → b ≡ c → given_ ≡ batch → r ≡ Err e → batch_octets batch ≤ 262144
     → ((g : History) → Carries archive g → ((r ≡ Err admits.NoCollector) ↔ (IsCollector g b → ⊥)))
     → ((g : History) → Carries archive g → ((r ≡ Err admits.BatchTooLarge) ↔ (IsCollector g b × (262144 < batch_octets given_))))
@@ -113,12 +109,12 @@ gives_refused b c h turns batch given_ counts archive later was now r e one same
           (subst (λ (t : List Admitted). (r ≡ Err admits.BatchTooLarge) ↔ (IsCollector g b × (262144 < batch_octets t))) same (large g d.carried)))
           (subst (λ (t : ℕ). (r ≡ Err admits.CounterFull) ↔ ((batch_octets batch ≤ 262144) × IsCounterFull g t (length batch))) one
           (subst (λ (t : List Admitted). (r ≡ Err admits.CounterFull) ↔ ((batch_octets t ≤ 262144) × IsCounterFull g b (length t))) same (full g d.carried)));
-      wrote = λ written. d.wrote;
+      wrote = d.wrote;
       there = d.there;
     }
 
 -- the feed is given up at this record, whose meaning is known
-pub stops_at : (t : Result (Unit {0}) FeedStop) (c limit : ℕ) (h : History) (records : List Told) (item : Item) (x : Result (Option Admitted) ResolveFault) (old : Feeding) (archive later : History) (was mid now : Option (List ℕ))
+pub stops_at : (t : Result (Unit {0}) FeedStop) (c limit : ℕ) (h : History) (records : List Told) (item : Item) (x : Result (Option Admitted) ResolveFault) (old : Feeding) (archive later : History) (was mid now : OutputState)
     (b : IsBehind c limit h records old archive was mid)
     → Gives old.resolver.collector old.resolver.table (told item) x → (x ≡ Err faults.OutOfMemory → ⊥)
     → IfErr t (GivesUp c h (turns_for limit 0 [] b.results ++ turns_at old.limit (length b.results) old.gathered.items x) later was now)
@@ -140,7 +136,7 @@ stops_at (Err why) c limit h records item x old archive later was mid now b give
     }
 
 -- the feed is given up before this record has a meaning
-pub stops_before : (t : Result (Unit {0}) FeedStop) (c limit : ℕ) (h : History) (records : List Told) (item : Item) (old : Feeding) (archive later : History) (was mid now : Option (List ℕ))
+pub stops_before : (t : Result (Unit {0}) FeedStop) (c limit : ℕ) (h : History) (records : List Told) (item : Item) (old : Feeding) (archive later : History) (was mid now : OutputState)
     (b : IsBehind c limit h records old archive was mid)
     → IfErr t (GivesUp c h (turns_for limit 0 [] b.results) later was now) → IfErr t (StopsAmong c limit h records (item ∷ []) later was now)
 stops_before (Ok done_) c limit h records item old archive later was mid now b g = tt
@@ -148,7 +144,7 @@ stops_before (Err why) c limit h records item old archive later was mid now b g 
     record { front = []; back = item ∷ []; parts = refl; results = b.results; means = subst (λ (t : List Told). Means c t b.results) (sym (append-nil records)) b.means; gives_up = g }
 
 -- the feed is given up at one of the items, behind those that were taken
-pub stops_among : (c limit : ℕ) (h : History) (records : List Told) (items : List Item) (i : ℕ) (item : Item) (archive : History) (was now : Option (List ℕ)) (why : FeedStop)
+pub stops_among : (c limit : ℕ) (h : History) (records : List Told) (items : List Item) (i : ℕ) (item : Item) (archive : History) (was now : OutputState) (why : FeedStop)
     → i < length items → item ≡ get_or items i item → StopsAmong c limit h (records ++ map told (take i items)) (item ∷ []) archive was now why → StopsAmong c limit h records items archive was now why
 stops_among c limit h records items i item archive was now why lt is s =
     let first = take i items in
@@ -188,7 +184,7 @@ framed_front bytes rest front back g =
     )
 
 -- the feed is given up among the items of the whole records of the octets
-pub stops_within : (c limit : ℕ) (h : History) (bytes rest : List ℕ) (before items : List Item) (archive : History) (was now : Option (List ℕ)) (why : FeedStop)
+pub stops_within : (c limit : ℕ) (h : History) (bytes rest : List ℕ) (before items : List Item) (archive : History) (was now : OutputState) (why : FeedStop)
     → GainsFrames bytes rest [] (before ++ items) → StopsAmong c limit h (map told before) items archive was now why → StopsWithin c limit h bytes archive was now why
 stops_within c limit h bytes rest before items archive was now why framed s =
     let f = framed_front bytes rest (before ++ s.front) s.back (subst (λ (t : List Item). GainsFrames bytes rest [] t) (ap (λ (t : List Item). before ++ t) s.parts ∙ sym (append_assoc before s.front s.back)) framed) in
@@ -204,12 +200,12 @@ stops_within c limit h bytes rest before items archive was now why framed s =
     }
 
 -- what comes behind is left too
-pub within_more : (c limit : ℕ) (h : History) (bytes more : List ℕ) (archive : History) (was now : Option (List ℕ)) (why : FeedStop) → StopsWithin c limit h bytes archive was now why → StopsWithin c limit h (bytes ++ more) archive was now why
+pub within_more : (c limit : ℕ) (h : History) (bytes more : List ℕ) (archive : History) (was now : OutputState) (why : FeedStop) → StopsWithin c limit h bytes archive was now why → StopsWithin c limit h (bytes ++ more) archive was now why
 within_more c limit h bytes more archive was now why s =
     record { seen = s.seen; later = s.later ++ more; parts = ap (λ (t : List ℕ). t ++ more) s.parts ∙ append_assoc s.seen s.later more; items = s.items; framed = s.framed; results = s.results; means = s.means; gives_up = s.gives_up }
 
 -- the feed is given up behind all that was read, and nothing of it is untold
-pub stops_behind : (c limit : ℕ) (h : History) (bytes rest : List ℕ) (feeding : Feeding) (archive : History) (was now : Option (List ℕ)) (why : FeedStop)
+pub stops_behind : (c limit : ℕ) (h : History) (bytes rest : List ℕ) (feeding : Feeding) (archive : History) (was now : OutputState) (why : FeedStop)
     → ((made : List Turn) → IsReason c h made [] why) → Reads c limit h bytes rest feeding archive was now → StopsWithin c limit h bytes archive was now why
 stops_behind c limit h bytes rest feeding archive was now why reason r =
     let f = framed_front bytes rest r.items [] (subst (λ (t : List Item). GainsFrames bytes rest [] t) (sym (append-nil r.items)) r.framed) in
@@ -227,7 +223,7 @@ stops_behind c limit h bytes rest feeding archive was now why reason r =
     }
 
 -- the feed is given up while its last batch is offered, or its end told
-pub stops_last : (c limit : ℕ) (h : History) (bytes rest : List ℕ) (feeding : Feeding) (archive later : History) (was mid now : Option (List ℕ)) (why : FeedStop)
+pub stops_last : (c limit : ℕ) (h : History) (bytes rest : List ℕ) (feeding : Feeding) (archive later : History) (was mid now : OutputState) (why : FeedStop)
     (r : Reads c limit h bytes rest feeding archive was mid)
     → GivesUp c h (turns_for limit 0 [] r.behind.results ++ last_turns feeding.gathered.items) later was now why → StopsWithin c limit h bytes later was now why
 stops_last c limit h bytes rest feeding archive later was mid now why r g =
@@ -245,8 +241,8 @@ stops_last c limit h bytes rest feeding archive later was mid now why r g =
     }
 
 -- the feed is given up, and the refusal was written
-pub given_up_told : (c limit : ℕ) (h : History) (bytes : List ℕ) (archive : History) (was mid now : Option (List ℕ)) (why : FeedStop)
-    → StopsWithin c limit h bytes archive was mid why → Appends mid now (refusal_line (of_stop why)) → IsGivenUp c limit h bytes why archive was now
+pub given_up_told : (c limit : ℕ) (h : History) (bytes : List ℕ) (archive : History) (was mid now : OutputState) (why : FeedStop)
+    → StopsWithin c limit h bytes archive was mid why → Tells mid now (refusal_line (of_stop why)) → IsGivenUp c limit h bytes why archive was now
 given_up_told c limit h bytes archive was mid now why s line =
     let g = s.gives_up in
     record {
@@ -261,27 +257,6 @@ given_up_told c limit h bytes archive was mid now why s line =
       turns = g.parts;
       carried = g.carried;
       reason = g.reason;
-      wrote = λ written. Appends-trans was mid now _ (refusal_line (of_stop why)) (g.wrote written) line;
-      there = g.there;
-    }
-
--- the feed is given up, and the refusal couldn't be written
-pub given_up_untold : (c limit : ℕ) (h : History) (bytes : List ℕ) (archive : History) (was mid now : Option (List ℕ)) (why : FeedStop)
-    → StopsWithin c limit h bytes archive was mid why → IsGivenUp c limit h bytes stops.Outside archive was now
-given_up_untold c limit h bytes archive was mid now why s =
-    let g = s.gives_up in
-    record {
-      seen = s.seen;
-      later = s.later;
-      parts = s.parts;
-      records = map told s.items;
-      results = s.results;
-      feed = record { items = s.items; framed = s.framed; told_are = refl; means = s.means };
-      made = g.made;
-      unmade = g.unmade;
-      turns = g.parts;
-      carried = g.carried;
-      reason = tt;
-      wrote = λ written. absurd (written refl);
+      wrote = Tells-trans was mid now _ (refusal_line (of_stop why)) g.wrote line;
       there = g.there;
     }

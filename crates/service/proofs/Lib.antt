@@ -1,3 +1,4 @@
+pub mod Outputs
 pub mod Words
 pub mod Lines
 pub mod Batches
@@ -11,3 +12,4 @@ pub mod Unloading
 pub mod Batching
 pub mod CommandLines
 pub mod OneQuestion
+pub mod Replying

@@ -1,7 +1,9 @@
 -- A stream that is read piece by piece.
 use Rattle.std.proofs.Common.{◌≡◌, ℕ, List, [], ◌++◌, Option, Some, None, Bool, true, false, map, arith, inl, inr, refl, sym, ap, ◌∙◌, subst, append_assoc}
-use Rattle.std.specs.Io.KnownBytes.{Consumes, IsAtEnd, Appends}
-use Rattle.std.proofs.KnownBytes.{Appends-trans, Consumes-nil, Consumes-trans}
+use Rattle.std.specs.Io.KnownBytes.{Consumes, IsAtEnd}
+use Rattle.service.specs.Outputs.{OutputState, Tells}
+use Rattle.std.proofs.KnownBytes.{Consumes-nil, Consumes-trans}
+use Rattle.service.proofs.Outputs.{Tells-trans}
 use Rattle.std.proofs.lemmas.List.{append-nil, map-append}
 use Rattle.route_model.specs.Admission.{Admitted}
 use Rattle.route_meaning.specs.History.{History}
@@ -31,7 +33,7 @@ gains_behind : (bytes now : List ℕ) (none items mid : List Item) → none ≡ 
 gains_behind bytes now none items mid e p = (p.0, p.1, (p.2.0, p.2.1, ap (λ (t : List Item). mid ++ t) (p.2.2 ∙ ap (λ (t : List Item). t ++ p.2.0) e)))
 
 -- one more piece, behind which this rest is left
-pub piece_read : (c limit : ℕ) (h : History) (bytes held piece rest : List ℕ) (old new : Feeding) (archive later : History) (was mid now : Option (List ℕ)) (none items got : List Item)
+pub piece_read : (c limit : ℕ) (h : History) (bytes held piece rest : List ℕ) (old new : Feeding) (archive later : History) (was mid now : OutputState) (none items got : List Item)
     → none ≡ [] → got ≡ items → GainsFrames (held ++ piece) rest none items
     → ((records : List Told) → IsBehind c limit h records old archive was mid → IsBehind c limit h (records ++ map told got) new later was now)
     → Reads c limit h bytes held old archive was mid → Reads c limit h (bytes ++ piece) rest new later was now
@@ -49,7 +51,7 @@ piece_framed bytes held piece rest before none items got empty same gains framed
     subst (λ (t : List Item). GainsFrames (bytes ++ piece) rest [] (before ++ t)) (sym same) (frames_then bytes held piece rest [] before (before ++ items) framed (gains_behind (held ++ piece) rest none items before empty gains))
 
 -- one more piece, and the feed goes on
-pub piece_goes : (c limit : ℕ) (h : History) (bytes held piece now_held : List ℕ) (old new : Feeding) (archive later : History) (was mid now : Option (List ℕ)) (none items got : List Item) (on : Bool)
+pub piece_goes : (c limit : ℕ) (h : History) (bytes held piece now_held : List ℕ) (old new : Feeding) (archive later : History) (was mid now : OutputState) (none items got : List Item) (on : Bool)
     → on ≡ true → none ≡ [] → got ≡ items → GainsFrames (held ++ piece) now_held none items
     → ((records : List Told) → IsBehind c limit h records old archive was mid → IsBehind c limit h (records ++ map told got) new later was now)
     → Reads c limit h bytes held old archive was mid → IsRead c limit h (bytes ++ piece) now_held on new later was now
@@ -58,7 +60,7 @@ piece_goes c limit h bytes held piece now_held old new archive later was mid now
     (record { rest = now_held; holds = refl; reads = piece_read c limit h bytes held piece now_held old new archive later was mid now none items got empty same gains behind r })
 
 -- one more piece, and behind its records stands a Length above the limit
-pub piece_stops : (c limit : ℕ) (h : History) (bytes held piece now_held : List ℕ) (old new : Feeding) (archive later : History) (was mid now : Option (List ℕ)) (none items got : List Item) (on : Bool)
+pub piece_stops : (c limit : ℕ) (h : History) (bytes held piece now_held : List ℕ) (old new : Feeding) (archive later : History) (was mid now : OutputState) (none items got : List Item) (on : Bool)
     → on ≡ false → none ≡ [] → got ≡ items → EndsOver (held ++ piece) now_held none items
     → ((records : List Told) → IsBehind c limit h records old archive was mid → IsBehind c limit h (records ++ map told got) new later was now)
     → Reads c limit h bytes held old archive was mid → IsRead c limit h (bytes ++ piece) now_held on new later was now
@@ -95,12 +97,12 @@ pieces_join : (bytes done piece rest : List ℕ) → ((bytes ++ done) ++ piece) 
 pieces_join bytes done piece rest = append_assoc (bytes ++ done) piece rest ∙ append_assoc bytes done (piece ++ rest) ∙ ap (λ (t : List ℕ). bytes ++ t) (sym (append_assoc done piece rest))
 
 -- of what a reader gives, known beforehand or not, these octets are read
-pub record Taken (c limit : ℕ) (h : History) (bytes : List ℕ) (known reader : Option (List ℕ)) (held : List ℕ) (feeding : Feeding) (archive : History) (was now : Option (List ℕ)) : Type 0 where
+pub record Taken (c limit : ℕ) (h : History) (bytes : List ℕ) (known reader : Option (List ℕ)) (held : List ℕ) (feeding : Feeding) (archive : History) (was now : OutputState) : Type 0 where
   pub done : List ℕ
   pub gone : Consumes known reader done
   pub reads : Reads c limit h (bytes ++ done) held feeding archive was now
 
-pub taken_first : (c limit : ℕ) (h : History) (bytes : List ℕ) (reader : Option (List ℕ)) (held : List ℕ) (feeding : Feeding) (archive : History) (was now : Option (List ℕ))
+pub taken_first : (c limit : ℕ) (h : History) (bytes : List ℕ) (reader : Option (List ℕ)) (held : List ℕ) (feeding : Feeding) (archive : History) (was now : OutputState)
     → Reads c limit h bytes held feeding archive was now → Taken c limit h bytes reader reader held feeding archive was now
 taken_first c limit h bytes reader held feeding archive was now r = record {
   done = [];
@@ -109,7 +111,7 @@ taken_first c limit h bytes reader held feeding archive was now r = record {
 }
 
 -- the reader is at its end
-pub taken_none : (c limit : ℕ) (h : History) (bytes : List ℕ) (known reader new : Option (List ℕ)) (held : List ℕ) (feeding : Feeding) (archive : History) (was now : Option (List ℕ))
+pub taken_none : (c limit : ℕ) (h : History) (bytes : List ℕ) (known reader new : Option (List ℕ)) (held : List ℕ) (feeding : Feeding) (archive : History) (was now : OutputState)
     → Consumes reader new [] → IsAtEnd new → Taken c limit h bytes known reader held feeding archive was now
     → (more : List ℕ) × MayGive known more × IsReadOut c limit h (bytes ++ more) held feeding archive was now
 taken_none c limit h bytes known reader new held feeding archive was now gone end l =
@@ -118,7 +120,7 @@ taken_none c limit h bytes known reader new held feeding archive was now gone en
     (l.done, subst (MayGive known) same gives, (true, record { rest = held; holds = refl; reads = l.reads }))
 
 -- some more is read and taken, and the feed goes on
-pub taken_more : (c limit : ℕ) (h : History) (bytes piece : List ℕ) (known reader next : Option (List ℕ)) (held left : List ℕ) (old new : Feeding) (archive later : History) (was mid now : Option (List ℕ)) (on : Bool)
+pub taken_more : (c limit : ℕ) (h : History) (bytes piece : List ℕ) (known reader next : Option (List ℕ)) (held left : List ℕ) (old new : Feeding) (archive later : History) (was mid now : OutputState) (on : Bool)
     → on ≡ true → Consumes reader next piece → Taken c limit h bytes known reader held old archive was mid
     → ((seen : List ℕ) → Reads c limit h seen held old archive was mid → IsRead c limit h (seen ++ piece) left on new later was now)
     → Taken c limit h bytes known next left new later was now
@@ -132,7 +134,7 @@ taken_more c limit h bytes piece known reader next held left old new archive lat
     }
 
 -- the feed is given up where nothing more is read
-pub taken_gives : (c limit : ℕ) (h : History) (bytes : List ℕ) (known reader : Option (List ℕ)) (held : List ℕ) (feeding : Feeding) (archive : History) (was now : Option (List ℕ))
+pub taken_gives : (c limit : ℕ) (h : History) (bytes : List ℕ) (known reader : Option (List ℕ)) (held : List ℕ) (feeding : Feeding) (archive : History) (was now : OutputState)
     → Taken c limit h bytes known reader held feeding archive was now
     → (more : List ℕ) × MayGive known more × StopsWithin c limit h (bytes ++ more) archive was now stops.Outside
 taken_gives c limit h bytes known reader held feeding archive was now l =
@@ -144,7 +146,7 @@ taken_gives c limit h bytes known reader held feeding archive was now l =
     )
 
 -- the feed is given up in the next piece
-pub taken_piece_gives : (c limit : ℕ) (h : History) (bytes piece : List ℕ) (known reader next : Option (List ℕ)) (held : List ℕ) (feeding : Feeding) (archive later : History) (was mid now : Option (List ℕ)) (why : FeedStop)
+pub taken_piece_gives : (c limit : ℕ) (h : History) (bytes piece : List ℕ) (known reader next : Option (List ℕ)) (held : List ℕ) (feeding : Feeding) (archive later : History) (was mid now : OutputState) (why : FeedStop)
     → Consumes reader next piece → Taken c limit h bytes known reader held feeding archive was mid
     → ((seen : List ℕ) → Reads c limit h seen held feeding archive was mid → StopsWithin c limit h (seen ++ piece) later was now why)
     → (more : List ℕ) × MayGive known more × StopsWithin c limit h (bytes ++ more) later was now why
@@ -156,12 +158,27 @@ taken_piece_gives c limit h bytes piece known reader next held feeding archive l
           (within_more c limit h ((bytes ++ l.done) ++ piece) rest later was now why (stops_ (bytes ++ l.done) l.reads)),
     )
 
+-- the next piece is taken, and the feed is given up behind it
+pub taken_failed : (c limit : ℕ) (h : History) (bytes piece : List ℕ) (known reader next : Option (List ℕ)) (held left : List ℕ) (old new : Feeding) (archive later : History) (was mid now : OutputState) (on : Bool)
+    → Consumes reader next piece → Taken c limit h bytes known reader held old archive was mid
+    → ((seen : List ℕ) → Reads c limit h seen held old archive was mid → IsRead c limit h (seen ++ piece) left on new later was now)
+    → (more : List ℕ) × MayGive known more × StopsWithin c limit h (bytes ++ more) later was now stops.Outside
+taken_failed c limit h bytes piece known reader next held left old new archive later was mid now on gone l takes =
+    let rest = left_of next in
+    let read = takes (bytes ++ l.done) l.reads in (
+      (l.done ++ piece) ++ rest,
+      may_give known next (l.done ++ piece) (Consumes-trans known reader next l.done piece l.gone gone),
+      subst (λ (t : List ℕ). StopsWithin c limit h t later was now stops.Outside) (pieces_join bytes l.done piece rest)
+          (within_more c limit h ((bytes ++ l.done) ++ piece) rest later was now stops.Outside
+          (stops_behind c limit h ((bytes ++ l.done) ++ piece) read.rest new later was now stops.Outside (λ made. tt) read.reads)),
+    )
+
 -- what stands behind a Length above the limit is left with it
 over_more : (bytes rest more : List ℕ) (items : List Item) → Over rest → GainsFrames bytes rest [] items → GainsFrames (bytes ++ more) (rest ++ more) [] items
 over_more bytes rest more items over g = (g.0, record { whole = ap (λ (t : List ℕ). t ++ more) g.1.whole ∙ append_assoc _ rest more; each = g.1.each; ended = over_begins_none (rest ++ more) (over-append rest more over) }, g.2)
 
 -- some more is read and taken, and the feed stops
-pub taken_stops : (c limit : ℕ) (h : History) (bytes piece : List ℕ) (known reader next : Option (List ℕ)) (held left : List ℕ) (old new : Feeding) (archive later : History) (was mid now : Option (List ℕ)) (on : Bool)
+pub taken_stops : (c limit : ℕ) (h : History) (bytes piece : List ℕ) (known reader next : Option (List ℕ)) (held left : List ℕ) (old new : Feeding) (archive later : History) (was mid now : OutputState) (on : Bool)
     → on ≡ false → Consumes reader next piece → Taken c limit h bytes known reader held old archive was mid
     → ((seen : List ℕ) → Reads c limit h seen held old archive was mid → IsRead c limit h (seen ++ piece) left on new later was now)
     → (more : List ℕ) × MayGive known more × IsReadOut c limit h (bytes ++ more) left new later was now
@@ -187,7 +204,7 @@ taken_stops c limit h bytes piece known reader next held left old new archive la
     )
 
 -- nothing is read yet
-pub reads_none : (c limit : ℕ) (h : History) (held : List ℕ) (feeding : Feeding) (archive : History) (was : Option (List ℕ))
+pub reads_none : (c limit : ℕ) (h : History) (held : List ℕ) (feeding : Feeding) (archive : History) (was : OutputState)
     → held ≡ [] → IsBehind c limit h [] feeding archive was was → Reads c limit h [] held feeding archive was was
 reads_none c limit h held feeding archive was empty b = record {
   items = [];
@@ -203,10 +220,10 @@ cut_short held rest false (Some cuts.Truncated) over is = absurd (is.1 over.2)
 cut_short held rest false (Some cuts.TooLong) over is = subst Over (sym over.1) (over-append held over.0 over.2)
 
 -- all is read, and its end is told
-pub all_fed : (c limit : ℕ) (h : History) (bytes held : List ℕ) (cut : Option FeedCut) (old new : Feeding) (archive later : History) (was mid then now : Option (List ℕ))
+pub all_fed : (c limit : ℕ) (h : History) (bytes held : List ℕ) (cut : Option FeedCut) (old new : Feeding) (archive later : History) (was mid then now : OutputState)
     → IsReadOut c limit h bytes held old archive was mid → IsCut held cut → IsSameFeed old new
     → ((turns : List Turn) → old.collector ≡ c → HasDone c h turns old.counts archive was mid → HasDone c h (turns ++ last_turns old.gathered.items) new.counts later was then)
-    → Appends then now (cut_line cut new.counts.records ++ counts_line new.counts)
+    → Tells then now (cut_line cut new.counts.records ++ counts_line new.counts)
     → IsFed c limit h bytes cut later was now
 all_fed c limit h bytes held cut old new archive later was mid then now out is same rest told_ =
     let read = out.1 in
@@ -227,6 +244,6 @@ all_fed c limit h bytes held cut old new archive later was mid then now out is s
       carried = subst (λ (t : List Admitted). Carries later (given h c t)) (offered_feed limit b.results) done.carried;
       there = λ some. done.there (λ none. some (sym (offered_feed limit b.results) ∙ none));
       wrote =
-          Appends-trans was then now _ _ done.wrote
-          (subst (λ (t : List ℕ). Appends then now t) (λ k. cut_line cut ((same.records ∙ b.recorded) k) ++ counts_line (counted k)) told_);
+          Tells-trans was then now _ _ done.wrote
+          (subst (λ (t : List ℕ). Tells then now t) (λ k. cut_line cut ((same.records ∙ b.recorded) k) ++ counts_line (counted k)) told_);
     }

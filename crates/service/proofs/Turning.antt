@@ -1,8 +1,8 @@
 -- Turns that are made one after another.
 use Rattle.std.proofs.Common.{◌≡◌, ℕ, ◌+◌, ◌-◌, ◌<◌, List, [], ◌∷◌, ◌++◌, length, zero, suc, get_or, Some, None, Option, Result, Ok, Err, Bool, true, false, ◌↔◌, inl, inr, refl, sym, ap, ◌∙◌, subst, append_assoc, length-append, arith}
 use Rattle.std.specs.List.{flat_map, slice_get}
-use Rattle.std.specs.Io.KnownBytes.{Appends}
-use Rattle.std.proofs.KnownBytes.{Appends-trans}
+use Rattle.service.specs.Outputs.{OutputState, Tells}
+use Rattle.service.proofs.Outputs.{Tells-trans}
 use Rattle.std.proofs.lemmas.Bool.{cases_lt}
 use Rattle.std.proofs.lemmas.List.{append-nil}
 use Rattle.route_model.specs.Admission.{Admitted, admission_octets}
@@ -67,12 +67,12 @@ pub kept_count : (i : Intake) (c : ℕ) (batch : List Admitted) (reply : Reply) 
 kept_count i c batch reply r = let to = r.to in let from = r.from in omega (arith, to, from)
 
 -- a batch more
-pub done_offer : (b c : ℕ) (h : History) (turns : List Turn) (batch given_ : List Admitted) (old new : FeedCounts) (reply : Reply) (archive later : History) (was mid now : Option (List ℕ))
+pub done_offer : (b c : ℕ) (h : History) (turns : List Turn) (batch given_ : List Admitted) (old new : FeedCounts) (reply : Reply) (archive later : History) (was mid now : OutputState)
     → b ≡ c → given_ ≡ batch
     → ((g : History) → Carries archive g → Carries later (given g b given_))
     → ((g : History) → Carries archive g → IsCollector g b)
     → ((g : History) → Carries archive g → (i : Intake) → slice_get g.intakes b ≡ Some i → IsReply i b given_ reply)
-    → Appends mid now (admitted_text reply)
+    → Tells mid now (admitted_text reply)
     → new.admitted ≡ capped (old.admitted + (reply.receipt.to - reply.receipt.from)) → new.late ≡ capped (old.late + length reply.late.items) → new.refused ≡ old.refused
     → HasDone c h turns old archive was mid → HasDone c h (turns ++ Offer batch ∷ []) new later was now
 done_offer b c h turns batch given_ old new reply archive later was mid now one same gives is_collector replies wrote admitted late refused d =
@@ -88,8 +88,8 @@ done_offer b c h turns batch given_ old new reply archive later was mid now one 
     record {
       carried = subst (λ (t : History). Carries later t) ((λ k. given g (one k) (same k)) ∙ given_both h c (offered turns) batch ∙ ap (given h c) (sym all)) (gives g d.carried);
       wrote =
-          subst (λ (t : List ℕ). Appends was now t) (ap (λ (t : List ℕ). turns_text i turns ++ t) (reply_text j b batch reply r ∙ sym (append-nil (batch_text j batch))) ∙ sym (turns_text_both i turns (Offer batch ∷ [])))
-          (Appends-trans was mid now (turns_text i turns) (admitted_text reply) d.wrote wrote);
+          subst (λ (t : List ℕ). Tells was now t) (ap (λ (t : List ℕ). turns_text i turns ++ t) (reply_text j b batch reply r ∙ sym (append-nil (batch_text j batch))) ∙ sym (turns_text_both i turns (Offer batch ∷ [])))
+          (Tells-trans was mid now (turns_text i turns) (admitted_text reply) d.wrote wrote);
       admitted =
           let sum : length (admitted_of i (offered (turns ++ Offer batch ∷ []))) ≡ length (admitted_of i (offered turns)) + length (admitted_of j batch) =
           ap (λ (t : List Admitted). length (admitted_of i t)) all ∙ ap length (timely_both admitted_time i.mark (offered turns) batch) ∙ length-append _ _ in
@@ -105,13 +105,13 @@ done_offer b c h turns batch given_ old new reply archive later was mid now one 
     }
 
 -- nothing more is done
-pub done_no_more : (c : ℕ) (h : History) (turns : List Turn) (counts : FeedCounts) (archive : History) (was now : Option (List ℕ))
+pub done_no_more : (c : ℕ) (h : History) (turns : List Turn) (counts : FeedCounts) (archive : History) (was now : OutputState)
     → HasDone c h turns counts archive was now → HasDone c h (turns ++ []) counts archive was now
 done_no_more c h turns counts archive was now d = subst (λ (t : List Turn). HasDone c h t counts archive was now) (sym (append-nil turns)) d
 
 -- a record more is refused
-pub done_refuse : (c : ℕ) (h : History) (turns : List Turn) (old new : FeedCounts) (archive : History) (was mid now : Option (List ℕ)) (place n : ℕ) (fault : ResolveFault)
-    → place ≡ capped n → Appends mid now (refused_record_line (of_record fault) place)
+pub done_refuse : (c : ℕ) (h : History) (turns : List Turn) (old new : FeedCounts) (archive : History) (was mid now : OutputState) (place n : ℕ) (fault : ResolveFault)
+    → place ≡ capped n → Tells mid now (refused_record_line (of_record fault) place)
     → new.admitted ≡ old.admitted → new.late ≡ old.late → new.refused ≡ capped (old.refused + 1)
     → HasDone c h turns old archive was mid → HasDone c h (turns ++ Refuse n fault ∷ []) new archive was now
 done_refuse c h turns old new archive was mid now place n fault is wrote admitted late refused d =
@@ -121,8 +121,8 @@ done_refuse c h turns old new archive was mid now place n fault is wrote admitte
     record {
       carried = subst (λ (t : List Admitted). Carries archive (given h c t)) (sym same) d.carried;
       wrote =
-          subst (λ (t : List ℕ). Appends was now t) (ap (λ (t : List ℕ). turns_text i turns ++ t) (ap (refused_record_line (of_record fault)) is ∙ sym (append-nil line)) ∙ sym (turns_text_both i turns (Refuse n fault ∷ [])))
-          (Appends-trans was mid now (turns_text i turns) (refused_record_line (of_record fault) place) d.wrote wrote);
+          subst (λ (t : List ℕ). Tells was now t) (ap (λ (t : List ℕ). turns_text i turns ++ t) (ap (refused_record_line (of_record fault)) is ∙ sym (append-nil line)) ∙ sym (turns_text_both i turns (Refuse n fault ∷ [])))
+          (Tells-trans was mid now (turns_text i turns) (refused_record_line (of_record fault) place) d.wrote wrote);
       admitted = admitted ∙ d.admitted ∙ ap (λ (t : List Admitted). capped (length (admitted_of i t))) (sym same);
       late = late ∙ d.late ∙ ap (λ (t : List Admitted). capped (length (lates admitted_time i.mark [] 0 t))) (sym same);
       refused = let sum = refusals_both turns (Refuse n fault ∷ []) in let before = d.refused in omega (arith, refused, sum, before);

@@ -1,6 +1,6 @@
 -- What a feed of MRT records is, and what an archive carries once it took it in.
-use Rattle.std.specs.Prelude.{◌≡◌, ℕ, map, length, List, [], ◌∷◌, ◌++◌, Option, Some, None, Result}
-use Rattle.std.specs.Io.KnownBytes.{Appends}
+use Rattle.std.specs.Prelude.{◌≡◌, Bool, true, false, ℕ, map, length, List, [], ◌∷◌, ◌++◌, Option, Some, None, Result}
+use Rattle.service.specs.Outputs.{OutputState, Tells}
 use Rattle.route_model.specs.Admission.{Admitted}
 use Rattle.route_meaning.specs.History.{History}
 use Rattle.mrt_records.specs.Values.{Told, told}
@@ -42,14 +42,14 @@ IsCut rest (Some cuts.TooLong) = Over rest
 
 -- The archive carried h; now it carries all that the feed gives too, and what the feed writes was written. It was cut short for
 -- this, or it wasn't. Where the feed gives anything, there is the collector.
-pub record IsFed (c limit : ℕ) (h : History) (bytes : List ℕ) (cut : Option FeedCut) (archive : History) (was now : Option (List ℕ)) : Type 0 where
+pub record IsFed (c limit : ℕ) (h : History) (bytes : List ℕ) (cut : Option FeedCut) (archive : History) (was now : OutputState) : Type 0 where
   pub rest : List ℕ
   pub records : List Told
   pub results : List (Result (Option Admitted) ResolveFault)
   pub feed : IsFeed c bytes rest records results
   pub cut_is : IsCut rest cut
   pub carried : Carries archive (given h c (admissions_of results))
-  pub wrote : Appends was now (feed_text (intake_in h.intakes c) limit records results cut)
+  pub wrote : Tells was now (feed_text (intake_in h.intakes c) limit records results cut)
   pub there : (admissions_of results ≡ [] → ⊥) → IsCollector h c
 
 -- why a feed is given up of which these turns were made and the next ones weren't: there is no such collector, the next batch would
@@ -61,8 +61,8 @@ IsReason c h made unmade stops.OutOfMemory = Unit {0}
 IsReason c h made unmade stops.Outside = Unit {0}
 
 -- The archive carried h; now it carries what the first turns for the first records of the feed offer too. These turns were written and
--- then the refusal, unless it is that a reader or a writer failed.
-pub record IsGivenUp (c limit : ℕ) (h : History) (bytes : List ℕ) (why : FeedStop) (archive : History) (was now : Option (List ℕ)) : Type 0 where
+-- then the refusal.
+pub record IsGivenUp (c limit : ℕ) (h : History) (bytes : List ℕ) (why : FeedStop) (archive : History) (was now : OutputState) : Type 0 where
   pub seen : List ℕ
   pub later : List ℕ
   pub parts : bytes ≡ seen ++ later
@@ -74,11 +74,16 @@ pub record IsGivenUp (c limit : ℕ) (h : History) (bytes : List ℕ) (why : Fee
   pub turns : feed_turns limit results ≡ made ++ unmade
   pub carried : Carries archive (given h c (offered made))
   pub reason : IsReason c h made unmade why
-  pub wrote : (why ≡ stops.Outside → ⊥) → Appends was now (turns_text (intake_in h.intakes c) made ++ refusal_line (of_stop why))
+  pub wrote : Tells was now (turns_text (intake_in h.intakes c) made ++ refusal_line (of_stop why))
   pub there : (offered made ≡ [] → ⊥) → IsCollector h c
 
 -- how a feed of these octets ended: all of it was read, or it was cut short, or it was given up for this
-abbrev pub IsEnd : ℕ → ℕ → History → List ℕ → End → History → Option (List ℕ) → Option (List ℕ) → Type 0
+abbrev pub IsEnd : ℕ → ℕ → History → List ℕ → End → History → OutputState → OutputState → Type 0
 IsEnd c limit h bytes ends.Well archive was now = IsFed c limit h bytes None archive was now
 IsEnd c limit h bytes ends.Cut archive was now = (why : FeedCut) × IsFed c limit h bytes (Some why) archive was now
 IsEnd c limit h bytes (ends.Refused why) archive was now = IsGivenUp c limit h bytes why archive was now
+
+-- how a feed that ended so is answered: where not all of its lines were written, it is given up for the writer
+abbrev pub as_told : Bool → End → End
+as_told true end = ends.Refused stops.Outside
+as_told false end = end

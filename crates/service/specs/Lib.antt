@@ -5,6 +5,7 @@ pub mod Requests
 pub mod Replies
 pub mod Statuses
 pub mod Faults
+pub mod Outputs
 pub mod Turns
 pub mod FeedTexts
 pub mod Feeds

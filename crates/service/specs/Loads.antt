@@ -1,6 +1,6 @@
 -- What an archive carries once a file is loaded.
-use Rattle.std.specs.Prelude.{◌≡◌, ◌⊎◌, ℕ, ◌++◌, List, [], Option, Some, None, Result}
-use Rattle.std.specs.Io.KnownBytes.{Appends}
+use Rattle.std.specs.Prelude.{◌≡◌, ◌⊎◌, true, false, ℕ, ◌++◌, List, [], Option, Some, None, Result}
+use Rattle.service.specs.Outputs.{OutputState, Tells}
 use Rattle.route_model.specs.Admission.{Admitted}
 use Rattle.route_meaning.specs.History.{History, Intake, settled}
 use Rattle.mrt_records.specs.Values.{Told}
@@ -40,63 +40,64 @@ pub record IsSettled (intakes : List Intake) (archive : History) : Type 0 where
 
 -- The archive carried h; now it carries all that the feed of the collector gives too, and its mark, applied as far as may be.
 -- What the feed writes was written, and then the settled watermark.
-pub record IsLoaded (c limit : ℕ) (mark : Option ℕ) (h : History) (bytes : List ℕ) (cut : Option FeedCut) (archive : History) (was now : Option (List ℕ)) : Type 0 where
+pub record IsLoaded (c limit : ℕ) (mark : Option ℕ) (h : History) (bytes : List ℕ) (cut : Option FeedCut) (archive : History) (was now : OutputState) : Type 0 where
   pub rest : List ℕ
   pub records : List Told
   pub results : List (Result (Option Admitted) ResolveFault)
   pub feed : IsFeed c bytes rest records results
   pub cut_is : IsCut rest cut
   pub applied : IsSettled (marked_if c mark (given h c (admissions_of results))).intakes archive
-  pub wrote : Appends was now (feed_text (intake_in h.intakes c) limit records results cut ++ settled_line (settled applied.now))
+  pub wrote : Tells was now (feed_text (intake_in h.intakes c) limit records results cut ++ settled_line (settled applied.now))
 
 -- The feed was given up; the archive carries what it gave until then too, applied as far as may be. What the feed wrote is followed by the
 -- settled watermark.
-pub record IsGivenUpLoad (c limit : ℕ) (h : History) (bytes : List ℕ) (archive : History) (was now : Option (List ℕ)) : Type 0 where
+pub record IsGivenUpLoad (c limit : ℕ) (h : History) (bytes : List ℕ) (archive : History) (was now : OutputState) : Type 0 where
   pub why : FeedStop
   pub fed : History
-  pub between : Option (List ℕ)
+  pub between : OutputState
   pub given_up : IsGivenUp c limit h bytes why fed was between
   pub applied : IsSettled (given h c (offered given_up.made)).intakes archive
-  pub wrote : Appends between now (settled_line (settled applied.now))
+  pub wrote : Tells between now (settled_line (settled applied.now))
 
 -- the whole feed was taken in, and the mark that was asked for is below the collector's, which stays
-pub record IsMarkedBack (c limit : ℕ) (mark : Option ℕ) (h : History) (bytes : List ℕ) (archive : History) (was now : Option (List ℕ)) : Type 0 where
+pub record IsMarkedBack (c limit : ℕ) (mark : Option ℕ) (h : History) (bytes : List ℕ) (archive : History) (was now : OutputState) : Type 0 where
   pub lower : ℕ
   pub asked : mark ≡ Some lower
   pub records : List Told
   pub results : List (Result (Option Admitted) ResolveFault)
   pub feed : IsFeed c bytes [] records results
   pub above : IsMarkAbove (given h c (admissions_of results)) c lower
-  pub wrote : Appends was now (feed_text (intake_in h.intakes c) limit records results None)
+  pub wrote : Tells was now (feed_text (intake_in h.intakes c) limit records results None)
   pub carried : Carries archive (given h c (admissions_of results))
 
--- the archive carries what the feed gave, and its mark where the feed ended well; what the feed writes was written
-abbrev pub IsPartLoaded : ℕ → ℕ → Option ℕ → History → List ℕ → History → Option (List ℕ) → Option (List ℕ) → Type 0
+-- the archive carries what the feed gave, and its mark where the feed ended well and all of its lines were written
+abbrev pub IsPartLoaded : ℕ → ℕ → Option ℕ → History → List ℕ → History → OutputState → OutputState → Type 0
 IsPartLoaded c limit mark h bytes archive was now =
-    ((fed : History) × (f : IsFed c limit h bytes None fed was now) × HasIntakes (marked_if c mark (given h c (admissions_of f.results))).intakes archive)
-    ⊎ (((fed : History) × (why : FeedCut) × (f : IsFed c limit h bytes (Some why) fed was now) × HasIntakes (given h c (admissions_of f.results)).intakes archive)
+    ((fed : History) × (f : IsFed c limit h bytes None fed was now) × (now.failed ≡ false) × HasIntakes (marked_if c mark (given h c (admissions_of f.results))).intakes archive)
+    ⊎ (((fed : History) × (cut : Option FeedCut) × (f : IsFed c limit h bytes cut fed was now) × (cut ≡ None → now.failed ≡ true) × HasIntakes (given h c (admissions_of f.results)).intakes archive)
     ⊎ ((fed : History) × (why : FeedStop) × (g : IsGivenUp c limit h bytes why fed was now) × HasIntakes (given h c (offered g.made)).intakes archive))
 
 -- why a load ends outside its feed: there is no such collector, the mark is below the collector's, or memory was wanting while changes were applied
-abbrev pub IsUnloaded : ℕ → ℕ → Option ℕ → History → List ℕ → History → Option (List ℕ) → Option (List ℕ) → LoadStop → Type 0
+abbrev pub IsUnloaded : ℕ → ℕ → Option ℕ → History → List ℕ → History → OutputState → OutputState → LoadStop → Type 0
 IsUnloaded c limit mark h bytes archive was now stops.NoCollector = (IsCollector h c → ⊥) × Carries archive h × (now ≡ was)
 IsUnloaded c limit mark h bytes archive was now stops.MarkBack = IsMarkedBack c limit mark h bytes archive was now
 IsUnloaded c limit mark h bytes archive was now stops.OutOfMemory = IsPartLoaded c limit mark h bytes archive was now
 
 -- something was refused, and told: the feed was cut short, or it was given up, or the load ended outside its feed
-abbrev pub IsRefusedLoad : ℕ → ℕ → Option ℕ → History → List ℕ → History → Option (List ℕ) → Option (List ℕ) → Option (List ℕ) → Option (List ℕ) → Type 0
+abbrev pub IsRefusedLoad : ℕ → ℕ → Option ℕ → History → List ℕ → History → OutputState → OutputState → OutputState → OutputState → Type 0
 IsRefusedLoad c limit mark h bytes archive was now err_was err_now =
     ((why : FeedCut) × IsLoaded c limit None h bytes (Some why) archive was now × (err_now ≡ err_was))
     ⊎ ((IsGivenUpLoad c limit h bytes archive was now × (err_now ≡ err_was))
-    ⊎ ((why : LoadStop) × IsUnloaded c limit mark h bytes archive was now why × Appends err_was err_now (error_line (of_load why))))
+    ⊎ ((why : LoadStop) × IsUnloaded c limit mark h bytes archive was now why × Tells err_was err_now (error_line (of_load why))))
 
--- The watermark couldn't be written behind the lines of the feed, or the line of what ended the load couldn't: the archive carries what it gave all the same.
-abbrev pub IsFailedLoad : ℕ → ℕ → Option ℕ → History → List ℕ → History → Option (List ℕ) → Type 0
-IsFailedLoad c limit mark h bytes archive was =
-    (then : Option (List ℕ)) × (IsPartLoaded c limit mark h bytes archive was then ⊎ ((why : LoadStop) × IsUnloaded c limit mark h bytes archive was then why))
+-- Not all lines could be written. The archive carries all the same what the feed gave, and the watermark was told behind its lines as far as it could be.
+abbrev pub IsFailedLoad : ℕ → ℕ → Option ℕ → History → List ℕ → History → OutputState → OutputState → Type 0
+IsFailedLoad c limit mark h bytes archive was now =
+    ((mid : OutputState) × IsPartLoaded c limit mark h bytes archive was mid × (past : History) × Carries archive past × Tells mid now (settled_line (settled past)))
+    ⊎ ((why : LoadStop) × IsUnloaded c limit mark h bytes archive was now why)
 
 -- how a load of these octets ended, by its status
-abbrev pub IsLoadEnd : ℕ → ℕ → Option ℕ → History → List ℕ → Status → History → Option (List ℕ) → Option (List ℕ) → Option (List ℕ) → Option (List ℕ) → Type 0
-IsLoadEnd c limit mark h bytes statuses.Done archive was now err_was err_now = IsCollector h c × IsLoaded c limit mark h bytes None archive was now × (err_now ≡ err_was)
-IsLoadEnd c limit mark h bytes statuses.Refused archive was now err_was err_now = IsRefusedLoad c limit mark h bytes archive was now err_was err_now
-IsLoadEnd c limit mark h bytes statuses.Failed archive was now err_was err_now = IsFailedLoad c limit mark h bytes archive was
+abbrev pub IsLoadEnd : ℕ → ℕ → Option ℕ → History → List ℕ → Status → History → OutputState → OutputState → OutputState → OutputState → Type 0
+IsLoadEnd c limit mark h bytes statuses.Done archive was now err_was err_now = IsCollector h c × IsLoaded c limit mark h bytes None archive was now × (now.failed ≡ false) × (err_now ≡ err_was)
+IsLoadEnd c limit mark h bytes statuses.Refused archive was now err_was err_now = IsRefusedLoad c limit mark h bytes archive was now err_was err_now × (now.failed ≡ false)
+IsLoadEnd c limit mark h bytes statuses.Failed archive was now err_was err_now = IsFailedLoad c limit mark h bytes archive was now × ((now.failed ≡ true) ⊎ (err_now.failed ≡ true))

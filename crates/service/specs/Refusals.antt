@@ -45,22 +45,8 @@ line_end = 10 ∷ []
 
 -- what the line of a refusal tells behind its name: the watermark of AboveWatermark
 abbrev pub told_of : Refusal → List ℕ
-told_of refusals.BadText = []
-told_of refusals.Truncated = []
-told_of refusals.TooLong = []
-told_of refusals.Malformed = []
-told_of refusals.RouteTooLarge = []
-told_of refusals.NoPeerTable = []
-told_of refusals.BadPeerIndex = []
-told_of refusals.AdmissionTooLarge = []
-told_of refusals.MarkBack = []
-told_of refusals.NoCollector = []
 told_of (refusals.AboveWatermark settled) = codes "|" ++ decimal settled
-told_of refusals.BatchTooLarge = []
-told_of refusals.CounterFull = []
-told_of refusals.OutOfMemory = []
-told_of refusals.BadRequest = []
-told_of refusals.Outside = []
+told_of _ = []
 
 -- X, the number and the name
 abbrev pub refusal_head : Refusal → List ℕ

@@ -1,6 +1,6 @@
 -- What a history answers to a request line.
-use Rattle.std.specs.Prelude.{◌≡◌, ℕ, ◌<◌, ◌≤◌, Option, List}
-use Rattle.std.specs.Io.KnownBytes.{Appends}
+use Rattle.std.specs.Prelude.{◌≡◌, ◌⊎◌, true, false, ℕ, ◌<◌, ◌≤◌, Option, List}
+use Rattle.service.specs.Outputs.{OutputState, Tells}
 use Rattle.route_meaning.specs.History.{History, applied, settled}
 use Rattle.route_meaning.specs.declared.question.RowsAnswer.{RowsAnswer}
 use Rattle.archive.specs.declared.question.Query.{Query}
@@ -10,6 +10,8 @@ use Rattle.service.specs.AnswerLines.{answer_text}
 use Rattle.service.specs.Refusals.{refusal_line}
 use Rattle.service.specs.Requests.{IsQueryLine}
 use Rattle.service.specs.Faults.{of_unanswered}
+use Rattle.service.specs.declared.status.Status.{Status}
+use Rattle.service.specs.declared.status.Status.TheVariants as statuses
 use Rattle.service.specs.declared.faults.Unanswered.{Unanswered}
 use Rattle.service.specs.declared.faults.Unanswered.TheVariants as whys
 
@@ -35,10 +37,12 @@ IsRefused h line whys.BadRequest = (query : Query) → IsQueryLine line query �
 IsRefused h line (whys.AboveWatermark watermark) = IsAbove h line watermark
 IsRefused h line whys.OutOfMemory = Unit {0}
 
--- the text of an answer to the line was written
-abbrev pub ToldReply : History → List ℕ → Option (List ℕ) → Option (List ℕ) → Type 0
-ToldReply h line was now = (text : List ℕ) × IsReplyText h line text × Appends was now text
+-- this is the text of an answer to the line, or the line of a refusal of it
+abbrev pub IsTold : History → List ℕ → List ℕ → Type 0
+IsTold h line text = IsReplyText h line text ⊎ ((why : Unanswered) × IsRefused h line why × (text ≡ refusal_line (of_unanswered why)))
 
--- the line of a refusal of the line was written
-abbrev pub ToldRefusal : History → List ℕ → Option (List ℕ) → Option (List ℕ) → Type 0
-ToldRefusal h line was now = (why : Unanswered) × IsRefused h line why × Appends was now (refusal_line (of_unanswered why))
+-- How a line was answered, by the status. `Failed` is answered where not all could be written: a front of what should have been told was.
+abbrev pub IsAskEnd : History → List ℕ → Status → OutputState → OutputState → OutputState → OutputState → Type 0
+IsAskEnd h line statuses.Done was now err_was err_now = (text : List ℕ) × IsReplyText h line text × Tells was now text × (now.failed ≡ false) × (err_now ≡ err_was)
+IsAskEnd h line statuses.Refused was now err_was err_now = (why : Unanswered) × IsRefused h line why × Tells was now (refusal_line (of_unanswered why)) × (now.failed ≡ false) × (err_now ≡ err_was)
+IsAskEnd h line statuses.Failed was now err_was err_now = ((now.failed ≡ true) ⊎ (err_now.failed ≡ true)) × ((now ≡ was) ⊎ ((text : List ℕ) × IsTold h line text × Tells was now text))

@@ -1,18 +1,18 @@
 //! Request lines, answered by an archive.
 
 ghost use Rattle.std.specs.Prelude.{◌≡◌, IfOk, IfErr, IfSome, IfNone, string_bytes};
-ghost use Rattle.std.specs.Io.KnownBytes.{Appends};
 ghost use Rattle.route_meaning.specs.History.{History};
 ghost use Rattle.archive.specs.Carries.{Carries};
 ghost use Rattle.service.specs.AnswerLines.{answer_text};
-ghost use Rattle.service.specs.Replies.{IsReplyText, IsRefused, ToldReply, ToldRefusal};
+ghost use Rattle.service.specs.Replies.{IsReplyText, IsRefused, IsAskEnd};
 ghost use Rattle.service.specs.inner.Asking.{IsEventsTurn, of_descend};
 
 use crate::answer_lines::write_answer;
 use crate::faults::Unanswered;
-use crate::refusal::{Refusal, write_error, write_refusal};
+use crate::output::Output;
+use crate::refusal::{Refusal, write_refusal};
 use crate::request::{RequestError, read_query};
-use crate::status::Status;
+use crate::status::{Status, told};
 use archive::{Answer, Archive, DescendRefusal, Turn};
 use route_meaning::RowsAnswer;
 use std::alloc::{AllocError, Global};
@@ -75,31 +75,27 @@ pub fn reply(alloc: Global, archive: &Archive, line: &str) -> Result<String, Una
 }
 
 /// Writes what the archive answers to a request line: the lines of the answer, or the line of the refusal. Where these
-/// can't all be written, `err` is told so.
+/// can't all be written, `err` is told so; where `out` had failed before, nothing is done.
 pub fn ask<W: Write, E: Write>(
     alloc: Global,
     archive: &Archive,
     line: &str,
-    out: &mut W,
-    err: &mut E,
+    out: &mut Output<W>,
+    err: &mut Output<E>,
 ) -> Status
-    ensures done { (h : History) → Carries archive.now h → result ≡ Status.Done → ToldReply h line.now (W.contents out.old) (W.contents out.new) }
-    ensures refused { (h : History) → Carries archive.now h → result ≡ Status.Refused → ToldRefusal h line.now (W.contents out.old) (W.contents out.new) }
-    ensures quiet { (result ≡ Status.Failed → ⊥) → E.contents err.new ≡ E.contents err.old }
+    ensures ended { (h : History) → Carries archive.now h → IsAskEnd h line.now result out.old out.new err.old err.new }
 {
+    if out.has_failed() {
+        return Status::Failed;
+    }
     match reply(alloc, archive, line) {
         Ok(text) => {
-            if out.write_all(text.as_bytes()).is_ok() {
-                return Status::Done;
-            }
+            out.text(text.as_str());
+            told(Status::Done, out, err)
         }
         Err(why) => {
-            if write_refusal(out, &Refusal::from(why)).is_ok() {
-                return Status::Refused;
-            }
+            write_refusal(out, &Refusal::from(why));
+            told(Status::Refused, out, err)
         }
     }
-    // There is no one left to tell where this fails too.
-    let _ = write_error(err, &Refusal::Outside);
-    Status::Failed
 }

@@ -3,7 +3,6 @@
 ghost use Rattle.std.specs.Prelude.{◌≡◌};
 ghost use Rattle.service.specs.Faults.{of_cut, of_load, of_record, of_stop, of_unanswered};
 ghost use Rattle.service.specs.inner.Feeding.{of_admit};
-ghost use Rattle.service.specs.declared.faults.FeedStop.TheVariants as stops;
 ghost use Rattle.service.specs.declared.faults.LoadStop.TheVariants as ends;
 
 use crate::refusal::Refusal;
@@ -11,7 +10,6 @@ use archive::AdmitRefusal;
 use resolve::ResolveFault;
 use route_model::Mark;
 use std::alloc::AllocError;
-use std::io;
 use thiserror::Error;
 
 /// Why a feed is cut short. What came before is admitted.
@@ -79,14 +77,6 @@ pub(crate) fn stop_of(refusal: AdmitRefusal) -> FeedStop
         AdmitRefusal::CounterFull => FeedStop::CounterFull,
         // What a feed offers is never too large for a batch.
         AdmitRefusal::BatchTooLarge | AdmitRefusal::OutOfMemory => FeedStop::OutOfMemory,
-    }
-}
-
-impl From<io::Error> for FeedStop {
-    ghost from_gives = { λ error stop. stop ≡ stops.Outside };
-
-    fn from(_: io::Error) -> FeedStop {
-        FeedStop::Outside
     }
 }
 

@@ -1,16 +1,16 @@
 //! The lines of a feed.
 
-ghost use Rattle.std.specs.Prelude.{◌≡◌, ◌+◌, ◌-◌, suc, [], ◌∷◌, length, OnOk};
-ghost use Rattle.std.specs.Io.KnownBytes.{Appends};
-ghost use Rattle.service.specs.FeedLines.{batch_line, late_line, admitted_text, came_text, lost_text, counts_line, settled_line};
+ghost use Rattle.std.specs.Prelude.{◌≡◌, ◌+◌, ◌-◌, suc, [], ◌∷◌, length};
+ghost use Rattle.service.specs.FeedLines.{numbers_line, late_line, admitted_text, counts_line, settled_line};
+ghost use Rattle.service.specs.Outputs.{Tells};
 ghost use Rattle.mrt_records.specs.Values.{told};
 ghost use Rattle.service.specs.FeedTexts.{capped, skips};
 
+use crate::output::Output;
 use archive::Admitted;
 use mrt_records::Item;
 use route_model::Mark;
 use sequencer::Late;
-use std::io;
 use std::io::Write;
 
 /// How many records a feed had, and what became of them.
@@ -65,68 +65,54 @@ fn skips_of(item: &Item) -> u64
     }
 }
 
-fn write_batch<W: Write>(out: &mut W, admitted: &Admitted) -> io::Result<()>
-    ensures line { OnOk result (Appends (W.contents out.old) (W.contents out.new) (batch_line admitted.now.receipt.from admitted.now.receipt.to admitted.now.offered)) }
+/// Writes a letter, the numbers with a bar before each, and LF.
+fn write_numbers<W: Write>(out: &mut Output<W>, letter: &str, numbers: &[u64])
+    ensures line { Tells out.old out.new (numbers_line letter.now numbers.now) }
 {
-    let from = admitted.receipt.from;
-    let to = admitted.receipt.to;
-    let offered = admitted.offered;
-    writeln!(out, "B|{from}|{to}|{offered}")
+    out.text(letter);
+    for number in numbers {
+        out.text("|");
+        out.number(*number);
+    }
+    out.text("\n");
 }
 
-fn write_late<W: Write>(out: &mut W, late: &Late) -> io::Result<()>
-    ensures line { OnOk result (Appends (W.contents out.old) (W.contents out.new) (late_line late.now)) }
+fn write_late<W: Write>(out: &mut Output<W>, late: &Late)
+    ensures line { Tells out.old out.new (late_line late.now) }
 {
-    let index = late.index;
-    let time = late.time.seconds();
-    let mark = late.mark.seconds();
-    writeln!(out, "L|{index}|{time}|{mark}")
+    let index = late.index as u64;
+    write_numbers(out, "L", &[index, late.time.seconds(), late.mark.seconds()]);
 }
 
 /// Writes what became of a batch: `B|FROM|TO|OFFERED`, then `L|INDEX|TIME|MARK` for each late record. No memory
-/// is needed. After an error nothing is said of `out`.
-pub fn write_admitted<W: Write>(out: &mut W, admitted: &Admitted) -> io::Result<()>
-    ensures lines { OnOk result (Appends (W.contents out.old) (W.contents out.new) (admitted_text admitted.now)) }
+/// is needed.
+pub fn write_admitted<W: Write>(out: &mut Output<W>, admitted: &Admitted)
+    ensures lines { Tells out.old out.new (admitted_text admitted.now) }
 {
-    write_batch(out, admitted)?;
+    let receipt = &admitted.receipt;
+    write_numbers(out, "B", &[receipt.from, receipt.to, admitted.offered]);
     for late in &admitted.late {
-        write_late(out, late)?;
+        write_late(out, late);
     }
-    Ok(())
 }
 
-fn write_came<W: Write>(out: &mut W, counts: &FeedCounts) -> io::Result<()>
-    ensures text { OnOk result (Appends (W.contents out.old) (W.contents out.new) (came_text counts.now)) }
+/// Writes what became of a feed: `F|RECORDS|ADMITTED|LATE|REFUSED|SKIPPED`. No memory is needed.
+pub fn write_counts<W: Write>(out: &mut Output<W>, counts: &FeedCounts)
+    ensures line { Tells out.old out.new (counts_line counts.now) }
 {
-    let records = counts.records;
-    let admitted = counts.admitted;
-    let late = counts.late;
-    write!(out, "F|{records}|{admitted}|{late}")
+    let FeedCounts {
+        records,
+        admitted,
+        late,
+        refused,
+        skipped,
+    } = *counts;
+    write_numbers(out, "F", &[records, admitted, late, refused, skipped]);
 }
 
-fn write_lost<W: Write>(out: &mut W, counts: &FeedCounts) -> io::Result<()>
-    ensures text { OnOk result (Appends (W.contents out.old) (W.contents out.new) (lost_text counts.now)) }
+/// Writes the settled watermark: `S|SETTLED`. No memory is needed.
+pub fn write_settled<W: Write>(out: &mut Output<W>, settled: Mark)
+    ensures line { Tells out.old out.new (settled_line settled) }
 {
-    let refused = counts.refused;
-    let skipped = counts.skipped;
-    writeln!(out, "|{refused}|{skipped}")
-}
-
-/// Writes what became of a feed: `F|RECORDS|ADMITTED|LATE|REFUSED|SKIPPED`. No memory is needed. After an error
-/// nothing is said of `out`.
-pub fn write_counts<W: Write>(out: &mut W, counts: &FeedCounts) -> io::Result<()>
-    ensures line { OnOk result (Appends (W.contents out.old) (W.contents out.new) (counts_line counts.now)) }
-{
-    write_came(out, counts)?;
-    write_lost(out, counts)?;
-    Ok(())
-}
-
-/// Writes the settled watermark: `S|SETTLED`. No memory is needed. After an error nothing is said of
-/// `out`.
-pub fn write_settled<W: Write>(out: &mut W, settled: Mark) -> io::Result<()>
-    ensures line { OnOk result (Appends (W.contents out.old) (W.contents out.new) (settled_line settled)) }
-{
-    let seconds = settled.seconds();
-    writeln!(out, "S|{seconds}")
+    write_numbers(out, "S", &[settled.seconds()]);
 }

@@ -6,10 +6,12 @@ ghost use Rattle.mrt_records.specs.Values.{Told, told};
 ghost use Rattle.archive.specs.Carries.{Carries};
 ghost use Rattle.service.specs.Turns.{Turn, Offer, Refuse, offer_where, wait_unless, is_full, turns_at, waits_after, last_turns};
 ghost use Rattle.service.specs.FeedTexts.{capped};
+ghost use Rattle.service.specs.Outputs.{OutputState};
 ghost use Rattle.service.specs.inner.Feeding.{HasDone, IsSameFeed, IsCounted, IsBehind, GivesUp, StopsAmong};
 
 use crate::faults::{FeedStop, stop_of};
 use crate::feed_lines::{FeedCounts, write_admitted};
+use crate::output::Output;
 use crate::refusal::{Refusal, write_refused_record};
 use archive::{Archive, MAX_BATCH_LEN};
 use mrt_records::Item;
@@ -33,7 +35,7 @@ pub(crate) struct Feeding {
 impl Feeding {
     /// The beginning of a feed of the collector, whose batches have at most so many admissions.
     pub(crate) fn new(alloc: Global, collector: u8, limit: usize) -> Feeding
-        ensures begins { (h : History) (archive : History) (was : Option (List ℕ)) → Carries archive h → IsBehind collector limit h [] result archive was was }
+        ensures begins { (h : History) (archive : History) (was : OutputState) → Carries archive h → IsBehind collector limit h [] result archive was was }
     {
         Feeding {
             collector,
@@ -52,18 +54,23 @@ impl Feeding {
     }
 
     /// Offers what is gathered as a batch, and writes what became of it.
-    fn offer<W: Write>(&mut self, archive: &mut Archive, out: &mut W) -> Result<(), FeedStop>
+    fn offer<W: Write>(
+        &mut self,
+        archive: &mut Archive,
+        out: &mut Output<W>,
+    ) -> Result<(), FeedStop>
         ensures same { IsSameFeed self.old self.new }
         ensures gathered { OnOk result (self.new.gathered.items ≡ []) }
         ensures octets { OnOk result (self.new.octets ≡ 0) }
-        ensures done { (c : ℕ) (h : History) (turns : List Turn) (was : Option (List ℕ)) → self.old.collector ≡ c → HasDone c h turns self.old.counts archive.old was (W.contents out.old) → OnOk result (HasDone c h (turns ++ Offer self.old.gathered.items ∷ []) self.new.counts archive.new was (W.contents out.new)) }
-        ensures given_up { (c : ℕ) (h : History) (turns : List Turn) (was : Option (List ℕ)) → self.old.collector ≡ c → IsCounted self.old → HasDone c h turns self.old.counts archive.old was (W.contents out.old) → IfErr result (GivesUp c h (turns ++ Offer self.old.gathered.items ∷ []) archive.new was (W.contents out.new)) }
+        ensures done { (c : ℕ) (h : History) (turns : List Turn) (was : OutputState) → self.old.collector ≡ c → HasDone c h turns self.old.counts archive.old was out.old → OnOk result (HasDone c h (turns ++ Offer self.old.gathered.items ∷ []) self.new.counts archive.new was out.new) }
+        ensures inside { result ≡ Err FeedStop.Outside → ⊥ }
+        ensures given_up { (c : ℕ) (h : History) (turns : List Turn) (was : OutputState) → self.old.collector ≡ c → IsCounted self.old → HasDone c h turns self.old.counts archive.old was out.old → IfErr result (GivesUp c h (turns ++ Offer self.old.gathered.items ∷ []) archive.new was out.new) }
     {
         let admitted = match archive.admit(self.collector, &self.gathered) {
             Ok(admitted) => admitted,
             Err(refusal) => return Err(stop_of(refusal)),
         };
-        write_admitted(out, &admitted)?;
+        write_admitted(out, &admitted);
         self.counts.count_batch(&admitted);
         self.gathered.clear();
         self.octets = 0;
@@ -75,13 +82,14 @@ impl Feeding {
         &mut self,
         octets: usize,
         archive: &mut Archive,
-        out: &mut W,
+        out: &mut Output<W>,
     ) -> Result<(), FeedStop>
         ensures same { IsSameFeed self.old self.new }
         ensures gathered { OnOk result (self.new.gathered.items ≡ wait_unless (ltb 262144 (self.old.octets + octets)) self.old.gathered.items) }
         ensures counted { IsCounted self.old → OnOk result (IsCounted self.new) }
-        ensures done { (c : ℕ) (h : History) (turns : List Turn) (was : Option (List ℕ)) → self.old.collector ≡ c → HasDone c h turns self.old.counts archive.old was (W.contents out.old) → OnOk result (HasDone c h (turns ++ offer_where (ltb 262144 (self.old.octets + octets)) self.old.gathered.items) self.new.counts archive.new was (W.contents out.new)) }
-        ensures given_up { (c : ℕ) (h : History) (turns : List Turn) (was : Option (List ℕ)) → self.old.collector ≡ c → IsCounted self.old → HasDone c h turns self.old.counts archive.old was (W.contents out.old) → IfErr result (GivesUp c h (turns ++ offer_where (ltb 262144 (self.old.octets + octets)) self.old.gathered.items) archive.new was (W.contents out.new)) }
+        ensures done { (c : ℕ) (h : History) (turns : List Turn) (was : OutputState) → self.old.collector ≡ c → HasDone c h turns self.old.counts archive.old was out.old → OnOk result (HasDone c h (turns ++ offer_where (ltb 262144 (self.old.octets + octets)) self.old.gathered.items) self.new.counts archive.new was out.new) }
+        ensures inside { result ≡ Err FeedStop.Outside → ⊥ }
+        ensures given_up { (c : ℕ) (h : History) (turns : List Turn) (was : OutputState) → self.old.collector ≡ c → IsCounted self.old → HasDone c h turns self.old.counts archive.old was out.old → IfErr result (GivesUp c h (turns ++ offer_where (ltb 262144 (self.old.octets + octets)) self.old.gathered.items) archive.new was out.new) }
     {
         if self.octets.saturating_add(octets) > MAX_BATCH_LEN {
             return self.offer(archive, out);
@@ -90,12 +98,17 @@ impl Feeding {
     }
 
     /// Offers what is gathered where it has as many admissions as a batch may have.
-    fn offer_full<W: Write>(&mut self, archive: &mut Archive, out: &mut W) -> Result<(), FeedStop>
+    fn offer_full<W: Write>(
+        &mut self,
+        archive: &mut Archive,
+        out: &mut Output<W>,
+    ) -> Result<(), FeedStop>
         ensures same { IsSameFeed self.old self.new }
         ensures gathered { OnOk result (self.new.gathered.items ≡ wait_unless (is_full self.old.limit self.old.gathered.items) self.old.gathered.items) }
         ensures counted { IsCounted self.old → OnOk result (IsCounted self.new) }
-        ensures done { (c : ℕ) (h : History) (turns : List Turn) (was : Option (List ℕ)) → self.old.collector ≡ c → HasDone c h turns self.old.counts archive.old was (W.contents out.old) → OnOk result (HasDone c h (turns ++ offer_where (is_full self.old.limit self.old.gathered.items) self.old.gathered.items) self.new.counts archive.new was (W.contents out.new)) }
-        ensures given_up { (c : ℕ) (h : History) (turns : List Turn) (was : Option (List ℕ)) → self.old.collector ≡ c → IsCounted self.old → HasDone c h turns self.old.counts archive.old was (W.contents out.old) → IfErr result (GivesUp c h (turns ++ offer_where (is_full self.old.limit self.old.gathered.items) self.old.gathered.items) archive.new was (W.contents out.new)) }
+        ensures done { (c : ℕ) (h : History) (turns : List Turn) (was : OutputState) → self.old.collector ≡ c → HasDone c h turns self.old.counts archive.old was out.old → OnOk result (HasDone c h (turns ++ offer_where (is_full self.old.limit self.old.gathered.items) self.old.gathered.items) self.new.counts archive.new was out.new) }
+        ensures inside { result ≡ Err FeedStop.Outside → ⊥ }
+        ensures given_up { (c : ℕ) (h : History) (turns : List Turn) (was : OutputState) → self.old.collector ≡ c → IsCounted self.old → HasDone c h turns self.old.counts archive.old was out.old → IfErr result (GivesUp c h (turns ++ offer_where (is_full self.old.limit self.old.gathered.items) self.old.gathered.items) archive.new was out.new) }
     {
         if self.gathered.len() >= self.limit {
             return self.offer(archive, out);
@@ -107,11 +120,12 @@ impl Feeding {
     pub(crate) fn offer_rest<W: Write>(
         &mut self,
         archive: &mut Archive,
-        out: &mut W,
+        out: &mut Output<W>,
     ) -> Result<(), FeedStop>
         ensures same { IsSameFeed self.old self.new }
-        ensures done { (c : ℕ) (h : History) (turns : List Turn) (was : Option (List ℕ)) → self.old.collector ≡ c → HasDone c h turns self.old.counts archive.old was (W.contents out.old) → OnOk result (HasDone c h (turns ++ last_turns self.old.gathered.items) self.new.counts archive.new was (W.contents out.new)) }
-        ensures given_up { (c : ℕ) (h : History) (turns : List Turn) (was : Option (List ℕ)) → self.old.collector ≡ c → IsCounted self.old → HasDone c h turns self.old.counts archive.old was (W.contents out.old) → IfErr result (GivesUp c h (turns ++ last_turns self.old.gathered.items) archive.new was (W.contents out.new)) }
+        ensures done { (c : ℕ) (h : History) (turns : List Turn) (was : OutputState) → self.old.collector ≡ c → HasDone c h turns self.old.counts archive.old was out.old → OnOk result (HasDone c h (turns ++ last_turns self.old.gathered.items) self.new.counts archive.new was out.new) }
+        ensures inside { result ≡ Err FeedStop.Outside → ⊥ }
+        ensures given_up { (c : ℕ) (h : History) (turns : List Turn) (was : OutputState) → self.old.collector ≡ c → IsCounted self.old → HasDone c h turns self.old.counts archive.old was out.old → IfErr result (GivesUp c h (turns ++ last_turns self.old.gathered.items) archive.new was out.new) }
     {
         if self.gathered.is_empty() {
             return Ok(());
@@ -137,13 +151,14 @@ impl Feeding {
         &mut self,
         archive: &mut Archive,
         admission: Admission,
-        out: &mut W,
+        out: &mut Output<W>,
     ) -> Result<(), FeedStop>
         ensures same { IsSameFeed self.old self.new }
         ensures gathered { IsCounted self.old → OnOk result (self.new.gathered.items ≡ waits_after self.old.limit self.old.gathered.items (Ok (Some admission))) }
         ensures counted { IsCounted self.old → OnOk result (IsCounted self.new) }
-        ensures done { (c : ℕ) (h : History) (turns : List Turn) (was : Option (List ℕ)) (place : ℕ) → IsCounted self.old → self.old.collector ≡ c → HasDone c h turns self.old.counts archive.old was (W.contents out.old) → OnOk result (HasDone c h (turns ++ turns_at self.old.limit place self.old.gathered.items (Ok (Some admission))) self.new.counts archive.new was (W.contents out.new)) }
-        ensures given_up { (c : ℕ) (h : History) (turns : List Turn) (was : Option (List ℕ)) (place : ℕ) → self.old.collector ≡ c → IsCounted self.old → HasDone c h turns self.old.counts archive.old was (W.contents out.old) → IfErr result (GivesUp c h (turns ++ turns_at self.old.limit place self.old.gathered.items (Ok (Some admission))) archive.new was (W.contents out.new)) }
+        ensures done { (c : ℕ) (h : History) (turns : List Turn) (was : OutputState) (place : ℕ) → IsCounted self.old → self.old.collector ≡ c → HasDone c h turns self.old.counts archive.old was out.old → OnOk result (HasDone c h (turns ++ turns_at self.old.limit place self.old.gathered.items (Ok (Some admission))) self.new.counts archive.new was out.new) }
+        ensures inside { result ≡ Err FeedStop.Outside → ⊥ }
+        ensures given_up { (c : ℕ) (h : History) (turns : List Turn) (was : OutputState) (place : ℕ) → self.old.collector ≡ c → IsCounted self.old → HasDone c h turns self.old.counts archive.old was out.old → IfErr result (GivesUp c h (turns ++ turns_at self.old.limit place self.old.gathered.items (Ok (Some admission))) archive.new was out.new) }
     {
         let octets = admission.encoded_len() + 4;
         self.make_room(octets, archive, out)?;
@@ -158,20 +173,21 @@ impl Feeding {
         &mut self,
         fault: ResolveFault,
         place: u64,
-        out: &mut W,
+        out: &mut Output<W>,
     ) -> Result<(), FeedStop>
         ensures same { IsSameFeed self.old self.new }
         ensures gathered { self.new.gathered.items ≡ self.old.gathered.items }
         ensures octets { self.new.octets ≡ self.old.octets }
         ensures remembered { OnOk result (fault ≡ ResolveFault.OutOfMemory → ⊥) }
-        ensures done { (c : ℕ) (h archive : History) (turns : List Turn) (was : Option (List ℕ)) (n : ℕ) → place ≡ capped n → HasDone c h turns self.old.counts archive was (W.contents out.old) → OnOk result (HasDone c h (turns ++ Refuse n fault ∷ []) self.new.counts archive was (W.contents out.new)) }
-        ensures given_up { (c : ℕ) (h archive : History) (turns : List Turn) (was : Option (List ℕ)) → HasDone c h turns self.old.counts archive was (W.contents out.old) → IfErr result (GivesUp c h turns archive was (W.contents out.new)) }
+        ensures done { (c : ℕ) (h archive : History) (turns : List Turn) (was : OutputState) (n : ℕ) → place ≡ capped n → HasDone c h turns self.old.counts archive was out.old → OnOk result (HasDone c h (turns ++ Refuse n fault ∷ []) self.new.counts archive was out.new) }
+        ensures inside { result ≡ Err FeedStop.Outside → ⊥ }
+        ensures given_up { (c : ℕ) (h archive : History) (turns : List Turn) (was : OutputState) → HasDone c h turns self.old.counts archive was out.old → IfErr result (GivesUp c h turns archive was out.new) }
     {
         if fault == ResolveFault::OutOfMemory {
             return Err(FeedStop::OutOfMemory);
         }
         self.counts.refused = self.counts.refused.saturating_add(1);
-        write_refused_record(out, &Refusal::from(fault), place)?;
+        write_refused_record(out, &Refusal::from(fault), place);
         Ok(())
     }
 
@@ -181,10 +197,11 @@ impl Feeding {
         alloc: Global,
         archive: &mut Archive,
         item: &Item,
-        out: &mut W,
+        out: &mut Output<W>,
     ) -> Result<(), FeedStop>
-        ensures behind { (c limit : ℕ) (h : History) (records : List Told) (was : Option (List ℕ)) → IsBehind c limit h records self.old archive.old was (W.contents out.old) → OnOk result (IsBehind c limit h (records ++ told item.now ∷ []) self.new archive.new was (W.contents out.new)) }
-        ensures given_up { (c limit : ℕ) (h : History) (records : List Told) (was : Option (List ℕ)) → IsBehind c limit h records self.old archive.old was (W.contents out.old) → IfErr result (StopsAmong c limit h records (item.now ∷ []) archive.new was (W.contents out.new)) }
+        ensures behind { (c limit : ℕ) (h : History) (records : List Told) (was : OutputState) → IsBehind c limit h records self.old archive.old was out.old → OnOk result (IsBehind c limit h (records ++ told item.now ∷ []) self.new archive.new was out.new) }
+        ensures inside { result ≡ Err FeedStop.Outside → ⊥ }
+        ensures given_up { (c limit : ℕ) (h : History) (records : List Told) (was : OutputState) → IsBehind c limit h records self.old archive.old was out.old → IfErr result (StopsAmong c limit h records (item.now ∷ []) archive.new was out.new) }
     {
         let place = self.counts.records;
         self.counts.count_record(item);
@@ -201,10 +218,11 @@ impl Feeding {
         alloc: Global,
         archive: &mut Archive,
         items: &[Item],
-        out: &mut W,
+        out: &mut Output<W>,
     ) -> Result<(), FeedStop>
-        ensures behind { (c limit : ℕ) (h : History) (records : List Told) (was : Option (List ℕ)) → IsBehind c limit h records self.old archive.old was (W.contents out.old) → OnOk result (IsBehind c limit h (records ++ map told items.now) self.new archive.new was (W.contents out.new)) }
-        ensures given_up { (c limit : ℕ) (h : History) (records : List Told) (was : Option (List ℕ)) → IsBehind c limit h records self.old archive.old was (W.contents out.old) → IfErr result (StopsAmong c limit h records items.now archive.new was (W.contents out.new)) }
+        ensures behind { (c limit : ℕ) (h : History) (records : List Told) (was : OutputState) → IsBehind c limit h records self.old archive.old was out.old → OnOk result (IsBehind c limit h (records ++ map told items.now) self.new archive.new was out.new) }
+        ensures inside { result ≡ Err FeedStop.Outside → ⊥ }
+        ensures given_up { (c limit : ℕ) (h : History) (records : List Told) (was : OutputState) → IsBehind c limit h records self.old archive.old was out.old → IfErr result (StopsAmong c limit h records items.now archive.new was out.new) }
     {
         for item in items {
             self.take(alloc, archive, item, out)?;

@@ -1,22 +1,24 @@
 //! Feeds: MRT records that are read, resolved and admitted (RFC 6396).
 
-ghost use Rattle.std.specs.Prelude.{◌≡◌, ◌++◌, ℕ, List, [], Option, OnOk, IfOk, IfErr};
-ghost use Rattle.std.specs.Io.KnownBytes.{Appends};
+ghost use Rattle.std.specs.Prelude.{◌≡◌, ◌⊎◌, ◌++◌, ℕ, true, List, [], OnOk, IfOk, IfErr};
 ghost use Rattle.route_meaning.specs.History.{History};
 ghost use Rattle.archive.specs.Carries.{Carries};
 ghost use Rattle.service.specs.FeedLines.{counts_line};
 ghost use Rattle.service.specs.FeedTexts.{cut_line};
-ghost use Rattle.service.specs.Feeds.{IsCut, IsEnd, IsFed, MayGive};
+ghost use Rattle.service.specs.Feeds.{IsCut, IsEnd, IsFed, MayGive, as_told};
+ghost use Rattle.service.specs.Outputs.{OutputState, Tells};
+ghost use Rattle.service.specs.declared.intake.End.{End};
 ghost use Rattle.service.specs.inner.Feeding.{Reads, IsRead, IsReadOut, StopsWithin};
 
 use crate::faults::{FeedCut, FeedStop};
 use crate::feed_lines::{FeedCounts, write_counts};
 use crate::feeding::Feeding;
+use crate::output::{Input, Output};
 use crate::refusal::{Refusal, write_refusal, write_refused_record};
 use archive::Archive;
 use mrt_records::{FrameError, Framer};
 use std::alloc::Global;
-use std::io::{self, Read, Write};
+use std::io::{Read, Write};
 
 /// How many octets are read at once.
 const PIECE: usize = 65_536;
@@ -40,10 +42,11 @@ impl Feeding {
         framer: &mut Framer,
         piece: &[u8],
         archive: &mut Archive,
-        out: &mut W,
+        out: &mut Output<W>,
     ) -> Result<bool, FeedStop>
-        ensures read { (c limit : ℕ) (h : History) (bytes : List ℕ) (was : Option (List ℕ)) → Reads c limit h bytes framer.old self.old archive.old was (W.contents out.old) → IfOk result (λ goes_on. IsRead c limit h (bytes ++ piece.now) framer.new goes_on self.new archive.new was (W.contents out.new)) }
-        ensures given_up { (c limit : ℕ) (h : History) (bytes : List ℕ) (was : Option (List ℕ)) → Reads c limit h bytes framer.old self.old archive.old was (W.contents out.old) → IfErr result (StopsWithin c limit h (bytes ++ piece.now) archive.new was (W.contents out.new)) }
+        ensures read { (c limit : ℕ) (h : History) (bytes : List ℕ) (was : OutputState) → Reads c limit h bytes framer.old self.old archive.old was out.old → IfOk result (λ goes_on. IsRead c limit h (bytes ++ piece.now) framer.new goes_on self.new archive.new was out.new) }
+        ensures inside { result ≡ Err FeedStop.Outside → ⊥ }
+        ensures given_up { (c limit : ℕ) (h : History) (bytes : List ℕ) (was : OutputState) → Reads c limit h bytes framer.old self.old archive.old was out.old → IfErr result (StopsWithin c limit h (bytes ++ piece.now) archive.new was out.new) }
     {
         let mut items = Vec::new(alloc);
         let goes_on = match framer.feed(piece, &mut items) {
@@ -60,25 +63,31 @@ impl Feeding {
         &mut self,
         alloc: Global,
         framer: &mut Framer,
-        reader: &mut R,
+        reader: &mut Input<R>,
         archive: &mut Archive,
-        out: &mut W,
+        out: &mut Output<W>,
     ) -> Result<(), FeedStop>
-        ensures read { (c limit : ℕ) (h : History) (bytes : List ℕ) (was : Option (List ℕ)) → Reads c limit h bytes framer.old self.old archive.old was (W.contents out.old) → OnOk result ((more : List ℕ) × MayGive (R.remaining reader.old) more × IsReadOut c limit h (bytes ++ more) framer.new self.new archive.new was (W.contents out.new)) }
-        ensures given_up { (c limit : ℕ) (h : History) (bytes : List ℕ) (was : Option (List ℕ)) → Reads c limit h bytes framer.old self.old archive.old was (W.contents out.old) → IfErr result (λ why. (more : List ℕ) × MayGive (R.remaining reader.old) more × StopsWithin c limit h (bytes ++ more) archive.new was (W.contents out.new) why) }
+        ensures read { (c limit : ℕ) (h : History) (bytes : List ℕ) (was : OutputState) → Reads c limit h bytes framer.old self.old archive.old was out.old → OnOk result ((more : List ℕ) × MayGive reader.old.left more × IsReadOut c limit h (bytes ++ more) framer.new self.new archive.new was out.new) }
+        ensures given_up { (c limit : ℕ) (h : History) (bytes : List ℕ) (was : OutputState) → Reads c limit h bytes framer.old self.old archive.old was out.old → IfErr result (λ why. (more : List ℕ) × MayGive reader.old.left more × StopsWithin c limit h (bytes ++ more) archive.new was out.new why) }
+        ensures outside { result ≡ Err FeedStop.Outside → (reader.new.failed ≡ true) ⊎ (out.new.failed ≡ true) }
     {
         let mut piece = [0u8; PIECE];
         for _ in 0..u64::MAX {
-            let Ok(count) = reader.read(&mut piece) else {
+            let Some(count) = reader.read(&mut piece) else {
                 return Err(FeedStop::Outside);
             };
             if count == 0 {
                 return Ok(());
             }
-            if !self.take_piece(alloc, framer, &piece[..count], archive, out)? {
+            let goes_on = self.take_piece(alloc, framer, &piece[..count], archive, out)?;
+            if out.has_failed() {
+                return Err(FeedStop::Outside);
+            }
+            if !goes_on {
                 return Ok(());
             }
         }
+        reader.give_up();
         Err(FeedStop::Outside)
     }
 }
@@ -95,22 +104,20 @@ fn cut_of(framer: &Framer) -> Option<FeedCut>
 }
 
 /// Writes why a feed of so many records is cut short, if it is.
-fn tell_cut<W: Write>(cut: &Option<FeedCut>, records: u64, out: &mut W) -> io::Result<()>
-    ensures told { OnOk result (Appends (W.contents out.old) (W.contents out.new) (cut_line cut.now records)) }
+fn tell_cut<W: Write>(cut: &Option<FeedCut>, records: u64, out: &mut Output<W>)
+    ensures told { Tells out.old out.new (cut_line cut.now records) }
 {
-    match cut {
-        None => Ok(()),
-        Some(why) => write_refused_record(out, &Refusal::from(*why), records),
+    if let Some(why) = cut {
+        write_refused_record(out, &Refusal::from(*why), records);
     }
 }
 
 /// Writes how a feed ended, and its counts.
-fn tell_end<W: Write>(cut: &Option<FeedCut>, counts: &FeedCounts, out: &mut W) -> io::Result<()>
-    ensures told { OnOk result (Appends (W.contents out.old) (W.contents out.new) (cut_line cut.now counts.now.records ++ counts_line counts.now)) }
+fn tell_end<W: Write>(cut: &Option<FeedCut>, counts: &FeedCounts, out: &mut Output<W>)
+    ensures told { Tells out.old out.new (cut_line cut.now counts.now.records ++ counts_line counts.now) }
 {
-    tell_cut(cut, counts.records, out)?;
-    write_counts(out, counts)?;
-    Ok(())
+    tell_cut(cut, counts.records, out);
+    write_counts(out, counts);
 }
 
 /// Takes a feed in to its end. Answers why it is cut short, if it is.
@@ -119,42 +126,56 @@ fn take_in<R: Read, W: Write>(
     archive: &mut Archive,
     collector: u8,
     limit: usize,
-    reader: &mut R,
-    out: &mut W,
+    reader: &mut Input<R>,
+    out: &mut Output<W>,
 ) -> Result<Option<FeedCut>, FeedStop>
-    ensures fed { (h : History) → Carries archive.old h → IfOk result (λ cut. (bytes : List ℕ) × MayGive (R.remaining reader.old) bytes × IsFed collector limit h bytes cut archive.new (W.contents out.old) (W.contents out.new)) }
-    ensures given_up { (h : History) → Carries archive.old h → IfErr result (λ why. (bytes : List ℕ) × MayGive (R.remaining reader.old) bytes × StopsWithin collector limit h bytes archive.new (W.contents out.old) (W.contents out.new) why) }
+    ensures fed { (h : History) → Carries archive.old h → IfOk result (λ cut. (bytes : List ℕ) × MayGive reader.old.left bytes × IsFed collector limit h bytes cut archive.new out.old out.new) }
+    ensures given_up { (h : History) → Carries archive.old h → IfErr result (λ why. (bytes : List ℕ) × MayGive reader.old.left bytes × StopsWithin collector limit h bytes archive.new out.old out.new why) }
+    ensures outside { result ≡ Err FeedStop.Outside → (reader.new.failed ≡ true) ⊎ (out.new.failed ≡ true) }
 {
     let mut feeding = Feeding::new(alloc, collector, limit);
     let mut framer = Framer::new(alloc);
     feeding.take_stream(alloc, &mut framer, reader, archive, out)?;
     feeding.offer_rest(archive, out)?;
     let cut = cut_of(&framer);
-    tell_end(&cut, &feeding.counts, out)?;
+    tell_end(&cut, &feeding.counts, out);
     Ok(cut)
+}
+
+/// How a feed that ended so is answered once its lines are written: where not all of them could be, it is given up for
+/// the writer.
+fn as_told<W: Write>(end: End, out: &Output<W>) -> End
+    ensures told { result ≡ as_told out.now.failed end }
+    ensures outside { result ≡ End.Refused FeedStop.Outside → (out.now.failed ≡ true) ⊎ (end ≡ End.Refused FeedStop.Outside) }
+{
+    if out.has_failed() {
+        return End::Refused(FeedStop::Outside);
+    }
+    end
 }
 
 /// Takes a feed of a collector in. Its admissions are offered in batches, as soon as one has `limit` admissions, before
 /// it would have more than [`archive::MAX_BATCH_LEN`] octets, and at the end. A refused record writes its line when it
 /// is met, each batch what became of it, and the end the counts of the feed; where the feed ends inside a record or
-/// at a Length above the limit, a line before them. Another refusal writes its line and ends the feed; where that line
-/// can't be written, the refusal is `Outside`.
+/// at a Length above the limit, a line before them. Another refusal writes its line and ends the feed. Where not all
+/// lines can be written, the answer is that the feed is given up for the writer, `Outside`.
 pub fn feed<R: Read, W: Write>(
     alloc: Global,
     archive: &mut Archive,
     collector: u8,
     limit: usize,
-    reader: &mut R,
-    out: &mut W,
+    reader: &mut Input<R>,
+    out: &mut Output<W>,
 ) -> End
-    ensures ended { (h : History) → Carries archive.old h → (bytes : List ℕ) × MayGive (R.remaining reader.old) bytes × IsEnd collector limit h bytes result archive.new (W.contents out.old) (W.contents out.new) }
+    ensures ended { (h : History) → Carries archive.old h → (bytes : List ℕ) × MayGive reader.old.left bytes × (end : End) × (result ≡ as_told out.new.failed end) × IsEnd collector limit h bytes end archive.new out.old out.new }
+    ensures outside { result ≡ End.Refused FeedStop.Outside → (reader.new.failed ≡ true) ⊎ (out.new.failed ≡ true) }
 {
     match take_in(alloc, archive, collector, limit, reader, out) {
-        Ok(None) => End::Well,
-        Ok(Some(_)) => End::Cut,
-        Err(why) => match write_refusal(out, &Refusal::from(why)) {
-            Ok(()) => End::Refused(why),
-            Err(_) => End::Refused(FeedStop::Outside),
-        },
+        Ok(None) => as_told(End::Well, out),
+        Ok(Some(_)) => as_told(End::Cut, out),
+        Err(why) => {
+            write_refusal(out, &Refusal::from(why));
+            as_told(End::Refused(why), out)
+        }
     }
 }

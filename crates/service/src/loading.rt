@@ -1,12 +1,8 @@
 //! Files that are loaded: fed, marked and applied.
 
 ghost use Rattle.std.specs.Prelude.{◌≡◌, ℕ, List, OnOk, OnErr, IfErr};
-ghost use Rattle.std.specs.Io.KnownBytes.{Appends};
-ghost use Rattle.route_meaning.specs.History.{History, settled};
+ghost use Rattle.route_meaning.specs.History.{History};
 ghost use Rattle.archive.specs.Carries.{Carries};
-ghost use Rattle.service.specs.FeedLines.{settled_line};
-ghost use Rattle.service.specs.Refusals.{error_line};
-ghost use Rattle.service.specs.Faults.{of_load};
 ghost use Rattle.service.specs.Feeds.{MayGive};
 ghost use Rattle.service.specs.Loads.{IsLoadEnd, IsSettled, HasIntakes, marked_if};
 ghost use Rattle.service.specs.inner.Loading.{IsUnsettled, mark_after, status_after};
@@ -14,8 +10,9 @@ ghost use Rattle.service.specs.inner.Loading.{IsUnsettled, mark_after, status_af
 use crate::faults::LoadStop;
 use crate::feed_lines::write_settled;
 use crate::intake::{End, feed};
+use crate::output::{Input, Output};
 use crate::refusal::{Refusal, write_error};
-use crate::status::Status;
+use crate::status::{Status, told};
 use archive::{Archive, Flush, MarkRefusal, Step};
 use route_model::Mark;
 use std::alloc::{AllocError, Global};
@@ -105,54 +102,31 @@ fn status_after(end: End) -> Status
     }
 }
 
-/// Tells what ended a load outside its feed.
-fn tell_stop<E: Write>(err: &mut E, why: LoadStop) -> Status
-    ensures undone { result ≡ Status.Done → ⊥ }
-    ensures told { result ≡ Status.Refused → Appends (E.contents err.old) (E.contents err.new) (error_line (of_load why)) }
-{
-    match write_error(err, &Refusal::from(why)) {
-        Ok(()) => Status::Refused,
-        Err(_) => Status::Failed,
-    }
-}
-
-/// Writes the settled watermark at the end of a load of this status.
-fn tell_settled<W: Write, E: Write>(
-    archive: &Archive,
-    status: Status,
-    out: &mut W,
-    err: &mut E,
-) -> Status
-    ensures same { (result ≡ Status.Failed → ⊥) → result ≡ status }
-    ensures told { (h : History) → Carries archive.now h → (result ≡ Status.Failed → ⊥) → Appends (W.contents out.old) (W.contents out.new) (settled_line (settled h)) }
-    ensures quiet { (result ≡ Status.Failed → ⊥) → E.contents err.new ≡ E.contents err.old }
-{
-    if write_settled(out, archive.settled()).is_err() {
-        // There is no one left to tell where this fails too.
-        let _ = write_error(err, &Refusal::Outside);
-        return Status::Failed;
-    }
-    status
-}
-
 /// Loads a file: takes it in as a feed, sets the mark where the feed ended well, applies what may be applied, flushes,
 /// and writes the settled watermark. A refusal outside the feed is told to `err` and ends the load.
 pub fn load<R: Read, W: Write, E: Write>(
     alloc: Global,
     archive: &mut Archive,
     how: LoadSettings,
-    reader: &mut R,
-    out: &mut W,
-    err: &mut E,
+    reader: &mut Input<R>,
+    out: &mut Output<W>,
+    err: &mut Output<E>,
 ) -> Status
-    ensures ended { (h : History) → Carries archive.old h → (bytes : List ℕ) × MayGive (R.remaining reader.old) bytes × IsLoadEnd how.collector how.limit how.mark h bytes result archive.new (W.contents out.old) (W.contents out.new) (E.contents err.old) (E.contents err.new) }
+    ensures ended { (h : History) → Carries archive.old h → (bytes : List ℕ) × MayGive reader.old.left bytes × IsLoadEnd how.collector how.limit how.mark h bytes result archive.new out.old out.new err.old err.new }
 {
     if how.collector >= archive.collectors() {
-        return tell_stop(err, LoadStop::NoCollector);
+        write_error(err, &Refusal::from(LoadStop::NoCollector));
+        return told(Status::Refused, out, err);
     }
     let end = feed(alloc, archive, how.collector, how.limit, reader, out);
     match settle(archive, how.collector, mark_after(end, how.mark)) {
-        Ok(()) => tell_settled(archive, status_after(end), out, err),
-        Err(why) => tell_stop(err, why),
+        Ok(()) => {
+            write_settled(out, archive.settled());
+            told(status_after(end), out, err)
+        }
+        Err(why) => {
+            write_error(err, &Refusal::from(why));
+            told(Status::Refused, out, err)
+        }
     }
 }

@@ -1,11 +1,11 @@
 //! Why something isn't done, by number and name.
 
-ghost use Rattle.std.specs.Prelude.{◌≡◌, OnOk};
-ghost use Rattle.std.specs.Io.KnownBytes.{Appends};
-ghost use Rattle.service.specs.Refusals.{number_of, name_of, refusal_line, refused_record_line, error_line};
+ghost use Rattle.std.specs.Prelude.{◌≡◌};
+ghost use Rattle.service.specs.Outputs.{Tells};
+ghost use Rattle.service.specs.Refusals.{number_of, name_of, refusal_head, refusal_line, told_of, refused_record_line, error_line};
 
+use crate::output::Output;
 use route_model::Mark;
-use std::io;
 use std::io::Write;
 use thiserror::Error;
 
@@ -112,38 +112,55 @@ impl Refusal {
     }
 }
 
-/// Writes the line of a refusal: `X|NUMBER|NAME`, and behind `AboveWatermark` a bar and the watermark. No memory is
-/// needed. After an error nothing is said of `out`.
-pub fn write_refusal<W: Write>(out: &mut W, refusal: &Refusal) -> io::Result<()>
-    ensures line { OnOk result (Appends (W.contents out.old) (W.contents out.new) (refusal_line refusal.now)) }
+/// Writes `X`, the number and the name.
+fn write_head<W: Write>(out: &mut Output<W>, refusal: &Refusal)
+    ensures head { Tells out.old out.new (refusal_head refusal.now) }
 {
-    let number = refusal.number();
-    let name = refusal.name();
-    match refusal {
-        Refusal::AboveWatermark(settled) => {
-            let seconds = settled.seconds();
-            writeln!(out, "X|{number}|{name}|{seconds}")
-        }
-        _ => writeln!(out, "X|{number}|{name}"),
-    }
+    out.text("X|");
+    out.number(u64::from(refusal.number()));
+    out.text("|");
+    out.text(refusal.name());
+}
+
+/// Writes what the line of a refusal tells behind its name.
+fn write_told<W: Write>(out: &mut Output<W>, refusal: &Refusal)
+    ensures told { Tells out.old out.new (told_of refusal.now) }
+{
+    let Refusal::AboveWatermark(settled) = refusal else {
+        return;
+    };
+    out.text("|");
+    out.number(settled.seconds());
+}
+
+/// Writes the line of a refusal: `X|NUMBER|NAME`, and behind `AboveWatermark` a bar and the watermark. No memory is
+/// needed.
+pub fn write_refusal<W: Write>(out: &mut Output<W>, refusal: &Refusal)
+    ensures line { Tells out.old out.new (refusal_line refusal.now) }
+{
+    write_head(out, refusal);
+    write_told(out, refusal);
+    out.text("\n");
 }
 
 /// Writes the line of a refused record: `X|NUMBER|NAME|PLACE`, where the first record of a feed has the place 0. No
-/// memory is needed. After an error nothing is said of `out`.
-pub fn write_refused_record<W: Write>(out: &mut W, refusal: &Refusal, place: u64) -> io::Result<()>
-    ensures line { OnOk result (Appends (W.contents out.old) (W.contents out.new) (refused_record_line refusal.now place)) }
+/// memory is needed.
+pub fn write_refused_record<W: Write>(out: &mut Output<W>, refusal: &Refusal, place: u64)
+    ensures line { Tells out.old out.new (refused_record_line refusal.now place) }
 {
-    let number = refusal.number();
-    let name = refusal.name();
-    writeln!(out, "X|{number}|{name}|{place}")
+    write_head(out, refusal);
+    out.text("|");
+    out.number(place);
+    out.text("\n");
 }
 
 /// Writes a refusal that has no other line, as standard error shows it: `rha: NUMBER NAME`. No memory is needed.
-/// After an error nothing is said of `out`.
-pub fn write_error<W: Write>(out: &mut W, refusal: &Refusal) -> io::Result<()>
-    ensures line { OnOk result (Appends (W.contents out.old) (W.contents out.new) (error_line refusal.now)) }
+pub fn write_error<W: Write>(out: &mut Output<W>, refusal: &Refusal)
+    ensures line { Tells out.old out.new (error_line refusal.now) }
 {
-    let number = refusal.number();
-    let name = refusal.name();
-    writeln!(out, "rha: {number} {name}")
+    out.text("rha: ");
+    out.number(u64::from(refusal.number()));
+    out.text(" ");
+    out.text(refusal.name());
+    out.text("\n");
 }

@@ -1,6 +1,6 @@
 -- A feed under way. Contracts of private functions alone cite this file.
 use Rattle.std.specs.Prelude.{◌≡◌, ◌≤◌, ℕ, map, length, Bool, true, false, List, [], ◌++◌, Option, Result}
-use Rattle.std.specs.Io.KnownBytes.{Appends}
+use Rattle.service.specs.Outputs.{OutputState, Tells}
 use Rattle.route_model.specs.Admission.{Admitted}
 use Rattle.route_meaning.specs.Holds.{admitted_time}
 use Rattle.route_meaning.specs.History.{History}
@@ -32,9 +32,9 @@ of_admit admits.BatchTooLarge = stops.OutOfMemory
 of_admit admits.OutOfMemory = stops.OutOfMemory
 
 -- these turns were made for a collector of an archive that carried h
-pub record HasDone (c : ℕ) (h : History) (turns : List Turn) (counts : FeedCounts) (archive : History) (was now : Option (List ℕ)) : Type 0 where
+pub record HasDone (c : ℕ) (h : History) (turns : List Turn) (counts : FeedCounts) (archive : History) (was now : OutputState) : Type 0 where
   pub carried : Carries archive (given h c (offered turns))
-  pub wrote : Appends was now (turns_text (intake_in h.intakes c) turns)
+  pub wrote : Tells was now (turns_text (intake_in h.intakes c) turns)
   pub admitted : counts.admitted ≡ capped (length (admitted_of (intake_in h.intakes c) (offered turns)))
   pub late : counts.late ≡ capped (length (lates admitted_time (intake_in h.intakes c).mark [] 0 (offered turns)))
   pub refused : counts.refused ≡ capped (refusals turns)
@@ -54,7 +54,7 @@ pub record IsCounted (feeding : Feeding) : Type 0 where
   pub fit : feeding.octets ≤ 262144
 
 -- the feed came behind these records
-pub record IsBehind (c limit : ℕ) (h : History) (records : List Told) (feeding : Feeding) (archive : History) (was now : Option (List ℕ)) : Type 0 where
+pub record IsBehind (c limit : ℕ) (h : History) (records : List Told) (feeding : Feeding) (archive : History) (was now : OutputState) : Type 0 where
   pub results : List (Result (Option Admitted) ResolveFault)
   pub collector : feeding.collector ≡ c
   pub limited : feeding.limit ≡ limit
@@ -68,7 +68,7 @@ pub record IsBehind (c limit : ℕ) (h : History) (records : List Told) (feeding
   pub skipped : feeding.counts.skipped ≡ capped (skips records)
 
 -- the octets are whole records, behind which the feed came, and this rest
-pub record Reads (c limit : ℕ) (h : History) (bytes rest : List ℕ) (feeding : Feeding) (archive : History) (was now : Option (List ℕ)) : Type 0 where
+pub record Reads (c limit : ℕ) (h : History) (bytes rest : List ℕ) (feeding : Feeding) (archive : History) (was now : OutputState) : Type 0 where
   pub items : List Item
   pub framed : GainsFrames bytes rest [] items
   pub behind : IsBehind c limit h (map told items) feeding archive was now
@@ -79,27 +79,27 @@ IsHeld held rest true = held ≡ rest
 IsHeld held rest false = (more : List ℕ) × (rest ≡ held ++ more) × Over held
 
 -- the octets were read as far as the feed goes on
-pub record IsRead (c limit : ℕ) (h : History) (bytes held : List ℕ) (goes_on : Bool) (feeding : Feeding) (archive : History) (was now : Option (List ℕ)) : Type 0 where
+pub record IsRead (c limit : ℕ) (h : History) (bytes held : List ℕ) (goes_on : Bool) (feeding : Feeding) (archive : History) (was now : OutputState) : Type 0 where
   pub rest : List ℕ
   pub holds : IsHeld held rest goes_on
   pub reads : Reads c limit h bytes rest feeding archive was now
 
 -- all the octets were read, or those behind a Length above the limit are left
-abbrev pub IsReadOut : ℕ → ℕ → History → List ℕ → List ℕ → Feeding → History → Option (List ℕ) → Option (List ℕ) → Type 0
+abbrev pub IsReadOut : ℕ → ℕ → History → List ℕ → List ℕ → Feeding → History → OutputState → OutputState → Type 0
 IsReadOut c limit h bytes held feeding archive was now = (goes_on : Bool) × IsRead c limit h bytes held goes_on feeding archive was now
 
 -- Some of these turns were made and written when the feed was given up for this, which isn't written yet.
-pub record GivesUp (c : ℕ) (h : History) (turns : List Turn) (archive : History) (was now : Option (List ℕ)) (why : FeedStop) : Type 0 where
+pub record GivesUp (c : ℕ) (h : History) (turns : List Turn) (archive : History) (was now : OutputState) (why : FeedStop) : Type 0 where
   pub made : List Turn
   pub unmade : List Turn
   pub parts : turns ≡ made ++ unmade
   pub carried : Carries archive (given h c (offered made))
   pub reason : IsReason c h made unmade why
-  pub wrote : (why ≡ stops.Outside → ⊥) → Appends was now (turns_text (intake_in h.intakes c) made)
+  pub wrote : Tells was now (turns_text (intake_in h.intakes c) made)
   pub there : (offered made ≡ [] → ⊥) → IsCollector h c
 
 -- the feed was given up at one of the items that came behind these records, or before the first of them
-pub record StopsAmong (c limit : ℕ) (h : History) (records : List Told) (items : List Item) (archive : History) (was now : Option (List ℕ)) (why : FeedStop) : Type 0 where
+pub record StopsAmong (c limit : ℕ) (h : History) (records : List Told) (items : List Item) (archive : History) (was now : OutputState) (why : FeedStop) : Type 0 where
   pub front : List Item
   pub back : List Item
   pub parts : items ≡ front ++ back
@@ -108,7 +108,7 @@ pub record StopsAmong (c limit : ℕ) (h : History) (records : List Told) (items
   pub gives_up : GivesUp c h (turns_for limit 0 [] results) archive was now why
 
 -- the feed was given up among the whole records of the octets
-pub record StopsWithin (c limit : ℕ) (h : History) (bytes : List ℕ) (archive : History) (was now : Option (List ℕ)) (why : FeedStop) : Type 0 where
+pub record StopsWithin (c limit : ℕ) (h : History) (bytes : List ℕ) (archive : History) (was now : OutputState) (why : FeedStop) : Type 0 where
   pub seen : List ℕ
   pub later : List ℕ
   pub parts : bytes ≡ seen ++ later

@@ -1,5 +1,5 @@
 -- What a load does behind its feed. Contracts of private functions alone cite this file.
-use Rattle.std.specs.Prelude.{◌≡◌, ℕ, Option, Some, None}
+use Rattle.std.specs.Prelude.{◌≡◌, Bool, true, false, ℕ, Option, Some, None}
 use Rattle.route_meaning.specs.History.{History}
 use Rattle.archive.specs.Carries.{Carries}
 use Rattle.archive.specs.Steps.{IsCollector, IsMarkAbove}
@@ -28,3 +28,9 @@ abbrev pub IsUnsettled : ℕ → Option ℕ → History → History → LoadStop
 IsUnsettled c mark h archive stops.NoCollector = (IsCollector h c → ⊥) × Carries archive h
 IsUnsettled c mark h archive stops.MarkBack = (lower : ℕ) × (mark ≡ Some lower) × IsMarkAbove h c lower × Carries archive h
 IsUnsettled c mark h archive stops.OutOfMemory = HasIntakes (marked_if c mark h).intakes archive
+
+-- the status that is told where a write to standard output failed, or one to standard error
+abbrev pub told_as : Bool → Bool → Status → Status
+told_as true err status = statuses.Failed
+told_as false true status = statuses.Failed
+told_as false false status = status

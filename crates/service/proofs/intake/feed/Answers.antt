@@ -1,26 +1,40 @@
-use Rattle.service.proofs.GivingUp.{given_up_told, given_up_untold}
+use Rattle.std.proofs.Common.{◌≡◌, Result, Err, Option, true, inl, inr, ap, sym, ◌∙◌, ⊎_elim}
+use Rattle.service.specs.Outputs.{OutputState, Tells}
+use Rattle.service.specs.declared.intake.End.{End}
+use Rattle.service.specs.declared.intake.End.TheVariants.{Well, Cut, Refused}
+use Rattle.service.specs.declared.faults.FeedStop.{FeedStop}
+use Rattle.service.specs.declared.faults.FeedStop.TheVariants.{Outside}
+use Rattle.service.proofs.GivingUp.{given_up_told}
 use Rattle.service.proofs.intake.feed.Goals as goal
 
+same_stop : (why : FeedStop) → ◌≡◌ {A = End} (Refused why) (Refused Outside) → why ≡ Outside
+same_stop why e = cc
+
+not_well : ◌≡◌ {A = End} Well (Refused Outside) → ⊥
+not_well e = absurd cc
+
+not_cut : ◌≡◌ {A = End} Cut (Refused Outside) → ⊥
+not_cut e = absurd cc
+
 pub returns-in-Ok-None : goal.returns-in-Ok-None
-returns-in-Ok-None g c = record { ended = λ h carried. rw c.in-Ok-None.field-0-is at (c.in-Ok-None.ensures.fed h carried) }
+returns-in-Ok-None g c = record {
+  ended = λ h carried. let fed = rw c.in-Ok-None.field-0-is at (c.in-Ok-None.ensures.fed h carried) in (fed.0, fed.1, Well, c.as_told.ensures.told, fed.2);
+  outside = λ e. ⊎_elim (λ failed. inr failed) (λ same. absurd (not_well same)) (c.as_told.ensures.outside e);
+}
 
 pub returns-in-Ok-Some : goal.returns-in-Ok-Some
 returns-in-Ok-Some g c = record {
-  ended = λ h carried.
-      let fed = rw c.in-Ok-Some.field-0-is at (c.in-Ok-Some.ensures.fed h carried) in
-      (fed.0, fed.1, (_, fed.2));
+  ended = λ h carried. let fed = rw c.in-Ok-Some.field-0-is at (c.in-Ok-Some.ensures.fed h carried) in (fed.0, fed.1, Cut, c.as_told-in-Ok-Some.ensures.told, (_, fed.2));
+  outside = λ e. ⊎_elim (λ failed. inr failed) (λ same. absurd (not_cut same)) (c.as_told-in-Ok-Some.ensures.outside e);
 }
 
-pub returns-in-Ok : goal.returns-in-Ok
-returns-in-Ok g c = record {
+pub returns-in-Err : goal.returns-in-Err
+returns-in-Err g c = record {
   ended = λ h carried.
       let up = c.in-Err.ensures.given_up h carried in
-      (up.0, up.1, given_up_told c.args.collector c.args.limit h up.0 c.take_in.new.archive _ _ _ c.in-Err.why up.2 (rw c.from.ensures at c.in-Ok.ensures.line));
-}
-
-pub returns-in-Err-write_refusal : goal.returns-in-Err-write_refusal
-returns-in-Err-write_refusal g c = record {
-  ended = λ h carried.
-      let up = c.in-Err.ensures.given_up h carried in
-      (up.0, up.1, given_up_untold c.args.collector c.args.limit h up.0 c.take_in.new.archive _ (g.W.Write.contents c.take_in.new.out) _ c.in-Err.why up.2);
+      (up.0, up.1, Refused c.in-Err.why, c.as_told-in-Err.ensures.told, given_up_told c.args.collector c.args.limit h up.0 c.take_in.new.archive _ _ _ c.in-Err.why up.2 (rw c.from.ensures at c.write_refusal.ensures.line));
+  outside = λ e.
+      ⊎_elim (λ failed. inr failed)
+      (λ same. ⊎_elim (λ failed. inl failed) (λ failed. inr (c.write_refusal.ensures.line.stays failed).0) (c.in-Err.ensures.outside (ap Err (same_stop c.in-Err.why same))))
+      (c.as_told-in-Err.ensures.outside e);
 }

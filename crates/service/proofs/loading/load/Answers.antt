@@ -1,9 +1,15 @@
-use Rattle.std.proofs.Common.{ℕ, Option, arith, subst, ◌∙◌}
+use Rattle.std.proofs.Common.{◌≡◌, ◌∙◌, ℕ, List, Option, arith, subst, ap}
 use Rattle.route_meaning.specs.History.{History}
 use Rattle.archive.specs.Carries.{Carries}
 use Rattle.archive.specs.Steps.{IsCollector}
+use Rattle.service.specs.Faults.{of_load}
+use Rattle.service.specs.Feeds.{as_told}
 use Rattle.service.specs.Loads.{IsSettled, marked_if}
-use Rattle.service.specs.inner.Loading.{IsUnsettled}
+use Rattle.service.specs.Outputs.{Tells}
+use Rattle.service.specs.Refusals.{error_line}
+use Rattle.service.specs.FeedLines.{settled_line}
+use Rattle.service.specs.declared.intake.End.{End}
+use Rattle.service.specs.inner.Loading.{IsUnsettled, mark_after, status_after, told_as}
 use Rattle.service.proofs.Streams.{some_given}
 use Rattle.service.proofs.Unloading.{load_ends, load_stops, load_nowhere}
 use Rattle.service.proofs.loading.load.Goals as goal
@@ -14,8 +20,12 @@ returns-then-how-collectors g c = record {
       let how = c.args.how in
       let count = c.collectors.ensures.count h carried in
       let few = c.if-how-collectors.true in
-      let given = some_given (g.R.Read.remaining c.args.reader.now) in
-      (given.0, given.1, load_nowhere c.tell_stop.result how.collector how.limit how.mark h given.0 _ _ _ _ (λ here. absurd (omega (arith, here, count, few))) carried c.tell_stop.ensures.undone c.tell_stop.ensures.told);
+      let given = some_given c.args.reader.now.left in (
+        given.0,
+        given.1,
+        load_nowhere c.told.result how.collector how.limit how.mark h given.0 c.args.archive.now c.args.out.now c.args.err.now c.write_error.new.out c.told.new.err (λ here. absurd (omega (arith, here, count, few))) carried c.told.ensures.status c.told.ensures.quiet
+            (rw c.from.ensures at c.write_error.ensures.line),
+      );
 }
 
 pub returns-in-Ok : goal.returns-in-Ok
@@ -28,9 +38,11 @@ returns-in-Ok g c = record {
       let fed = c.feed-end.ensures.ended h carried in (
         fed.0,
         fed.1,
-        load_ends c.feed-end.result c.tell_settled.result how.collector how.limit how.mark h fed.0 c.feed-end.new.archive c.settle.new.archive _ _ _ _ _ here fed.2
-            (subst (λ (m : Option ℕ). (past : History) → Carries c.feed-end.new.archive past → IsSettled (marked_if how.collector m past).intakes c.settle.new.archive) c.mark_after.ensures.mark c.in-Ok.ensures.settled)
-            (λ written. c.tell_settled.ensures.same written ∙ c.status_after.ensures.status) c.tell_settled.ensures.told c.tell_settled.ensures.quiet,
+        load_ends fed.2 c.told-in-Ok.result how.collector how.limit how.mark h fed.0 c.feed-end.new.archive c.settle.new.archive c.args.out.now c.feed-end.new.out c.write_settled.new.out c.args.err.now c.told-in-Ok.new.err here fed.4
+            (subst (λ (m : Option ℕ). (past : History) → Carries c.feed-end.new.archive past → IsSettled (marked_if how.collector m past).intakes c.settle.new.archive)
+            (c.mark_after.ensures.mark ∙ ap (λ (e : End). mark_after e how.mark) fed.3) c.in-Ok.ensures.settled)
+            (λ past stands. subst (λ (n : ℕ). Tells c.feed-end.new.out c.write_settled.new.out (settled_line n)) (c.settled.ensures.settled past stands) c.write_settled.ensures.line)
+            (c.told-in-Ok.ensures.status ∙ ap (told_as c.write_settled.new.out.failed c.args.err.now.failed) (c.status_after.ensures.status ∙ ap status_after fed.3)) c.told-in-Ok.ensures.quiet,
       );
 }
 
@@ -44,8 +56,9 @@ returns-in-Err g c = record {
       let fed = c.feed-end.ensures.ended h carried in (
         fed.0,
         fed.1,
-        load_stops c.feed-end.result c.tell_stop-in-Err.result how.collector how.limit how.mark h fed.0 c.feed-end.new.archive c.settle.new.archive _ _ _ _ c.in-Err.why here fed.2
-            (subst (λ (m : Option ℕ). (past : History) → Carries c.feed-end.new.archive past → IsUnsettled how.collector m past c.settle.new.archive c.in-Err.why) c.mark_after.ensures.mark c.in-Err.ensures.unsettled)
-            c.tell_stop-in-Err.ensures.undone c.tell_stop-in-Err.ensures.told,
+        load_stops fed.2 c.told-in-Err.result how.collector how.limit how.mark h fed.0 c.feed-end.new.archive c.settle.new.archive c.args.out.now c.feed-end.new.out c.args.err.now c.write_error-in-Err.new.out c.told-in-Err.new.err c.in-Err.why here fed.4
+            (subst (λ (m : Option ℕ). (past : History) → Carries c.feed-end.new.archive past → IsUnsettled how.collector m past c.settle.new.archive c.in-Err.why)
+            (c.mark_after.ensures.mark ∙ ap (λ (e : End). mark_after e how.mark) fed.3) c.in-Err.ensures.unsettled)
+            c.told-in-Err.ensures.status c.told-in-Err.ensures.quiet (rw c.from-in-Err.ensures at c.write_error-in-Err.ensures.line),
       );
 }

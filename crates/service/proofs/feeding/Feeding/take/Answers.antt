@@ -23,6 +23,7 @@ returns-in-Ok-Some g c = record {
       (c.gather.ensures.done k h (turns_for limit 0 [] b.results) was (length b.results) (record { octets = b.counted.octets; fit = b.counted.fit }) b.collector
       (done_counted k h (turns_for limit 0 [] b.results) c.args.self.now.counts c.count_record.new.self c.args.archive.now was _ counts.admitted counts.late counts.refused b.done))
       (same.records ∙ counts.records) (same.skipped ∙ counts.skipped);
+  inside = c.gather.ensures.inside;
   given_up = λ k limit h records was b.
       let counts = c.count_record.ensures in
       let means = rw c.in-Ok-Some.field-0-is at c.in-Ok-Some.ensures.gives in
@@ -44,6 +45,7 @@ returns-in-Ok-None g c = record {
       (done_no_more k h (turns_for limit 0 [] b.results) c.count_record.new.self c.args.archive.now was _
       (done_counted k h (turns_for limit 0 [] b.results) c.args.self.now.counts c.count_record.new.self c.args.archive.now was _ counts.admitted counts.late counts.refused b.done))
       counts.records counts.skipped;
+  inside = λ e. absurd cc;
   given_up = λ k limit h records was b. tt;
 }
 
@@ -61,6 +63,7 @@ returns-in-Err g c = record {
       (c.refuse.ensures.done k h c.args.archive.now (turns_for limit 0 [] b.results) was (length b.results) (place_of k limit h records c.args.self.now c.args.archive.now was _ b)
       (done_counted k h (turns_for limit 0 [] b.results) c.args.self.now.counts c.count_record.new.self c.args.archive.now was _ counts.admitted counts.late counts.refused b.done))
       (same.records ∙ counts.records) (same.skipped ∙ counts.skipped);
+  inside = c.refuse.ensures.inside;
   given_up = λ k limit h records was b.
       let counts = c.count_record.ensures in
       stops_before c.refuse.result k limit h records c.args.item.now c.args.self.now c.args.archive.now c.args.archive.now was _ _ b

@@ -9,18 +9,19 @@ use Rattle.service.proofs.feeding.Feeding.take_all.Goals as goal
 
 pub loop-item-init : goal.loop-item-init
 loop-item-init g c = λ k limit h records was b.
-    subst (λ (t : List Told). IsBehind k limit h t c.args.self.now c.args.archive.now was (g.W.Write.contents c.args.out.now)) (sym (append-nil records)) b
+    subst (λ (t : List Told). IsBehind k limit h t c.args.self.now c.args.archive.now was c.args.out.now) (sym (append-nil records)) b
 
 pub loop-item-preserved : goal.loop-item-preserved
 loop-item-preserved g c = λ k limit h records was b.
-    subst (λ (t : List Told). IsBehind k limit h t c.take.new.self c.take.new.archive was (g.W.Write.contents c.take.new.out)) (told_more c.args.items.now c.loop-item.item-index c.item-item.result records (omega arith) c.item-item.is)
+    subst (λ (t : List Told). IsBehind k limit h t c.take.new.self c.take.new.archive was c.take.new.out) (told_more c.args.items.now c.loop-item.item-index c.item-item.result records (omega arith) c.item-item.is)
     (c.in_ok-take.ensures.behind k limit h _ was (c.loop-item.invariant k limit h records was b))
 
 pub returns : goal.returns
 returns g c = record {
   behind = λ k limit h records was b.
-      subst (λ (t : List _). IsBehind k limit h (records ++ map told t) c.loop-item.self c.loop-item.archive was (g.W.Write.contents c.loop-item.out)) (take_all c.loop-item.item-index c.args.items.now (omega arith))
+      subst (λ (t : List _). IsBehind k limit h (records ++ map told t) c.loop-item.self c.loop-item.archive was c.loop-item.out) (take_all c.loop-item.item-index c.args.items.now (omega arith))
       (c.loop-item.invariant k limit h records was b);
+  inside = λ e. absurd cc;
   given_up = λ k limit h records was b. tt;
 }
 

@@ -1,3 +1,4 @@
+use Rattle.service.specs.Outputs.{OutputState}
 use Rattle.std.proofs.Common.{◌++◌, ℕ, List, Option, map, take}
 use Rattle.route_meaning.specs.History.{History}
 use Rattle.mrt_records.specs.Values.{Told, told}
@@ -6,5 +7,5 @@ use Rattle.service.proofs.feeding.Feeding.take_all.Given as goal
 
 abbrev pub invariant-loop-item : goal.invariant-loop-item
 invariant-loop-item g l =
-    (c limit : ℕ) (h : History) (records : List Told) (was : Option (List ℕ)) → IsBehind c limit h records l.initial.self l.initial.archive was (g.W.Write.contents l.initial.out)
-    → IsBehind c limit h (records ++ map told (take l.item-index l.items)) l.self l.archive was (g.W.Write.contents l.out)
+    (c limit : ℕ) (h : History) (records : List Told) (was : OutputState) → IsBehind c limit h records l.initial.self l.initial.archive was l.initial.out
+    → IsBehind c limit h (records ++ map told (take l.item-index l.items)) l.self l.archive was l.out

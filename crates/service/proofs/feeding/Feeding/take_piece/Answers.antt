@@ -19,12 +19,14 @@ returns g c = record {
             piece_stops k limit h bytes _ c.args.piece.now _ _ _ _ _ was _ _ c.new-items.result.items c.feed.new.out.items c.deref.result.now _ w.goes_on-is c.new-items.ensures.items c.deref.ensures.value
             (rw w.in-Err-TooLong.field-0-is at w.in-Err-TooLong.ensures.fed) (λ records b. c.in_ok-take_all.ensures.behind k limit h records was b) r
       ];
+  inside = λ e. absurd cc;
   given_up = λ k limit h bytes was r. tt;
 }
 
 pub returns-in-Err : goal.returns-in-Err
 returns-in-Err g c = record {
   read = λ k limit h bytes was r. tt;
+  inside = λ e. absurd cc;
   given_up = λ k limit h bytes was r.
       within_more k limit h bytes c.args.piece.now c.args.archive.now was _ stops.OutOfMemory (stops_behind k limit h bytes c.args.framer.now c.args.self.now c.args.archive.now was _ stops.OutOfMemory (λ made. tt) r);
 }

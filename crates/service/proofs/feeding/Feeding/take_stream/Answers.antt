@@ -1,7 +1,7 @@
-use Rattle.std.proofs.Common.{ℕ, ◌<◌, refl, subst, take, length, arith}
+use Rattle.std.proofs.Common.{ℕ, ◌<◌, ◌≡◌, ◌∙◌, Some, refl, ap, subst, take, length, arith, inl, inr, sym}
 use Rattle.std.specs.Io.KnownBytes.{Consumes}
 use Rattle.std.proofs.lemmas.Result.{err_from_is_err_and}
-use Rattle.service.proofs.Streams.{taken_first, taken_none, taken_more, taken_stops, taken_gives, taken_piece_gives}
+use Rattle.service.proofs.Streams.{taken_first, taken_none, taken_more, taken_stops, taken_gives, taken_failed, taken_piece_gives}
 use Rattle.service.proofs.feeding.Feeding.take_stream.Goals as goal
 
 pub loop-init : goal.loop-init
@@ -13,31 +13,37 @@ loop-init g c = record {
 pub loop-preserved : goal.loop-preserved
 loop-preserved g c =
     record {
-      room = omega (arith, c.read.auto.buf, c.loop.invariant.room);
+      room = c.read.auto.piece ∙ c.loop.invariant.room;
       taken = λ k limit h bytes was r.
-          taken_more k limit h bytes _ _ _ _ _ _ _ _ _ _ was _ _ _ c.if-not-branch.false c.in-Ok.ensures.bytes.0 (c.loop.invariant.taken k limit h bytes was r)
-          (λ seen s. c.in_ok-take_piece.ensures.read k limit h seen was s);
+          taken_more k limit h bytes _ _ _ _ _ _ _ _ _ _ was _ _ _ c.if-not-goes_on.false c.in-Some.ensures.read (c.loop.invariant.taken k limit h bytes was r)
+          (λ seen s. c.in_ok-goes_on.ensures.read k limit h seen was s);
     }
 
 pub returns-then-count-eq0 : goal.returns-then-count-eq0
 returns-then-count-eq0 g c = record {
   read = λ k limit h bytes was r.
       let none = c.if-count-eq0.true in
-      let room : 0 < length c.read.new.buf = omega (arith, c.read.auto.buf, c.loop.invariant.room) in
+      let room : 0 < length c.loop.piece = omega (arith, c.loop.invariant.room) in
       taken_none k limit h bytes _ _ _ _ _ _ was _
-      (subst (λ (n : ℕ). Consumes (g.R.Read.remaining c.loop.reader) (g.R.Read.remaining c.read.new.self) (take n c.read.new.buf)) none c.in-Ok.ensures.bytes.0)
-      (c.in-Ok.ensures.bytes.1 none room)
+      (subst (λ (n : ℕ). Consumes c.loop.reader.left c.read.new.self.left (take n c.read.new.piece)) none c.in-Some.ensures.read)
+      (c.in-Some.ensures.end room (ap Some none))
       (c.loop.invariant.taken k limit h bytes was r);
   given_up = λ k limit h bytes was r. tt;
+  outside = λ e. absurd cc;
 }
 
-pub returns-then-not-branch : goal.returns-then-not-branch
-returns-then-not-branch g c = record {
+pub returns-then-not-goes_on : goal.returns-then-not-goes_on
+returns-then-not-goes_on g c = record {
   read = λ k limit h bytes was r.
-      taken_stops k limit h bytes _ _ _ _ _ _ _ _ _ _ was _ _ _ c.if-not-branch.true c.in-Ok.ensures.bytes.0 (c.loop.invariant.taken k limit h bytes was r)
-      (λ seen s. c.in_ok-take_piece.ensures.read k limit h seen was s);
+      taken_stops k limit h bytes _ _ _ _ _ _ _ _ _ _ was _ _ _ c.if-not-goes_on.true c.in-Some.ensures.read (c.loop.invariant.taken k limit h bytes was r)
+      (λ seen s. c.in_ok-goes_on.ensures.read k limit h seen was s);
   given_up = λ k limit h bytes was r. tt;
+  outside = λ e. absurd cc;
 }
+
+pub returns-then-has_failed-clause-given_up : goal.returns-then-has_failed-clause-given_up
+returns-then-has_failed-clause-given_up g c = λ k limit h bytes was r.
+    taken_failed k limit h bytes _ _ _ _ _ _ _ _ _ _ was _ _ _ c.in-Some.ensures.read (c.loop.invariant.taken k limit h bytes was r) (λ seen s. c.in_ok-goes_on.ensures.read k limit h seen was s)
 
 pub returns-in_default-clause-given_up : goal.returns-in_default-clause-given_up
 returns-in_default-clause-given_up g c = λ k limit h bytes was r. taken_gives k limit h bytes _ _ _ c.loop.self c.loop.archive was _ (c.loop.invariant.taken k limit h bytes was r)
@@ -45,9 +51,9 @@ returns-in_default-clause-given_up g c = λ k limit h bytes was r. taken_gives k
 pub returns-clause-given_up : goal.returns-clause-given_up
 returns-clause-given_up g c = λ k limit h bytes was r. taken_gives k limit h bytes _ _ _ c.loop.self c.loop.archive was _ (c.loop.invariant.taken k limit h bytes was r)
 
-pub returns-in_err-take_piece-clause-given_up : goal.returns-in_err-take_piece-clause-given_up
-returns-in_err-take_piece-clause-given_up g c = λ k limit h bytes was r.
+pub returns-in_err-goes_on-clause-given_up : goal.returns-in_err-goes_on-clause-given_up
+returns-in_err-goes_on-clause-given_up g c = λ k limit h bytes was r.
     let p = err_from_is_err_and c.from_residual.result c.from_residual.ensures.1 in
     rw p.1 (rw p.2
-    (taken_piece_gives k limit h bytes _ _ _ _ _ c.loop.self c.loop.archive c.take_piece.new.archive was _ _ _ c.in-Ok.ensures.bytes.0 (c.loop.invariant.taken k limit h bytes was r)
-    (λ seen s. c.in_err-take_piece.ensures.given_up k limit h seen was s)))
+    (taken_piece_gives k limit h bytes _ _ _ _ _ c.loop.self c.loop.archive c.take_piece.new.archive was _ _ _ c.in-Some.ensures.read (c.loop.invariant.taken k limit h bytes was r)
+    (λ seen s. c.in_err-goes_on.ensures.given_up k limit h seen was s)))

@@ -1,3 +1,4 @@
+use Rattle.service.specs.Outputs.{OutputState}
 use Rattle.std.proofs.Common.{◌≡◌, ℕ, List, Option, length}
 use Rattle.route_meaning.specs.History.{History}
 use Rattle.service.specs.inner.Feeding.{Reads}
@@ -7,6 +8,6 @@ use Rattle.service.proofs.feeding.Feeding.take_stream.Given as goal
 abbrev pub invariant-loop : goal.invariant-loop
 invariant-loop g l = record {
   room : length l.piece ≡ 65536;
-  taken : (c limit : ℕ) (h : History) (bytes : List ℕ) (was : Option (List ℕ)) → Reads c limit h bytes l.initial.framer l.initial.self l.initial.archive was (g.W.Write.contents l.initial.out)
-      → Taken c limit h bytes (g.R.Read.remaining l.initial.reader) (g.R.Read.remaining l.reader) l.framer l.self l.archive was (g.W.Write.contents l.out);
+  taken : (c limit : ℕ) (h : History) (bytes : List ℕ) (was : OutputState) → Reads c limit h bytes l.initial.framer l.initial.self l.initial.archive was l.initial.out
+      → Taken c limit h bytes l.initial.reader.left l.reader.left l.framer l.self l.archive was l.out;
 }

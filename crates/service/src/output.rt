@@ -1,0 +1,175 @@
+//! Writers of lines and readers of octets that remember that they failed.
+
+ghost use Rattle.std.specs.Prelude.{◌≡◌, ◌≤◌, ◌<◌, [], decimal, length, true, false, is_some, IfSome, IfNone, Some, take};
+ghost use Rattle.std.specs.Io.KnownBytes.{Appends, Consumes, IsAtEnd};
+ghost use Rattle.service.specs.Outputs.{Tells};
+
+use itoa::Buffer;
+use std::io::{Error, ErrorKind, Read, Write};
+use std::marker::Model;
+
+/// A writer of lines. Where a write fails, the error is kept, and from then on nothing is written.
+#[derive(Drop)]
+pub struct Output<W: Write> {
+    writer: W,
+    failure: Option<Error>,
+}
+
+impl<W: Write> Model for Output<W> {
+    ghost use Rattle.std.specs.Prelude.{is_some};
+    ghost use Rattle.service.specs.Outputs.{OutputState};
+
+    ghost Value = { OutputState };
+
+    ghost view = { λ o. record { held = W.contents o.writer; failed = is_some o.failure } };
+}
+
+impl<W: Write> Output<W> {
+    pub fn new(writer: W) -> Output<W>
+        ensures held { result.held ≡ W.contents writer }
+        ensures sound { result.failed ≡ false }
+    {
+        Output {
+            writer,
+            failure: None,
+        }
+    }
+
+    /// Whether a write failed.
+    pub fn has_failed(&self) -> bool
+        ensures failed { result ≡ self.now.failed }
+    {
+        self.failure.is_some()
+    }
+
+    /// Why the first write that failed did.
+    pub fn failure(&self) -> Option<&Error>
+        ensures failed { is_some result ≡ self.now.failed }
+    {
+        self.failure.as_ref()
+    }
+
+    /// Writes some of the octets: how many, 0 where a signal interrupted it, or none where the write failed.
+    fn write_some(&mut self, octets: &[u8]) -> Option<usize>
+        ensures fits { IfSome result (λ count. count ≤ length octets.now) }
+        ensures wrote { IfSome result (λ count. Appends self.old.held self.new.held (take count octets.now)) }
+        ensures sound { IfSome result (λ count. self.new.failed ≡ self.old.failed) }
+        ensures failed { IfNone result (self.new.failed ≡ true) }
+        ensures kept { IfNone result (Appends self.old.held self.new.held []) }
+    {
+        match self.writer.write(octets) {
+            Ok(0) => {
+                self.failure = Some(Error::from(ErrorKind::WriteZero));
+                None
+            }
+            Ok(count) => Some(count),
+            Err(error) if error.kind() == ErrorKind::Interrupted => Some(0),
+            Err(error) => {
+                self.failure = Some(error);
+                None
+            }
+        }
+    }
+
+    /// Counts the writer as failed: it takes nothing, however often it is tried.
+    fn give_up(&mut self)
+        ensures failed { self.new.failed ≡ true }
+        ensures held { self.new.held ≡ self.old.held }
+    {
+        self.failure = Some(Error::from(ErrorKind::Other));
+    }
+
+    /// Writes the octets.
+    fn put(&mut self, octets: &[u8])
+        ensures tells { Tells self.old self.new octets.now }
+    {
+        if self.has_failed() {
+            return;
+        }
+        let mut rest = octets;
+        for _ in 0..u64::MAX {
+            if rest.is_empty() {
+                return;
+            }
+            let Some(count) = self.write_some(rest) else {
+                return;
+            };
+            rest = &rest[count..];
+        }
+        self.give_up();
+    }
+
+    /// Writes the text.
+    pub fn text(&mut self, text: &str)
+        ensures tells { Tells self.old self.new text.now }
+    {
+        self.put(text.as_bytes());
+    }
+
+    /// Writes the number in decimal digits.
+    pub fn number(&mut self, number: u64)
+        ensures tells { Tells self.old self.new (decimal number) }
+    {
+        let mut digits = Buffer::new();
+        self.put(digits.format(number).as_bytes());
+    }
+}
+
+/// A reader of octets. Where a read fails, the error is kept.
+#[derive(Drop)]
+pub struct Input<R: Read> {
+    reader: R,
+    failure: Option<Error>,
+}
+
+impl<R: Read> Model for Input<R> {
+    ghost use Rattle.std.specs.Prelude.{is_some};
+    ghost use Rattle.service.specs.Outputs.{InputState};
+
+    ghost Value = { InputState };
+
+    ghost view = { λ i. record { left = R.remaining i.reader; failed = is_some i.failure } };
+}
+
+impl<R: Read> Input<R> {
+    pub fn new(reader: R) -> Input<R>
+        ensures left { result.left ≡ R.remaining reader }
+        ensures sound { result.failed ≡ false }
+    {
+        Input {
+            reader,
+            failure: None,
+        }
+    }
+
+    /// Why the last read that failed did.
+    pub fn failure(&self) -> Option<&Error>
+        ensures failed { is_some result ≡ self.now.failed }
+    {
+        self.failure.as_ref()
+    }
+
+    /// Reads some octets into the front of `piece`, which has room: how many, or 0 at the end. None where the read failed.
+    pub(crate) fn read(&mut self, piece: &mut [u8]) -> Option<usize>
+        ensures fits { IfSome result (λ count. count ≤ length piece.new) }
+        ensures read { IfSome result (λ count. Consumes self.old.left self.new.left (take count piece.new)) }
+        ensures end { 0 < length piece.old → result ≡ Some 0 → IsAtEnd self.new.left }
+        ensures failed { IfNone result (self.new.failed ≡ true) }
+    {
+        match self.reader.read(piece) {
+            Ok(count) => Some(count),
+            Err(error) => {
+                self.failure = Some(error);
+                None
+            }
+        }
+    }
+
+    /// Tells that there are more octets than can be counted.
+    pub(crate) fn give_up(&mut self)
+        ensures failed { self.new.failed ≡ true }
+        ensures left { self.new.left ≡ self.old.left }
+    {
+        self.failure = Some(Error::from(ErrorKind::Other));
+    }
+}
