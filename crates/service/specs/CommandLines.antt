@@ -34,7 +34,7 @@ attempt = with_rule (with_rule (with_rule (new_app (codes "try")) file_rule) mar
 
 -- the program, of whose commands one has to be there
 abbrev pub program : App
-program = with_subcommand (on_top (λ s. record s { subcommand_required = true; disable_help_subcommand = true }) (new_app (codes "rha"))) attempt.top
+program = with_subcommand (on_top (λ s. record s { subcommand_required = true; disable_help_subcommand = true; has_version = true }) (new_app (codes "rha"))) attempt.top
 
 -- the words, with one space between two
 abbrev pub spaced : List (List ℕ) → List ℕ

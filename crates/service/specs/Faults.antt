@@ -1,7 +1,4 @@
 -- The refusals of each call and of the layers below, in the one list of refusals.
-use Rattle.std.specs.Prelude.{ℕ}
-use Rattle.archive.specs.declared.admit.AdmitRefusal.{AdmitRefusal}
-use Rattle.archive.specs.declared.admit.AdmitRefusal.TheVariants as admits
 use Rattle.resolve.specs.declared.fault.ResolveFault.{ResolveFault}
 use Rattle.resolve.specs.declared.fault.ResolveFault.TheVariants as faults
 use Rattle.service.specs.declared.faults.FeedCut.{FeedCut}

@@ -12,4 +12,5 @@ pub mod Feeds
 pub mod Loads
 pub mod CommandLines
 pub mod RequestLaws
+pub mod Trying
 pub mod inner

@@ -63,3 +63,7 @@ refused_record_line r place = refusal_head r ++ codes "|" ++ decimal place ++ li
 -- a refusal as standard error shows it
 abbrev pub error_line : Refusal → List ℕ
 error_line r = codes "rha: " ++ decimal (number_of r) ++ codes " " ++ name_of r ++ line_end
+
+-- what a refusal is of, as a file or an argument, and why, as standard error shows it behind the refusal
+abbrev pub reason_line : List ℕ → List ℕ → List ℕ
+reason_line what reason = codes "rha: " ++ what ++ codes ": " ++ reason ++ line_end

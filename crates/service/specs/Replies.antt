@@ -1,5 +1,5 @@
 -- What a history answers to a request line.
-use Rattle.std.specs.Prelude.{◌≡◌, ◌⊎◌, true, false, ℕ, ◌<◌, ◌≤◌, Option, List}
+use Rattle.std.specs.Prelude.{◌≡◌, ◌⊎◌, true, false, ℕ, ◌<◌, ◌≤◌, List}
 use Rattle.service.specs.Outputs.{OutputState, Tells}
 use Rattle.route_meaning.specs.History.{History, applied, settled}
 use Rattle.route_meaning.specs.declared.question.RowsAnswer.{RowsAnswer}

@@ -15,6 +15,7 @@ mod refusal;
 mod request;
 mod request_laws;
 mod status;
+mod trying;
 
 pub use answer_lines::write_answer;
 pub use asking::{ask, reply};
@@ -25,7 +26,8 @@ pub use intake::{End, feed};
 pub use laws::batches_share_a_feed;
 pub use loading::{LoadSettings, load};
 pub use output::{Input, Output};
-pub use refusal::{Refusal, write_error, write_refusal, write_refused_record};
+pub use refusal::{Refusal, write_error, write_reason, write_refusal, write_refused_record};
 pub use request::{RequestError, read_query};
 pub use request_laws::lines_ask_one_question;
 pub use status::Status;
+pub use trying::try_file;

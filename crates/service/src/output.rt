@@ -99,6 +99,18 @@ impl<W: Write> Output<W> {
         self.give_up();
     }
 
+    /// Writes out what the writer buffers.
+    pub fn flush(&mut self)
+        ensures tells { Tells self.old self.new [] }
+    {
+        if self.has_failed() {
+            return;
+        }
+        if let Err(error) = self.writer.flush() {
+            self.failure = Some(error);
+        }
+    }
+
     /// Writes the text.
     pub fn text(&mut self, text: &str)
         ensures tells { Tells self.old self.new text.now }

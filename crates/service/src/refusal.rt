@@ -2,7 +2,7 @@
 
 ghost use Rattle.std.specs.Prelude.{◌≡◌};
 ghost use Rattle.service.specs.Outputs.{Tells};
-ghost use Rattle.service.specs.Refusals.{number_of, name_of, refusal_head, refusal_line, told_of, refused_record_line, error_line};
+ghost use Rattle.service.specs.Refusals.{number_of, name_of, refusal_head, refusal_line, told_of, refused_record_line, error_line, reason_line};
 
 use crate::output::Output;
 use route_model::Mark;
@@ -151,6 +151,17 @@ pub fn write_refused_record<W: Write>(out: &mut Output<W>, refusal: &Refusal, pl
     write_head(out, refusal);
     out.text("|");
     out.number(place);
+    out.text("\n");
+}
+
+/// Writes behind a refusal what it is of, as a file or an argument, and why: `rha: WHAT: REASON`. No memory is needed.
+pub fn write_reason<W: Write>(out: &mut Output<W>, what: &str, reason: &str)
+    ensures line { Tells out.old out.new (reason_line what.now reason.now) }
+{
+    out.text("rha: ");
+    out.text(what);
+    out.text(": ");
+    out.text(reason);
     out.text("\n");
 }
 

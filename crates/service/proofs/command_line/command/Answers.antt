@@ -1,7 +1,7 @@
 use Rattle.std.proofs.Common.{◌≡◌, Result, Err, map, ap}
 use Rattle.service.specs.declared.command_line.Invocation.{Invocation}
 use Rattle.service.specs.declared.command_line.CommandError.{CommandError}
-use Rattle.service.specs.declared.command_line.CommandError.TheVariants.{Usage, BadMark}
+use Rattle.service.specs.declared.command_line.CommandError.TheVariants.{Usage}
 use Rattle.service.proofs.CommandLines.{shown_kind, try_words}
 use Rattle.service.proofs.command_line.command.Goals as goal
 

@@ -1,5 +1,5 @@
 use Rattle.std.proofs.Common.{take, flat_map}
-use Rattle.service.specs.Outputs.{OutputState, Tells}
+use Rattle.service.specs.Outputs.{Tells}
 use Rattle.service.specs.FeedLines.{late_line}
 use Rattle.service.proofs.feed_lines.write_admitted.Given as goal
 

@@ -1,5 +1,4 @@
-use Rattle.std.proofs.Common.{◌≡◌, Result, Err, Option, true, inl, inr, ap, sym, ◌∙◌, ⊎_elim}
-use Rattle.service.specs.Outputs.{OutputState, Tells}
+use Rattle.std.proofs.Common.{◌≡◌, Err, inl, inr, ap, ⊎_elim}
 use Rattle.service.specs.declared.intake.End.{End}
 use Rattle.service.specs.declared.intake.End.TheVariants.{Well, Cut, Refused}
 use Rattle.service.specs.declared.faults.FeedStop.{FeedStop}

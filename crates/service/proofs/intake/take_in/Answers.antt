@@ -1,6 +1,6 @@
-use Rattle.std.proofs.Common.{[], ◌++◌}
+use Rattle.std.proofs.Common.{[]}
 use Rattle.std.proofs.lemmas.Result.{err_from_is_err_and}
-use Rattle.service.specs.Turns.{turns_for, last_turns}
+use Rattle.service.specs.Turns.{turns_for}
 use Rattle.service.proofs.GivingUp.{stops_last}
 use Rattle.service.proofs.Streams.{reads_none, all_fed}
 use Rattle.service.proofs.intake.take_in.Goals as goal

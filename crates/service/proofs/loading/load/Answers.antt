@@ -1,12 +1,9 @@
-use Rattle.std.proofs.Common.{◌≡◌, ◌∙◌, ℕ, List, Option, arith, subst, ap}
+use Rattle.std.proofs.Common.{◌∙◌, ℕ, Option, arith, subst, ap}
 use Rattle.route_meaning.specs.History.{History}
 use Rattle.archive.specs.Carries.{Carries}
 use Rattle.archive.specs.Steps.{IsCollector}
-use Rattle.service.specs.Faults.{of_load}
-use Rattle.service.specs.Feeds.{as_told}
 use Rattle.service.specs.Loads.{IsSettled, marked_if}
 use Rattle.service.specs.Outputs.{Tells}
-use Rattle.service.specs.Refusals.{error_line}
 use Rattle.service.specs.FeedLines.{settled_line}
 use Rattle.service.specs.declared.intake.End.{End}
 use Rattle.service.specs.inner.Loading.{IsUnsettled, mark_after, status_after, told_as}

@@ -1,5 +1,5 @@
 use Rattle.service.specs.Outputs.{OutputState}
-use Rattle.std.proofs.Common.{◌++◌, ℕ, List, Option, map, take}
+use Rattle.std.proofs.Common.{◌++◌, ℕ, List, map, take}
 use Rattle.route_meaning.specs.History.{History}
 use Rattle.mrt_records.specs.Values.{Told, told}
 use Rattle.service.specs.inner.Feeding.{IsBehind}

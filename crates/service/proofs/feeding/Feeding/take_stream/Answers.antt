@@ -1,4 +1,4 @@
-use Rattle.std.proofs.Common.{ℕ, ◌<◌, ◌≡◌, ◌∙◌, Some, refl, ap, subst, take, length, arith, inl, inr, sym}
+use Rattle.std.proofs.Common.{ℕ, ◌<◌, ◌∙◌, Some, refl, ap, subst, take, length, arith}
 use Rattle.std.specs.Io.KnownBytes.{Consumes}
 use Rattle.std.proofs.lemmas.Result.{err_from_is_err_and}
 use Rattle.service.proofs.Streams.{taken_first, taken_none, taken_more, taken_stops, taken_gives, taken_failed, taken_piece_gives}

@@ -1,5 +1,5 @@
 use Rattle.service.specs.Outputs.{OutputState}
-use Rattle.std.proofs.Common.{◌≡◌, ℕ, List, Option, length}
+use Rattle.std.proofs.Common.{◌≡◌, ℕ, List, length}
 use Rattle.route_meaning.specs.History.{History}
 use Rattle.service.specs.inner.Feeding.{Reads}
 use Rattle.service.proofs.Streams.{Taken}

@@ -1,4 +1,4 @@
-use Rattle.std.proofs.Common.{◌≡◌, ◌∙◌, ℕ, List, [], Option, sym, subst, drop, take_all, length-drop, arith}
+use Rattle.std.proofs.Common.{◌∙◌, ℕ, List, [], Option, sym, subst, drop, take_all, length-drop, arith}
 use Rattle.std.specs.Io.KnownBytes.{Appends}
 use Rattle.std.proofs.KnownBytes.{Appends-nil}
 use Rattle.service.proofs.Outputs.{is_nil, Tells-none, put_none, put_more, put_all, put_some}

@@ -1,0 +1,7 @@
+use Rattle.service.proofs.Outputs.{Tells-trans}
+use Rattle.service.proofs.refusal.write_reason.Goals as goal
+
+pub returns : goal.returns
+returns g c = record {
+  line = Tells-trans _ _ _ _ _ (Tells-trans _ _ _ _ _ (Tells-trans _ _ _ _ _ (Tells-trans _ _ _ _ _ c.text.ensures.tells c.text-2.ensures.tells) c.text-3.ensures.tells) c.text-4.ensures.tells) c.text-5.ensures.tells;
+}
