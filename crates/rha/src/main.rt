@@ -2,68 +2,98 @@
 //! records into an empty archive in memory, and answers a question.
 #![tactic(auto)]
 
-use archive::Archive;
 use service::{
-    Attempt, CommandError, Invocation, LoadSettings, Refusal, ask, command, load, write_error,
+    Attempt, CommandError, Input, Invocation, Output, Refusal, command, try_file, write_error,
+    write_reason,
 };
+use std::alloc::Global;
+use std::env;
 use std::fs::File;
-use std::io::{BufWriter, Write};
+use std::io::{BufWriter, Error, ErrorKind, Write};
 use std::process::ExitCode;
-use std::{env, mem};
 
-/// The most admissions of a batch.
-const BATCH: usize = 1000;
+/// What a mark has to be.
+const NO_MARK: &str = "a mark is a number 0 to 4294967296, or a timestamp as 2024-01-01T00:00:00Z";
 
-/// Loads the file into an empty archive and answers the line: the greater of both statuses.
-fn attempt(rt: &HostRuntime, attempt: &Attempt<'_>) -> Result<u8, Refusal> {
+/// Tells why the file or argument failed, behind the refusal.
+fn tell_why<E: Write>(alloc: Global, err: &mut Output<E>, what: &str, why: &Error) {
+    // Where there is no memory for the reason, the refusal stands alone.
+    if let Ok(reason) = format!(in alloc; "{why}") {
+        write_reason(err, what, reason.as_str());
+    }
+}
+
+/// Tells that a file or argument failed, and why. The exit status is 1.
+fn refuse<E: Write>(alloc: Global, err: &mut Output<E>, what: &str, why: &Error) -> u8 {
+    write_error(err, &Refusal::Outside);
+    tell_why(alloc, err, what, why);
+    1
+}
+
+/// Opens the file of `try`, buffers the lines, and tells the system's reason where the file or standard output failed.
+fn attempt<E: Write>(rt: &HostRuntime, asked: &Attempt<'_>, err: &mut Output<E>) -> u8 {
     let alloc = rt.alloc();
-    let mut file = File::open(rt, attempt.file).map_err(|_| Refusal::Outside)?;
-    let mut archive = Archive::plain(alloc, 1).map_err(|_| Refusal::OutOfMemory)?;
-    let mut out = BufWriter::new(alloc, rt.stdout()).map_err(|_| Refusal::OutOfMemory)?;
-    let mut err = rt.stderr();
-    let how = LoadSettings {
-        collector: 0,
-        limit: BATCH,
-        mark: attempt.mark,
+    let file = match File::open(rt, asked.file) {
+        Ok(file) => file,
+        Err(why) => return refuse(alloc, err, asked.file, &why),
     };
-    let loaded = load(alloc, &mut archive, how, &mut file, &mut out, &mut err);
-    let asked = ask(alloc, &archive, attempt.line.as_str(), &mut out, &mut err);
-    // The process ends: the system takes its memory back at once, sooner than an archive lets go of its parts.
-    mem::forget(archive);
-    out.flush().map_err(|_| Refusal::Outside)?;
-    Ok(loaded.code().max(asked.code()))
-}
-
-/// The words of the command line.
-fn words_of(rt: &HostRuntime) -> Result<Vec<String>, Refusal> {
-    let words = env::args(rt).map_err(|_| Refusal::Outside)?;
-    words.collect(rt.alloc()).map_err(|_| Refusal::OutOfMemory)
-}
-
-/// Reads the command line and runs its command.
-fn run(rt: &HostRuntime) -> Result<u8, CommandError> {
-    let words = words_of(rt).map_err(CommandError::Refused)?;
-    let Invocation::Try(asked) = command(rt.alloc(), words.as_slice())?;
-    attempt(rt, &asked).map_err(CommandError::Refused)
-}
-
-/// Tells why there was nothing to do, and gives the exit status.
-fn tell(rt: &HostRuntime, error: &CommandError) -> u8 {
-    let told = match error {
-        CommandError::Usage(usage) => usage.print(rt),
-        CommandError::Refused(refusal) => write_error(&mut rt.stderr(), refusal),
-    };
-    if told.is_err() && error.code() == 0 {
-        // Help that can't be shown isn't done. There is no one left to tell where this fails too.
-        let _ = write_error(&mut rt.stderr(), &Refusal::Outside);
+    let Ok(buffer) = BufWriter::new(alloc, rt.stdout()) else {
+        write_error(err, &Refusal::OutOfMemory);
         return 1;
+    };
+    let mut file = Input::new(file);
+    let mut out = Output::new(buffer);
+    let code = try_file(alloc, asked, &mut file, &mut out, err);
+    if let Some(why) = file.failure() {
+        tell_why(alloc, err, asked.file, why);
+    }
+    match out.failure() {
+        // Whoever closed the output knows why.
+        Some(why) if why.kind() != ErrorKind::BrokenPipe => {
+            tell_why(alloc, err, "standard output", why);
+        }
+        _ => {}
+    }
+    code
+}
+
+/// Tells why the command line asks for nothing, and gives the exit status.
+fn tell<E: Write>(rt: &HostRuntime, error: &CommandError, err: &mut Output<E>) -> u8 {
+    match error {
+        CommandError::Usage(usage) => {
+            if usage.print(rt).is_err() && error.code() == 0 {
+                // Help that can't be shown isn't done.
+                write_error(err, &Refusal::Outside);
+                return 1;
+            }
+        }
+        CommandError::BadMark => {
+            write_error(err, &Refusal::BadText);
+            write_reason(err, "--mark", NO_MARK);
+        }
+        CommandError::OutOfMemory => write_error(err, &Refusal::OutOfMemory),
     }
     error.code()
 }
 
-fn main(rt: HostRuntime) -> ExitCode {
-    match run(&rt) {
-        Ok(code) => ExitCode::from(code),
-        Err(error) => ExitCode::from(tell(&rt, &error)),
+/// Reads the command line and runs its command.
+fn run<E: Write>(rt: &HostRuntime, err: &mut Output<E>) -> u8 {
+    let alloc = rt.alloc();
+    let words = match env::args(rt) {
+        Ok(words) => words,
+        Err(why) => return refuse(alloc, err, "the command line", &why),
+    };
+    let Ok(words): Result<Vec<String>, _> = words.collect(alloc) else {
+        write_error(err, &Refusal::OutOfMemory);
+        return 1;
+    };
+    match command(alloc, words.as_slice()) {
+        Ok(Invocation::Try(asked)) => attempt(rt, &asked, err),
+        Err(error) => tell(rt, &error, err),
     }
+}
+
+fn main(rt: HostRuntime) -> ExitCode {
+    let mut err = Output::new(rt.stderr());
+    ExitCode::from(run(&rt, &mut err))
 }
