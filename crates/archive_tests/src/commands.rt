@@ -2,7 +2,7 @@
 
 use clap::error::ErrorKind;
 use route_model::Mark;
-use service::{CommandError, Invocation, Refusal, command, write_error};
+use service::{CommandError, Invocation, Output, Refusal, command, write_error};
 use std::alloc::Global;
 use std::test::Fail;
 
@@ -31,7 +31,7 @@ fn is_told(
             let shown = format!(in alloc; "{error}")?;
             let same = match &error {
                 CommandError::Usage(told) => told.kind() == kind,
-                CommandError::Refused(_) => false,
+                CommandError::BadMark | CommandError::OutOfMemory => false,
             };
             Ok(same && error.code() == code && shown.as_str() == text)
         }
@@ -41,10 +41,7 @@ fn is_told(
 
 /// Whether the words are refused as a text that isn't of its kind.
 fn is_bad_text(alloc: Global, words: &[&str]) -> bool {
-    matches!(
-        command(alloc, words),
-        Err(CommandError::Refused(Refusal::BadText))
-    )
+    matches!(command(alloc, words), Err(CommandError::BadMark))
 }
 
 #[test]
@@ -127,12 +124,10 @@ fn a_mark_that_is_none_is_refused(rt: HostRuntime) {
 
 #[test]
 fn a_bad_text_has_number_12_and_status_1(rt: HostRuntime) -> Result<(), Fail> {
-    let mut told = Vec::new(rt.alloc());
-    write_error(&mut told, &Refusal::BadText)
-        .ok()
-        .ok_or("not written")?;
+    let mut told: Vec<u8> = Vec::new(rt.alloc());
+    write_error(&mut Output::new(&mut told), &Refusal::BadText);
     assert!(rt; told.as_slice() == "rha: 12 BadText\n".as_bytes());
-    assert!(rt; CommandError::Refused(Refusal::BadText).code() == 1);
+    assert!(rt; CommandError::BadMark.code() == 1);
     Ok(())
 }
 
@@ -204,7 +199,17 @@ Commands:
   try  Loads a file into an empty archive, and answers a request line
 
 Options:
-  -h, --help  Print help
+  -h, --help     Print help
+  -V, --version  Print version
+
+Exit status: 0 where all is done, 1 where something was refused or couldn't be written (told on
+standard error as `rha: NUMBER NAME` where it has no line of its own), 2 where the command line isn't
+accepted.
+
+Example:
+  rha try updates.mrt --mark 2024-01-01T00:15:00Z at 2024-01-01T00:10:00Z prefix 10.0.0.0/8
+
+`rha try --help` tells what the words may be.
 ";
 
 /// The help of `rha try`.
@@ -219,16 +224,38 @@ Arguments:
 Options:
       --mark <M>  The collector's mark once the file is loaded
   -h, --help      Print help
+
+The words are one request line:
+  at T prefix PREFIX [after COLLECTOR ADDRESS AS PREFIX]
+T is a moment: seconds since 1970, or a timestamp as 2024-01-01T00:00:00Z. It has to be below the settled
+watermark, which is M, or else the time of the last record. M is such a number or timestamp, too.
+PREFIX is ADDRESS/LENGTH. `after` goes on behind the last row of an answer of 256 rows.
+
+Example:
+  rha try updates.mrt --mark 2024-01-01T00:15:00Z at 2024-01-01T00:10:00Z prefix 10.0.0.0/8
+
+Exit status: 0 where all is done, 1 where something was refused or couldn't be written, 2 where the
+command line isn't accepted.
 ";
 
 #[test]
-fn help_has_status_0(rt: HostRuntime) -> Result<(), Fail> {
+fn help_and_version_have_status_0(rt: HostRuntime) -> Result<(), Fail> {
     let alloc = rt.alloc();
     for words in [["rha", "--help"], ["rha", "-h"]] {
         assert!(rt; is_told(alloc, words.as_slice(), ErrorKind::DisplayHelp, 0, HELP)?);
     }
     let words = ["rha", "try", "--help"];
     assert!(rt; is_told(alloc, words.as_slice(), ErrorKind::DisplayHelp, 0, TRY_HELP)?);
+    let words = ["rha", "--version"];
+    assert!(rt;
+        is_told(
+            alloc,
+            words.as_slice(),
+            ErrorKind::DisplayVersion,
+            0,
+            "rha 0.2.0\n"
+        )?
+    );
     Ok(())
 }
 

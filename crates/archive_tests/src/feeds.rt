@@ -5,9 +5,9 @@ use route_meaning::{RowsQuestion, Select, Spot};
 use route_model::{Address, Mark, Moment, Peer, Prefix};
 use sequencer::Late;
 use service::{
-    End, FeedCounts, LoadSettings, Refusal, RequestError, Status, ask, feed, load, read_query,
-    reply, write_admitted, write_answer, write_counts, write_error, write_refusal,
-    write_refused_record, write_settled,
+    Attempt, End, FeedCounts, FeedStop, Input, LoadSettings, Output, Refusal, RequestError, Status,
+    ask, feed, load, read_query, reply, try_file, write_admitted, write_answer, write_counts,
+    write_error, write_refusal, write_refused_record, write_settled,
 };
 use std::alloc::Global;
 use std::io::{Error, ErrorKind, Read};
@@ -191,15 +191,27 @@ fn load_octets(
         limit,
         mark,
     };
-    let mut reader = octets;
-    let status = load(alloc, archive, how, &mut reader, &mut out, &mut err);
+    let status = load(
+        alloc,
+        archive,
+        how,
+        &mut Input::new(octets),
+        &mut Output::new(&mut out),
+        &mut Output::new(&mut err),
+    );
     Ok(Told { out, err, status })
 }
 
 fn ask_line(alloc: Global, archive: &Archive, line: &str) -> Result<Told, Fail> {
     let mut out = Vec::new(alloc);
     let mut err = Vec::new(alloc);
-    let status = ask(alloc, archive, line, &mut out, &mut err);
+    let status = ask(
+        alloc,
+        archive,
+        line,
+        &mut Output::new(&mut out),
+        &mut Output::new(&mut err),
+    );
     Ok(Told { out, err, status })
 }
 
@@ -408,8 +420,14 @@ fn feed_octets(
     octets: &[u8],
 ) -> Result<(End, String), Fail> {
     let mut out: Vec<u8> = Vec::new(alloc);
-    let mut reader = octets;
-    let end = feed(alloc, archive, collector, 2, &mut reader, &mut out);
+    let end = feed(
+        alloc,
+        archive,
+        collector,
+        2,
+        &mut Input::new(octets),
+        &mut Output::new(&mut out),
+    );
     Ok((end, String::from_utf8(out)?))
 }
 
@@ -475,11 +493,53 @@ fn refusals_outside_the_feed_are_told(rt: HostRuntime) -> Result<(), Fail> {
     };
     let mut out: Vec<u8> = Vec::new(alloc);
     let mut err: Vec<u8> = Vec::new(alloc);
-    let mut reader: &[u8] = &octets;
-    let status = load(alloc, &mut archive, how, &mut reader, &mut out, &mut err);
+    let status = load(
+        alloc,
+        &mut archive,
+        how,
+        &mut Input::new(octets.as_slice()),
+        &mut Output::new(&mut out),
+        &mut Output::new(&mut err),
+    );
     let told = Told { out, err, status };
     assert!(rt; told.is("", "rha: 22 NoCollector\n", Status::Refused));
     assert_eq!(rt; status.code(), 1);
+    Ok(())
+}
+
+/// Tries a question of a file: what is written, and the exit status.
+fn try_octets(alloc: Global, octets: &[u8], line: &str) -> Result<(Vec<u8>, u8), Fail> {
+    let mut out: Vec<u8> = Vec::new(alloc);
+    let mut err: Vec<u8> = Vec::new(alloc);
+    let asked = Attempt {
+        file: "first.mrt",
+        mark: Mark::new(1_704_067_201),
+        line: String::from_str(alloc, line)?,
+    };
+    let code = try_file(
+        alloc,
+        &asked,
+        &mut Input::new(octets),
+        &mut Output::new(&mut out),
+        &mut Output::new(&mut err),
+    );
+    Ok((out, code))
+}
+
+#[test]
+fn the_greater_status_is_that_of_try(rt: HostRuntime) -> Result<(), Fail> {
+    let alloc = rt.alloc();
+    let octets = stream(alloc, &[UPDATE])?;
+    let loaded = "B|0|1|1\nF|1|1|0|0|0\nS|1704067201\n";
+    let (out, code) = try_octets(alloc, &octets, QUESTION)?;
+    assert!(rt; out.as_slice() == [loaded, ANSWER].join(alloc, "")?.as_bytes());
+    assert_eq!(rt; code, 0);
+    let (out, code) = try_octets(alloc, &octets, "settled")?;
+    assert!(rt; out.as_slice() == [loaded, "X|28|BadRequest\n"].join(alloc, "")?.as_bytes());
+    assert_eq!(rt; code, 1);
+    let (out, code) = try_octets(alloc, &octets[..72], "settled")?;
+    assert!(rt; out.as_slice().starts_with("X|13|Truncated|0\n".as_bytes()));
+    assert_eq!(rt; code, 1);
     Ok(())
 }
 
@@ -574,7 +634,7 @@ fn long_answers_name_their_last_row(rt: HostRuntime) -> Result<(), Fail> {
 #[test]
 fn lines_are_written(rt: HostRuntime) -> Result<(), Fail> {
     let alloc = rt.alloc();
-    let mut out = Vec::new(alloc);
+    let mut out: Vec<u8> = Vec::new(alloc);
     let mut late = Vec::new(alloc);
     late.push(Late {
         index: 1,
@@ -590,7 +650,8 @@ fn lines_are_written(rt: HostRuntime) -> Result<(), Fail> {
         offered: 3,
         late,
     };
-    write_admitted(&mut out, &admitted)?;
+    let mut told = Output::new(&mut out);
+    write_admitted(&mut told, &admitted);
     let counts = FeedCounts {
         records: 5,
         admitted: 1,
@@ -598,11 +659,11 @@ fn lines_are_written(rt: HostRuntime) -> Result<(), Fail> {
         refused: 3,
         skipped: 4,
     };
-    write_counts(&mut out, &counts)?;
-    write_settled(&mut out, Mark::at(Moment::from(7)))?;
-    write_refusal(&mut out, &Refusal::BadRequest)?;
-    write_refused_record(&mut out, &Refusal::TooLong, 8)?;
-    write_error(&mut out, &Refusal::Outside)?;
+    write_counts(&mut told, &counts);
+    write_settled(&mut told, Mark::at(Moment::from(7)));
+    write_refusal(&mut told, &Refusal::BadRequest);
+    write_refused_record(&mut told, &Refusal::TooLong, 8);
+    write_error(&mut told, &Refusal::Outside);
     let lines =
         "B|0|2|3\nL|1|99|100\nF|5|1|2|3|4\nS|7\nX|28|BadRequest\nX|14|TooLong|8\nrha: 29 Outside\n";
     assert!(rt; out.as_slice() == lines.as_bytes());
@@ -644,9 +705,10 @@ fn octets_may_come_one_at_a_time(rt: HostRuntime) -> Result<(), Fail> {
     let alloc = rt.alloc();
     let mut archive = Archive::plain(alloc, 1)?;
     let octets = stream(alloc, &[LONG_PREFIX, UPDATE])?;
-    let mut reader = Slow { octets: &octets };
+    let mut reader = Input::new(Slow { octets: &octets });
     let mut out: Vec<u8> = Vec::new(alloc);
-    let end = feed(alloc, &mut archive, 0, 1000, &mut reader, &mut out);
+    let mut told = Output::new(&mut out);
+    let end = feed(alloc, &mut archive, 0, 1000, &mut reader, &mut told);
     assert_eq!(rt; end, End::Well);
     let lines = "X|15|Malformed|0\nB|0|1|1\nF|2|1|0|1|0\n";
     assert!(rt; out.as_slice() == lines.as_bytes());
@@ -658,15 +720,22 @@ fn failures_outside_end_a_feed(rt: HostRuntime) -> Result<(), Fail> {
     let alloc = rt.alloc();
     let mut archive = Archive::plain(alloc, 1)?;
     let octets = stream(alloc, &[UPDATE])?;
-    let mut reader = Failing { octets: &octets };
+    let mut reader = Input::new(Failing { octets: &octets });
     let mut out: Vec<u8> = Vec::new(alloc);
-    let end = feed(alloc, &mut archive, 0, 1, &mut reader, &mut out);
-    assert_eq!(rt; end, End::Refused(Refusal::Outside));
+    let mut told = Output::new(&mut out);
+    let end = feed(alloc, &mut archive, 0, 1, &mut reader, &mut told);
+    assert_eq!(rt; end, End::Refused(FeedStop::Outside));
+    assert!(rt; reader.failure().is_some());
     assert!(rt; out.as_slice() == "B|0|1|1\nX|29|Outside\n".as_bytes());
     let mut small = [0u8; 4];
-    let mut full: &mut [u8] = &mut small;
+    let full: &mut [u8] = &mut small;
+    let mut full = Output::new(full);
     let mut err: Vec<u8> = Vec::new(alloc);
-    let status = ask(alloc, &archive, QUESTION, &mut full, &mut err);
+    let mut told = Output::new(&mut err);
+    let status = ask(alloc, &archive, QUESTION, &mut full, &mut told);
+    assert_eq!(rt; status, Status::Failed);
+    // The writer has failed, and was told: no more is said.
+    let status = ask(alloc, &archive, QUESTION, &mut full, &mut told);
     assert_eq!(rt; status, Status::Failed);
     assert!(rt; err.as_slice() == "rha: 29 Outside\n".as_bytes());
     Ok(())
@@ -677,10 +746,11 @@ fn a_feed_of_a_missing_collector_is_given_up(rt: HostRuntime) -> Result<(), Fail
     let alloc = rt.alloc();
     let mut archive = Archive::plain(alloc, 1)?;
     let octets = stream(alloc, &[LONG_PREFIX, UPDATE])?;
-    let mut reader = octets.as_slice();
+    let mut reader = Input::new(octets.as_slice());
     let mut out: Vec<u8> = Vec::new(alloc);
-    let end = feed(alloc, &mut archive, 1, 1000, &mut reader, &mut out);
-    assert_eq!(rt; end, End::Refused(Refusal::NoCollector));
+    let mut told = Output::new(&mut out);
+    let end = feed(alloc, &mut archive, 1, 1000, &mut reader, &mut told);
+    assert_eq!(rt; end, End::Refused(FeedStop::NoCollector));
     let lines = "X|15|Malformed|0\nX|22|NoCollector\n";
     assert!(rt; out.as_slice() == lines.as_bytes());
     Ok(())
@@ -692,18 +762,26 @@ fn a_writer_that_is_full_ends_feeds_and_loads(rt: HostRuntime) -> Result<(), Fai
     let mut archive = Archive::plain(alloc, 1)?;
     let octets = stream(alloc, &[UPDATE])?;
     let mut small = [0u8; 4];
-    let mut full: &mut [u8] = &mut small;
-    let mut reader = octets.as_slice();
+    let full: &mut [u8] = &mut small;
+    let mut full = Output::new(full);
+    let mut reader = Input::new(octets.as_slice());
     let end = feed(alloc, &mut archive, 0, 1000, &mut reader, &mut full);
-    assert_eq!(rt; end, End::Refused(Refusal::Outside));
+    assert_eq!(rt; end, End::Refused(FeedStop::Outside));
     let how = LoadSettings {
         collector: 0,
         limit: 1000,
         mark: None,
     };
     let mut err: Vec<u8> = Vec::new(alloc);
-    let mut none: &[u8] = &[];
-    let status = load(alloc, &mut archive, how, &mut none, &mut full, &mut err);
+    let none: &[u8] = &[];
+    let status = load(
+        alloc,
+        &mut archive,
+        how,
+        &mut Input::new(none),
+        &mut full,
+        &mut Output::new(&mut err),
+    );
     assert_eq!(rt; status, Status::Failed);
     assert!(rt; err.as_slice() == "rha: 29 Outside\n".as_bytes());
     Ok(())
