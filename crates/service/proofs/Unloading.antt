@@ -91,7 +91,7 @@ told_stop true err_failed result c limit mark h bytes archive was now err_was er
 told_stop false true result c limit mark h bytes archive was now err_was err_mid err_now why o e u is quiet told_ =
     subst (λ (t : Status). IsLoadEnd c limit mark h bytes t archive was now err_was err_now) (sym is) (inr (why, u), inr (ap (λ (t : OutputState). t.failed) (quiet o) ∙ e))
 told_stop false false result c limit mark h bytes archive was now err_was err_mid err_now why o e u is quiet told_ =
-    subst (λ (t : Status). IsLoadEnd c limit mark h bytes t archive was now err_was err_now) (sym is) (inr (inr (why, u, subst (λ (t : OutputState). Tells err_was t (error_line (of_load why))) (sym (quiet o)) told_)), o)
+    subst (λ (t : Status). IsLoadEnd c limit mark h bytes t archive was now err_was err_now) (sym is) (inr (inr (why, u, subst (λ (t : OutputState). Tells err_was t (error_line (of_load why))) (sym (quiet o)) told_, ap (λ (t : OutputState). t.failed) (quiet o) ∙ e)), o)
 
 pub load_stops : (end : End) (result : Status) (c limit : ℕ) (mark : Option ℕ) (h : History) (bytes : List ℕ) (fed archive : History) (was now err_was err_mid err_now : OutputState) (why : LoadStop)
     → IsCollector h c → IsEnd c limit h bytes end fed was now

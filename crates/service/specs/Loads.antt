@@ -88,7 +88,7 @@ abbrev pub IsRefusedLoad : ℕ → ℕ → Option ℕ → History → List ℕ �
 IsRefusedLoad c limit mark h bytes archive was now err_was err_now =
     ((why : FeedCut) × IsLoaded c limit None h bytes (Some why) archive was now × (err_now ≡ err_was))
     ⊎ ((IsGivenUpLoad c limit h bytes archive was now × (err_now ≡ err_was))
-    ⊎ ((why : LoadStop) × IsUnloaded c limit mark h bytes archive was now why × Tells err_was err_now (error_line (of_load why))))
+    ⊎ ((why : LoadStop) × IsUnloaded c limit mark h bytes archive was now why × Tells err_was err_now (error_line (of_load why)) × (err_now.failed ≡ false)))
 
 -- Not all lines could be written. The archive carries all the same what the feed gave, and the watermark was told behind its lines as far as it could be.
 abbrev pub IsFailedLoad : ℕ → ℕ → Option ℕ → History → List ℕ → History → OutputState → OutputState → Type 0
