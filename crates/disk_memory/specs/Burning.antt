@@ -1,7 +1,7 @@
 -- Burns as they are remembered, as plain data, and what they leave.
 use Rattle.std.specs.Prelude.{◌≡◌, ℕ, ◌==◌, ◌&&◌, List, [], ◌∷◌, ◌++◌, Bool, false, if◌then◌else◌, Option, None, Some, is_some, ◌⊎◌}
 use Rattle.disk_models.specs.Octets.{zeros}
-use Rattle.disk_models.specs.BlockLending.{refilled}
+use Rattle.disk_models.specs.Lending.{refilled}
 use Rattle.disk_models.specs.Once.{OnceState}
 use Rattle.disk_memory.specs.Torn.{torn_octets}
 use Rattle.disk_memory.specs.declared.torn.Torn.{Torn}

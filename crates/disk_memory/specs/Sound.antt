@@ -1,5 +1,5 @@
 -- The law of an erasable disk, of the one in memory.
-use Rattle.std.proofs.Common.{ℕ, List, length, sym, subst, take_all}
+use Rattle.std.proofs.Common.{List, length, sym, subst, take_all}
 use Rattle.std.proofs.Math.Nat.{le_refl}
 use Rattle.disk_models.specs.Erase.{IsSound}
 use Rattle.disk_memory.specs.declared.call.Call.{Call}

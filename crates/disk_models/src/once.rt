@@ -23,8 +23,8 @@ ghost use Rattle.disk_models.specs.Once.{
   IsOnceSound,
 };
 
-use crate::block::Block;
 use crate::fault::Fault;
+use crate::sheet::Block;
 
 /// A disk of blocks, numbered from 0, each of which is written once.
 ///

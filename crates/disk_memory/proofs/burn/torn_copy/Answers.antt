@@ -2,7 +2,7 @@ use Rattle.std.proofs.Common.{◌≡◌, ⊎_elim, ◌≤◌, ◌<◌, ◌+◌, 
 use Rattle.std.proofs.lemmas.List.{length-replicate, length-take, length-drop, take-append-le, drop_all}
 use Rattle.std.proofs.lemmas.Bool.{cases_lt}
 use Rattle.disk_models.specs.Octets.{zeros}
-use Rattle.disk_models.specs.BlockLending.{refilled}
+use Rattle.disk_models.specs.Lending.{refilled}
 use Rattle.disk_memory.specs.Torn.{torn_octets}
 use Rattle.disk_memory.proofs.burn.torn_copy.Goals as goal
 

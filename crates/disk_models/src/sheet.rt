@@ -1,36 +1,42 @@
-// A page of an erasable disk.
-ghost use Rattle.std.specs.Prelude.{
-  ◌≡◌,
-  ◌≤◌,
-  ◌+◌,
-  ◌++◌,
-  ◌↔◌,
-  ℕ,
-  List,
-  length,
-  take,
-  drop,
-  IfOk,
-  OnOk,
-};
+// Sheets of 16,384 octets: pages of an erasable disk and blocks of a write-once disk.
+ghost use Rattle.std.specs.Prelude.{◌≡◌, ◌≤◌, ◌+◌, ◌++◌, length, take, drop, IfOk, IsErr, OnOk};
 ghost use Rattle.disk_models.specs.Octets.{octets, zeros};
-ghost use Rattle.disk_models.specs.Erase.{Counts, Stays};
+ghost use Rattle.disk_models.specs.Erase.{Stays};
+ghost use Rattle.disk_models.specs.Serves.{Serves};
 
 use crate::erase::EraseDisk;
 use crate::fault::Fault;
 use std::alloc::{AllocError, Global};
-use std::marker::Model;
+use std::marker::{Model, PhantomData};
 
 /// The octets of a page.
 pub const PAGE_SIZE: usize = 16_384;
 
-/// A page: 16,384 octets. Contracts see it as their list.
+/// The octets of a block.
+pub const BLOCK_SIZE: usize = 16_384;
+
+/// The kind of a page.
+#[derive(Clone, Copy)]
+pub struct OfPage;
+
+/// The kind of a block.
+#[derive(Clone, Copy)]
+pub struct OfBlock;
+
+/// A page of an erasable disk.
+pub type Page = Sheet<OfPage>;
+
+/// A block of a write-once disk.
+pub type Block = Sheet<OfBlock>;
+
+/// 16,384 octets of one kind. Contracts see them as their list.
 #[derive(Drop)]
-pub struct Page {
+pub struct Sheet<K> {
     octets: Vec<u8>,
+    kind: PhantomData<K>,
 }
 
-impl Model for Page {
+impl<K> Model for Sheet<K> {
     ghost use Rattle.std.specs.Prelude.{List, ℕ, ◌≡◌, length};
 
     ghost Value = { List ℕ };
@@ -40,26 +46,28 @@ impl Model for Page {
     ghost invariant = { λ p. length p.octets.items ≡ 16384 };
 }
 
-impl Page {
+impl<K> Sheet<K> {
     ghost use Rattle.std.specs.Borrow.{sem};
-    ghost use Rattle.disk_models.specs.PageLending.{LendsOctets};
+    ghost use Rattle.disk_models.specs.Lending.{LendsOctets};
 
-    /// A page of zeros.
-    pub fn new(alloc: Global) -> Result<Page, AllocError>
-        ensures { IfOk result (λ page. page ≡ zeros 16384) }
+    /// A sheet of zeros.
+    pub fn new(alloc: Global) -> Result<Self, AllocError>
+        ensures { IfOk result (λ sheet. sheet ≡ zeros 16384) }
     {
-        Ok(Page {
+        Ok(Sheet {
             octets: vec![in alloc; 0; PAGE_SIZE]?,
+            kind: PhantomData,
         })
     }
 
-    /// A page of these octets.
-    pub fn from_slice(alloc: Global, octets: &[u8]) -> Result<Page, AllocError>
+    /// A sheet of these octets.
+    pub fn from_slice(alloc: Global, octets: &[u8]) -> Result<Self, AllocError>
         requires { length octets.now ≡ 16384 }
-        ensures { IfOk result (λ page. page ≡ octets.now) }
+        ensures { IfOk result (λ sheet. sheet ≡ octets.now) }
     {
-        Ok(Page {
+        Ok(Sheet {
             octets: octets.to_vec(alloc)?,
+            kind: PhantomData,
         })
     }
 
@@ -73,7 +81,7 @@ impl Page {
 
     /// Its octets, to be written.
     pub fn octets_mut(&mut self) -> &mut [u8]
-        ensures* writes_back { sem 𝓛 (LendsOctets self.entry result) }
+        ensures* writes_back { sem 𝓛 (LendsOctets K.row self.entry result) }
         ensures value { result.now ≡ self.old }
         ensures size { length result.now ≡ 16384 }
     {
@@ -88,19 +96,26 @@ impl Page {
         self.octets[at..at + octets.len()].copy_from_slice(octets);
     }
 
-    /// Makes it a copy of another page.
-    pub fn copy_from(&mut self, other: &Page)
+    /// Makes it a copy of another one.
+    pub fn copy_from(&mut self, other: &Self)
         ensures { self.new ≡ other.now }
     {
         self.octets.copy_from_slice(&other.octets);
     }
 
+    /// Makes all its octets zeros.
+    pub fn clear(&mut self)
+        ensures { self.new ≡ zeros 16384 }
+    {
+        self.octets_mut().fill(0);
+    }
+}
+
+impl Sheet<OfPage> {
     /// Reads it from a disk, from a place on. After a failure it holds any octets.
     pub fn read_from<D: EraseDisk>(&mut self, disk: &mut D, at: u64) -> Result<(), Fault>
         requires { at + 16384 ≤ D.octet_count disk.old }
-        ensures size { D.octet_count disk.new ≡ D.octet_count disk.old }
-        ensures counts { Counts (D.fault_count disk.old) (D.fault_count disk.new) result }
-        ensures honest { D.honest disk.old ↔ D.honest disk.new }
+        ensures serves { Serves D.EraseDisk disk.old disk.new (IsErr result) }
         ensures octets { D.honest disk.old → OnOk result (self.new ≡ octets (D.model disk.old).octet at 16384) }
         ensures stays { D.honest disk.old → Stays (D.model disk.old) (D.model disk.new) }
     {
@@ -108,12 +123,13 @@ impl Page {
     }
 }
 
-impl Clone for Page {
+impl<K> Clone for Sheet<K> {
     ghost is_clone = { λ one other. other ≡ one };
 
-    fn clone(&self) -> Result<Page, AllocError> {
-        Ok(Page {
+    fn clone(&self) -> Result<Self, AllocError> {
+        Ok(Sheet {
             octets: self.octets.as_slice().to_vec(*self.octets.allocator())?,
+            kind: PhantomData,
         })
     }
 }
