@@ -5,7 +5,7 @@ ghost use Rattle.page_journal.specs.Recovers.{AreBelow, AreDistinct};
 
 use disk_memory::{Call, Failure, MemErase, Torn};
 use disk_models::{EraseDisk, Page};
-use page_journal::{Journal, JournalError};
+use page_journal::{CreateError, Journal, JournalError, OpenError, PostError, UseError};
 use std::alloc::{AllocError, Global};
 use std::test::Fail;
 
@@ -55,7 +55,7 @@ fn failure(alloc: Global, n: u64, kind: u8, first_sync: u64) -> Result<Failure, 
 fn opened(alloc: Global, disk: MemErase) -> Result<Journal<MemErase>, JournalError> {
     match Journal::open(alloc, disk) {
         Ok(journal) => Ok(journal),
-        Err(refused) => Err(refused.error),
+        Err(refused) => Err(refused.error.into()),
     }
 }
 
@@ -70,7 +70,7 @@ fn made(alloc: Global) -> Result<MemErase, JournalError> {
     let disk = MemErase::new(alloc, 269 * PAGE);
     match Journal::create_with(alloc, disk, 4, *b"eleven here", &first) {
         Ok(journal) => Ok(journal.into_disk()),
-        Err(refused) => Err(refused.error),
+        Err(refused) => Err(refused.error.into()),
     }
 }
 
@@ -95,7 +95,7 @@ fn post(alloc: Global, journal: &mut Journal<MemErase>) -> Result<(), JournalErr
         return Err(JournalError::NotAJournal);
     }
     let images = [(1, filled(alloc, 21)?), (2, filled(alloc, 22)?)];
-    journal.post(alloc, &images)
+    Ok(journal.post(alloc, &images)?)
 }
 
 fn home(
@@ -107,14 +107,14 @@ fn home(
     if n >= journal.home_pages() {
         return Err(JournalError::NotAJournal);
     }
-    journal.home(n, &filled(alloc, octet)?)
+    Ok(journal.home(n, &filled(alloc, octet)?)?)
 }
 
 fn checkpoint(journal: &mut Journal<MemErase>) -> Result<(), JournalError> {
     if journal.unhomed() != 0 {
         return Err(JournalError::NotAJournal);
     }
-    journal.checkpoint()
+    Ok(journal.checkpoint()?)
 }
 
 fn scripted(alloc: Global, mut disk: MemErase, failure: Failure) -> Result<MemErase, AllocError> {
@@ -138,31 +138,121 @@ fn four_pages_are_created_and_read(rt: HostRuntime) -> Result<(), Fail> {
     assert_eq!(rt; journal.home_pages(), 4);
     assert_eq!(rt; journal.note(), *b"eleven here");
     assert_eq!(rt; journal.unhomed(), 0);
-    assert_eq!(rt; journal.closed(), 1);
+    assert_eq!(rt; journal.closed(), 8);
     assert_eq!(rt; shown(alloc, &mut journal)?, OLD);
     Ok(())
 }
 
+// Posts one page, filled with an octet.
+fn post_one(
+    alloc: Global,
+    journal: &mut Journal<MemErase>,
+    n: u64,
+    octet: u8,
+) -> Result<(), JournalError> {
+    if n >= journal.home_pages() {
+        return Err(JournalError::NotAJournal);
+    }
+    Ok(journal.post(alloc, &[(n, filled(alloc, octet)?)])?)
+}
+
 #[test]
-fn a_second_post_waits_for_a_checkpoint(rt: HostRuntime) -> Result<(), Fail> {
+fn the_ninth_post_waits_for_a_checkpoint(rt: HostRuntime) -> Result<(), Fail> {
     let alloc = rt.alloc();
     let mut journal = opened(alloc, made(alloc)?)?;
-    post(alloc, &mut journal)?;
-    assert_eq!(rt; shown(alloc, &mut journal)?, NEW);
-    assert_eq!(rt; journal.unhomed(), 2);
+    for n in 0..8u8 {
+        assert_eq!(rt; journal.closed(), 8 - usize::from(n));
+        post_one(alloc, &mut journal, 1, 30 + n)?;
+        assert_eq!(rt; shown(alloc, &mut journal)?, [10, 30 + n, 12, 13]);
+        assert_eq!(rt; journal.unhomed(), 1);
+    }
     assert_eq!(rt; journal.closed(), 0);
-    assert_eq!(rt; post(alloc, &mut journal), Err(JournalError::JournalFull));
-    home(alloc, &mut journal, 1, 21)?;
-    home(alloc, &mut journal, 2, 22)?;
+    let ninth = post_one(alloc, &mut journal, 2, 40);
+    assert_eq!(rt; ninth, Err(JournalError::JournalFull));
+    assert_eq!(rt; shown(alloc, &mut journal)?, [10, 37, 12, 13]);
+    home(alloc, &mut journal, 1, 37)?;
     checkpoint(&mut journal)?;
-    assert_eq!(rt; journal.closed(), 1);
-    assert_eq!(rt; shown(alloc, &mut journal)?, NEW);
-    post(alloc, &mut journal)?;
+    assert_eq!(rt; journal.closed(), 8);
+    post_one(alloc, &mut journal, 2, 40)?;
+    assert_eq!(rt; shown(alloc, &mut journal)?, [10, 37, 40, 13]);
+    Ok(())
+}
+
+#[test]
+fn the_newest_image_of_a_page_stays(rt: HostRuntime) -> Result<(), Fail> {
+    let alloc = rt.alloc();
+    for octet in [31, 32, 33] {
+        let mut journal = opened(alloc, made(alloc)?)?;
+        post_one(alloc, &mut journal, 1, 31)?;
+        post_one(alloc, &mut journal, 2, 41)?;
+        post_one(alloc, &mut journal, 1, 32)?;
+        assert_eq!(rt; journal.unhomed(), 2);
+        assert_eq!(rt; shown(alloc, &mut journal)?, [10, 32, 41, 13]);
+        home(alloc, &mut journal, 1, octet)?;
+        assert_eq!(rt; journal.unhomed(), 1);
+        let disk = journal.into_disk();
+        for choice in 0..KINDS {
+            assert_eq!(rt; after_crash(alloc, &disk, choice)?, [10, 32, 41, 13]);
+        }
+    }
+    Ok(())
+}
+
+// The pages after each of three posts: page 1, page 2, and page 1 again.
+const POSTED: [[u8; 4]; 4] = [OLD, [10, 31, 12, 13], [10, 31, 41, 13], [10, 32, 41, 13]];
+
+// Three posts, their pages home, and a checkpoint. Counts the posts that were done.
+fn run(
+    alloc: Global,
+    journal: &mut Journal<MemErase>,
+    done: &mut usize,
+) -> Result<(), JournalError> {
+    for (n, octet) in [(1, 31), (2, 41), (1, 32)] {
+        post_one(alloc, journal, n, octet)?;
+        *done = done.saturating_add(1);
+    }
+    home(alloc, journal, 1, 32)?;
+    home(alloc, journal, 2, 41)?;
+    checkpoint(journal)
+}
+
+// The n-th of the failures of a run: 14 writes, and then 10 syncs after the two of the opening.
+fn failure_of_a_run(alloc: Global, n: u64, kind: u8) -> Result<Failure, AllocError> {
+    if n < 14 {
+        Ok(Failure::Write(n, torn(alloc, kind)?))
+    } else {
+        Ok(Failure::Sync(n - 12))
+    }
+}
+
+#[test]
+fn a_run_that_is_stopped_leaves_each_post_whole(rt: HostRuntime) -> Result<(), Fail> {
+    let alloc = rt.alloc();
+    for n in 0..24u64 {
+        for kind in 0..KINDS {
+            let disk = scripted(alloc, made(alloc)?, failure_of_a_run(alloc, n, kind)?)?;
+            let mut journal = opened(alloc, disk)?;
+            let mut done = 0;
+            let stopped = run(alloc, &mut journal, &mut done);
+            assert_eq!(rt; stopped, Err(JournalError::Fault), "{n}, {kind}");
+            let disk = journal.into_disk();
+            for choice in 0..KINDS {
+                let left = after_crash(alloc, &disk, choice)?;
+                let is_left = POSTED.iter().skip(done).take(2).any(|pages| *pages == left);
+                assert!(rt; is_left, "{n}, {kind}, {choice}");
+            }
+        }
+    }
+    let mut journal = opened(alloc, made(alloc)?)?;
+    let mut done = 0;
+    run(alloc, &mut journal, &mut done)?;
+    assert_eq!(rt; done, 3);
+    assert_eq!(rt; journal.into_disk().calls().len(), 15 + 2 + 14 + 10);
     Ok(())
 }
 
 // Thirty-two pages: one more than a post takes.
-fn too_many(alloc: Global) -> Result<Vec<(u64, Page)>, JournalError>
+fn too_many(alloc: Global) -> Result<Vec<(u64, Page)>, AllocError>
     ensures below { IfOk result (λ v. AreBelow 32 (pages_of v.items)) }
     ensures distinct { IfOk result (λ v. AreDistinct (pages_of v.items)) }
 {
@@ -184,9 +274,9 @@ fn a_post_of_32_pages_is_refused(rt: HostRuntime) -> Result<(), Fail> {
     assert_eq!(rt; images.len(), 32);
     if journal.home_pages() == 32 {
         let refused = journal.post(alloc, &images);
-        assert_eq!(rt; refused, Err(JournalError::TooManyImages));
+        assert_eq!(rt; refused, Err(PostError::TooManyImages));
     }
-    assert_eq!(rt; journal.closed(), 1);
+    assert_eq!(rt; journal.closed(), 8);
     assert_eq!(rt; journal.unhomed(), 0);
     assert_eq!(rt; shown(alloc, &mut journal)?, [0; 4]);
     Ok(())
@@ -238,7 +328,7 @@ fn an_opening_whose_read_fails_loses_nothing(rt: HostRuntime) -> Result<(), Fail
         let disk = match Journal::open(alloc, disk) {
             Ok(_) => return Err(JournalError::NotAJournal.into()),
             Err(refused) => {
-                assert_eq!(rt; refused.error, JournalError::Fault);
+                assert_eq!(rt; refused.error, OpenError::Fault);
                 refused.disk
             }
         };
@@ -287,7 +377,7 @@ fn a_creation_that_is_stopped_hands_the_disk_back(rt: HostRuntime) -> Result<(),
         let disk = match Journal::create(alloc, disk, 4) {
             Ok(_) => return Err(JournalError::NotAJournal.into()),
             Err(refused) => {
-                assert_eq!(rt; refused.error, JournalError::Fault);
+                assert_eq!(rt; refused.error, CreateError::Fault);
                 refused.disk
             }
         };
@@ -423,7 +513,7 @@ fn disks_that_are_no_journal(rt: HostRuntime) -> Result<(), Fail> {
         Ok(_) => None,
         Err(refused) => Some((refused.error, refused.disk.calls().len())),
     };
-    assert_eq!(rt; small, Some((JournalError::PagesFull, 0)));
+    assert_eq!(rt; small, Some((CreateError::PagesFull, 0)));
     let blank = opened(alloc, MemErase::new(alloc, 300 * PAGE)).err();
     assert_eq!(rt; blank, Some(JournalError::NotAJournal));
     let short = opened(alloc, MemErase::new(alloc, 3 * PAGE)).err();

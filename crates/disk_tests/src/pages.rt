@@ -19,6 +19,8 @@ fn pages(rt: HostRuntime) -> Result<(), Fail> {
     assert_eq!(rt; page.octets().first(), Some(&1));
     assert_eq!(rt; page.octets().last(), Some(&1));
     assert_eq!(rt; copy.octets().last(), Some(&b't'));
+    page.clear();
+    assert!(rt; page.octets().iter().all(|octet| *octet == 0));
     Ok(())
 }
 
@@ -39,6 +41,8 @@ fn blocks(rt: HostRuntime) -> Result<(), Fail> {
     assert_eq!(rt; block.octets().first(), Some(&1));
     assert_eq!(rt; block.octets().last(), Some(&1));
     assert_eq!(rt; copy.octets().last(), Some(&b't'));
+    block.clear();
+    assert!(rt; block.octets().iter().all(|octet| *octet == 0));
     Ok(())
 }
 

@@ -1,5 +1,5 @@
 -- What a journal keeps over its steps.
-use Rattle.std.proofs.Common.{◌≡◌, ◌≢◌, ◌<◌, ◌≤◌, inl, ⊎_elim, ℕ, ◌+◌, List, [], ◌∷◌, length, get_or, flat_map, refl, sym, ◌∙◌, ap, subst, arith, append-nil, Some}
+use Rattle.std.proofs.Common.{◌≡◌, ◌<◌, ◌≤◌, ⊎_elim, ℕ, ◌+◌, List, [], ◌∷◌, ◌++◌, length, get_or, flat_map, refl, sym, ◌∙◌, ap, subst, arith, Some}
 use Rattle.std.specs.List.{AllByRecursion, slice_get}
 use Rattle.std.proofs.lemmas.Bool.{cases_eq}
 use Rattle.std.proofs.lemmas.Option.{slice_get-get_or, get_or_from_slice_get}
@@ -7,14 +7,17 @@ use Rattle.disk_models.specs.Octets.{octets, Within}
 use Rattle.disk_models.specs.Erase.{DiskState, MayLeave, MayLeaveBut, Leaves, WritesWithin, Syncs}
 use Rattle.disk_models.proofs.api.OctetLemmas.{octets_agree}
 use Rattle.disk_models.proofs.api.Moments.{leaves_then, leaves_weaker, may_leave_now, synced_leave}
-use Rattle.page_journal.specs.Layout.{Image, pages_of, home_place, images, homes_from}
-use Rattle.page_journal.specs.Writing.{Fills, OpensGate, ImagesStand}
+use Rattle.page_journal.specs.Layout.{Image, pages_of, gate_place, home_place, images, homes_from}
+use Rattle.page_journal.specs.inner.Writing.{ImagesStand}
 use Rattle.page_journal.specs.Recovers.{laid, AreDistinct, IsListed, RecoversBy, Recovers, Carries}
-use Rattle.page_journal.specs.Bookkeeping.{place_of, unhomed_numbers, unhomed_from, open_slots}
-use Rattle.page_journal.specs.Laying.{StandsHome}
+use Rattle.page_journal.specs.Bookkeeping.{AreNumbered, IsImage, place_of, unhomed_numbers, unhomed_after, open_slots}
+use Rattle.page_journal.specs.inner.Laying.{StandsHome}
 use Rattle.page_journal.specs.declared.unhomed.Unhomed.{Unhomed}
 use Rattle.page_journal.proofs.Covering.{length-laid, length-homes_from, get_or-homes_from, are_homes, torn_home}
-use Rattle.page_journal.proofs.Placing.{others, place_cases, place_forgotten, place_kept, listed_before, none_open, first_open, none_unhomed, numbers_posted, posted_shown}
+use Rattle.page_journal.proofs.Placing.{others, place_cases, place_forgotten, place_kept, listed_before, none_unhomed, kept, kept_place, posted_shown, listed_after, listed_left, listed_right}
+use Rattle.page_journal.proofs.Posting.{number_same}
+use Rattle.page_journal.proofs.Frame.{InSlot}
+use Rattle.disk_models.proofs.api.Overlay.{overlay, overlay_out, before_crash}
 
 -- each page is shown at its place
 abbrev pub ShownAt : ℕ → List Unhomed → (ℕ → ℕ) → List (List ℕ) → Type 0
@@ -41,8 +44,15 @@ module _ (homes : ℕ) (note order : List ℕ) (n : ℕ) (s0 s1 : DiskState) (un
   pub home_covered : CoveredIn order (others n unhomed) s1
   home_covered m left c may = (torn_home homes note order n s0 pages carries (covered n listed) c (may_leave_now (home_place n) 16384 s0 s1 c w may)).1 m (covered m (listed_before unhomed n m left))
 
-  pub home_shown : (page : List ℕ) → octets s1.octet (home_place n) 16384 ≡ page → slice_get pages n ≡ Some page → AllByRecursion (λ u. u.image < 31) unhomed → ShownAt homes unhomed s0.octet pages → ShownAt homes (others n unhomed) s1.octet pages
-  home_shown page now is few shown m lt = ⊎_elim
+  pub home_numbered : (opened : ℕ) → opened ≤ 8 → ((c : ℕ → ℕ) → MayLeave s0 c → AreNumbered opened c) → (c : ℕ → ℕ) → MayLeave s1 c → AreNumbered opened c
+  home_numbered opened few numbered c may t lt =
+      let torn : MayLeaveBut (home_place n) 16384 s0 c = may_leave_now (home_place n) 16384 s0 s1 c w may in
+      let d = overlay (home_place n) 16384 s0.octet c in
+      number_same c d t (λ i v. sym (overlay_out (home_place n) 16384 s0.octet c i (λ x. absurd (omega (arith, few, lt, v.1, x.0)))))
+      ∙ numbered d (before_crash (home_place n) 16384 s0 c torn) t lt
+
+  pub home_shown : (page : List ℕ) → octets s1.octet (home_place n) 16384 ≡ page → slice_get pages n ≡ Some page → (opened : ℕ) → opened ≤ 8 → AllByRecursion (IsImage opened) unhomed → ShownAt homes unhomed s0.octet pages → ShownAt homes (others n unhomed) s1.octet pages
+  home_shown page now is opened few all shown m lt = ⊎_elim
       (λ (e : m ≡ n).
       ap (slice_get pages) e ∙ is ∙ ap (λ (p : List ℕ). Some p) (sym now)
       ∙ ap (λ at. Some (octets s1.octet at 16384)) (sym (place_forgotten unhomed n))
@@ -51,8 +61,8 @@ module _ (homes : ℕ) (note order : List ℕ) (n : ℕ) (s0 s1 : DiskState) (un
       let at = place_of unhomed m in
       let apart : (i : ℕ) → Within at 16384 i → ¬ Within (home_place n) 16384 i = λ i v x. ⊎_elim
       (λ (home : at ≡ home_place m). absurd (omega (arith, ne, home, v.0, v.1, x.0, x.1)))
-      (λ (low : at + 16384 ≤ home_place 0). absurd (omega (arith, low, v.1, x.0)))
-      (place_cases unhomed m few) in
+      (λ (low : at + 16384 ≤ gate_place opened). absurd (omega (arith, few, low, v.1, x.0)))
+      (place_cases unhomed m opened all) in
       shown m lt ∙ ap (λ (p : List ℕ). Some p) (sym (octets_agree s1.octet s0.octet at 16384 (λ i v. w.outside i (apart i v))))
       ∙ ap (λ k. Some (octets s1.octet k 16384)) (sym (place_kept unhomed n m ne)))
       (cases_eq m n)
@@ -82,35 +92,43 @@ shown_stands homes note order s0 s1 pages carries shown synced =
       };
     }
 
--- a post changes no home page
-pub post_homes : (slot n : ℕ) (header : List ℕ) (named : List Image) (s0 s1 s2 : DiskState) → slot < 8 → Fills slot header named s0 s1 → OpensGate slot s1 s2 → octets s2.octet (home_place n) 16384 ≡ octets s0.octet (home_place n) 16384
-post_homes slot n header named s0 s1 s2 below fills opens = octets_agree s2.octet s0.octet (home_place n) 16384 (λ i w.
-    opens.outside i (λ v. absurd (omega (arith, below, w.0, v.1))) ∙ fills.outside i (λ v. absurd (omega (arith, below, w.0, v.1))))
+-- a post changes no page where it stands
+place_stays : (opened n : ℕ) (unhomed : List Unhomed) (s0 s2 : DiskState) → opened < 8 → AllByRecursion (IsImage opened) unhomed → ((i : ℕ) → ¬ InSlot opened i → s2.octet i ≡ s0.octet i)
+    → octets s2.octet (place_of unhomed n) 16384 ≡ octets s0.octet (place_of unhomed n) 16384
+place_stays opened n unhomed s0 s2 room all outside =
+    let at = place_of unhomed n in
+    octets_agree s2.octet s0.octet at 16384 (λ i w. outside i (λ v. ⊎_elim
+    (λ (home : at ≡ home_place n). absurd (omega (arith, room, home, w.0, v.1)))
+    (λ (low : at + 16384 ≤ gate_place opened). absurd (omega (arith, low, w.1, v.0)))
+    (place_cases unhomed n opened all)))
 
--- nor the images of its slot, once they are written
-pub post_images : (slot : ℕ) (c : ℕ → ℕ) (s2 : DiskState) (named : List Image) → ((i : ℕ) → ¬ s2.unsynced i) → MayLeave s2 c → images s2.octet slot ≡ named → flat_map (images c) (slot ∷ []) ≡ named
-post_images slot c s2 named settled may are = append-nil (images c slot) ∙ ap (λ (f : ℕ → ℕ). images f slot) (synced_leave s2 c settled may) ∙ are
+-- each page is shown after it
+pub post_shown : (homes : ℕ) (note : List ℕ) (opened : ℕ) → opened < 8 → (s0 s2 : DiskState) (pages : List (List ℕ)) → Carries homes note (open_slots opened) s0 pages
+    → (unhomed : List Unhomed) → AllByRecursion (IsImage opened) unhomed → ShownAt homes unhomed s0.octet pages
+    → (named : List Image) → AreDistinct (pages_of named) → ((i : ℕ) → ¬ InSlot opened i → s2.octet i ≡ s0.octet i) → ImagesStand s2.octet opened 0 named
+    → ShownAt homes (unhomed_after opened named unhomed) s2.octet (laid named pages)
+post_shown homes note opened room s0 s2 pages carries unhomed all shown named distinct outside stand n lt =
+    posted_shown s2.octet opened named 0 (kept (pages_of named) unhomed) pages n distinct stand
+    (omega (arith, lt, length_meant homes note (open_slots opened) s0.octet pages (now_means homes note (open_slots opened) s0 pages carries)))
+    (λ out. shown n lt
+    ∙ ap (λ (p : List ℕ). Some p) (sym (place_stays opened n unhomed s0 s2 room all outside))
+    ∙ ap (λ at. Some (octets s2.octet at 16384)) (sym (kept_place (pages_of named) unhomed n out)))
 
--- what isn't home after a post are its pages
-pub post_covered : (s2 : DiskState) (named : List Image) → ((i : ℕ) → ¬ s2.unsynced i) → images s2.octet 0 ≡ named → CoveredIn (0 ∷ []) (unhomed_from 0 named) s2
-post_covered s2 named settled are n listed c may =
-    subst (λ (l : List Image). IsListed n (pages_of l)) (sym (post_images 0 c s2 named settled may are)) (subst (IsListed n) (numbers_posted named 0) listed)
+pages-append : (first then : List Image) → pages_of (first ++ then) ≡ pages_of first ++ pages_of then
+pages-append [] then = refl
+pages-append (image ∷ first) then = ap (λ (l : List ℕ). image.0 ∷ l) (pages-append first then)
 
--- what no open slot covers is home
-all_home : (l : List Unhomed) → ((n : ℕ) → ¬ IsListed n (unhomed_numbers l)) → l ≡ []
-all_home [] none = refl
-all_home (u ∷ l) none = absurd (none u.page (inl refl))
-
--- and each page is shown
-pub post_shown : (homes : ℕ) (note : List ℕ) (closed : ℕ) → closed ≢ 0 → (s0 s1 s2 : DiskState) (pages : List (List ℕ)) → Carries homes note (open_slots closed) s0 pages
-    → (unhomed : List Unhomed) → CoveredIn (open_slots closed) unhomed s0 → ShownAt homes unhomed s0.octet pages
-    → (named : List Image) (header : List ℕ) → AreDistinct (pages_of named) → Fills 0 header named s0 s1 → OpensGate 0 s1 s2 → ImagesStand s2.octet 0 0 named
-    → ShownAt homes (unhomed_from 0 named) s2.octet (laid named pages)
-post_shown homes note closed some s0 s1 s2 pages carries unhomed covered shown named header distinct fills opens stand n lt =
-    let none : unhomed ≡ [] = all_home unhomed (λ m listed. subst (λ (o : List ℕ). IsListed m (pages_of (flat_map (images s0.octet) o))) (none_open closed some) (covered m listed s0.octet (λ i settled. refl))) in
-    posted_shown s2.octet named 0 pages n distinct stand (omega (arith, lt, length_meant homes note (open_slots closed) s0.octet pages (now_means homes note (open_slots closed) s0 pages carries)))
-    (shown n lt ∙ ap (λ (l : List Unhomed). Some (octets s0.octet (place_of l n) 16384)) none
-    ∙ ap (λ (p : List ℕ). Some p) (sym (post_homes 0 n header named s0 s1 s2 (omega arith) fills opens)))
+-- what isn't home is an image of an open slot
+pub post_covered : (opened : ℕ) (s0 s2 : DiskState) (unhomed : List Unhomed) → CoveredIn (open_slots opened) unhomed s0 → (named : List Image) → ((i : ℕ) → ¬ s2.unsynced i)
+    → flat_map (images s2.octet) (open_slots (opened + 1)) ≡ flat_map (images s0.octet) (open_slots opened) ++ named → CoveredIn (open_slots (opened + 1)) (unhomed_after opened named unhomed) s2
+post_covered opened s0 s2 unhomed covered named settled are n listed c may =
+    let before = flat_map (images s0.octet) (open_slots opened) in
+    let now : pages_of (flat_map (images c) (open_slots (opened + 1))) ≡ pages_of before ++ pages_of named =
+    ap (λ (f : ℕ → ℕ). pages_of (flat_map (images f) (open_slots (opened + 1)))) (synced_leave s2 c settled may) ∙ ap pages_of are ∙ pages-append before named in
+    subst (IsListed n) (sym now) (⊎_elim
+    (λ new. listed_right (pages_of before) (pages_of named) n new)
+    (λ old. listed_left (pages_of before) (pages_of named) n (covered n old s0.octet (λ i settled. refl)))
+    (listed_after opened named unhomed n listed))
 
 pub whole_page : (at m : ℕ) (s0 s1 : DiskState) → m ≡ 16384 → WritesWithin at m s0 s1 → WritesWithin at 16384 s0 s1
 whole_page at m s0 s1 is w = subst (λ k. WritesWithin at k s0 s1) is w
@@ -121,14 +139,13 @@ pub home_crash : (homes : ℕ) (note order : List ℕ) (n : ℕ) (s0 s1 : DiskSt
 home_crash homes note order n s0 s1 unhomed pages w carries covered listed =
     leaves_weaker s0 s1 (MayLeaveBut (home_place n) 16384 s0) (λ c. Recovers homes note c pages) (λ c may. (order, (torn_home homes note order n s0 pages carries (covered n listed) c may).0)) w.crash
 
--- a checkpoint: a sync, and then the gate
-module _ (homes : ℕ) (note : List ℕ) (closed : ℕ) (is_open : closed ≡ 0) (s0 s1 s2 : DiskState) (unhomed : List Unhomed) (all : unhomed_numbers unhomed ≡ []) (pages : List (List ℕ))
-    (carries : Carries homes note (open_slots closed) s0 pages) (shown : ShownAt homes unhomed s0.octet pages) where
-  pub checkpoint_stands : Syncs s0 s1 → StandsHome homes note (0 ∷ []) s1 pages
-  checkpoint_stands synced = shown_stands homes note (0 ∷ []) s0 s1 pages
-      (subst (λ (o : List ℕ). Carries homes note o s0 pages) (first_open closed is_open) carries)
+-- a checkpoint: a sync, and then the gates
+module _ (homes : ℕ) (note : List ℕ) (opened : ℕ) (s0 s1 s2 : DiskState) (unhomed : List Unhomed) (all : unhomed_numbers unhomed ≡ []) (pages : List (List ℕ))
+    (carries : Carries homes note (open_slots opened) s0 pages) (shown : ShownAt homes unhomed s0.octet pages) where
+  pub checkpoint_stands : Syncs s0 s1 → StandsHome homes note (open_slots opened) s1 pages
+  checkpoint_stands synced = shown_stands homes note (open_slots opened) s0 s1 pages carries
       (subst (λ (l : List Unhomed). ShownAt homes l s0.octet pages) (none_unhomed unhomed all) shown) synced
 
   pub checkpoint_crash : Leaves s0 s1 (MayLeave s0) → Leaves s1 s2 (λ c. Recovers homes note c pages) → Leaves s0 s2 (λ c. Recovers homes note c pages)
   checkpoint_crash one two = leaves_then s0 s1 s2 (λ c. Recovers homes note c pages)
-      (leaves_weaker s0 s1 (MayLeave s0) (λ c. Recovers homes note c pages) (λ c may. (open_slots closed, carries c may)) one) two
+      (leaves_weaker s0 s1 (MayLeave s0) (λ c. Recovers homes note c pages) (λ c may. (open_slots opened, carries c may)) one) two

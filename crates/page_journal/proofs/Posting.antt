@@ -1,19 +1,20 @@
 -- The two steps of a post: a closed slot is filled, and then its gate is opened.
-use Rattle.std.proofs.Common.{◌≡◌, ◌≢◌, ◌<◌, ◌≤◌, ◌^◌, inl, inr, ⊎_elim, ℕ, suc, ◌+◌, ◌*◌, List, [], ◌∷◌, ◌++◌, length, sym, ◌∙◌, ap, subst, arith}
+use Rattle.std.proofs.Common.{◌≡◌, ◌<◌, ◌≤◌, ◌^◌, inl, inr, ⊎_elim, ℕ, suc, ◌+◌, ◌*◌, List, [], ◌∷◌, ◌++◌, length, flat_map, refl, sym, ◌∙◌, ap, subst, arith, append-nil}
+use Rattle.std.proofs.lemmas.Grind.{flat_map-append}
 use Rattle.std.proofs.lemmas.Bool.{cases_eq}
 use Rattle.std.specs.List.{AllByRecursion}
 use Rattle.disk_models.specs.Octets.{octets, Within}
 use Rattle.disk_models.specs.Erase.{DiskState, MayLeave, MayLeaveBut, Leaves}
 use Rattle.disk_models.proofs.api.Overlay.{overlay, overlay_out, before_crash}
-use Rattle.disk_models.proofs.api.Moments.{leaves_then, leaves_weaker}
-use Rattle.page_journal.specs.Layout.{Image, gate_place, header_place, image_place, IsOpen, transaction, images, pages_of}
-use Rattle.page_journal.specs.Writing.{header_octets, Fills, OpensGate, ImagesStand}
-use Rattle.page_journal.specs.Bookkeeping.{open_slots}
+use Rattle.disk_models.proofs.api.Moments.{leaves_then, leaves_weaker, synced_leave}
+use Rattle.page_journal.specs.Layout.{Image, gate_place, header_place, image_place, number_from, IsOpen, transaction, images, pages_of}
+use Rattle.page_journal.specs.inner.Writing.{header_octets, Fills, OpensGate, ImagesStand}
+use Rattle.page_journal.specs.Bookkeeping.{AreNumbered, open_slots}
 use Rattle.page_journal.specs.Recovers.{laid, AreDistinct, AreBelow, IsWhole, RecoversBy, RecoversEither, Carries}
 use Rattle.page_journal.proofs.Staging.{ReadsAs, staged, length-header_octets}
-use Rattle.page_journal.proofs.Frame.{InBody, InSlot, SameSlot, same_open, same_reading, closed_same}
+use Rattle.page_journal.proofs.Frame.{InBody, InSlot, SameSlot, same_open, same_reading, closed_same, each_same, contents_each}
 use Rattle.page_journal.proofs.Opening.{opened}
-use Rattle.page_journal.proofs.Placing.{none_open}
+use Rattle.page_journal.proofs.Placing.{slots_within, all_slots, open_push}
 use Rattle.disk_models.proofs.api.OctetLemmas.{octets_agree}
 
 -- images that stand where nothing was written since
@@ -98,50 +99,79 @@ module _ (homes : ℕ) (note order : List ℕ) (slot next : ℕ) (below : slot <
     pub posted_images : (s2 : DiskState) → OpensGate slot s1 s2 → ReadsAs s2.octet slot next named
     posted_images s2 opens = same_reading s2.octet s1.octet slot (λ i w. opens.outside i (λ v. absurd (omega (arith, w.0, v.1)))) next named few reads
 
--- what is posted into the first slot has the number of its header
-pub posted_number : (homes : ℕ) (named : List Image) (header : List ℕ) (s0 s1 s2 : DiskState) → length named ≤ 31 → 265 + homes < 2 ^ 50 → AreBelow homes (pages_of named)
-    → header ≡ header_octets 1 named → Fills 0 header named s0 s1 → OpensGate 0 s1 s2 → transaction s2.octet 0 ≡ 1
-posted_number homes named header s0 s1 s2 few small inside is_header fills opens =
-    let long : length header ≡ 9 + 8 * length named = ap length is_header ∙ length-header_octets 1 named in
-    let reads : ReadsAs s1.octet 0 1 named = staged s1.octet 0 1 homes named (omega arith) (omega (arith, small)) inside (record {
-      header = ap (λ n. octets s1.octet (header_place 0) n) (sym long) ∙ fills.header_stands ∙ is_header;
+-- what is posted has the number of its header
+pub posted_number : (homes slot next : ℕ) (named : List Image) (header : List ℕ) (s0 s1 s2 : DiskState) → length named ≤ 31 → next < 2 ^ 64 → 265 + homes < 2 ^ 50 → AreBelow homes (pages_of named)
+    → header ≡ header_octets next named → Fills slot header named s0 s1 → OpensGate slot s1 s2 → transaction s2.octet slot ≡ next
+posted_number homes slot next named header s0 s1 s2 few low small inside is_header fills opens =
+    let long : length header ≡ 9 + 8 * length named = ap length is_header ∙ length-header_octets next named in
+    let reads : ReadsAs s1.octet slot next named = staged s1.octet slot next homes named low (omega (arith, small)) inside (record {
+      header = ap (λ n. octets s1.octet (header_place slot) n) (sym long) ∙ fills.header_stands ∙ is_header;
       stand = fills.images_stand;
     }) in
-    (same_reading s2.octet s1.octet 0 (λ i w. opens.outside i (λ v. absurd (omega (arith, w.0, v.1)))) 1 named few reads).transaction_is
+    (same_reading s2.octet s1.octet slot (λ i w. opens.outside i (λ v. absurd (omega (arith, w.0, v.1)))) next named few reads).transaction_is
 
--- where no slot is open, the first is free
-pub shut_free : (homes : ℕ) (note : List ℕ) (f : ℕ → ℕ) (pages : List (List ℕ)) → RecoversBy homes note [] f pages → IsFree 0 1 [] f
-shut_free homes note f pages r = record {
-  closed = λ is. r.slots.all_open 0 (omega arith) is;
-  lower = tt;
+-- the first closed slot is free
+pub first_free : (homes : ℕ) (note : List ℕ) (opened : ℕ) (f : ℕ → ℕ) (pages : List (List ℕ)) → opened < 8 → RecoversBy homes note (open_slots opened) f pages → AreNumbered opened f → IsFree opened (opened + 1) (open_slots opened) f
+first_free homes note opened f pages room r numbered = record {
+  closed = λ is. let w = slots_within 0 opened opened (r.slots.all_open opened room is) in absurd (omega (arith, w.1));
+  lower = all_slots (λ t. transaction f t < opened + 1) 0 opened (λ t lt. omega (arith, lt, numbered t (omega (arith, lt))));
 }
 
--- A whole post into the first slot, where none is open.
-module _ (homes : ℕ) (note : List ℕ) (closed : ℕ) (some_closed : closed ≢ 0) (s0 s1 : DiskState) (pages : List (List ℕ)) (keeps : Carries homes note (open_slots closed) s0 pages)
-    (named : List Image) (header : List ℕ) where
-  carries_none : Carries homes note [] s0 pages
-  carries_none = subst (λ (o : List ℕ). Carries homes note o s0 pages) (none_open closed some_closed) keeps
+-- the number of a slot hangs on its header alone
+pub number_same : (c d : ℕ → ℕ) (slot : ℕ) → ((i : ℕ) → Within (header_place slot) 8 i → c i ≡ d i) → transaction c slot ≡ transaction d slot
+number_same c d slot agree = ap number_from (octets_agree c d (header_place slot) 8 agree)
 
-  free : (c : ℕ → ℕ) → MayLeave s0 c → IsFree 0 1 [] c
-  free c may = shut_free homes note c pages (carries_none c may)
+-- A whole post into the first closed slot.
+module _ (homes : ℕ) (note : List ℕ) (opened : ℕ) (room : opened < 8) (s0 s1 : DiskState) (pages : List (List ℕ)) (carries : Carries homes note (open_slots opened) s0 pages)
+    (numbered : (c : ℕ → ℕ) → MayLeave s0 c → AreNumbered opened c) (named : List Image) (header : List ℕ) where
+  free : (c : ℕ → ℕ) → MayLeave s0 c → IsFree opened (opened + 1) (open_slots opened) c
+  free c may = first_free homes note opened c pages room (carries c may) (numbered c may)
 
-  pub fill_crash : Leaves s0 s1 (MayLeaveBut (header_place 0) 524288 s0) → Leaves s0 s1 (RecoversEither homes note pages (laid named pages))
-  fill_crash l = leaves_weaker s0 s1 (MayLeaveBut (header_place 0) 524288 s0) (RecoversEither homes note pages (laid named pages))
-      (λ d may. inl ([], (torn_fill homes note [] 0 1 (omega arith) s0 pages carries_none free d may).0)) l
+  pub fill_crash : Leaves s0 s1 (MayLeaveBut (header_place opened) 524288 s0) → Leaves s0 s1 (RecoversEither homes note pages (laid named pages))
+  fill_crash l = leaves_weaker s0 s1 (MayLeaveBut (header_place opened) 524288 s0) (RecoversEither homes note pages (laid named pages))
+      (λ d may. inl (open_slots opened, (torn_fill homes note (open_slots opened) opened (opened + 1) room s0 pages carries free d may).0)) l
 
   module _ (s2 : DiskState) (some : ¬ (length named ≡ 0)) (few : length named ≤ 31) (small : 265 + homes < 2 ^ 50) (below : AreBelow homes (pages_of named)) (distinct : AreDistinct (pages_of named))
-      (is_header : header ≡ header_octets 1 named) (fills : Fills 0 header named s0 s1) where
-    pub gate_crash : Leaves s0 s1 (MayLeaveBut (header_place 0) 524288 s0) → Leaves s1 s2 (MayLeaveBut (gate_place 0) 1 s1) → Leaves s0 s2 (RecoversEither homes note pages (laid named pages))
+      (is_header : header ≡ header_octets (opened + 1) named) (fills : Fills opened header named s0 s1) where
+    pub gate_crash : Leaves s0 s1 (MayLeaveBut (header_place opened) 524288 s0) → Leaves s1 s2 (MayLeaveBut (gate_place opened) 1 s1) → Leaves s0 s2 (RecoversEither homes note pages (laid named pages))
     gate_crash one two = leaves_then s0 s1 s2 (RecoversEither homes note pages (laid named pages)) (fill_crash one)
-        (leaves_weaker s1 s2 (MayLeaveBut (gate_place 0) 1 s1) (RecoversEither homes note pages (laid named pages))
-        (torn_gate homes note [] 0 1 (omega arith) s0 pages carries_none free named header s1 (omega (arith, some)) few (omega arith) (omega (arith, small)) below distinct is_header fills) two)
+        (leaves_weaker s1 s2 (MayLeaveBut (gate_place opened) 1 s1) (RecoversEither homes note pages (laid named pages))
+        (torn_gate homes note (open_slots opened) opened (opened + 1) room s0 pages carries free named header s1 (omega (arith, some)) few (omega (arith, room)) (omega (arith, small)) below distinct is_header fills) two)
 
-    pub post_carries : OpensGate 0 s1 s2 → Carries homes note (0 ∷ []) s2 (laid named pages)
-    post_carries opens = posted homes note [] 0 1 (omega arith) s0 pages carries_none free named header s1 (omega (arith, some)) few (omega arith) (omega (arith, small)) below distinct is_header fills s2 opens
+    pub post_carries : OpensGate opened s1 s2 → Carries homes note (open_slots (opened + 1)) s2 (laid named pages)
+    post_carries opens = subst (λ (o : List ℕ). Carries homes note o s2 (laid named pages)) (open_push opened)
+        (posted homes note (open_slots opened) opened (opened + 1) room s0 pages carries free named header s1 (omega (arith, some)) few (omega (arith, room)) (omega (arith, small)) below distinct is_header fills s2 opens)
 
-    pub post_reads : OpensGate 0 s1 s2 → images s2.octet 0 ≡ named
-    post_reads opens = (posted_images homes note [] 0 1 (omega arith) s0 pages carries_none free named header s1 (omega (arith, some)) few (omega arith) (omega (arith, small)) below distinct is_header fills s2 opens).images_are
+    post_reads : OpensGate opened s1 s2 → ReadsAs s2.octet opened (opened + 1) named
+    post_reads opens = posted_images homes note (open_slots opened) opened (opened + 1) room s0 pages carries free named header s1 (omega (arith, some)) few (omega (arith, room)) (omega (arith, small)) below distinct is_header fills s2 opens
 
     -- the images are read where they were written
-    pub post_stand : OpensGate 0 s1 s2 → ImagesStand s2.octet 0 0 named
-    post_stand opens = stand_same s1.octet s2.octet 0 (λ i high. opens.outside i (λ v. absurd (omega (arith, high, v.1)))) named 0 fills.images_stand
+    pub post_stand : OpensGate opened s1 s2 → ImagesStand s2.octet opened 0 named
+    post_stand opens = stand_same s1.octet s2.octet opened (λ i high. opens.outside i (λ v. absurd (omega (arith, high, v.1)))) named 0 fills.images_stand
+
+    -- outside its slot nothing was written
+    pub post_outside : OpensGate opened s1 s2 → (i : ℕ) → ¬ InSlot opened i → s2.octet i ≡ s0.octet i
+    post_outside opens i out = opens.outside i (λ v. out (omega (arith, v.0), omega (arith, v.1))) ∙ fills.outside i (λ v. out (omega (arith, v.0), omega (arith, v.1)))
+
+    -- the next number
+    pub post_numbered : OpensGate opened s1 s2 → (c : ℕ → ℕ) → MayLeave s2 c → AreNumbered (opened + 1) c
+    post_numbered opens c may t lt =
+        ap (λ (f : ℕ → ℕ). transaction f t) (synced_leave s2 c opens.settled may) ∙ ⊎_elim
+        (λ (e : t ≡ opened). ap (transaction s2.octet) e ∙ (post_reads opens).transaction_is ∙ ap (λ n. n + 1) (sym e))
+        (λ (ne : t ≡ opened → ⊥).
+        number_same s2.octet s0.octet t (λ i w. post_outside opens i (λ v. absurd (omega (arith, ne, w.0, w.1, v.0, v.1))))
+        ∙ numbered s0.octet (λ i settled. refl) t (omega (arith, ne, lt)))
+        (cases_eq t opened)
+
+    -- the images of all open slots
+    pub post_all_images : OpensGate opened s1 s2 → flat_map (images s2.octet) (open_slots (opened + 1)) ≡ flat_map (images s0.octet) (open_slots opened) ++ named
+    post_all_images opens =
+        let r : RecoversBy homes note (open_slots opened) s0.octet pages = carries s0.octet (λ i settled. refl) in
+        let shut : ¬ IsOpen s0.octet opened = (free s0.octet (λ i settled. refl)).closed in
+        let same : flat_map (images s2.octet) (open_slots opened) ≡ flat_map (images s0.octet) (open_slots opened) =
+        contents_each homes s2.octet s0.octet (open_slots opened) (each_same homes s2.octet s0.octet (open_slots opened)
+        (λ t h w. same_open homes s2.octet s0.octet opened room (post_outside opens) shut t w) r.slots.whole) in
+        ap (flat_map (images s2.octet)) (sym (open_push opened))
+        ∙ flat_map-append (images s2.octet) (open_slots opened) (opened ∷ [])
+        ∙ ap (λ (l : List Image). flat_map (images s2.octet) (open_slots opened) ++ l) (append-nil (images s2.octet opened) ∙ (post_reads opens).images_are)
+        ∙ ap (λ (l : List Image). l ++ named) same

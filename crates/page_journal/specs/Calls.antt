@@ -1,13 +1,41 @@
--- What a call leaves of a journal besides its disk.
-use Rattle.std.specs.Prelude.{◌≡◌}
+-- What the calls of a journal leave.
+use Rattle.std.specs.Prelude.{◌≡◌, ◌+◌, ◌++◌, List, [], true, false}
 use Rattle.disk_models.specs.declared.erase.EraseDisk.{Ghosts}
-use Rattle.page_journal.specs.Journal.{home_pages, note_of, closed_slots, unhomed_pages, needs_recovery}
+use Rattle.disk_models.specs.Serves.{Serves}
+use Rattle.page_journal.specs.Layout.{Image, pages_of, transaction}
+use Rattle.page_journal.specs.Bookkeeping.{without}
+use Rattle.page_journal.specs.Journal.{disk_of, home_pages, note_of, opened_slots, closed_slots, unhomed_pages, needs_recovery}
 use Rattle.page_journal.specs.declared.journal.Journal.{Journal}
+
+-- A journal over a call: its number of home pages and its note stay, and what each call keeps of its device.
+pub record SameJournal {D : Type 0} (device : Ghosts D) (old new : Journal D device) (failed : Type 0) : Type 0 where
+  pub homes : home_pages new ≡ home_pages old
+  pub note : note_of new ≡ note_of old
+  pub serves : Serves device (disk_of old) (disk_of new) failed
 
 -- nothing but its disk has changed
 pub record SameButDisk {D : Type 0} (device : Ghosts D) (old new : Journal D device) : Type 0 where
   pub homes : home_pages new ≡ home_pages old
   pub note : note_of new ≡ note_of old
-  pub closed : closed_slots new ≡ closed_slots old
+  pub opened : opened_slots new ≡ opened_slots old
   pub unhomed : unhomed_pages new ≡ unhomed_pages old
   pub recovery : needs_recovery new ≡ needs_recovery old
+
+-- nothing is posted: all slots are closed, and all pages are home
+pub record IsIdle {D : Type 0} (device : Ghosts D) (journal : Journal D device) : Type 0 where
+  pub closed : closed_slots journal ≡ 8
+  pub unhomed : unhomed_pages journal ≡ []
+  pub usable : needs_recovery journal ≡ false
+
+-- A write or a sync failed: the journal must be opened again. Until then it tells the slots and pages of before.
+pub record IsDown {D : Type 0} (device : Ghosts D) (old new : Journal D device) : Type 0 where
+  pub recovery : needs_recovery new ≡ true
+  pub opened : opened_slots new ≡ opened_slots old
+  pub unhomed : unhomed_pages new ≡ unhomed_pages old
+
+-- A transaction took the first closed slot. Its number is the slot's, counted from 1, and none of its pages is home.
+pub record TakesSlot {D : Type 0} (device : Ghosts D) (posted : List Image) (old new : Journal D device) : Type 0 where
+  pub usable : needs_recovery new ≡ false
+  pub opened : opened_slots new ≡ opened_slots old + 1
+  pub unhomed : unhomed_pages new ≡ pages_of posted ++ without (pages_of posted) (unhomed_pages old)
+  pub numbered : device.honest (disk_of old) → transaction (device.model (disk_of new)).octet (opened_slots old) ≡ opened_slots old + 1

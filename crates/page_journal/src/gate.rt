@@ -1,9 +1,11 @@
 //! Gates of slots are closed.
-ghost use Rattle.std.specs.Prelude.{◌≡◌, ◌≤◌, ◌<◌, ◌∷◌, ◌↔◌, ℕ, List, OnOk};
-ghost use Rattle.disk_models.specs.Erase.{Counts, Leaves, WritesWithin};
+ghost use Rattle.std.specs.Prelude.{[], ◌≡◌, ◌≤◌, ◌<◌, ◌∷◌, ◌↔◌, ℕ, List, OnOk, IsErr, IsErrOf};
+ghost use Rattle.disk_models.specs.Erase.{Leaves, WritesWithin};
+ghost use Rattle.disk_models.specs.Serves.{Serves};
 ghost use Rattle.page_journal.specs.Layout.{gate_place};
+ghost use Rattle.page_journal.specs.Bookkeeping.{open_slots};
 ghost use Rattle.page_journal.specs.Recovers.{Recovers};
-ghost use Rattle.page_journal.specs.Laying.{StandsHome};
+ghost use Rattle.page_journal.specs.inner.Laying.{StandsHome};
 
 use disk_models::{EraseDisk, Fault};
 
@@ -15,9 +17,7 @@ const SLOTS: u64 = 8;
 pub fn close<D: EraseDisk>(disk: &mut D, slot: u64) -> Result<(), Fault>
     requires slot { slot < 8 }
     requires room { 4341760 ≤ D.octet_count disk.old }
-    ensures size { D.octet_count disk.new ≡ D.octet_count disk.old }
-    ensures counts { Counts (D.fault_count disk.old) (D.fault_count disk.new) result }
-    ensures honest { D.honest disk.old ↔ D.honest disk.new }
+    ensures serves { Serves D.EraseDisk disk.old disk.new (IsErr result) }
     ensures crash { D.honest disk.old → (homes : ℕ) (note rest : List ℕ) (pages : List (List ℕ)) → StandsHome homes note (slot ∷ rest) (D.model disk.old) pages
         → Leaves (D.model disk.old) (D.model disk.new) (λ c. Recovers homes note c pages) }
     ensures closed { D.honest disk.old → (homes : ℕ) (note rest : List ℕ) (pages : List (List ℕ)) → StandsHome homes note (slot ∷ rest) (D.model disk.old) pages
@@ -27,12 +27,26 @@ pub fn close<D: EraseDisk>(disk: &mut D, slot: u64) -> Result<(), Fault>
     disk.sync()
 }
 
+// Closes the gates of the first slots, which are the open ones and whose images are home, the oldest first.
+pub fn close_first<D: EraseDisk>(disk: &mut D, count: u64) -> Result<(), Fault>
+    requires few { count ≤ 8 }
+    requires room { 4341760 ≤ D.octet_count disk.old }
+    ensures serves { Serves D.EraseDisk disk.old disk.new (IsErr result) }
+    ensures crash { D.honest disk.old → (homes : ℕ) (note : List ℕ) (pages : List (List ℕ)) → StandsHome homes note (open_slots count) (D.model disk.old) pages
+        → Leaves (D.model disk.old) (D.model disk.new) (λ c. Recovers homes note c pages) }
+    ensures closed { D.honest disk.old → (homes : ℕ) (note : List ℕ) (pages : List (List ℕ)) → StandsHome homes note (open_slots count) (D.model disk.old) pages
+        → OnOk result (StandsHome homes note [] (D.model disk.new) pages) }
+{
+    for slot in 0..count {
+        close(disk, slot)?;
+    }
+    Ok(())
+}
+
 // Closes the gates of all slots, without a sync.
 pub fn close_all<D: EraseDisk>(disk: &mut D) -> Result<(), Fault>
     requires { 4341760 ≤ D.octet_count disk.old }
-    ensures size { D.octet_count disk.new ≡ D.octet_count disk.old }
-    ensures counts { Counts (D.fault_count disk.old) (D.fault_count disk.new) result }
-    ensures honest { D.honest disk.old ↔ D.honest disk.new }
+    ensures serves { Serves D.EraseDisk disk.old disk.new (IsErr result) }
     ensures within { D.honest disk.old → WritesWithin 16384 4325376 (D.model disk.old) (D.model disk.new) }
     ensures closed { D.honest disk.old → OnOk result ((slot : ℕ) → slot < 8 → (D.model disk.new).octet (gate_place slot) ≡ 0) }
 {

@@ -1,10 +1,14 @@
-//! The journal, with one slot.
-ghost use Rattle.std.specs.Prelude.{◌≡◌, ◌≢◌, ◌≤◌, ◌<◌, ◌^◌, ◌+◌, ◌*◌, ◌↔◌, ◌==◌, [], ℕ, List, length, OnOk, OnErr, IfOk, IfErr, IsOk, IsErr, IsErrOf, true, false, not, filter, Some, slice_get, replicate};
+//! The journal.
+ghost use Rattle.std.specs.Prelude.{◌≡◌, ◌≢◌, ◌≤◌, ◌<◌, ◌^◌, ◌+◌, ◌*◌, ◌↔◌, ◌==◌, [], ℕ, List, length, OnOk, OnErr, IfOk, IfErr, IsOk, IsErr, IsErrOf, IfSome, IsNone, true, false, not, filter, Some, slice_get, replicate, ◌++◌};
 ghost use Rattle.disk_models.specs.Erase.{Leaves, Stays};
+ghost use Rattle.disk_models.specs.Serves.{Serves};
+ghost use Rattle.std.specs.List.{AllByRecursion, AllByRecursion-prop};
+ghost use Rattle.std.proofs.Props.{props};
+ghost use Rattle.page_journal.specs.Bookkeeping.{IsImage, unhomed_numbers, without};
 ghost use Rattle.page_journal.specs.Layout.{homes_from, pages_of, transaction};
 ghost use Rattle.page_journal.specs.Recovers.{laid, AreBelow, AreDistinct, IsListed, Recovers, RecoversEither};
 
-use crate::error::JournalError;
+use crate::error::{CreateError, OpenError, PostError, UseError};
 use crate::refused::Refused;
 use crate::unhomed::Unhomed;
 use crate::{create, examine, gate, slot, unhomed};
@@ -13,56 +17,47 @@ use std::alloc::Global;
 
 const PAGE: u64 = 16_384;
 
+const SLOTS: u64 = 8;
+
 const IMAGES: usize = 31;
 
 /// Home pages on an erasable disk, some of which are replaced at once by a post, whatever a crash tears.
 ///
-/// At this stage it uses the first of its eight slots. After a write or a sync that failed each call but those that
-/// only tell something, or give the disk up, answers [`JournalError::NeedsRecovery`], until the disk is opened again.
+/// Each post takes one of eight slots, and a checkpoint gives all back. After a write or a sync that failed each call
+/// but those that only tell something, or give the disk up, answers that it must be opened again, until it is.
 #[derive(Drop)]
 pub struct Journal<D: EraseDisk + Drop> {
     disk: D,
     homes: u64,
     note: [u8; 11],
-    closed: usize,
+    opened: u64,
     unhomed: Vec<Unhomed>,
     needs_recovery: bool,
     ghost room: { 16384 * (265 + homes) ≤ D.octet_count disk },
     ghost small: { 265 + homes < 2 ^ 50 },
-    ghost one: { closed ≤ 1 },
+    ghost eight: { opened ≤ 8 },
+    ghost images: { AllByRecursion (IsImage opened) unhomed.items } by { AllByRecursion-prop (IsImage opened) (λ u. Prim.hlevel props) unhomed.items },
+    ghost below: { AreBelow homes (unhomed_numbers unhomed.items) } by { AllByRecursion-prop (λ n. n < homes) (λ n. Prim.hlevel props) (unhomed_numbers unhomed.items) },
 }
 
 impl<D: EraseDisk + Drop> Journal<D> {
-    ghost use Rattle.page_journal.specs.Journal.{
-      Keeps,
-      closed_slots,
-      disk_of,
-      home_pages,
-      needs_recovery,
-      note_of,
-      unhomed_pages,
-    };
-    ghost use Rattle.page_journal.specs.Refusals.{CountsFault, CreateRefusal, PostRefusal, PostsAt, UseRefusal, IsOpening, IsWant};
-    ghost use Rattle.page_journal.specs.Survey.{OpenRefusal};
-    ghost use Rattle.page_journal.specs.SameJournal.{SameButDisk};
+    ghost use Rattle.page_journal.specs.Journal.{Keeps, closed_slots, opened_slots, disk_of, home_pages, needs_recovery, note_of, unhomed_pages};
+    ghost use Rattle.page_journal.specs.Refusals.{CreateRefusal, PostRefusal, PostsAt, UseRefusal, IsOpening, IsWant, OpenRefusal};
+    ghost use Rattle.page_journal.specs.Calls.{IsDown, IsIdle, SameButDisk, SameJournal, TakesSlot};
     ghost use Rattle.page_journal.specs.Outcome.{disk_after, outcome};
 
     /// Makes a disk a journal's with so many home pages, which keep what the disk holds.
     ///
     /// The note is of zeros. See [`Journal::create_with`].
-    pub fn create(alloc: Global, disk: D, homes: u64) -> Result<Self, Refused<D>>
+    pub fn create(alloc: Global, disk: D, homes: u64) -> Result<Self, Refused<D, CreateError>>
         ensures created { D.honest disk → IfOk result (λ journal. Keeps D.EraseDisk journal (homes_from (D.model disk).octet 0 homes)) }
         ensures homes { IfOk result (λ journal. home_pages journal ≡ homes) }
         ensures note { IfOk result (λ journal. note_of journal ≡ replicate 11 0) }
-        ensures closed { IfOk result (λ journal. closed_slots journal ≡ 1) }
-        ensures unhomed { IfOk result (λ journal. unhomed_pages journal ≡ []) }
-        ensures usable { IfOk result (λ journal. needs_recovery journal ≡ false) }
+        ensures idle { IfOk result (IsIdle D.EraseDisk) }
         ensures room { OnOk result (16384 * (265 + homes) ≤ D.octet_count disk) }
         ensures refused { IfErr (outcome result) (CreateRefusal homes (D.octet_count disk)) }
-        ensures untouched { IfErr result (λ refused. refused.error ≢ JournalError.Fault → refused.disk ≡ disk) }
-        ensures counts { CountsFault (D.fault_count disk) (D.fault_count (disk_after result)) (outcome result) }
-        ensures honest { D.honest disk ↔ D.honest (disk_after result) }
-        ensures size { D.octet_count (disk_after result) ≡ D.octet_count disk }
+        ensures untouched { IfErr result (λ refused. refused.error ≢ CreateError.Fault → refused.disk ≡ disk) }
+        ensures serves { Serves D.EraseDisk disk (disk_after result) (IsErrOf (outcome result) CreateError.Fault) }
     {
         Journal::create_with(alloc, disk, homes, [0; 11], &[])
     }
@@ -78,30 +73,26 @@ impl<D: EraseDisk + Drop> Journal<D> {
         homes: u64,
         note: [u8; 11],
         first: &[(u64, Page)],
-    ) -> Result<Self, Refused<D>>
+    ) -> Result<Self, Refused<D, CreateError>>
         requires { AreBelow homes (pages_of first.now) }
         ensures created { D.honest disk → IfOk result (λ journal. Keeps D.EraseDisk journal (laid first.now (homes_from (D.model disk).octet 0 homes))) }
         ensures homes { IfOk result (λ journal. home_pages journal ≡ homes) }
         ensures note { IfOk result (λ journal. note_of journal ≡ note) }
-        ensures closed { IfOk result (λ journal. closed_slots journal ≡ 1) }
-        ensures unhomed { IfOk result (λ journal. unhomed_pages journal ≡ []) }
-        ensures usable { IfOk result (λ journal. needs_recovery journal ≡ false) }
+        ensures idle { IfOk result (IsIdle D.EraseDisk) }
 
         // The disk is refused exactly where it is too small, and isn't written then, nor for want of memory.
         ensures room { OnOk result (16384 * (265 + homes) ≤ D.octet_count disk) }
         ensures refused { IfErr (outcome result) (CreateRefusal homes (D.octet_count disk)) }
-        ensures untouched { IfErr result (λ refused. refused.error ≢ JournalError.Fault → refused.disk ≡ disk) }
+        ensures untouched { IfErr result (λ refused. refused.error ≢ CreateError.Fault → refused.disk ≡ disk) }
 
-        ensures counts { CountsFault (D.fault_count disk) (D.fault_count (disk_after result)) (outcome result) }
-        ensures honest { D.honest disk ↔ D.honest (disk_after result) }
-        ensures size { D.octet_count (disk_after result) ≡ D.octet_count disk }
+        ensures serves { Serves D.EraseDisk disk (disk_after result) (IsErrOf (outcome result) CreateError.Fault) }
     {
         match create::prepare(alloc, &mut disk, homes, &note, first) {
             Ok(()) => Ok(Journal {
                 disk,
                 homes,
                 note,
-                closed: 1,
+                opened: 0,
                 unhomed: Vec::new(alloc),
                 needs_recovery: false,
             }),
@@ -113,7 +104,7 @@ impl<D: EraseDisk + Drop> Journal<D> {
     ///
     /// All slots are looked at before anything is written. A disk that only this journal wrote is refused for want of
     /// memory or by the device alone, whatever a crash left of it.
-    pub fn open(alloc: Global, mut disk: D) -> Result<Self, Refused<D>>
+    pub fn open(alloc: Global, mut disk: D) -> Result<Self, Refused<D, OpenError>>
         // What a read gives before the call is what the journal keeps, and each crash leaves it too.
         ensures opened { D.honest disk → IfOk result (λ journal. (pages : List (List ℕ)) → Recovers (home_pages journal) (note_of journal) (D.model disk).octet pages
             → Keeps D.EraseDisk journal pages) }
@@ -121,9 +112,7 @@ impl<D: EraseDisk + Drop> Journal<D> {
         ensures crash { D.honest disk → (homes : ℕ) (note : List ℕ) (pages : List (List ℕ)) → Recovers homes note (D.model disk).octet pages
             → Leaves (D.model disk) (D.model (disk_after result)) (λ c. Recovers homes note c pages) }
 
-        ensures closed { IfOk result (λ journal. closed_slots journal ≡ 1) }
-        ensures unhomed { IfOk result (λ journal. unhomed_pages journal ≡ []) }
-        ensures usable { IfOk result (λ journal. needs_recovery journal ≡ false) }
+        ensures idle { IfOk result (IsIdle D.EraseDisk) }
         ensures room { IfOk result (λ journal. 16384 * (265 + home_pages journal) ≤ D.octet_count disk) }
 
         // A disk is refused for what stands on it alone, and isn't written then. One that means a map is never damaged.
@@ -131,11 +120,9 @@ impl<D: EraseDisk + Drop> Journal<D> {
         ensures refused { D.honest disk → IfErr (outcome result) (OpenRefusal (D.octet_count disk) (D.model disk).octet) }
         ensures undamaged { D.honest disk → (homes : ℕ) (note : List ℕ) (pages : List (List ℕ)) → Recovers homes note (D.model disk).octet pages
             → 16384 * (265 + homes) ≤ D.octet_count disk → IfErr (outcome result) IsWant }
-        ensures untouched { D.honest disk → IfErr result (λ refused. refused.error ≢ JournalError.Fault → (D.model refused.disk).octet ≡ (D.model disk).octet) }
+        ensures untouched { D.honest disk → IfErr result (λ refused. refused.error ≢ OpenError.Fault → (D.model refused.disk).octet ≡ (D.model disk).octet) }
 
-        ensures counts { CountsFault (D.fault_count disk) (D.fault_count (disk_after result)) (outcome result) }
-        ensures honest { D.honest disk ↔ D.honest (disk_after result) }
-        ensures size { D.octet_count (disk_after result) ≡ D.octet_count disk }
+        ensures serves { Serves D.EraseDisk disk (disk_after result) (IsErrOf (outcome result) OpenError.Fault) }
     {
         match examine::recover(alloc, &mut disk) {
             Ok(identity) => {
@@ -144,7 +131,7 @@ impl<D: EraseDisk + Drop> Journal<D> {
                     disk,
                     homes: identity.homes,
                     note,
-                    closed: 1,
+                    opened: 0,
                     unhomed: Vec::new(alloc),
                     needs_recovery: false,
                 })
@@ -174,11 +161,30 @@ impl<D: EraseDisk + Drop> Journal<D> {
         self.unhomed.len()
     }
 
-    /// How many of the slots that it uses are closed. A post takes one.
+    /// How many of its eight slots are closed. A post takes one.
     pub fn closed(&self) -> usize
         ensures closed { result ≡ closed_slots self.now }
     {
-        self.closed
+        (SLOTS - self.opened) as usize
+    }
+
+    /// Whether no write and no sync has failed since it was opened.
+    pub fn is_usable(&self) -> bool
+        ensures usable { result ≡ not (needs_recovery self.now) }
+    {
+        !self.needs_recovery
+    }
+
+    /// A page that was posted and isn't written home, where there is one.
+    pub fn first_unhomed(&self) -> Option<u64>
+        ensures listed { IfSome result (λ n. IsListed n (unhomed_pages self.now)) }
+        ensures below { IfSome result (λ n. n < home_pages self.now) }
+        ensures none { IsNone result ↔ (length (unhomed_pages self.now) ≡ 0) }
+    {
+        match self.unhomed.first() {
+            Some(entry) => Some(entry.page),
+            None => None,
+        }
     }
 
     /// Gives its disk up.
@@ -189,7 +195,7 @@ impl<D: EraseDisk + Drop> Journal<D> {
     }
 
     /// Reads a page of the map. After a failure `into` holds any octets.
-    pub fn read(&mut self, n: u64, into: &mut Page) -> Result<(), JournalError>
+    pub fn read(&mut self, n: u64, into: &mut Page) -> Result<(), UseError>
         requires { n < home_pages self.old }
 
         ensures page { D.honest (disk_of self.old) → (pages : List (List ℕ)) → Keeps D.EraseDisk self.old pages
@@ -206,12 +212,10 @@ impl<D: EraseDisk + Drop> Journal<D> {
         ensures ok { OnOk result (needs_recovery self.old ≡ false) }
         ensures refused { IfErr result (UseRefusal (needs_recovery self.old)) }
         ensures down { needs_recovery self.old ≡ true → self.new ≡ self.old }
-        ensures counts { CountsFault (D.fault_count (disk_of self.old)) (D.fault_count (disk_of self.new)) result }
-        ensures honest { D.honest (disk_of self.old) ↔ D.honest (disk_of self.new) }
-        ensures size { D.octet_count (disk_of self.new) ≡ D.octet_count (disk_of self.old) }
+        ensures serves { Serves D.EraseDisk (disk_of self.old) (disk_of self.new) (IsErrOf result UseError.Fault) }
     {
         if self.needs_recovery {
-            return Err(JournalError::NeedsRecovery);
+            return Err(UseError::NeedsRecovery);
         }
         let place = unhomed::place(&self.unhomed, n);
         into.read_from(&mut self.disk, place)?;
@@ -222,7 +226,7 @@ impl<D: EraseDisk + Drop> Journal<D> {
     ///
     /// At most 31 pages go into one post, and a slot must be closed. It takes that slot, and asks for memory before it
     /// writes anything.
-    pub fn post(&mut self, alloc: Global, images: &[(u64, Page)]) -> Result<(), JournalError>
+    pub fn post(&mut self, alloc: Global, images: &[(u64, Page)]) -> Result<(), PostError>
         requires below { AreBelow (home_pages self.old) (pages_of images.now) }
         requires distinct { AreDistinct (pages_of images.now) }
 
@@ -237,51 +241,41 @@ impl<D: EraseDisk + Drop> Journal<D> {
         ensures refused { IfErr result (PostRefusal (needs_recovery self.old) (length images.now) (closed_slots self.old)) }
 
         // A refusal before the first write leaves all as it was. After another the disk must be opened again.
-        ensures unchanged { IfErr result (λ e. e ≢ JournalError.Fault → self.new ≡ self.old) }
-        ensures failed { IsErrOf result JournalError.Fault → needs_recovery self.new ≡ true }
-        ensures as_closed { OnErr result (closed_slots self.new ≡ closed_slots self.old) }
-        ensures as_unhomed { OnErr result (unhomed_pages self.new ≡ unhomed_pages self.old) }
-
-        // The first transaction since an opening or a checkpoint has number 1.
-        ensures numbered { D.honest (disk_of self.old) → 0 < length images.now → OnOk result (transaction (D.model (disk_of self.new)).octet 0 ≡ 1) }
+        ensures unchanged { IfErr result (λ e. e ≢ PostError.Fault → self.new ≡ self.old) }
+        ensures failed { IsErrOf result PostError.Fault → IsDown D.EraseDisk self.old self.new }
 
         ensures empty { length images.now ≡ 0 → self.new ≡ self.old }
-        ensures closed { 0 < length images.now → OnOk result (closed_slots self.new + 1 ≡ closed_slots self.old) }
-        ensures unhomed { 0 < length images.now → OnOk result (unhomed_pages self.new ≡ pages_of images.now) }
-        ensures usable { OnOk result (needs_recovery self.new ≡ false) }
-        ensures homes { home_pages self.new ≡ home_pages self.old }
-        ensures note { note_of self.new ≡ note_of self.old }
-        ensures counts { CountsFault (D.fault_count (disk_of self.old)) (D.fault_count (disk_of self.new)) result }
-        ensures honest { D.honest (disk_of self.old) ↔ D.honest (disk_of self.new) }
-        ensures size { D.octet_count (disk_of self.new) ≡ D.octet_count (disk_of self.old) }
+        ensures taken { 0 < length images.now → OnOk result (TakesSlot D.EraseDisk images.now self.old self.new) }
+        ensures journal { SameJournal D.EraseDisk self.old self.new (IsErrOf result PostError.Fault) }
     {
         if self.needs_recovery {
-            return Err(JournalError::NeedsRecovery);
+            return Err(PostError::NeedsRecovery);
         }
         if images.len() > IMAGES {
-            return Err(JournalError::TooManyImages);
+            return Err(PostError::TooManyImages);
         }
         if images.is_empty() {
             return Ok(());
         }
-        if self.closed == 0 {
-            return Err(JournalError::JournalFull);
+        if self.opened == SLOTS {
+            return Err(PostError::JournalFull);
         }
-        let header = slot::header(alloc, 1, images)?;
-        let posted = unhomed::posted(alloc, images)?;
+        let slot = self.opened;
+        let header = slot::header(alloc, slot + 1, images)?;
+        let after = unhomed::after_post(alloc, slot, images, &self.unhomed)?;
         self.needs_recovery = true;
-        slot::fill(&mut self.disk, 0, &header, images)?;
-        slot::open_gate(&mut self.disk, 0)?;
+        slot::fill(&mut self.disk, slot, &header, images)?;
+        slot::open_gate(&mut self.disk, slot)?;
         self.needs_recovery = false;
-        self.closed = 0;
-        self.unhomed = posted;
+        self.opened = slot + 1;
+        self.unhomed = after;
         Ok(())
     }
 
     /// Writes a page of the map home, as the map has it. Where the page wasn't posted, or is home, it does nothing.
     ///
     /// Another page than the map's would stand in the map after the next checkpoint.
-    pub fn home(&mut self, n: u64, page: &Page) -> Result<(), JournalError>
+    pub fn home(&mut self, n: u64, page: &Page) -> Result<(), UseError>
         requires { n < home_pages self.old }
 
         // Each crash leaves the same map, whatever the page, since an open slot covers it.
@@ -292,22 +286,17 @@ impl<D: EraseDisk + Drop> Journal<D> {
 
         ensures ok { OnOk result (needs_recovery self.old ≡ false) }
         ensures refused { IfErr result (UseRefusal (needs_recovery self.old)) }
-        ensures unchanged { IfErr result (λ e. e ≢ JournalError.Fault → self.new ≡ self.old) }
-        ensures failed { IsErrOf result JournalError.Fault → needs_recovery self.new ≡ true }
-        ensures as_unhomed { OnErr result (unhomed_pages self.new ≡ unhomed_pages self.old) }
+        ensures unchanged { IfErr result (λ e. e ≢ UseError.Fault → self.new ≡ self.old) }
+        ensures failed { IsErrOf result UseError.Fault → IsDown D.EraseDisk self.old self.new }
 
         ensures elsewhere { ¬ IsListed n (unhomed_pages self.old) → self.new ≡ self.old }
         ensures unhomed { OnOk result (unhomed_pages self.new ≡ filter (λ m. not (m == n)) (unhomed_pages self.old)) }
         ensures usable { OnOk result (needs_recovery self.new ≡ false) }
-        ensures closed { closed_slots self.new ≡ closed_slots self.old }
-        ensures homes { home_pages self.new ≡ home_pages self.old }
-        ensures note { note_of self.new ≡ note_of self.old }
-        ensures counts { CountsFault (D.fault_count (disk_of self.old)) (D.fault_count (disk_of self.new)) result }
-        ensures honest { D.honest (disk_of self.old) ↔ D.honest (disk_of self.new) }
-        ensures size { D.octet_count (disk_of self.new) ≡ D.octet_count (disk_of self.old) }
+        ensures opened { opened_slots self.new ≡ opened_slots self.old }
+        ensures journal { SameJournal D.EraseDisk self.old self.new (IsErrOf result UseError.Fault) }
     {
         if self.needs_recovery {
-            return Err(JournalError::NeedsRecovery);
+            return Err(UseError::NeedsRecovery);
         }
         if !unhomed::is_unhomed(&self.unhomed, n) {
             return Ok(());
@@ -319,8 +308,8 @@ impl<D: EraseDisk + Drop> Journal<D> {
         Ok(())
     }
 
-    /// Closes the open slot, once all pages are home. Where no slot is open it does nothing.
-    pub fn checkpoint(&mut self) -> Result<(), JournalError>
+    /// Closes the open slots, the oldest first, once all pages are home. Where no slot is open it does nothing.
+    pub fn checkpoint(&mut self) -> Result<(), UseError>
         requires { length (unhomed_pages self.old) ≡ 0 }
 
         ensures crash { D.honest (disk_of self.old) → (pages : List (List ℕ)) → Keeps D.EraseDisk self.old pages
@@ -330,31 +319,26 @@ impl<D: EraseDisk + Drop> Journal<D> {
 
         ensures ok { OnOk result (needs_recovery self.old ≡ false) }
         ensures refused { IfErr result (UseRefusal (needs_recovery self.old)) }
-        ensures unchanged { IfErr result (λ e. e ≢ JournalError.Fault → self.new ≡ self.old) }
-        ensures failed { IsErrOf result JournalError.Fault → needs_recovery self.new ≡ true }
-        ensures as_closed { OnErr result (closed_slots self.new ≡ closed_slots self.old) }
+        ensures unchanged { IfErr result (λ e. e ≢ UseError.Fault → self.new ≡ self.old) }
+        ensures failed { IsErrOf result UseError.Fault → IsDown D.EraseDisk self.old self.new }
 
-        ensures idle { closed_slots self.old ≡ 1 → self.new ≡ self.old }
-        ensures closed { OnOk result (closed_slots self.new ≡ 1) }
+        ensures idle { closed_slots self.old ≡ 8 → self.new ≡ self.old }
+        ensures closed { OnOk result (closed_slots self.new ≡ 8) }
         ensures unhomed { unhomed_pages self.new ≡ unhomed_pages self.old }
         ensures usable { OnOk result (needs_recovery self.new ≡ false) }
-        ensures homes { home_pages self.new ≡ home_pages self.old }
-        ensures note { note_of self.new ≡ note_of self.old }
-        ensures counts { CountsFault (D.fault_count (disk_of self.old)) (D.fault_count (disk_of self.new)) result }
-        ensures honest { D.honest (disk_of self.old) ↔ D.honest (disk_of self.new) }
-        ensures size { D.octet_count (disk_of self.new) ≡ D.octet_count (disk_of self.old) }
+        ensures journal { SameJournal D.EraseDisk self.old self.new (IsErrOf result UseError.Fault) }
     {
         if self.needs_recovery {
-            return Err(JournalError::NeedsRecovery);
+            return Err(UseError::NeedsRecovery);
         }
-        if self.closed == 1 {
+        if self.opened == 0 {
             return Ok(());
         }
         self.needs_recovery = true;
         self.disk.sync()?;
-        gate::close(&mut self.disk, 0)?;
+        gate::close_first(&mut self.disk, self.opened)?;
         self.needs_recovery = false;
-        self.closed = 1;
+        self.opened = 0;
         Ok(())
     }
 }

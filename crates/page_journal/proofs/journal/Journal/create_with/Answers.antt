@@ -1,5 +1,4 @@
-use Rattle.std.proofs.Common.{◌<◌, List, refl, sym, subst}
-use Rattle.std.specs.List.{AllByRecursion}
+use Rattle.std.proofs.Common.{arith, List, refl, sym, subst}
 use Rattle.page_journal.specs.Bookkeeping.{unhomed_numbers}
 use Rattle.page_journal.specs.Layout.{homes_from}
 use Rattle.page_journal.specs.Recovers.{laid, IsListed}
@@ -18,5 +17,5 @@ returns-in-Ok-clause-created g c h =
       carries = stands_carries c.args.homes c.args.note s pages stands;
       shown = subst (λ (l : List Unhomed). ShownAt c.args.homes l s.octet pages) (sym none) (stands_shown c.args.homes c.args.note s pages stands);
       covered = λ n listed d may. absurd (subst (λ (l : List Unhomed). IsListed n (unhomed_numbers l)) none listed);
-      few = subst (AllByRecursion (λ u. u.image < 31)) (sym none) tt;
+      numbered = λ d may t lt. absurd (omega (arith, lt));
     }

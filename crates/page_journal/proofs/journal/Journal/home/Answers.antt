@@ -1,12 +1,12 @@
-use Rattle.std.proofs.Common.{◌≡◌, ◌∙◌, ◌<◌, List, ap, sym, subst, refl, true≢false}
+use Rattle.std.proofs.Common.{◌≡◌, ◌∙◌, List, ap, sym, subst, refl, true≢false}
 use Rattle.std.specs.List.{AllByRecursion}
 use Rattle.disk_models.specs.Octets.{octets}
 use Rattle.page_journal.specs.Layout.{home_place}
-use Rattle.page_journal.specs.Recovers.{IsListed}
-use Rattle.page_journal.specs.Bookkeeping.{unhomed_numbers, open_slots}
+use Rattle.page_journal.specs.Recovers.{AreBelow, IsListed}
+use Rattle.page_journal.specs.Bookkeeping.{IsImage, unhomed_numbers, open_slots}
 use Rattle.page_journal.specs.declared.unhomed.Unhomed.{Unhomed}
-use Rattle.page_journal.proofs.Placing.{numbers_others, few_others, none_listed}
-use Rattle.page_journal.proofs.Keeping.{ShownAt, CoveredIn, whole_page, home_crash, home_carries, home_covered, home_shown}
+use Rattle.page_journal.proofs.Placing.{below_each, listed_before, listed_below, others, numbers_others, all_others, none_listed}
+use Rattle.page_journal.proofs.Keeping.{ShownAt, CoveredIn, whole_page, home_crash, home_carries, home_covered, home_numbered, home_shown}
 use Rattle.page_journal.proofs.journal.Journal.home.Goals as goal
 
 pub returns-then-not-is_unhomed-clause-unhomed : goal.returns-then-not-is_unhomed-clause-unhomed
@@ -21,7 +21,7 @@ returns-in_err-write_at-clause-crash g c h pages keeps =
     let s0 = g.D.EraseDisk.model self.disk in
     let s1 = g.D.EraseDisk.model c.write_at.new.self in
     let listed : IsListed c.args.n (unhomed_numbers self.unhomed.items) = subst (IsListed c.args.n) (ap unhomed_numbers c.deref.ensures.value) (c.if-not-is_unhomed.ensures.0 refl) in
-    home_crash self.homes self.note (open_slots self.closed) c.args.n s0 s1 self.unhomed.items pages
+    home_crash self.homes self.note (open_slots self.opened) c.args.n s0 s1 self.unhomed.items pages
     (whole_page (home_place c.args.n) _ s0 s1 c.octets.ensures.size (c.write_at.ensures.within h)) keeps.carries keeps.covered listed
 
 pub returns-clause-crash : goal.returns-clause-crash
@@ -30,7 +30,7 @@ returns-clause-crash g c h pages keeps =
     let s0 = g.D.EraseDisk.model self.disk in
     let s1 = g.D.EraseDisk.model c.write_at.new.self in
     let listed : IsListed c.args.n (unhomed_numbers self.unhomed.items) = subst (IsListed c.args.n) (ap unhomed_numbers c.deref.ensures.value) (c.if-not-is_unhomed.ensures.0 refl) in
-    home_crash self.homes self.note (open_slots self.closed) c.args.n s0 s1 self.unhomed.items pages
+    home_crash self.homes self.note (open_slots self.opened) c.args.n s0 s1 self.unhomed.items pages
     (whole_page (home_place c.args.n) _ s0 s1 c.octets.ensures.size (c.write_at.ensures.within h)) keeps.carries keeps.covered listed
 
 pub returns-clause-keeps : goal.returns-clause-keeps
@@ -45,13 +45,24 @@ returns-clause-keeps g c h pages keeps is =
     ap (λ m. octets s1.octet (home_place c.args.n) m) (sym c.octets.ensures.size) ∙ c.in_ok-write_at.ensures.octets h ∙ c.octets.ensures.value in
     record {
       usable = refl;
-      carries = home_carries self.homes self.note (open_slots self.closed) c.args.n s0 s1 self.unhomed.items pages writes keeps.carries keeps.covered listed;
+      carries = home_carries self.homes self.note (open_slots self.opened) c.args.n s0 s1 self.unhomed.items pages writes keeps.carries keeps.covered listed;
       shown = subst (λ (l : List Unhomed). ShownAt self.homes l s1.octet pages) (sym entries)
-          (home_shown self.homes self.note (open_slots self.closed) c.args.n s0 s1 self.unhomed.items pages writes keeps.carries keeps.covered listed c.args.page.now now is keeps.few keeps.shown);
-      covered = subst (λ (l : List Unhomed). CoveredIn (open_slots self.closed) l s1) (sym entries)
-          (home_covered self.homes self.note (open_slots self.closed) c.args.n s0 s1 self.unhomed.items pages writes keeps.carries keeps.covered listed);
-      few = subst (AllByRecursion (λ u. u.image < 31)) (sym entries) (few_others self.unhomed.items c.args.n keeps.few);
+          (home_shown self.homes self.note (open_slots self.opened) c.args.n s0 s1 self.unhomed.items pages writes keeps.carries keeps.covered listed c.args.page.now now is self.opened self.eight self.images keeps.shown);
+      covered = subst (λ (l : List Unhomed). CoveredIn (open_slots self.opened) l s1) (sym entries)
+          (home_covered self.homes self.note (open_slots self.opened) c.args.n s0 s1 self.unhomed.items pages writes keeps.carries keeps.covered listed);
+      numbered = home_numbered self.homes self.note (open_slots self.opened) c.args.n s0 s1 self.unhomed.items pages writes keeps.carries keeps.covered listed self.opened self.eight keeps.numbered;
     }
 
 pub returns-clause-unhomed : goal.returns-clause-unhomed
 returns-clause-unhomed g c = ap unhomed_numbers c.forget.ensures ∙ numbers_others c.args.self.now.unhomed.items c.args.n
+
+pub invariant_of-self-2-clause-images : goal.invariant_of-self-2-clause-images
+invariant_of-self-2-clause-images g c =
+    let self = c.args.self.now in
+    subst (AllByRecursion (IsImage self.opened)) (sym c.forget.ensures) (all_others (IsImage self.opened) self.unhomed.items c.args.n self.images)
+
+pub invariant_of-self-2-clause-below : goal.invariant_of-self-2-clause-below
+invariant_of-self-2-clause-below g c =
+    let self = c.args.self.now in
+    subst (λ (l : List Unhomed). AreBelow self.homes (unhomed_numbers l)) (sym c.forget.ensures)
+    (below_each self.homes (unhomed_numbers (others c.args.n self.unhomed.items)) (λ m left. listed_below self.homes (unhomed_numbers self.unhomed.items) m self.below (listed_before self.unhomed.items c.args.n m left)))

@@ -1,5 +1,4 @@
-use Rattle.std.proofs.Common.{◌<◌, List, refl, sym, subst}
-use Rattle.std.specs.List.{AllByRecursion}
+use Rattle.std.proofs.Common.{arith, List, refl, sym, subst}
 use Rattle.page_journal.specs.Bookkeeping.{unhomed_numbers}
 use Rattle.page_journal.specs.Recovers.{IsListed}
 use Rattle.page_journal.specs.declared.unhomed.Unhomed.{Unhomed}
@@ -17,5 +16,5 @@ returns-in-Ok-clause-opened g c h pages r =
       carries = stands_carries id.homes id.note s pages stands;
       shown = subst (λ (l : List Unhomed). ShownAt id.homes l s.octet pages) (sym none) (stands_shown id.homes id.note s pages stands);
       covered = λ n listed d may. absurd (subst (λ (l : List Unhomed). IsListed n (unhomed_numbers l)) none listed);
-      few = subst (AllByRecursion (λ u. u.image < 31)) (sym none) tt;
+      numbered = λ d may t lt. absurd (omega (arith, lt));
     }

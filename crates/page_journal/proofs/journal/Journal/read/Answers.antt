@@ -14,7 +14,7 @@ returns-in_err-read_from-clause-keeps g c h pages keeps =
       carries = λ d may. keeps.carries d (stays_may_leave s0 s1 d stays may);
       shown = λ n lt. keeps.shown n lt ∙ ap (λ (f : ℕ → ℕ). Some (octets f (place_of c.args.self.now.unhomed.items n) 16384)) (sym stays.same);
       covered = λ n listed d may. keeps.covered n listed d (stays_may_leave s0 s1 d stays may);
-      few = keeps.few;
+      numbered = λ d may. keeps.numbered d (stays_may_leave s0 s1 d stays may);
     }
 
 pub returns-clause-keeps : goal.returns-clause-keeps
@@ -27,5 +27,5 @@ returns-clause-keeps g c h pages keeps =
       carries = λ d may. keeps.carries d (stays_may_leave s0 s1 d stays may);
       shown = λ n lt. keeps.shown n lt ∙ ap (λ (f : ℕ → ℕ). Some (octets f (place_of c.args.self.now.unhomed.items n) 16384)) (sym stays.same);
       covered = λ n listed d may. keeps.covered n listed d (stays_may_leave s0 s1 d stays may);
-      few = keeps.few;
+      numbered = λ d may. keeps.numbered d (stays_may_leave s0 s1 d stays may);
     }
