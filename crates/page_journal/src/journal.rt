@@ -1,5 +1,5 @@
 //! The journal.
-ghost use Rattle.std.specs.Prelude.{◌≡◌, ◌≢◌, ◌≤◌, ◌<◌, ◌^◌, ◌+◌, ◌*◌, ◌↔◌, ◌==◌, [], ℕ, List, length, OnOk, OnErr, IfOk, IfErr, IsOk, IsErr, IsErrOf, IfSome, IsNone, true, false, not, filter, Some, slice_get, replicate, ◌++◌};
+ghost use Rattle.std.specs.Prelude.{◌≡◌, ◌≢◌, ◌≤◌, ◌<◌, ◌^◌, ◌+◌, ◌-◌, ◌*◌, ◌↔◌, ◌==◌, [], ℕ, List, length, OnOk, OnErr, IfOk, IfErr, IsOk, IsErr, IsErrOf, IfSome, IsNone, true, false, not, filter, Some, slice_get, replicate, ◌++◌};
 ghost use Rattle.disk_models.specs.Erase.{Leaves, Stays};
 ghost use Rattle.disk_models.specs.Serves.{Serves};
 ghost use Rattle.std.specs.List.{AllByRecursion, AllByRecursion-prop};
@@ -175,16 +175,14 @@ impl<D: EraseDisk + Drop> Journal<D> {
         !self.needs_recovery
     }
 
-    /// A page that was posted and isn't written home, where there is one.
-    pub fn first_unhomed(&self) -> Option<u64>
+    /// The page that was posted first of those that aren't written home, by their last posts.
+    pub fn oldest_unhomed(&self) -> Option<u64>
+        ensures oldest { result ≡ slice_get (unhomed_pages self.now) (length (unhomed_pages self.now) - 1) }
         ensures listed { IfSome result (λ n. IsListed n (unhomed_pages self.now)) }
         ensures below { IfSome result (λ n. n < home_pages self.now) }
         ensures none { IsNone result ↔ (length (unhomed_pages self.now) ≡ 0) }
     {
-        match self.unhomed.first() {
-            Some(entry) => Some(entry.page),
-            None => None,
-        }
+        unhomed::oldest(&self.unhomed)
     }
 
     /// Gives its disk up.

@@ -1,0 +1,33 @@
+use Rattle.std.proofs.Common.{◌≡◌, ◌∙◌, ◌∷◌, [], List, length, arith, refl, ap, sym, subst}
+use Rattle.std.specs.List.{slice_set}
+use Rattle.std.proofs.lemmas.List.{length-set}
+use Rattle.std.specs.Vec.Iter.{into_iter_items}
+use Rattle.page_journal.specs.Layout.{Image, pages_of}
+use Rattle.page_journal.specs.Recovers.{laid, AreBelow}
+use Rattle.buffer_pool.specs.Held.{HoldsPages}
+use Rattle.buffer_pool.proofs.held.take_all.Goals as goal
+
+no_images : (l : List Image) → length l ≡ 0 → l ≡ []
+no_images [] none = refl
+no_images (image ∷ l) none = absurd (omega (arith, none))
+
+pub loop-n-preserved : goal.loop-n-preserved
+loop-n-preserved c map below held =
+    let so_far = c.loop-n.invariant map below held in
+    let step = c.in-Some.ensures.steps in
+    let now = so_far.0 in
+    let rest = into_iter_items c.next.new.self in
+    let inside : AreBelow (length now) (pages_of ((c.in-Some.n, c.in-Some.page) ∷ rest)) = subst (λ (l : List Image). AreBelow (length now) (pages_of l)) step.0 so_far.3 in (
+      slice_set now c.in-Some.n c.in-Some.page,
+      c.take_page.ensures now inside.0 so_far.1,
+      ap (λ (l : List Image). laid l now) (sym step.0) ∙ so_far.2,
+      subst (λ k. AreBelow k (pages_of rest)) (sym (length-set now c.in-Some.n c.in-Some.page)) inside.1,
+    )
+
+pub returns : goal.returns
+returns c map below held =
+    let so_far = c.loop-n.invariant map below held in
+    let step = c.in-None.ensures.steps in
+    let now = so_far.0 in
+    let gone : into_iter_items c.loop-n.n-iterator ≡ [] = no_images (into_iter_items c.loop-n.n-iterator) (omega (arith, c.loop-n.n-iterator.rest.ok, step.0)) in
+    subst (HoldsPages c.loop-n.dirty c.loop-n.clean) (ap (λ (l : List Image). laid l now) (sym gone) ∙ so_far.2) so_far.1

@@ -1,0 +1,17 @@
+use Rattle.std.proofs.Common.{◌≡◌, ◌≤◌, ◌-◌, ℕ, List, false, length}
+use Rattle.disk_models.specs.Erase.{Leaves}
+use Rattle.page_journal.specs.Calls.{SameJournal}
+use Rattle.page_journal.specs.Journal.{disk_of, home_pages, needs_recovery, note_of, unhomed_pages}
+use Rattle.page_journal.specs.Recovers.{Recovers}
+use Rattle.buffer_pool.specs.Pool.{Maps}
+use Rattle.buffer_pool.proofs.pool.Pool.checkpoint.Given as goal
+
+abbrev pub invariant-loop : goal.invariant-loop
+invariant-loop g l = record {
+  journal : SameJournal g.D.EraseDisk l.fn.self.journal l.self.journal ⊥;
+  usable : needs_recovery l.self.journal ≡ false;
+  few : length (unhomed_pages l.self.journal) ≤ l.count - l.counter;
+  maps : g.D.EraseDisk.honest (disk_of l.fn.self.journal) → (pages : List (List ℕ)) → Maps g.D.EraseDisk l.fn.self pages → Maps g.D.EraseDisk l.self pages;
+  crash : g.D.EraseDisk.honest (disk_of l.fn.self.journal) → (pages : List (List ℕ)) → Maps g.D.EraseDisk l.fn.self pages
+      → Leaves (g.D.EraseDisk.model (disk_of l.fn.self.journal)) (g.D.EraseDisk.model (disk_of l.self.journal)) (λ c. Recovers (home_pages l.fn.self.journal) (note_of l.fn.self.journal) c pages);
+}

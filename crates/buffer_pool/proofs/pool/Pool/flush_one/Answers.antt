@@ -1,0 +1,80 @@
+use Rattle.std.proofs.Common.{◌≡◌, ◌∙◌, ◌==◌, not, filter, List, ℕ, length, arith, Some, Option, IfSome, ap, sym, subst}
+use Rattle.std.specs.List.{slice_get}
+use Rattle.disk_models.specs.Erase.{Leaves}
+use Rattle.disk_models.proofs.api.Moments.{leaves_then}
+use Rattle.page_journal.specs.Journal.{disk_of, home_pages, note_of, unhomed_pages}
+use Rattle.page_journal.specs.Recovers.{Recovers}
+use Rattle.buffer_pool.proofs.Holding.{fewer, removed_shown}
+use Rattle.buffer_pool.proofs.pool.Pool.flush_one.Goals as goal
+
+pub returns-in_err-home-in-Some-remove-clause-crash : goal.returns-in_err-home-in-Some-remove-clause-crash
+returns-in_err-home-in-Some-remove-clause-crash g c h pages m = c.home.ensures.crash h pages m.keeps
+
+pub returns-in_ok-home-in-Some-remove-clause-crash : goal.returns-in_ok-home-in-Some-remove-clause-crash
+returns-in_ok-home-in-Some-remove-clause-crash g c h pages m = c.home.ensures.crash h pages m.keeps
+
+pub returns-in_ok-home-in-Some-remove-clause-maps : goal.returns-in_ok-home-in-Some-remove-clause-maps
+returns-in_ok-home-in-Some-remove-clause-maps g c h pages m up =
+    let self = c.args.self.now in
+    let is : slice_get pages c.in-Some.n ≡ Some c.in-Some-remove.page = subst (λ (o : Option (List ℕ)). IfSome o (λ q. slice_get pages c.in-Some.n ≡ Some q)) (sym c.in-Some-remove.ensures.value) (m.held.dirty c.in-Some.n) in
+    record {
+      keeps = c.in_ok-home-in-Some-remove.ensures.keeps h pages m.keeps is;
+      held = record {
+        dirty = removed_shown self.dirty c.remove.new.self _ pages c.remove.ensures.updates.0 m.held.dirty;
+        clean = c.keep.ensures.shown pages m.held.clean is;
+      };
+    }
+
+pub returns-in_err-home-in-None-clause-crash : goal.returns-in_err-home-in-None-clause-crash
+returns-in_err-home-in-None-clause-crash g c h pages m =
+    let old = c.args.self.now.journal in
+    let s0 = g.D.EraseDisk.model (disk_of old) in
+    let s1 = g.D.EraseDisk.model (disk_of c.read.new.self) in
+    let s2 = g.D.EraseDisk.model (disk_of c.home-in-None.new.self) in
+    leaves_then s0 s1 s2 (λ d. Recovers (home_pages old) (note_of old) d pages) (c.read.ensures.crash h pages m.keeps)
+    (subst (λ k. Leaves s1 s2 (λ d. Recovers k (note_of old) d pages)) c.read.ensures.same.homes
+    (subst (λ (k : List ℕ). Leaves s1 s2 (λ d. Recovers (home_pages c.read.new.self) k d pages)) c.read.ensures.same.note
+    (c.home-in-None.ensures.crash (c.read.ensures.serves.honest.0 h) pages (c.read.ensures.keeps h pages m.keeps))))
+
+pub returns-in_ok-home-in-None-clause-crash : goal.returns-in_ok-home-in-None-clause-crash
+returns-in_ok-home-in-None-clause-crash g c h pages m =
+    let old = c.args.self.now.journal in
+    let s0 = g.D.EraseDisk.model (disk_of old) in
+    let s1 = g.D.EraseDisk.model (disk_of c.read.new.self) in
+    let s2 = g.D.EraseDisk.model (disk_of c.home-in-None.new.self) in
+    leaves_then s0 s1 s2 (λ d. Recovers (home_pages old) (note_of old) d pages) (c.read.ensures.crash h pages m.keeps)
+    (subst (λ k. Leaves s1 s2 (λ d. Recovers k (note_of old) d pages)) c.read.ensures.same.homes
+    (subst (λ (k : List ℕ). Leaves s1 s2 (λ d. Recovers (home_pages c.read.new.self) k d pages)) c.read.ensures.same.note
+    (c.home-in-None.ensures.crash (c.read.ensures.serves.honest.0 h) pages (c.read.ensures.keeps h pages m.keeps))))
+
+pub returns-in_ok-home-in-None-clause-maps : goal.returns-in_ok-home-in-None-clause-maps
+returns-in_ok-home-in-None-clause-maps g c h pages m up =
+    let self = c.args.self.now in
+    record {
+      keeps = c.in_ok-home-in-None.ensures.keeps (c.read.ensures.serves.honest.0 h) pages (c.read.ensures.keeps h pages m.keeps) (c.in_ok-read-in-None.ensures.page h pages m.keeps);
+      held = record {
+        dirty = removed_shown self.dirty c.remove.new.self _ pages c.remove.ensures.updates.0 m.held.dirty;
+        clean = m.held.clean;
+      };
+    }
+
+pub returns-in_ok-home-in-Some-remove-clause-fewer : goal.returns-in_ok-home-in-Some-remove-clause-fewer
+returns-in_ok-home-in-Some-remove-clause-fewer g c =
+    let old = unhomed_pages c.args.self.now.journal in
+    omega (arith, fewer old c.in-Some.n c.in-Some.ensures.listed, ap length c.in_ok-home-in-Some-remove.ensures.unhomed)
+
+pub returns-in_ok-home-in-None-clause-fewer : goal.returns-in_ok-home-in-None-clause-fewer
+returns-in_ok-home-in-None-clause-fewer g c =
+    let old = unhomed_pages c.args.self.now.journal in
+    let n = c.in-Some.n in
+    let now : unhomed_pages c.home-in-None.new.self ≡ filter (λ m. not (m == n)) old = c.in_ok-home-in-None.ensures.unhomed ∙ ap (filter (λ m. not (m == n))) c.read.ensures.same.unhomed in
+    omega (arith, fewer old n c.in-Some.ensures.listed, ap length now)
+
+pub returns-in_err-read-in-None-clause-maps : goal.returns-in_err-read-in-None-clause-maps
+returns-in_err-read-in-None-clause-maps g c h pages m up = record {
+  keeps = c.read.ensures.keeps h pages m.keeps;
+  held = record {
+    dirty = removed_shown c.args.self.now.dirty c.remove.new.self _ pages c.remove.ensures.updates.0 m.held.dirty;
+    clean = m.held.clean;
+  };
+}

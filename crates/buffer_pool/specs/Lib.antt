@@ -1,0 +1,4 @@
+pub mod Held
+pub mod Pool
+pub mod Refusals
+pub mod inner

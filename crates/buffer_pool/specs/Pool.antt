@@ -1,0 +1,23 @@
+-- What contracts say of a pool.
+use Rattle.std.specs.Prelude.{◌⊎◌, ℕ, List, IsSome, nat_eq}
+use Rattle.std.specs.Ordering.{nat_cmp}
+use Rattle.std.specs.BTreeMap.{get}
+use Rattle.std.specs.Map.{lookup}
+use Rattle.disk_models.specs.declared.erase.EraseDisk.{Ghosts}
+use Rattle.page_journal.specs.declared.journal.Journal.{Journal}
+use Rattle.page_journal.specs.Journal.{Keeps}
+use Rattle.buffer_pool.specs.Held.{HoldsPages}
+use Rattle.buffer_pool.specs.declared.pool.Pool.{Pool}
+
+-- its journal
+abbrev pub journal_of : {D : Type 0} {device : Ghosts D} → Pool D device → Journal D device
+journal_of pool = pool.journal
+
+-- a page of this number is in memory
+abbrev pub IsResident : {D : Type 0} {device : Ghosts D} → Pool D device → ℕ → Type 0
+IsResident pool n = IsSome (get nat_cmp pool.dirty n) ⊎ IsSome (lookup (nat_eq n) pool.clean.entries)
+
+-- The pool maps these pages: its journal keeps them, and each page in memory is one of them.
+pub record Maps {D : Type 0} (device : Ghosts D) (pool : Pool D device) (pages : List (List ℕ)) : Type 0 where
+  pub keeps : Keeps device pool.journal pages
+  pub held : HoldsPages pool.dirty pool.clean pages

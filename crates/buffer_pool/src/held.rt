@@ -1,0 +1,66 @@
+//! Pages in memory under their numbers.
+ghost use Rattle.std.specs.Prelude.{◌≡◌, ◌<◌, ◌↔◌, ℕ, List, Some, IfSome, IsSome, IsTrue, length, nat_eq, slice_get, slice_set};
+ghost use Rattle.std.specs.Ordering.{nat_cmp};
+ghost use Rattle.std.specs.BTreeMap.{get};
+ghost use Rattle.std.specs.Map.{lookup};
+ghost use Rattle.page_journal.specs.Layout.{pages_of};
+ghost use Rattle.page_journal.specs.Recovers.{laid, AreBelow};
+ghost use Rattle.buffer_pool.specs.Held.{AreShown, HoldsPages};
+ghost use Rattle.buffer_pool.specs.inner.Taking.{Has, IsDropped};
+
+use disk_models::Page;
+use lru::LruCache;
+use std::collections::BTreeMap;
+
+// Takes a page in under its number, in the place of an older one. Where no memory is left, there is none afterwards.
+fn take_in(pages: &mut BTreeMap<u64, Page>, n: u64, page: Page)
+    ensures { (m : ℕ) → IfSome (get nat_cmp pages.new m) (Has pages.old n page m) }
+{
+    pages.insert(n, page).ok();
+}
+
+// Drops a page. What the cache tells of its length says that no other one has the number.
+fn drop_page(pages: &mut LruCache<u64, Page>, n: u64)
+    ensures { IsDropped n pages.old pages.new }
+{
+    let _distinct = pages.len();
+    pages.pop(&n);
+}
+
+// Keeps a page of the map where there is memory, and tells whether there was.
+pub fn keep(pages: &mut LruCache<u64, Page>, n: u64, page: Page) -> bool
+    ensures kept { IsTrue result → IsSome (lookup (nat_eq n) pages.new.entries) }
+    ensures shown { (map : List (List ℕ)) → AreShown pages.old map → slice_get map n ≡ Some page → AreShown pages.new map }
+{
+    pages.put(n, page).is_ok()
+}
+
+// Makes a page the last one that was used, and tells whether it is there.
+pub fn promote(pages: &mut LruCache<u64, Page>, n: u64) -> bool
+    ensures found { IsTrue result ↔ IsSome (lookup (nat_eq n) pages.old.entries) }
+    ensures kept { IsTrue result → IsSome (lookup (nat_eq n) pages.new.entries) }
+    ensures shown { (map : List (List ℕ)) → AreShown pages.old map → AreShown pages.new map }
+{
+    pages.promote(&n)
+}
+
+// A page of the map is replaced.
+fn take_page(dirty: &mut BTreeMap<u64, Page>, clean: &mut LruCache<u64, Page>, n: u64, page: Page)
+    ensures { (map : List (List ℕ)) → n < length map → HoldsPages dirty.old clean.old map → HoldsPages dirty.new clean.new (slice_set map n page) }
+{
+    drop_page(clean, n);
+    take_in(dirty, n, page);
+}
+
+// Pages of the map are replaced.
+pub fn take_all(
+    dirty: &mut BTreeMap<u64, Page>,
+    clean: &mut LruCache<u64, Page>,
+    images: Vec<(u64, Page)>,
+)
+    ensures { (map : List (List ℕ)) → AreBelow (length map) (pages_of images.items) → HoldsPages dirty.old clean.old map → HoldsPages dirty.new clean.new (laid images.items map) }
+{
+    for (n, page) in images {
+        take_page(dirty, clean, n, page);
+    }
+}

@@ -1,0 +1,247 @@
+//! The pool.
+ghost use Rattle.std.specs.Prelude.{◌≡◌, ◌≢◌, ◌≤◌, ◌<◌, ◌-◌, ◌↔◌, ◌⊎◌, ℕ, List, length, OnOk, OnErr, IfOk, IfErr, IsOk, IsErrOf, IfSome, IsSome, true, false, Some, slice_get};
+ghost use Rattle.disk_models.specs.Erase.{Leaves, Stays};
+ghost use Rattle.disk_models.specs.Serves.{Serves};
+ghost use Rattle.page_journal.specs.Calls.{IsDown, IsIdle, SameButDisk, SameJournal, TakesSlot};
+ghost use Rattle.page_journal.specs.Journal.{Keeps, closed_slots, disk_of, home_pages, needs_recovery, note_of, opened_slots, unhomed_pages};
+ghost use Rattle.page_journal.specs.Layout.{pages_of};
+ghost use Rattle.page_journal.specs.Recovers.{laid, AreBelow, AreDistinct, Recovers, RecoversEither};
+ghost use Rattle.page_journal.specs.Refusals.{PostRefusal, PostsAt, UseRefusal};
+ghost use Rattle.buffer_pool.specs.Refusals.{FetchRefusal};
+
+use crate::error::FetchError;
+use crate::held;
+use disk_models::{EraseDisk, Page};
+use lru::LruCache;
+use page_journal::{Journal, PostError, UseError};
+use std::alloc::Global;
+use std::collections::BTreeMap;
+use std::num::NonZeroUsize;
+
+/// The pages of a journal, some of which are kept in memory.
+///
+/// A page that was committed stays in memory until it is written home, as far as there is memory: one that doesn't is
+/// read from its image. Of the others the last ones that were used stay.
+#[derive(Drop)]
+pub struct Pool<D: EraseDisk + Drop> {
+    journal: Journal<D>,
+    dirty: BTreeMap<u64, Page>,
+    clean: LruCache<u64, Page>,
+    spare: Page,
+}
+
+// A page of the map, as the journal has it.
+fn read_page<D: EraseDisk + Drop>(
+    alloc: Global,
+    journal: &mut Journal<D>,
+    n: u64,
+) -> Result<Page, FetchError>
+    requires { n < home_pages journal.old }
+    ensures page { D.honest (disk_of journal.old) → (pages : List (List ℕ)) → Keeps D.EraseDisk journal.old pages → IfOk result (λ page. slice_get pages n ≡ Some page) }
+    ensures keeps { D.honest (disk_of journal.old) → (pages : List (List ℕ)) → Keeps D.EraseDisk journal.old pages → Keeps D.EraseDisk journal.new pages }
+    ensures stays { D.honest (disk_of journal.old) → Stays (D.model (disk_of journal.old)) (D.model (disk_of journal.new)) }
+    ensures same { SameButDisk D.EraseDisk journal.old journal.new }
+    ensures refused { IfErr result (FetchRefusal (needs_recovery journal.old)) }
+    ensures serves { Serves D.EraseDisk (disk_of journal.old) (disk_of journal.new) (IsErrOf result FetchError.Fault) }
+{
+    if !journal.is_usable() {
+        return Err(FetchError::NeedsRecovery);
+    }
+    let mut page = Page::new(alloc)?;
+    journal.read(n, &mut page)?;
+    Ok(page)
+}
+
+impl<D: EraseDisk + Drop> Pool<D> {
+    ghost use Rattle.buffer_pool.specs.Pool.{IsResident, Maps, journal_of};
+
+    /// The pool of a journal, with room for so many pages that are home. For want of memory the journal is handed back.
+    pub fn new(
+        alloc: Global,
+        journal: Journal<D>,
+        clean_capacity: NonZeroUsize,
+    ) -> Result<Self, Journal<D>>
+        ensures made { IfOk result (λ pool. (pages : List (List ℕ)) → Keeps D.EraseDisk journal pages → Maps D.EraseDisk pool pages) }
+        ensures journal { IfOk result (λ pool. journal_of pool ≡ journal) }
+        ensures refused { IfErr result (λ back. back ≡ journal) }
+    {
+        let Ok(clean) = LruCache::new(alloc, clean_capacity) else {
+            return Err(journal);
+        };
+        let Ok(spare) = Page::new(alloc) else {
+            return Err(journal);
+        };
+        Ok(Pool {
+            journal,
+            dirty: BTreeMap::new(alloc),
+            clean,
+            spare,
+        })
+    }
+
+    /// How many home pages there are. They are numbered from 0.
+    pub fn home_pages(&self) -> u64
+        ensures homes { result ≡ home_pages (journal_of self.now) }
+    {
+        self.journal.home_pages()
+    }
+
+    /// The note of the journal.
+    pub fn note(&self) -> [u8; 11]
+        ensures note { result ≡ note_of (journal_of self.now) }
+    {
+        self.journal.note()
+    }
+
+    /// How many of the journal's eight slots are closed. A commit takes one.
+    pub fn closed(&self) -> usize
+        ensures closed { result ≡ closed_slots (journal_of self.now) }
+    {
+        self.journal.closed()
+    }
+
+    /// How many pages are dirty: committed, and not written home.
+    pub fn dirty(&self) -> usize
+        ensures dirty { result ≡ length (unhomed_pages (journal_of self.now)) }
+    {
+        self.journal.unhomed()
+    }
+
+    /// Gives the disk up.
+    pub fn into_disk(self) -> D
+        ensures disk { result ≡ disk_of (journal_of self) }
+    {
+        self.journal.into_disk()
+    }
+
+    /// Sees to it that a page is in memory, and makes it the last one that was used. After a refusal the pool goes on.
+    pub fn fetch(&mut self, alloc: Global, n: u64) -> Result<(), FetchError>
+        requires { n < home_pages (journal_of self.old) }
+
+        ensures resident { OnOk result (IsResident self.new n) }
+        ensures maps { D.honest (disk_of (journal_of self.old)) → (pages : List (List ℕ)) → Maps D.EraseDisk self.old pages
+            → Maps D.EraseDisk self.new pages }
+
+        // It writes nothing.
+        ensures stays { D.honest (disk_of (journal_of self.old)) → Stays (D.model (disk_of (journal_of self.old))) (D.model (disk_of (journal_of self.new))) }
+        ensures same { SameButDisk D.EraseDisk (journal_of self.old) (journal_of self.new) }
+
+        // Of a page that is in memory it asks for no device and no memory.
+        ensures there { needs_recovery (journal_of self.old) ≡ false → IsResident self.old n → IsOk result }
+        ensures refused { IfErr result (FetchRefusal (needs_recovery (journal_of self.old))) }
+        ensures serves { Serves D.EraseDisk (disk_of (journal_of self.old)) (disk_of (journal_of self.new)) (IsErrOf result FetchError.Fault) }
+    {
+        if !self.journal.is_usable() {
+            return Err(FetchError::NeedsRecovery);
+        }
+        if self.dirty.contains_key(&n) {
+            return Ok(());
+        }
+        if held::promote(&mut self.clean, n) {
+            return Ok(());
+        }
+        let page = read_page(alloc, &mut self.journal, n)?;
+        if !held::keep(&mut self.clean, n, page) {
+            return Err(FetchError::OutOfMemory);
+        }
+        Ok(())
+    }
+
+    /// A page that is in memory, lent without a copy.
+    pub fn page(&self, n: u64) -> Option<&Page>
+        ensures there { IsResident self.now n → IsSome result }
+        ensures shown { (pages : List (List ℕ)) → Maps D.EraseDisk self.now pages → IfSome result (λ page. slice_get pages n ≡ Some page.now) }
+    {
+        match self.dirty.get(&n) {
+            Some(page) => Some(page),
+            None => self.clean.peek(&n),
+        }
+    }
+
+    /// Replaces pages, all of them or none. They stay in memory as they are.
+    ///
+    /// Memory is asked for before anything is written: after that a page for which there is none is left to its image.
+    pub fn commit(&mut self, alloc: Global, images: Vec<(u64, Page)>) -> Result<(), PostError>
+        requires below { AreBelow (home_pages (journal_of self.old)) (pages_of images.items) }
+        requires distinct { AreDistinct (pages_of images.items) }
+
+        ensures crash { D.honest (disk_of (journal_of self.old)) → (pages : List (List ℕ)) → Maps D.EraseDisk self.old pages
+            → Leaves (D.model (disk_of (journal_of self.old))) (D.model (disk_of (journal_of self.new)))
+            (RecoversEither (home_pages (journal_of self.old)) (note_of (journal_of self.old)) pages (laid images.items pages)) }
+        ensures maps { D.honest (disk_of (journal_of self.old)) → (pages : List (List ℕ)) → Maps D.EraseDisk self.old pages
+            → OnOk result (Maps D.EraseDisk self.new (laid images.items pages)) }
+
+        ensures accepted { OnOk result (PostsAt (needs_recovery (journal_of self.old)) (length images.items) (closed_slots (journal_of self.old))) }
+        ensures refused { IfErr result (PostRefusal (needs_recovery (journal_of self.old)) (length images.items) (closed_slots (journal_of self.old))) }
+
+        ensures unchanged { IfErr result (λ e. e ≢ PostError.Fault → self.new ≡ self.old) }
+        ensures failed { IsErrOf result PostError.Fault → IsDown D.EraseDisk (journal_of self.old) (journal_of self.new) }
+        ensures empty { length images.items ≡ 0 → journal_of self.new ≡ journal_of self.old }
+        ensures taken { 0 < length images.items → OnOk result (TakesSlot D.EraseDisk images.items (journal_of self.old) (journal_of self.new)) }
+        ensures journal { SameJournal D.EraseDisk (journal_of self.old) (journal_of self.new) (IsErrOf result PostError.Fault) }
+    {
+        self.journal.post(alloc, &images)?;
+        held::take_all(&mut self.dirty, &mut self.clean, images);
+        Ok(())
+    }
+
+    /// Writes the page home that was dirty longest, and tells whether there was one.
+    pub fn flush_one(&mut self) -> Result<bool, UseError>
+        // Each crash leaves the same map, and it stays unless the journal must be opened again.
+        ensures crash { D.honest (disk_of (journal_of self.old)) → (pages : List (List ℕ)) → Maps D.EraseDisk self.old pages
+            → Leaves (D.model (disk_of (journal_of self.old))) (D.model (disk_of (journal_of self.new))) (λ c. Recovers (home_pages (journal_of self.old)) (note_of (journal_of self.old)) c pages) }
+        ensures maps { D.honest (disk_of (journal_of self.old)) → (pages : List (List ℕ)) → Maps D.EraseDisk self.old pages
+            → needs_recovery (journal_of self.new) ≡ false → Maps D.EraseDisk self.new pages }
+
+        ensures wrote { IfOk result (λ more. (more ≡ false) ↔ (length (unhomed_pages (journal_of self.old)) ≡ 0)) }
+        ensures fewer { OnOk result (length (unhomed_pages (journal_of self.new)) ≤ length (unhomed_pages (journal_of self.old)) - 1) }
+        ensures as_dirty { OnErr result (unhomed_pages (journal_of self.new) ≡ unhomed_pages (journal_of self.old)) }
+        ensures opened { opened_slots (journal_of self.new) ≡ opened_slots (journal_of self.old) }
+
+        ensures ok { OnOk result ((needs_recovery (journal_of self.old) ≡ false) × (needs_recovery (journal_of self.new) ≡ false)) }
+        ensures refused { IfErr result (UseRefusal (needs_recovery (journal_of self.old))) }
+        ensures unchanged { IsErrOf result UseError.NeedsRecovery → self.new ≡ self.old }
+        ensures journal { SameJournal D.EraseDisk (journal_of self.old) (journal_of self.new) (IsErrOf result UseError.Fault) }
+    {
+        if !self.journal.is_usable() {
+            return Err(UseError::NeedsRecovery);
+        }
+        let Some(n) = self.journal.oldest_unhomed() else {
+            return Ok(false);
+        };
+        match self.dirty.remove(&n) {
+            Some(page) => {
+                self.journal.home(n, &page)?;
+                held::keep(&mut self.clean, n, page);
+            }
+            None => {
+                self.journal.read(n, &mut self.spare)?;
+                self.journal.home(n, &self.spare)?;
+            }
+        }
+        Ok(true)
+    }
+
+    /// Writes all pages home, and closes the journal's slots.
+    pub fn checkpoint(&mut self) -> Result<(), UseError>
+        ensures crash { D.honest (disk_of (journal_of self.old)) → (pages : List (List ℕ)) → Maps D.EraseDisk self.old pages
+            → Leaves (D.model (disk_of (journal_of self.old))) (D.model (disk_of (journal_of self.new))) (λ c. Recovers (home_pages (journal_of self.old)) (note_of (journal_of self.old)) c pages) }
+        ensures maps { D.honest (disk_of (journal_of self.old)) → (pages : List (List ℕ)) → Maps D.EraseDisk self.old pages
+            → needs_recovery (journal_of self.new) ≡ false → Maps D.EraseDisk self.new pages }
+
+        ensures idle { OnOk result (IsIdle D.EraseDisk (journal_of self.new)) }
+        ensures ok { OnOk result (needs_recovery (journal_of self.old) ≡ false) }
+        ensures refused { IfErr result (UseRefusal (needs_recovery (journal_of self.old))) }
+        ensures unchanged { IsErrOf result UseError.NeedsRecovery → self.new ≡ self.old }
+        ensures journal { SameJournal D.EraseDisk (journal_of self.old) (journal_of self.new) (IsErrOf result UseError.Fault) }
+    {
+        if !self.journal.is_usable() {
+            return Err(UseError::NeedsRecovery);
+        }
+        let count = self.journal.unhomed();
+        for _ in 0..count {
+            self.flush_one()?;
+        }
+        self.journal.checkpoint()
+    }
+}
