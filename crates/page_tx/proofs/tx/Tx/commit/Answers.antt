@@ -1,0 +1,36 @@
+use Rattle.std.proofs.Common.{◌≡◌, ◌∙◌, ℕ, List, length, ap, sym, subst}
+use Rattle.std.specs.Result.{OnOk, IfErr}
+use Rattle.disk_models.specs.Erase.{Leaves}
+use Rattle.page_journal.specs.Journal.{closed_slots, disk_of, home_pages, needs_recovery, note_of}
+use Rattle.page_journal.specs.Layout.{Image, pages_of}
+use Rattle.page_journal.specs.Recovers.{AreDistinct, RecoversEither, laid}
+use Rattle.page_journal.specs.Refusals.{PostRefusal, PostsAt}
+use Rattle.page_tx.proofs.Laying.{distinct_of, length_pages_of}
+use Rattle.page_tx.proofs.tx.Tx.commit.Goals as goal
+
+pub commit-requires-clause-distinct : goal.commit-requires-clause-distinct
+commit-requires-clause-distinct g c =
+    let same : c.args.self.now.images.items ≡ c.replace-images.result.items = ap (λ v. v.items) (sym c.replace-images.ensures.value) in
+    subst (λ (l : List Image). AreDistinct (pages_of l)) same (distinct_of (pages_of c.args.self.now.images.items) c.args.self.now.distinct)
+
+pub returns-clause-crash : goal.returns-clause-crash
+returns-clause-crash g c start shown s =
+    let journal = c.args.self.now.pool.journal in
+    let same : c.replace-images.result.items ≡ c.args.self.now.images.items = ap (λ v. v.items) c.replace-images.ensures.value in
+    let s0 = g.D.EraseDisk.model (disk_of journal) in
+    let s1 = g.D.EraseDisk.model (disk_of c.commit.new.self.journal) in
+    let is : laid c.replace-images.result.items start.pages ≡ shown = ap (λ (l : List Image). laid l start.pages) same ∙ sym s.over in
+    subst (λ (k : List ℕ). Leaves s0 s1 (RecoversEither (home_pages journal) k start.pages shown)) s.noted
+    (subst (λ (l : List (List ℕ)). Leaves s0 s1 (RecoversEither (home_pages journal) (note_of journal) start.pages l)) is (c.commit.ensures.crash s.honest start.pages s.maps))
+
+pub returns-clause-accepted : goal.returns-clause-accepted
+returns-clause-accepted g c =
+    let journal = c.args.self.now.pool.journal in
+    let same : c.replace-images.result.items ≡ c.args.self.now.images.items = ap (λ v. v.items) c.replace-images.ensures.value in
+    subst (λ k. OnOk c.commit.result (PostsAt (needs_recovery journal) k (closed_slots journal))) (ap length same ∙ sym (length_pages_of c.args.self.now.images.items)) c.commit.ensures.accepted
+
+pub returns-clause-refused : goal.returns-clause-refused
+returns-clause-refused g c =
+    let journal = c.args.self.now.pool.journal in
+    let same : c.replace-images.result.items ≡ c.args.self.now.images.items = ap (λ v. v.items) c.replace-images.ensures.value in
+    subst (λ k. IfErr c.commit.result (PostRefusal (needs_recovery journal) k (closed_slots journal))) (ap length same ∙ sym (length_pages_of c.args.self.now.images.items)) c.commit.ensures.refused

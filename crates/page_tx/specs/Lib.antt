@@ -1,0 +1,4 @@
+pub mod Start
+pub mod Images
+pub mod Tx
+pub mod Laid

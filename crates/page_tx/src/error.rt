@@ -1,0 +1,46 @@
+//! Why a transaction doesn't read or set a page.
+ghost use Rattle.std.specs.Prelude.{◌≡◌};
+ghost use Rattle.buffer_pool.specs.declared.error.FetchError.TheVariants as fetches;
+ghost use Rattle.page_tx.specs.declared.error.PageError.TheVariants as refusals;
+
+use buffer_pool::FetchError;
+use std::alloc::AllocError;
+use thiserror::Error;
+
+/// Why a transaction doesn't read or set a page.
+#[derive(Clone, Copy, Debug, PartialEq, Eq, Error)]
+pub enum PageError {
+    /// The device failed. The transaction goes on.
+    #[error("the device failed")]
+    Fault,
+    /// An earlier write or sync failed, and the journal wasn't opened again since.
+    #[error("the journal must be opened again")]
+    NeedsRecovery,
+    /// The transaction holds images of 31 other pages.
+    #[error("a transaction would hold more than 31 pages")]
+    TooManyImages,
+    /// No page is left that was never used.
+    #[error("no page is left")]
+    PagesFull,
+    /// A growth was refused.
+    #[error("out of memory")]
+    OutOfMemory,
+}
+
+impl From<AllocError> for PageError {
+    ghost from_gives = { λ _ e. e ≡ refusals.OutOfMemory };
+
+    fn from(_: AllocError) -> Self {
+        PageError::OutOfMemory
+    }
+}
+
+impl From<FetchError> for PageError {
+    fn from(refusal: FetchError) -> Self {
+        match refusal {
+            FetchError::Fault => PageError::Fault,
+            FetchError::NeedsRecovery => PageError::NeedsRecovery,
+            FetchError::OutOfMemory => PageError::OutOfMemory,
+        }
+    }
+}

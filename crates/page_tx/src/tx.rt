@@ -1,0 +1,173 @@
+//! A transaction over a pool.
+ghost use Rattle.std.specs.Prelude.{◌≡◌, ◌≢◌, ◌<◌, ◌≤◌, ◌↔◌, [], ℕ, List, length, OnOk, OnErr, IfErr, IsErrOf, false};
+ghost use Rattle.std.specs.List.{AllByRecursion-prop};
+ghost use Rattle.std.proofs.Props.{props};
+ghost use Rattle.disk_models.specs.Erase.{Leaves};
+ghost use Rattle.page_journal.specs.Calls.{IsDown, IsIdle, SameJournal};
+ghost use Rattle.page_journal.specs.Journal.{closed_slots, disk_of, home_pages, needs_recovery, note_of, unhomed_pages};
+ghost use Rattle.page_journal.specs.Layout.{pages_of};
+ghost use Rattle.page_journal.specs.Recovers.{AreBelow, Recovers, RecoversEither};
+ghost use Rattle.page_journal.specs.Refusals.{PostRefusal, PostsAt, UseRefusal};
+ghost use Rattle.buffer_pool.specs.Pool.{Maps, journal_of};
+ghost use Rattle.page_tx.specs.Images.{AreApart};
+
+use crate::error::PageError;
+use crate::images::{place_of, put};
+use crate::pages::Pages;
+use buffer_pool::Pool;
+use disk_models::{EraseDisk, Page};
+use page_journal::{PostError, UseError};
+use std::alloc::Global;
+use std::mem;
+
+// The most images of a transaction.
+const IMAGES: usize = 31;
+
+/// A pool with its one transaction: images of distinct pages, at most 31, that are laid over its pages.
+///
+/// Only a commit changes the pool's pages, and all of them together. A transaction that is begun again, or let go with
+/// its pool taken back, changes nothing.
+#[derive(Drop)]
+pub struct Tx<D: EraseDisk + Drop> {
+    alloc: Global,
+    pool: Pool<D>,
+    images: Vec<(u64, Page)>,
+    next: u64,
+    ghost few: { length images.items ≤ 31 },
+    ghost distinct: { AreApart (pages_of images.items) },
+    ghost below: { AreBelow (home_pages (journal_of pool)) (pages_of images.items) } by { AllByRecursion-prop (λ n. n < home_pages (journal_of pool)) (λ n. Prim.hlevel props) (pages_of images.items) },
+}
+
+impl<D: EraseDisk + Drop> Tx<D> {
+    ghost use Rattle.page_tx.specs.Start.{Start};
+    ghost use Rattle.page_tx.specs.Tx.{Shows, named_pages, next_page, pool_of};
+
+    /// A transaction without an image over a pool. The first page that was never used is told.
+    pub fn new(alloc: Global, pool: Pool<D>, next: u64) -> Tx<D>
+        ensures pool { pool_of result ≡ pool }
+        ensures named { named_pages result ≡ [] }
+        ensures next { next_page result ≡ next }
+        ensures shown { D.honest (disk_of (journal_of pool)) → (pages : List (List ℕ)) → Maps D.EraseDisk pool pages
+            → Shows D.EraseDisk result (record { note = note_of (journal_of pool); pages = pages; clock = (D.model (disk_of (journal_of pool))).clock }) pages }
+    {
+        Tx {
+            alloc,
+            pool,
+            images: Vec::new(alloc),
+            next,
+        }
+    }
+
+    /// Begins again without an image: those of before are forgotten.
+    pub fn begin(&mut self, next: u64)
+        ensures pool { pool_of self.new ≡ pool_of self.old }
+        ensures named { named_pages self.new ≡ [] }
+        ensures next { next_page self.new ≡ next }
+        ensures shown { D.honest (disk_of (journal_of (pool_of self.old))) → (pages : List (List ℕ)) → Maps D.EraseDisk (pool_of self.old) pages
+            → Shows D.EraseDisk self.new (record { note = note_of (journal_of (pool_of self.old)); pages = pages; clock = (D.model (disk_of (journal_of (pool_of self.old)))).clock }) pages }
+    {
+        self.images = Vec::new(self.alloc);
+        self.next = next;
+    }
+
+    /// Makes the pages that are shown those of the pool, all of them or none. The transaction is then without an image.
+    pub fn commit(&mut self) -> Result<(), PostError>
+        ensures crash { (start : Start) (shown : List (List ℕ)) → Shows D.EraseDisk self.old start shown
+            → Leaves (D.model (disk_of (journal_of (pool_of self.old)))) (D.model (disk_of (journal_of (pool_of self.new))))
+            (RecoversEither (home_pages (journal_of (pool_of self.old))) start.note start.pages shown) }
+        ensures maps { (start : Start) (shown : List (List ℕ)) → Shows D.EraseDisk self.old start shown → OnOk result (Maps D.EraseDisk (pool_of self.new) shown) }
+
+        ensures accepted { OnOk result (PostsAt (needs_recovery (journal_of (pool_of self.old))) (length (named_pages self.old)) (closed_slots (journal_of (pool_of self.old)))) }
+        ensures refused { IfErr result (PostRefusal (needs_recovery (journal_of (pool_of self.old))) (length (named_pages self.old)) (closed_slots (journal_of (pool_of self.old)))) }
+        ensures few { IsErrOf result PostError.TooManyImages → ⊥ }
+
+        ensures unchanged { IfErr result (λ e. e ≢ PostError.Fault → pool_of self.new ≡ pool_of self.old) }
+        ensures failed { IsErrOf result PostError.Fault → IsDown D.EraseDisk (journal_of (pool_of self.old)) (journal_of (pool_of self.new)) }
+        ensures named { named_pages self.new ≡ [] }
+        ensures next { next_page self.new ≡ next_page self.old }
+        ensures journal { SameJournal D.EraseDisk (journal_of (pool_of self.old)) (journal_of (pool_of self.new)) (IsErrOf result PostError.Fault) }
+    {
+        let images = mem::replace(&mut self.images, Vec::new(self.alloc));
+        self.pool.commit(self.alloc, images)
+    }
+
+    /// The pool below, as it is without the images.
+    pub fn pool(&self) -> &Pool<D>
+        ensures pool { result.now ≡ pool_of self.now }
+    {
+        &self.pool
+    }
+
+    /// Gives the pool back. The images are forgotten.
+    pub fn into_pool(self) -> Pool<D>
+        ensures pool { result ≡ pool_of self }
+    {
+        self.pool
+    }
+}
+
+impl<D: EraseDisk + Drop> Pages for Tx<D> {
+    ghost use Rattle.page_tx.specs.Tx.{IsThere, Shows, named_pages, next_page, pool_of};
+    ghost use Rattle.page_tx.specs.Laid.{shows_count};
+
+    ghost shows = { λ tx start shown. Shows D.EraseDisk tx start shown };
+
+    ghost resident = { λ tx n. IsThere tx n };
+
+    ghost homes = { λ tx. home_pages (journal_of (pool_of tx)) };
+
+    ghost next = { λ tx. next_page tx };
+
+    ghost named = { λ tx. named_pages tx };
+
+    ghost count = { λ tx start shown shows. shows_count tx start shown shows };
+
+    fn fetch(&mut self, n: u64) -> Result<(), PageError> {
+        if place_of(&self.images, n).is_some() {
+            return Ok(());
+        }
+        self.pool.fetch(self.alloc, n)?;
+        Ok(())
+    }
+
+    fn page(&self, n: u64) -> Option<&Page> {
+        match place_of(&self.images, n) {
+            Some(k) => Some(&self.images[k].1),
+            None => self.pool.page(n),
+        }
+    }
+
+    fn set(&mut self, n: u64, page: Page) -> Result<(), PageError> {
+        match place_of(&self.images, n) {
+            Some(k) => {
+                self.images[k] = (n, page);
+                Ok(())
+            }
+            None => {
+                if self.images.len() >= IMAGES {
+                    return Err(PageError::TooManyImages);
+                }
+                put(&mut self.images, n, page)?;
+                Ok(())
+            }
+        }
+    }
+
+    fn fresh(&mut self) -> Result<u64, PageError> {
+        if self.next >= self.pool.home_pages() {
+            return Err(PageError::PagesFull);
+        }
+        let n = self.next;
+        self.next += 1;
+        Ok(n)
+    }
+
+    fn images(&self) -> usize {
+        let held: &[(u64, Page)] = &self.images;
+        held.len()
+    }
+
+    fn next_page(&self) -> u64 {
+        self.next
+    }
+}
