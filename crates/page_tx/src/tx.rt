@@ -1,5 +1,5 @@
 //! A transaction over a pool.
-ghost use Rattle.std.specs.Prelude.{◌≡◌, ◌≢◌, ◌<◌, ◌≤◌, ◌↔◌, [], ℕ, List, length, OnOk, OnErr, IfErr, IsErrOf, false};
+ghost use Rattle.std.specs.Prelude.{◌≡◌, ◌≢◌, ◌<◌, ◌≤◌, ◌-◌, ◌↔◌, [], ℕ, List, length, OnOk, IfOk, OnErr, IfErr, IsErrOf, false};
 ghost use Rattle.std.specs.List.{AllByRecursion-prop};
 ghost use Rattle.std.proofs.Props.{props};
 ghost use Rattle.disk_models.specs.Erase.{Leaves};
@@ -89,6 +89,45 @@ impl<D: EraseDisk + Drop> Tx<D> {
     {
         let images = mem::replace(&mut self.images, Vec::new(self.alloc));
         self.pool.commit(self.alloc, images)
+    }
+
+    /// Writes all pages of the pool home, and closes the journal's slots. The images stay as they are.
+    pub fn checkpoint(&mut self) -> Result<(), UseError>
+        ensures crash { (start : Start) (shown : List (List ℕ)) → Shows D.EraseDisk self.old start shown
+            → Leaves (D.model (disk_of (journal_of (pool_of self.old)))) (D.model (disk_of (journal_of (pool_of self.new))))
+            (λ c. Recovers (home_pages (journal_of (pool_of self.old))) start.note c start.pages) }
+        ensures shown { (start : Start) (shown : List (List ℕ)) → Shows D.EraseDisk self.old start shown → needs_recovery (journal_of (pool_of self.new)) ≡ false
+            → Shows D.EraseDisk self.new (record { note = start.note; pages = start.pages; clock = (D.model (disk_of (journal_of (pool_of self.new)))).clock }) shown }
+
+        ensures idle { OnOk result (IsIdle D.EraseDisk (journal_of (pool_of self.new))) }
+        ensures ok { OnOk result (needs_recovery (journal_of (pool_of self.old)) ≡ false) }
+        ensures refused { IfErr result (UseRefusal (needs_recovery (journal_of (pool_of self.old)))) }
+        ensures unchanged { IsErrOf result UseError.NeedsRecovery → pool_of self.new ≡ pool_of self.old }
+        ensures named { named_pages self.new ≡ named_pages self.old }
+        ensures next { next_page self.new ≡ next_page self.old }
+        ensures journal { SameJournal D.EraseDisk (journal_of (pool_of self.old)) (journal_of (pool_of self.new)) (IsErrOf result UseError.Fault) }
+    {
+        self.pool.checkpoint()
+    }
+
+    /// Writes the page home that was dirty longest, and tells whether there was one. The images stay as they are.
+    pub fn flush_one(&mut self) -> Result<bool, UseError>
+        ensures crash { (start : Start) (shown : List (List ℕ)) → Shows D.EraseDisk self.old start shown
+            → Leaves (D.model (disk_of (journal_of (pool_of self.old)))) (D.model (disk_of (journal_of (pool_of self.new))))
+            (λ c. Recovers (home_pages (journal_of (pool_of self.old))) start.note c start.pages) }
+        ensures shown { (start : Start) (shown : List (List ℕ)) → Shows D.EraseDisk self.old start shown → needs_recovery (journal_of (pool_of self.new)) ≡ false
+            → Shows D.EraseDisk self.new (record { note = start.note; pages = start.pages; clock = (D.model (disk_of (journal_of (pool_of self.new)))).clock }) shown }
+
+        ensures wrote { IfOk result (λ more. (more ≡ false) ↔ (length (unhomed_pages (journal_of (pool_of self.old))) ≡ 0)) }
+        ensures fewer { OnOk result (length (unhomed_pages (journal_of (pool_of self.new))) ≤ length (unhomed_pages (journal_of (pool_of self.old))) - 1) }
+        ensures ok { OnOk result (needs_recovery (journal_of (pool_of self.new)) ≡ false) }
+        ensures refused { IfErr result (UseRefusal (needs_recovery (journal_of (pool_of self.old)))) }
+        ensures unchanged { IsErrOf result UseError.NeedsRecovery → pool_of self.new ≡ pool_of self.old }
+        ensures named { named_pages self.new ≡ named_pages self.old }
+        ensures next { next_page self.new ≡ next_page self.old }
+        ensures journal { SameJournal D.EraseDisk (journal_of (pool_of self.old)) (journal_of (pool_of self.new)) (IsErrOf result UseError.Fault) }
+    {
+        self.pool.flush_one()
     }
 
     /// The pool below, as it is without the images.
