@@ -7,11 +7,8 @@ ghost use Rattle.page_journal.specs.Bookkeeping.{open_slots};
 ghost use Rattle.page_journal.specs.Recovers.{Recovers};
 ghost use Rattle.page_journal.specs.inner.Laying.{StandsHome};
 
+use crate::layout::{CLOSED, GATE, PAGE, SLOT_PAGES, SLOTS};
 use disk_models::{EraseDisk, Fault};
-
-const PAGE: u64 = 16_384;
-
-const SLOTS: u64 = 8;
 
 // Closes the gate of the oldest open slot, whose images are home.
 pub fn close<D: EraseDisk>(disk: &mut D, slot: u64) -> Result<(), Fault>
@@ -23,7 +20,7 @@ pub fn close<D: EraseDisk>(disk: &mut D, slot: u64) -> Result<(), Fault>
     ensures closed { D.honest disk.old → (homes : ℕ) (note rest : List ℕ) (pages : List (List ℕ)) → StandsHome homes note (slot ∷ rest) (D.model disk.old) pages
         → OnOk result (StandsHome homes note rest (D.model disk.new) pages) }
 {
-    disk.write_at(PAGE * (1 + 33 * slot), &[0])?;
+    disk.write_at(PAGE * (GATE + SLOT_PAGES * slot), &[CLOSED])?;
     disk.sync()
 }
 
@@ -51,7 +48,7 @@ pub fn close_all<D: EraseDisk>(disk: &mut D) -> Result<(), Fault>
     ensures closed { D.honest disk.old → OnOk result ((slot : ℕ) → slot < 8 → (D.model disk.new).octet (gate_place slot) ≡ 0) }
 {
     for slot in 0..SLOTS {
-        disk.write_at(PAGE * (1 + 33 * slot), &[0])?;
+        disk.write_at(PAGE * (GATE + SLOT_PAGES * slot), &[CLOSED])?;
     }
     Ok(())
 }

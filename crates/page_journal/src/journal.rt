@@ -9,17 +9,12 @@ ghost use Rattle.page_journal.specs.Layout.{homes_from, pages_of, transaction};
 ghost use Rattle.page_journal.specs.Recovers.{laid, AreBelow, AreDistinct, IsListed, Recovers, RecoversEither};
 
 use crate::error::{CreateError, OpenError, PostError, UseError};
+use crate::layout::{FIRST_HOME, IMAGES, PAGE, SLOTS};
 use crate::refused::Refused;
 use crate::unhomed::Unhomed;
 use crate::{create, examine, gate, slot, unhomed};
 use disk_models::{EraseDisk, Page};
 use std::alloc::Global;
-
-const PAGE: u64 = 16_384;
-
-const SLOTS: u64 = 8;
-
-const IMAGES: usize = 31;
 
 /// Home pages on an erasable disk, some of which are replaced at once by a post, whatever a crash tears.
 ///
@@ -300,7 +295,7 @@ impl<D: EraseDisk + Drop> Journal<D> {
             return Ok(());
         }
         self.needs_recovery = true;
-        self.disk.write_at(PAGE * (265 + n), page.octets())?;
+        self.disk.write_at(PAGE * (FIRST_HOME + n), page.octets())?;
         self.needs_recovery = false;
         unhomed::forget(&mut self.unhomed, n);
         Ok(())

@@ -1,0 +1,34 @@
+//! Where the parts of a journal stand on its disk, and how large they are. Places are octets from 0 on.
+//!
+//! The disk's first page tells what it holds. Then come eight slots, each of a page for its gate, one for its header and
+//! 31 for images, and behind them the home pages.
+
+/// The octets of a page of the disk.
+pub const PAGE: u64 = 16_384;
+
+/// How many slots there are.
+pub const SLOTS: u64 = 8;
+
+/// How many images a slot has room for.
+pub const IMAGES: usize = 31;
+
+/// How many pages of the disk a slot has.
+pub const SLOT_PAGES: u64 = 33;
+
+/// The page of the disk with the first slot's gate.
+pub const GATE: u64 = 1;
+
+/// The page with the first slot's header.
+pub const HEADER: u64 = 2;
+
+/// The page with the first slot's first image.
+pub const IMAGE: u64 = 3;
+
+/// The first home page.
+pub const FIRST_HOME: u64 = 265;
+
+/// The octet of an open gate.
+pub const OPEN: u8 = 0xa5;
+
+/// The octet of a closed gate, as it is written.
+pub const CLOSED: u8 = 0;
