@@ -2,7 +2,7 @@
 ghost use Rattle.std.specs.Prelude.{[], ◌≡◌, ◌≤◌, ◌<◌, ◌∷◌, ◌↔◌, ℕ, List, OnOk, IsErr, IsErrOf};
 ghost use Rattle.disk_models.specs.Erase.{Leaves, WritesWithin};
 ghost use Rattle.disk_models.specs.Serves.{Serves};
-ghost use Rattle.page_journal.specs.Layout.{gate_place};
+ghost use Rattle.page_journal.specs.Layout.{gate_place, slots_end};
 ghost use Rattle.page_journal.specs.Bookkeeping.{open_slots};
 ghost use Rattle.page_journal.specs.Recovers.{Recovers};
 ghost use Rattle.page_journal.specs.inner.Laying.{StandsHome};
@@ -13,7 +13,7 @@ use disk_models::{EraseDisk, Fault};
 // Closes the gate of the oldest open slot, whose images are home.
 pub fn close<D: EraseDisk>(disk: &mut D, slot: u64) -> Result<(), Fault>
     requires slot { slot < 8 }
-    requires room { 4341760 ≤ D.octet_count disk.old }
+    requires room { slots_end ≤ D.octet_count disk.old }
     ensures serves { Serves D.EraseDisk disk.old disk.new (IsErr result) }
     ensures crash { D.honest disk.old → (homes : ℕ) (note rest : List ℕ) (pages : List (List ℕ)) → StandsHome homes note (slot ∷ rest) (D.model disk.old) pages
         → Leaves (D.model disk.old) (D.model disk.new) (λ c. Recovers homes note c pages) }
@@ -27,7 +27,7 @@ pub fn close<D: EraseDisk>(disk: &mut D, slot: u64) -> Result<(), Fault>
 // Closes the gates of the first slots, which are the open ones and whose images are home, the oldest first.
 pub fn close_first<D: EraseDisk>(disk: &mut D, count: u64) -> Result<(), Fault>
     requires few { count ≤ 8 }
-    requires room { 4341760 ≤ D.octet_count disk.old }
+    requires room { slots_end ≤ D.octet_count disk.old }
     ensures serves { Serves D.EraseDisk disk.old disk.new (IsErr result) }
     ensures crash { D.honest disk.old → (homes : ℕ) (note : List ℕ) (pages : List (List ℕ)) → StandsHome homes note (open_slots count) (D.model disk.old) pages
         → Leaves (D.model disk.old) (D.model disk.new) (λ c. Recovers homes note c pages) }
@@ -42,7 +42,7 @@ pub fn close_first<D: EraseDisk>(disk: &mut D, count: u64) -> Result<(), Fault>
 
 // Closes the gates of all slots, without a sync.
 pub fn close_all<D: EraseDisk>(disk: &mut D) -> Result<(), Fault>
-    requires { 4341760 ≤ D.octet_count disk.old }
+    requires { slots_end ≤ D.octet_count disk.old }
     ensures serves { Serves D.EraseDisk disk.old disk.new (IsErr result) }
     ensures within { D.honest disk.old → WritesWithin 16384 4325376 (D.model disk.old) (D.model disk.new) }
     ensures closed { D.honest disk.old → OnOk result ((slot : ℕ) → slot < 8 → (D.model disk.new).octet (gate_place slot) ≡ 0) }

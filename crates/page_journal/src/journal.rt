@@ -5,7 +5,7 @@ ghost use Rattle.disk_models.specs.Serves.{Serves};
 ghost use Rattle.std.specs.List.{AllByRecursion, AllByRecursion-prop};
 ghost use Rattle.std.proofs.Props.{props};
 ghost use Rattle.page_journal.specs.Bookkeeping.{IsImage, unhomed_numbers, without};
-ghost use Rattle.page_journal.specs.Layout.{homes_from, pages_of, transaction};
+ghost use Rattle.page_journal.specs.Layout.{homes_from, pages_of, transaction, home_place};
 ghost use Rattle.page_journal.specs.Recovers.{laid, AreBelow, AreDistinct, IsListed, Recovers, RecoversEither};
 
 use crate::error::{CreateError, OpenError, PostError, UseError};
@@ -28,7 +28,7 @@ pub struct Journal<D: EraseDisk + Drop> {
     opened: u64,
     unhomed: Vec<Unhomed>,
     needs_recovery: bool,
-    ghost room: { 16384 * (265 + homes) ≤ D.octet_count disk },
+    ghost room: { home_place homes ≤ D.octet_count disk },
     ghost small: { 265 + homes < 2 ^ 50 },
     ghost eight: { opened ≤ 8 },
     ghost images: { AllByRecursion (IsImage opened) unhomed.items } by { AllByRecursion-prop (IsImage opened) (λ u. Prim.hlevel props) unhomed.items },
@@ -49,7 +49,7 @@ impl<D: EraseDisk + Drop> Journal<D> {
         ensures homes { IfOk result (λ journal. home_pages journal ≡ homes) }
         ensures note { IfOk result (λ journal. note_of journal ≡ replicate 11 0) }
         ensures idle { IfOk result (IsIdle D.EraseDisk) }
-        ensures room { OnOk result (16384 * (265 + homes) ≤ D.octet_count disk) }
+        ensures room { OnOk result (home_place homes ≤ D.octet_count disk) }
         ensures refused { IfErr (outcome result) (CreateRefusal homes (D.octet_count disk)) }
         ensures untouched { IfErr result (λ refused. refused.error ≢ CreateError.Fault → refused.disk ≡ disk) }
         ensures serves { Serves D.EraseDisk disk (disk_after result) (IsErrOf (outcome result) CreateError.Fault) }
@@ -76,7 +76,7 @@ impl<D: EraseDisk + Drop> Journal<D> {
         ensures idle { IfOk result (IsIdle D.EraseDisk) }
 
         // The disk is refused exactly where it is too small, and isn't written then, nor for want of memory.
-        ensures room { OnOk result (16384 * (265 + homes) ≤ D.octet_count disk) }
+        ensures room { OnOk result (home_place homes ≤ D.octet_count disk) }
         ensures refused { IfErr (outcome result) (CreateRefusal homes (D.octet_count disk)) }
         ensures untouched { IfErr result (λ refused. refused.error ≢ CreateError.Fault → refused.disk ≡ disk) }
 
@@ -108,13 +108,13 @@ impl<D: EraseDisk + Drop> Journal<D> {
             → Leaves (D.model disk) (D.model (disk_after result)) (λ c. Recovers homes note c pages) }
 
         ensures idle { IfOk result (IsIdle D.EraseDisk) }
-        ensures room { IfOk result (λ journal. 16384 * (265 + home_pages journal) ≤ D.octet_count disk) }
+        ensures room { IfOk result (λ journal. home_place (home_pages journal) ≤ D.octet_count disk) }
 
         // A disk is refused for what stands on it alone, and isn't written then. One that means a map is never damaged.
         ensures kinds { IfErr (outcome result) IsOpening }
         ensures refused { D.honest disk → IfErr (outcome result) (OpenRefusal (D.octet_count disk) (D.model disk).octet) }
         ensures undamaged { D.honest disk → (homes : ℕ) (note : List ℕ) (pages : List (List ℕ)) → Recovers homes note (D.model disk).octet pages
-            → 16384 * (265 + homes) ≤ D.octet_count disk → IfErr (outcome result) IsWant }
+            → home_place homes ≤ D.octet_count disk → IfErr (outcome result) IsWant }
         ensures untouched { D.honest disk → IfErr result (λ refused. refused.error ≢ OpenError.Fault → (D.model refused.disk).octet ≡ (D.model disk).octet) }
 
         ensures serves { Serves D.EraseDisk disk (disk_after result) (IsErrOf (outcome result) OpenError.Fault) }
