@@ -9,23 +9,23 @@ use page_journal::{CreateError, Journal, JournalError, OpenError, PostError, Use
 use std::alloc::{AllocError, Global};
 use std::test::Fail;
 
-const PAGE: u64 = 16_384;
+pub(crate) const PAGE: u64 = 16_384;
 
-const OLD: [u8; 4] = [10, 11, 12, 13];
+pub(crate) const OLD: [u8; 4] = [10, 11, 12, 13];
 
 const NEW: [u8; 4] = [10, 21, 22, 13];
 
-fn filled(alloc: Global, octet: u8) -> Result<Page, AllocError> {
+pub(crate) fn filled(alloc: Global, octet: u8) -> Result<Page, AllocError> {
     let mut page = Page::new(alloc)?;
     page.octets_mut().fill(octet);
     Ok(page)
 }
 
 // How many kinds of torn ranges are tried.
-const KINDS: u8 = 4;
+pub(crate) const KINDS: u8 = 4;
 
 // What a torn range holds: the last kind is octets that nobody wrote, an open gate's first of all.
-fn torn(alloc: Global, kind: u8) -> Result<Torn, AllocError> {
+pub(crate) fn torn(alloc: Global, kind: u8) -> Result<Torn, AllocError> {
     Ok(match kind {
         0 => Torn::Old,
         1 => Torn::New,
@@ -35,7 +35,7 @@ fn torn(alloc: Global, kind: u8) -> Result<Torn, AllocError> {
 }
 
 // So many ranges torn alike.
-fn all_torn(alloc: Global, kind: u8, count: u64) -> Result<Vec<Torn>, AllocError> {
+pub(crate) fn all_torn(alloc: Global, kind: u8, count: u64) -> Result<Vec<Torn>, AllocError> {
     let mut choice = Vec::new(alloc);
     for _ in 0..count {
         choice.push(torn(alloc, kind)?)?;
@@ -60,7 +60,7 @@ fn opened(alloc: Global, disk: MemErase) -> Result<Journal<MemErase>, JournalErr
 }
 
 // A disk with four home pages, each filled with one octet.
-fn made(alloc: Global) -> Result<MemErase, JournalError> {
+pub(crate) fn made(alloc: Global) -> Result<MemErase, JournalError> {
     let first = [
         (0, filled(alloc, 10)?),
         (1, filled(alloc, 11)?),
@@ -117,7 +117,11 @@ fn checkpoint(journal: &mut Journal<MemErase>) -> Result<(), JournalError> {
     Ok(journal.checkpoint()?)
 }
 
-fn scripted(alloc: Global, mut disk: MemErase, failure: Failure) -> Result<MemErase, AllocError> {
+pub(crate) fn scripted(
+    alloc: Global,
+    mut disk: MemErase,
+    failure: Failure,
+) -> Result<MemErase, AllocError> {
     let mut script = Vec::new(alloc);
     script.push(failure)?;
     disk.set_script(script);

@@ -1,4 +1,4 @@
-//! Tests of disk_models, disk_memory and page_journal: the disks in memory, and a journal over one that fails, tears and crashes.
+//! Tests of the disks in memory, and of a journal, a pool and transactions over one that fails, tears and crashes.
 #![tactic(auto)]
 
 #[cfg(test)]
@@ -11,3 +11,7 @@ mod journal;
 mod once;
 #[cfg(test)]
 mod pages;
+#[cfg(test)]
+mod pool;
+#[cfg(test)]
+mod transactions;
