@@ -1,0 +1,7 @@
+pub mod Orders
+pub mod Kept
+pub mod Places
+pub mod Entries
+pub mod Least
+pub mod Points
+pub mod api

@@ -1,0 +1,11 @@
+pub mod Pushed
+pub mod Shown
+pub mod LooksShown
+pub mod Sizing
+pub mod PastKept
+pub mod PastSplit
+pub mod ColumnSplit
+pub mod TreeKept
+pub mod Children
+pub mod ChildrenTwo
+pub mod Put

@@ -1,0 +1,12 @@
+pub mod Versions
+pub mod Ranges
+pub mod Shows
+pub mod Looks
+pub mod Entries
+pub mod StampWords
+pub mod Blocks
+pub mod Pages
+pub mod Inserts
+pub mod Sizes
+pub mod Counts
+pub mod inner
