@@ -9,3 +9,9 @@ pub mod TreeKept
 pub mod Children
 pub mod ChildrenTwo
 pub mod Put
+pub mod Standing
+pub mod Counting
+pub mod Fits
+pub mod Later
+pub mod Grown
+pub mod Needed

@@ -29,6 +29,10 @@ pub record LiesUnder (level : ℕ) (keys : Keys) (node : PageNode) : Type 0 wher
 abbrev pub KeepsOthers : (ℕ → Option PageNode) → (ℕ → Option PageNode) → ℕ → ℕ → Keys → Type 0
 KeepsOthers nodes nodes' limit level keys = (page : ℕ) (node : PageNode) → page < limit → nodes page ≡ Some node → (LiesUnder level keys node → ⊥) → nodes' page ≡ Some node
 
+-- each page in use that lies under the level and the keys says what it said
+abbrev pub KeepsUnder : (ℕ → Option PageNode) → (ℕ → Option PageNode) → ℕ → ℕ → Keys → Type 0
+KeepsUnder nodes nodes' limit level keys = (page : ℕ) (node : PageNode) → page < limit → nodes page ≡ Some node → LiesUnder level keys node → nodes' page ≡ Some node
+
 -- what a node has become: itself, or two, of which the new one has the keys from its lowest on
 abbrev pub Became : Store → List Version → ℕ → Keys → ℕ → Option Child → Type 0
 Became t all level keys page None = StandsIn t all level keys page

@@ -9,17 +9,17 @@ use Rattle.version_model.specs.Looks.{NoneWithin, IsLive, IsLeastLive, is_of}
 use Rattle.version_model.proofs.api.Pushed.{Has-nil}
 use Rattle.version_model.proofs.api.Shown.{answers_shown}
 
-Has-tail : (v : Version) (vs : List Version) (x : Version) → Has vs x → Has (v ∷ vs) x
+pub Has-tail : (v : Version) (vs : List Version) (x : Version) → Has vs x → Has (v ∷ vs) x
 Has-tail v vs x h = record { place = suc h.place; is = h.is }
 
-Has-head : (v : Version) (vs : List Version) → Has (v ∷ vs) v
+pub Has-head : (v : Version) (vs : List Version) → Has (v ∷ vs) v
 Has-head v vs = record { place = 0; is = refl }
 
 at_cases : (v : Version) (vs : List Version) (x : Version) (place : ℕ) → slice_get (v ∷ vs) place ≡ Some x → (x ≡ v) ⊎ Has vs x
 at_cases v vs x zero is = inl (sym (same_Some v x is))
 at_cases v vs x (suc i) is = inr (record { place = i; is = is })
 
-Has-cases : (v : Version) (vs : List Version) (x : Version) → Has (v ∷ vs) x → (x ≡ v) ⊎ Has vs x
+pub Has-cases : (v : Version) (vs : List Version) (x : Version) → Has (v ∷ vs) x → (x ≡ v) ⊎ Has vs x
 Has-cases v vs x h = at_cases v vs x h.place h.is
 
 rising_tail : (v : Version) (vs : List Version) → IsRising (v ∷ vs) → IsRising vs
