@@ -9,7 +9,8 @@ ghost use Rattle.std.proofs.Common.{rules};
 use std::cmp::Ordering;
 use std::marker::Model;
 
-/// A time, and the order number of a change: sixteen octets. Contracts see it as the number that they are.
+/// A time in seconds, and the order number of a change: sixteen octets, each number in eight, the highest octet first.
+/// Contracts see it as the number that these octets are.
 #[derive(Clone, Copy, Debug)]
 pub struct Stamp {
     time: u64,
@@ -33,21 +34,21 @@ impl Model for Stamp {
 }
 
 impl Stamp {
-    ghost use Rattle.std.specs.Prelude.{◌≡◌, ◌/◌, ◌%◌, ◌^◌};
-    ghost use Rattle.route_model.specs.KeyWords.{followed_by};
+    ghost use Rattle.std.specs.Prelude.{◌≡◌, ◌+◌, ◌*◌, ◌/◌, ◌%◌, ◌^◌, ◌<◌};
 
     /// The stamp of a time and an order number.
     pub fn new(time: u64, order: u64) -> Stamp
-        ensures number { result ≡ followed_by time order }
+        ensures number { result ≡ time * 2 ^ 64 + order }
     {
         Stamp { time, order }
     }
 
-    /// The number that its octets are.
+    /// The number that its sixteen octets are.
     pub fn number(self) -> u128
         ensures number { result ≡ self }
+        ensures fits { self < 2 ^ 128 }
     {
-        self.time as u128 * 18_446_744_073_709_551_616 + self.order as u128
+        u128::from(self.time) * (1 << 64) + u128::from(self.order)
     }
 
     /// Its time.
