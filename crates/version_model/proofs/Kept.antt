@@ -1,7 +1,7 @@
 -- What a loop has kept of the first n versions.
-use Rattle.std.proofs.Common.{◌≡◌, ℕ, zero, suc, ◌+◌, ◌<◌, ◌≤◌, ◌⊎◌, inl, inr, List, [], ◌∷◌, ◌++◌, length, Option, Some, None, IsSome, slice_get, refl, sym, ◌∙◌, subst, ap, arith}
+use Rattle.std.proofs.Common.{◌≡◌, ℕ, ◌+◌, ◌<◌, ◌≤◌, ◌⊎◌, inl, inr, List, [], ◌∷◌, ◌++◌, length, Some, IsSome, slice_get, sym, ◌∙◌, subst, arith}
 use Rattle.std.proofs.lemmas.Bool.{cases_lt}
-use Rattle.std.proofs.lemmas.Option.{slice_get_within, same_Some, none-some}
+use Rattle.std.proofs.lemmas.Option.{slice_get_within, same_Some}
 use Rattle.version_model.specs.Versions.{Version, Has, AsOf, IsRising, IsAbove}
 use Rattle.version_model.proofs.api.Pushed.{no_at_nil, Has-nil, Has-push_cases, Has-push_old, Has-push_new, IsRising-push}
 use Rattle.version_model.specs.Shows.{IsFrom, IsBelow, IsFromKey}

@@ -3,8 +3,8 @@ use Rattle.std.proofs.Common.{◌≡◌, ℕ, zero, suc, ◌+◌, ◌<◌, ◌�
 use Rattle.std.proofs.lemmas.Bool.{cases_lt}
 use Rattle.std.proofs.lemmas.Option.{slice_get_within, same_Some, none-some}
 use Rattle.std.proofs.lemmas.List.{append-nil}
-use Rattle.version_model.specs.Versions.{Version, Has, AsOf, Found, found_version, Answers, IsRising, IsAbove}
-use Rattle.version_model.specs.Looks.{NoneWithin, IsLive, IsLeastLive}
+use Rattle.version_model.specs.Versions.{Version, Answers}
+use Rattle.version_model.specs.Looks.{IsLive, IsLeastLive}
 use Rattle.version_model.specs.inner.Lower.{IsLower}
 
 -- among the first n versions no key from `from` on and below `to` has a value

@@ -1,9 +1,9 @@
 -- The last of the first n versions that counts for a key at a stamp.
-use Rattle.std.proofs.Common.{◌≡◌, ℕ, ◌+◌, ◌<◌, ◌≤◌, ◌⊎◌, inl, inr, List, length, Option, Some, None, slice_get, refl, sym, ◌∙◌, subst, ap, arith}
+use Rattle.std.proofs.Common.{◌≡◌, ℕ, ◌+◌, ◌<◌, ◌≤◌, inl, inr, List, length, Option, Some, None, slice_get, sym, ◌∙◌, subst, arith}
 use Rattle.std.specs.Option.{MatchOption}
 use Rattle.std.proofs.lemmas.Bool.{cases_lt, cases_order}
 use Rattle.std.proofs.lemmas.Option.{slice_get_within, same_Some}
-use Rattle.version_model.specs.Versions.{Version, Has, AsOf, IsRising}
+use Rattle.version_model.specs.Versions.{Version, AsOf, IsRising}
 
 -- the version is of the key, and not after the stamp
 pub record Counts (key s : ℕ) (v : Version) : Type 0 where

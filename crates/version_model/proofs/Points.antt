@@ -1,13 +1,10 @@
 -- The search for the key at which a leaf is split, and loops that copy.
-use Rattle.std.proofs.Common.{◌≡◌, ℕ, zero, suc, ◌+◌, ◌<◌, ◌≤◌, ◌⊎◌, inl, inr, List, [], ◌∷◌, ◌++◌, length, drop, Option, Some, None, slice_get, refl, sym, ◌∙◌, ap, subst, arith, cond, append_assoc, append-nil, length-append, Bool, true, false}
-use Rattle.std.specs.Prelude.{nat_lt}
-use Rattle.std.proofs.lemmas.Bool.{cases_lt, cases_eq}
-use Rattle.std.proofs.lemmas.Bool.Decides.{nat_tests}
-use Rattle.std.proofs.lemmas.Option.{same_Some, none-some, slice_get_within}
-use Rattle.version_model.specs.Versions.{Version, Has, AsOf, IsRising, IsAbove}
-use Rattle.version_model.specs.Shows.{IsFrom}
+use Rattle.std.proofs.Common.{◌≡◌, ℕ, suc, ◌+◌, ◌<◌, ◌≤◌, ◌⊎◌, inl, inr, List, [], ◌∷◌, ◌++◌, length, drop, Option, Some, None, slice_get, refl, sym, ◌∙◌, ap, subst, arith, append_assoc, append-nil, length-append}
+use Rattle.std.proofs.lemmas.Bool.{cases_lt}
+use Rattle.std.proofs.lemmas.Option.{same_Some, slice_get_within}
+use Rattle.version_model.specs.Versions.{Version, Has}
 use Rattle.version_model.specs.inner.Lower.{IsLower}
-use Rattle.version_model.specs.Sizes.{value_octets, entry_octets, total, octets, entry_octets_below, octets_below, FewBelow, IsSplitPoint, IsSingle, AreSmall}
+use Rattle.version_model.specs.Sizes.{total, octets_below, IsSplitPoint}
 use Rattle.version_model.proofs.api.Sizing.{drop_at, drop_all, total-push}
 
 -- the search for the split point, after n versions

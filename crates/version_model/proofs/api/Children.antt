@@ -1,13 +1,13 @@
 -- A key node after one of its children has changed.
-use Rattle.std.proofs.Common.{◌≡◌, ℕ, zero, suc, ◌+◌, ◌<◌, ◌≤◌, ◌⊎◌, inl, inr, List, [], ◌∷◌, Option, Some, None, slice_get, length, refl, sym, ◌∙◌, ap, subst, arith}
-use Rattle.std.proofs.lemmas.Bool.{cases_order, cases_lt}
-use Rattle.std.proofs.lemmas.Option.{same_Some, none-some, slice_get_within, slice_get-get_or}
+use Rattle.std.proofs.Common.{◌≡◌, ℕ, zero, suc, ◌<◌, ◌≤◌, ◌⊎◌, inl, inr, List, [], ◌∷◌, Option, Some, None, slice_get, refl, sym, ◌∙◌, ap, subst, arith}
+use Rattle.std.proofs.lemmas.Bool.{cases_order}
+use Rattle.std.proofs.lemmas.Option.{same_Some, none-some}
 use Rattle.version_model.specs.declared.child.Child.{Child}
-use Rattle.version_model.specs.Versions.{Version, Has, IsAbove, Adds}
-use Rattle.version_model.specs.Ranges.{Range, IsKeyOf}
-use Rattle.version_model.specs.Blocks.{BlockNode, Grows}
-use Rattle.version_model.specs.Pages.{Keys, PageNode, ColumnNode, KeyNode, Stands, key_node, IsChildOf, AreChildren, child_keys, low_or, current_range, Store, StandsIn, column}
-use Rattle.version_model.specs.Inserts.{LiesUnder, KeepsOthers}
+use Rattle.version_model.specs.Versions.{Version}
+use Rattle.version_model.specs.Ranges.{IsKeyOf}
+use Rattle.version_model.specs.Blocks.{BlockNode}
+use Rattle.version_model.specs.Pages.{Keys, PageNode, ColumnNode, KeyNode, Stands, key_node, IsChildOf, AreChildren, child_keys, low_or, current_range, Store, column}
+use Rattle.version_model.specs.Inserts.{KeepsOthers}
 use Rattle.version_model.specs.inner.Children.{Inserts}
 use Rattle.version_model.proofs.api.TreeKept.{Elsewhere, stands_kept}
 

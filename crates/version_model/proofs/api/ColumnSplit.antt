@@ -1,12 +1,12 @@
 -- A column takes a version: into its leaf, with a time split, and with a key split.
-use Rattle.std.proofs.Common.{◌≡◌, ℕ, suc, ◌+◌, ◌<◌, ◌≤◌, ◌⊎◌, inl, inr, List, [], ◌∷◌, ◌++◌, Option, Some, None, slice_get, refl, sym, ◌∙◌, ap, subst, arith}
+use Rattle.std.proofs.Common.{◌≡◌, ℕ, ◌<◌, ◌≤◌, inl, inr, List, [], ◌∷◌, ◌++◌, Option, Some, refl, sym, ap, arith}
 use Rattle.version_model.specs.declared.part.Part.{Part}
-use Rattle.version_model.specs.declared.part.PartKind.TheVariants.{LeafBlock, ColumnBlock}
-use Rattle.version_model.specs.Versions.{Version, Has, IsAbove, Adds}
-use Rattle.version_model.specs.Ranges.{Range, IsKeyOf, stamp_end}
+use Rattle.version_model.specs.declared.part.PartKind.TheVariants.{LeafBlock}
+use Rattle.version_model.specs.Versions.{Version, Adds}
+use Rattle.version_model.specs.Ranges.{Range, stamp_end}
 use Rattle.version_model.specs.Shows.{Shows, IsFrom}
-use Rattle.version_model.specs.Blocks.{BlockNode, OldLeaf, PartStands, IsPartOf, AreParts, range_at, start_or, Grows}
-use Rattle.version_model.specs.Pages.{Keys, PageNode, PastStands, past_range, current_range}
+use Rattle.version_model.specs.Blocks.{BlockNode, OldLeaf, IsPartOf, range_at, Grows}
+use Rattle.version_model.specs.Pages.{Keys, PastStands, past_range, current_range}
 use Rattle.version_model.proofs.api.Shown.{Shows-cut, Shows-from, Shows-adds, Shows-outside}
 use Rattle.version_model.proofs.api.PastKept.{PartStands-cut}
 use Rattle.version_model.proofs.api.PastSplit.{PastStands-pushed}

@@ -1,14 +1,14 @@
 -- Where the parts stand for versions, what is counted is how many versions there are.
-use Rattle.std.proofs.Common.{◌≡◌, ℕ, zero, suc, ◌+◌, ◌<◌, ◌≤◌, ◌⊎◌, inl, inr, List, [], ◌∷◌, length, filter, Option, Some, None, slice_get, refl, sym, ◌∙◌, ap, subst, arith, Bool, true, false, nat_le, nat_lt, ◌&&◌}
+use Rattle.std.proofs.Common.{◌≡◌, ℕ, suc, ◌+◌, ◌<◌, ◌≤◌, ◌⊎◌, inl, inr, List, [], ◌∷◌, length, filter, Option, Some, slice_get, refl, sym, ◌∙◌, ap, arith, Bool, true, false, nat_le, nat_lt, ◌&&◌}
 use Rattle.std.proofs.lemmas.Bool.{and_parts, and_from, leb-true, ltb-true, le-leb, lt-ltb, cases_Bool, cases_lt}
-use Rattle.std.proofs.lemmas.Option.{same_Some, none-some}
+use Rattle.std.proofs.lemmas.Option.{none-some}
 use Rattle.version_model.specs.declared.part.Part.{Part}
 use Rattle.version_model.specs.declared.child.Child.{Child}
 use Rattle.version_model.specs.Versions.{Version, Has, IsRising}
-use Rattle.version_model.specs.Ranges.{Range, IsKeyOf, key_end, stamp_end}
+use Rattle.version_model.specs.Ranges.{Range, stamp_end}
 use Rattle.version_model.specs.Shows.{Shows}
-use Rattle.version_model.specs.Blocks.{BlockNode, PartStands, IsPartOf, AreParts, range_at, start_or}
-use Rattle.version_model.specs.Pages.{Keys, PageNode, Stands, PastStands, past_range, current_range, AreChildren, IsChildOf, child_keys, low_or, Store, TreeStands, all_keys}
+use Rattle.version_model.specs.Blocks.{BlockNode, PartStands, AreParts, range_at, start_or}
+use Rattle.version_model.specs.Pages.{Keys, PageNode, Stands, PastStands, past_range, current_range, AreChildren, child_keys, low_or, Store, TreeStands, all_keys}
 use Rattle.version_model.proofs.api.LooksShown.{rising_one, filter_has, has_filter, filter_rising}
 use Rattle.version_model.specs.Counts.{is_within, count_in, sum_of, PartCounts, leaf_counts, parts_count, NodeCounts, column_counts, children_count, all_stamps}
 use Rattle.version_model.proofs.api.Standing.{leaf_stands, column_stands, shows_both, ShowsBoth}

@@ -1,8 +1,8 @@
 -- Where a leaf that has one version of each key is split by key, both sides fit.
-use Rattle.std.proofs.Common.{◌≡◌, ℕ, ◌+◌, ◌-◌, ◌<◌, ◌≤◌, ◌⊎◌, inl, inr, List, Option, Some, None, refl, sym, ◌∙◌, ap, subst, arith}
+use Rattle.std.proofs.Common.{ℕ, ◌+◌, ◌-◌, ◌<◌, ◌≤◌, inl, inr, List, Some, None, arith}
 use Rattle.version_model.specs.Versions.{Version, Has}
-use Rattle.version_model.specs.Sizes.{octets, octets_below, FewBelow, IsSplitPoint, IsSingle, AreSmall}
-use Rattle.version_model.proofs.api.Sizing.{below_some, below_all, below_bounded, octets_below-le}
+use Rattle.version_model.specs.Sizes.{octets, octets_below, IsSplitPoint, IsSingle, AreSmall}
+use Rattle.version_model.proofs.api.Sizing.{below_some, below_all, below_bounded}
 
 module _ (vs : List Version) (room most least : ℕ) (single : IsSingle vs) (small : AreSmall vs most) (some : 0 < least) (low : least + most ≤ room + 1) where
   -- a leaf with more octets than the room has such a key, where its keys have an end

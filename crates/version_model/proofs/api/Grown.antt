@@ -1,11 +1,9 @@
 -- What stood stands with more settled blocks.
-use Rattle.std.proofs.Common.{◌≡◌, ℕ, suc, ◌+◌, ◌<◌, ◌≤◌, ◌⊎◌, inl, inr, List, Option, Some, refl, arith, ◌∙◌, sym, ap}
+use Rattle.std.proofs.Common.{ℕ, ◌≤◌, inl, inr, List, Option, arith}
 use Rattle.version_model.specs.declared.part.Part.{Part}
-use Rattle.version_model.specs.declared.child.Child.{Child}
 use Rattle.version_model.specs.Versions.{Version}
-use Rattle.version_model.specs.Ranges.{Range}
-use Rattle.version_model.specs.Blocks.{BlockNode, PartStands, Grows}
-use Rattle.version_model.specs.Pages.{Keys, PageNode, PastStands, ColumnStands, Stands, column, key_node}
+use Rattle.version_model.specs.Blocks.{BlockNode, Grows}
+use Rattle.version_model.specs.Pages.{Keys, PageNode, PastStands, Stands, column, key_node}
 use Rattle.version_model.proofs.api.PastKept.{PartStands-grows}
 
 module _ (old new : ℕ → Option BlockNode) (next next' : ℕ) (all : List Version) (grows : Grows old new) (further : next ≤ next') where

@@ -1,7 +1,6 @@
 -- What was answered as of a stamp stays the answer when only later versions come.
-use Rattle.std.proofs.Common.{◌≡◌, ℕ, ◌+◌, ◌<◌, ◌≤◌, ◌⊎◌, inl, inr, List, [], ◌∷◌, ◌++◌, Option, Some, None, refl, sym, ◌∙◌, ap, subst, arith}
-use Rattle.version_model.specs.Versions.{Version, Has, AsOf, Found, found_version, Answers, Adds, AddsLater}
-use Rattle.version_model.specs.Ranges.{Range, IsKeyOf}
+use Rattle.std.proofs.Common.{ℕ, ◌<◌, ◌≤◌, inl, inr, List, Option, Some, None, ap, arith}
+use Rattle.version_model.specs.Versions.{Version, AsOf, Found, found_version, Answers, Adds, AddsLater}
 use Rattle.version_model.specs.Looks.{NoneWithin}
 
 module _ (all new : List Version) (s : ℕ) (adds : AddsLater all s new) where

@@ -1,11 +1,11 @@
 -- What a leaf answers to looks is what all versions answer.
-use Rattle.std.proofs.Common.{◌≡◌, ℕ, zero, suc, ◌+◌, ◌<◌, ◌≤◌, ◌⊎◌, inl, inr, List, [], ◌∷◌, filter, Option, Some, None, slice_get, refl, sym, ◌∙◌, ap, subst, arith, Bool, true, false, nat_le, nat_lt, nat_eq, ◌&&◌}
+use Rattle.std.proofs.Common.{◌≡◌, ℕ, zero, suc, ◌<◌, ◌≤◌, ◌⊎◌, inl, inr, List, [], ◌∷◌, filter, Some, None, slice_get, refl, sym, ◌∙◌, ap, arith, Bool, true, false, nat_le, nat_lt, nat_eq, ◌&&◌}
 use Rattle.std.proofs.lemmas.Bool.{and_parts, and_from, eqb-true, leb-true, ltb-true, eq-eqb, le-leb, lt-ltb, cases_Bool}
-use Rattle.std.proofs.lemmas.Option.{same_Some, none-some}
-use Rattle.version_model.specs.Versions.{Version, Has, AsOf, Found, Answers, IsRising}
+use Rattle.std.proofs.lemmas.Option.{same_Some}
+use Rattle.version_model.specs.Versions.{Version, Has, IsRising}
 use Rattle.version_model.specs.Ranges.{Range, IsKeyOf}
 use Rattle.version_model.specs.Shows.{Shows}
-use Rattle.version_model.specs.Looks.{NoneWithin, IsLive, IsLeastLive, is_of}
+use Rattle.version_model.specs.Looks.{NoneWithin, is_of}
 use Rattle.version_model.proofs.api.Pushed.{Has-nil}
 use Rattle.version_model.proofs.api.Shown.{answers_shown}
 

@@ -1,6 +1,6 @@
 -- A leaf that answers from a split on as all versions do has a copy of each value that spans the split.
-use Rattle.std.proofs.Common.{◌≡◌, ℕ, ◌+◌, ◌<◌, ◌≤◌, ◌⊎◌, inl, inr, List, [], ◌∷◌, Option, Some, None, IsSome, refl, sym, ◌∙◌, ap, subst, arith, true, false}
-use Rattle.std.specs.Option.{is_some, option_map}
+use Rattle.std.proofs.Common.{◌≡◌, ℕ, ◌<◌, ◌≤◌, ◌⊎◌, inl, inr, List, [], ◌∷◌, Option, Some, None, IsSome, refl, sym, ◌∙◌, ap, subst, arith, true, false}
+use Rattle.std.specs.Option.{is_some}
 use Rattle.std.proofs.lemmas.Bool.{cases_lt, cases_eq}
 use Rattle.version_model.specs.Versions.{Version, Has, AsOf, Found, found_at, found_version, Answers, IsRising}
 use Rattle.version_model.specs.Ranges.{Range, IsKeyOf, IsPoint, since}

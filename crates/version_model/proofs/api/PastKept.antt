@@ -1,11 +1,9 @@
 -- A part stands on: with more blocks, with later versions, and cut to fewer keys.
-use Rattle.std.proofs.Common.{◌≡◌, ℕ, suc, ◌+◌, ◌<◌, ◌≤◌, ◌⊎◌, inl, inr, List, Option, Some, None, slice_get, refl, sym, ◌∙◌, ap, subst, arith}
-use Rattle.std.proofs.lemmas.Option.{same_Some}
+use Rattle.std.proofs.Common.{◌≡◌, ℕ, suc, ◌<◌, ◌≤◌, inl, List, Option, slice_get, refl, sym, ◌∙◌, ap, arith}
 use Rattle.version_model.specs.declared.part.Part.{Part}
-use Rattle.version_model.specs.Versions.{Version, Has, Answers, Adds}
-use Rattle.version_model.specs.Ranges.{Range, IsKeyOf}
-use Rattle.version_model.specs.Shows.{Shows}
-use Rattle.version_model.specs.Blocks.{BlockNode, OldLeaf, OldColumn, PartStands, by_leaf, by_parts, IsPartOf, AreParts, IsWider, range_at, start_or, Grows}
+use Rattle.version_model.specs.Versions.{Version, Adds}
+use Rattle.version_model.specs.Ranges.{Range}
+use Rattle.version_model.specs.Blocks.{BlockNode, PartStands, by_leaf, by_parts, range_at, start_or, Grows}
 use Rattle.version_model.proofs.api.Shown.{Shows-cut, Shows-outside}
 
 pub PartStands-grows : (old new : ℕ → Option BlockNode) (all : List Version) → Grows old new → (r : Range) (part : Part) → PartStands old all r part → PartStands new all r part

@@ -1,15 +1,15 @@
 -- A column's past after a time split, after a migration of its parts, and after a key split.
-use Rattle.std.proofs.Common.{◌≡◌, ℕ, zero, suc, ◌+◌, ◌<◌, ◌≤◌, ◌⊎◌, inl, inr, List, [], ◌∷◌, ◌++◌, Option, Some, None, slice_get, length, refl, sym, ◌∙◌, ap, subst, arith}
-use Rattle.std.proofs.lemmas.Option.{same_Some, none-some, slice_get_past}
+use Rattle.std.proofs.Common.{◌≡◌, ℕ, zero, suc, ◌<◌, ◌≤◌, ◌⊎◌, inl, inr, List, [], ◌∷◌, ◌++◌, Option, Some, slice_get, length, refl, sym, ◌∙◌, ap, arith}
+use Rattle.std.proofs.lemmas.Option.{same_Some, none-some}
 use Rattle.version_model.specs.declared.part.Part.{Part}
 use Rattle.version_model.specs.declared.part.PartKind.TheVariants.{LeafBlock, ColumnBlock}
 use Rattle.version_model.specs.Versions.{Version}
 use Rattle.version_model.specs.Ranges.{Range}
 use Rattle.version_model.specs.Shows.{Shows}
-use Rattle.version_model.specs.Blocks.{BlockNode, OldLeaf, OldColumn, PartStands, by_leaf, by_parts, IsPartOf, AreParts, IsWider, range_at, start_or, Grows}
+use Rattle.version_model.specs.Blocks.{BlockNode, OldLeaf, OldColumn, PartStands, by_leaf, by_parts, IsPartOf, AreParts, range_at, start_or, Grows}
 use Rattle.version_model.specs.Pages.{Keys, PastStands, past_range}
-use Rattle.version_model.proofs.api.Pushed.{get-push, get-push_old, get-push_new}
-use Rattle.version_model.proofs.api.PastKept.{PartStands-grows, PartStands-cut}
+use Rattle.version_model.proofs.api.Pushed.{get-push}
+use Rattle.version_model.proofs.api.PastKept.{PartStands-grows}
 use Rattle.version_model.proofs.api.TreeKept.{no_part}
 
 -- the last part used to end where the new one starts

@@ -1,14 +1,13 @@
 -- A key node takes the second half of a child that became two.
-use Rattle.std.proofs.Common.{◌≡◌, ℕ, suc, ◌+◌, ◌<◌, ◌≤◌, ◌⊎◌, inl, inr, List, Option, Some, None, slice_get, refl, sym, ◌∙◌, ap, subst, arith}
+use Rattle.std.proofs.Common.{◌≡◌, ℕ, suc, ◌<◌, ◌≤◌, inl, inr, List, Option, Some, None, slice_get, refl, sym, ◌∙◌, ap, subst, arith}
 use Rattle.std.specs.List.{insert}
 use Rattle.std.proofs.lemmas.Bool.{cases_eq}
 use Rattle.std.proofs.lemmas.Option.{same_Some}
 use Rattle.version_model.specs.declared.child.Child.{Child}
 use Rattle.version_model.specs.Versions.{Version, IsAbove, Adds}
 use Rattle.version_model.specs.Ranges.{IsKeyOf}
-use Rattle.version_model.specs.Blocks.{Grows}
-use Rattle.version_model.specs.Pages.{Keys, PageNode, KeyNode, Store, StandsIn, Stands, IsChildOf, AreChildren, child_keys, low_or, current_range}
-use Rattle.version_model.specs.Inserts.{LiesUnder, KeepsOthers, Splits, Writes, Became}
+use Rattle.version_model.specs.Pages.{Keys, PageNode, KeyNode, Store, StandsIn, IsChildOf, child_keys, low_or, current_range}
+use Rattle.version_model.specs.Inserts.{LiesUnder, KeepsOthers, Splits, Writes}
 use Rattle.version_model.specs.inner.Children.{Inserts}
 use Rattle.version_model.proofs.api.Children.{key_stands, KeyStands, others_stand, Inserts-child}
 use Rattle.version_model.proofs.api.ChildrenTwo.{other_or_two, AreChildren-insert, key_node_written}

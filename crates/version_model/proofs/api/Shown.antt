@@ -1,8 +1,8 @@
 -- A leaf answers as all versions do, and goes on showing its range through splits and new versions.
-use Rattle.std.proofs.Common.{◌≡◌, ℕ, ◌+◌, ◌<◌, ◌≤◌, ◌⊎◌, inl, inr, List, [], ◌∷◌, ◌++◌, length, get_or, Option, Some, None, IsSome, refl, sym, ◌∙◌, subst, ap, arith}
+use Rattle.std.proofs.Common.{◌≡◌, ℕ, ◌<◌, ◌≤◌, inl, inr, List, Option, Some, None, IsSome, refl, sym, ◌∙◌, subst, ap, arith}
 use Rattle.std.proofs.lemmas.Bool.{cases_lt}
 use Rattle.std.specs.Option.{is_some}
-use Rattle.version_model.specs.Versions.{Version, Has, AsOf, Found, found_version, Answers, IsAbove, Adds}
+use Rattle.version_model.specs.Versions.{Version, Has, AsOf, Found, found_version, Answers, Adds}
 use Rattle.version_model.specs.Ranges.{Range, IsKeyOf, until, since, below, from_key, StartsBefore}
 use Rattle.version_model.specs.Shows.{Shows, IsBefore, IsFrom, IsBelow, IsFromKey}
 

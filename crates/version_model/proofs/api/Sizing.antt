@@ -1,12 +1,12 @@
 -- Octets of entries, below a key and in all.
-use Rattle.std.proofs.Common.{◌≡◌, ℕ, zero, suc, ◌+◌, ◌<◌, ◌≤◌, ◌⊎◌, inl, inr, List, [], ◌∷◌, ◌++◌, length, drop, Option, Some, None, slice_get, refl, sym, ◌∙◌, ap, subst, arith, cond, append_assoc, append-nil, length-append, Bool, true, false}
+use Rattle.std.proofs.Common.{◌≡◌, ℕ, zero, suc, ◌+◌, ◌<◌, ◌≤◌, ◌⊎◌, inl, inr, List, [], ◌∷◌, ◌++◌, length, drop, Some, slice_get, refl, sym, ◌∙◌, ap, subst, arith, cond}
 use Rattle.std.specs.Prelude.{nat_lt}
 use Rattle.std.proofs.lemmas.Bool.{cases_lt, cases_eq}
 use Rattle.std.proofs.lemmas.Bool.Decides.{nat_tests}
-use Rattle.std.proofs.lemmas.Option.{same_Some, none-some, slice_get_within}
-use Rattle.version_model.specs.Versions.{Version, Has, AsOf, IsRising, IsAbove}
+use Rattle.std.proofs.lemmas.Option.{same_Some, none-some}
+use Rattle.version_model.specs.Versions.{Version, Has, AsOf, IsRising}
 use Rattle.version_model.specs.Shows.{IsFrom}
-use Rattle.version_model.specs.Sizes.{value_octets, entry_octets, total, octets, entry_octets_below, octets_below, FewBelow, IsSplitPoint, IsSingle, AreSmall}
+use Rattle.version_model.specs.Sizes.{entry_octets, total, octets, entry_octets_below, octets_below, FewBelow, IsSingle, AreSmall}
 
 drop_suc : (vs : List Version) (i : ℕ) (v : Version) → slice_get vs i ≡ Some v → drop i vs ≡ v ∷ drop (suc i) vs
 drop_suc [] i v at = absurd (none-some v at)

@@ -1,5 +1,5 @@
 -- What stands says of its block, or of its page.
-use Rattle.std.proofs.Common.{◌≡◌, ℕ, zero, suc, ◌+◌, ◌<◌, ◌≤◌, ◌⊎◌, inl, inr, List, [], Option, Some, None, slice_get, refl, sym, ◌∙◌, ap, subst, arith}
+use Rattle.std.proofs.Common.{◌≡◌, ℕ, suc, ◌<◌, List, Option, Some, refl, sym, ◌∙◌, ap, subst, arith}
 use Rattle.std.proofs.lemmas.Option.{same_Some}
 use Rattle.version_model.specs.declared.part.Part.{Part}
 use Rattle.version_model.specs.declared.part.PartKind.TheVariants.{LeafBlock, ColumnBlock}
@@ -8,7 +8,7 @@ use Rattle.version_model.specs.Versions.{Version}
 use Rattle.version_model.specs.Ranges.{Range}
 use Rattle.version_model.specs.Shows.{Shows}
 use Rattle.version_model.specs.Blocks.{BlockNode, OldLeaf, OldColumn, IsWider, IsPartOf, AreParts, PartStands, by_leaf, by_parts}
-use Rattle.version_model.specs.Pages.{Keys, PageNode, CurrentLeaf, ColumnNode, KeyNode, current_range, past_range, PastStands, ColumnStands, child_keys, IsChildOf, AreChildren, Stands, column, key_node}
+use Rattle.version_model.specs.Pages.{Keys, PageNode, CurrentLeaf, ColumnNode, KeyNode, current_range, PastStands, ColumnStands, child_keys, IsChildOf, AreChildren, Stands, column, key_node}
 
 pub record LeafStands (all : List Version) (r wide : Range) (part : Part) (versions : List Version) : Type 0 where
   pub kind : part.kind ≡ LeafBlock

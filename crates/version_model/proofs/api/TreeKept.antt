@@ -1,13 +1,11 @@
 -- A part of the tree stands on when the rest changes.
-use Rattle.std.proofs.Common.{◌≡◌, ℕ, suc, ◌+◌, ◌<◌, ◌≤◌, ◌⊎◌, inl, inr, List, [], Option, Some, None, slice_get, refl, sym, ◌∙◌, ap, subst, arith}
+use Rattle.std.proofs.Common.{◌≡◌, ℕ, ◌<◌, ◌≤◌, ◌⊎◌, inl, inr, List, [], Option, Some, slice_get, subst, arith}
 use Rattle.std.proofs.lemmas.Option.{none-some}
 use Rattle.version_model.specs.declared.part.Part.{Part}
-use Rattle.version_model.specs.declared.child.Child.{Child}
-use Rattle.version_model.specs.Versions.{Version, Has, IsAbove, Adds}
-use Rattle.version_model.specs.Ranges.{Range, IsKeyOf}
-use Rattle.version_model.specs.Shows.{Shows}
-use Rattle.version_model.specs.Blocks.{BlockNode, PartStands, IsPartOf, AreParts, Grows}
-use Rattle.version_model.specs.Pages.{Keys, PageNode, CurrentLeaf, ColumnNode, KeyNode, PastStands, ColumnStands, Stands, column, key_node, IsChildOf, AreChildren, past_range, current_range}
+use Rattle.version_model.specs.Versions.{Version, IsAbove, Adds}
+use Rattle.version_model.specs.Ranges.{IsKeyOf}
+use Rattle.version_model.specs.Blocks.{BlockNode, Grows}
+use Rattle.version_model.specs.Pages.{Keys, PageNode, PastStands, ColumnStands, Stands, column, key_node, current_range}
 use Rattle.version_model.specs.Inserts.{LiesUnder}
 use Rattle.version_model.proofs.api.Shown.{Shows-outside}
 use Rattle.version_model.proofs.api.PastKept.{PartStands-grows, PartStands-later}

@@ -1,7 +1,5 @@
-use Rattle.std.proofs.Common.{subst, sym, arith, ap, ◌≡◌, ◌∙◌, ◌++◌, ◌∷◌, [], ◌<◌, ◌≤◌, length, Some, slice_get, drop, inl, inr}
-use Rattle.version_model.specs.Versions.{Version}
+use Rattle.std.proofs.Common.{arith}
 use Rattle.version_model.specs.Entries.{versions_of, version_of}
-use Rattle.version_model.specs.Sizes.{entry_octets, octets, octets_below, entry_octets_below, total}
 use Rattle.version_model.proofs.Entries.{read_at, length-versions, versions_push}
 use Rattle.version_model.proofs.Points.{copied_more, copied_all}
 use Rattle.version_model.proofs.copying.copies.Goals as goal

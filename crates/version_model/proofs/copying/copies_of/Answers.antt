@@ -1,4 +1,4 @@
-use Rattle.std.proofs.Common.{subst, sym, arith, ap, ◌≡◌, ◌≤◌, ◌<◌, ◌++◌, ◌∷◌, [], length}
+use Rattle.std.proofs.Common.{arith}
 use Rattle.std.proofs.lemmas.Bool.{both_ways}
 use Rattle.version_model.specs.Ranges.{end_or}
 use Rattle.version_model.specs.Looks.{is_of}

@@ -1,10 +1,6 @@
-use Rattle.std.proofs.Common.{◌≡◌, ◌∙◌, sym, ap, subst, Some, None, true, false, List, ℕ, Option, slice_get, refl, arith, ◌<◌, length}
-use Rattle.std.specs.Option.{option_map, is_some}
-use Rattle.std.proofs.lemmas.Option.{get_or_from_slice_get, same_Some}
-use Rattle.version_model.specs.Versions.{Version, AsOf, Found, Answers, IsRising}
-use Rattle.version_model.specs.Looks.{IsLive}
-use Rattle.version_model.specs.Entries.{versions_of, version_of}
-use Rattle.version_model.proofs.Entries.{is_entry, AsOf-one, live_of, dead_of, value_some, value_none}
+use Rattle.std.proofs.Common.{◌∙◌, sym, refl}
+use Rattle.version_model.specs.Entries.{versions_of}
+use Rattle.version_model.proofs.Entries.{is_entry, live_of, dead_of, value_some, value_none}
 use Rattle.version_model.proofs.finding.is_live.Goals as goal
 
 pub returns-clause-live : goal.returns-clause-live

@@ -1,4 +1,4 @@
-use Rattle.std.proofs.Common.{subst, sym, arith, ◌≡◌, length}
+use Rattle.std.proofs.Common.{subst, arith, ◌≡◌, length}
 use Rattle.std.proofs.lemmas.Bool.{both_ways}
 use Rattle.version_model.specs.Entries.{versions_of, version_of}
 use Rattle.version_model.proofs.Least.{LeastBelow, LeastBelow-yes, LeastBelow-no, LeastBelow-end}

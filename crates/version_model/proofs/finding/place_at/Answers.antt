@@ -1,6 +1,6 @@
-use Rattle.std.proofs.Common.{subst, sym, arith, ◌≡◌, length}
+use Rattle.std.proofs.Common.{subst, arith, ◌≡◌, length}
 use Rattle.version_model.specs.Entries.{versions_of, version_of}
-use Rattle.version_model.proofs.Places.{LastBelow, LastBelow-no, LastBelow-yes, LastBelow-end, Counts}
+use Rattle.version_model.proofs.Places.{LastBelow, LastBelow-no, LastBelow-yes, LastBelow-end}
 use Rattle.version_model.proofs.Orders.{eq_yes, eq_no, le_yes, le_no}
 use Rattle.version_model.proofs.Entries.{read_at, length-versions}
 use Rattle.version_model.proofs.finding.place_at.Goals as goal

@@ -1,4 +1,3 @@
-use Rattle.std.proofs.Common.{length}
 use Rattle.version_model.specs.Entries.{versions_of}
 use Rattle.version_model.proofs.Places.{LastBelow}
 use Rattle.version_model.proofs.finding.place_at.Given as goal

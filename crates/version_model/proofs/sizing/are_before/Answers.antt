@@ -1,9 +1,8 @@
-use Rattle.std.proofs.Common.{rules, subst, sym, arith, ap, ◌≡◌, ◌∙◌, ◌++◌, ◌∷◌, [], ◌<◌, ◌≤◌, length, Some, slice_get, drop, inl, inr}
+use Rattle.std.proofs.Common.{rules, arith, ap, ◌≡◌, inl, inr}
 use Rattle.version_model.specs.Versions.{Version}
 use Rattle.version_model.specs.Entries.{versions_of, version_of}
-use Rattle.version_model.specs.Sizes.{entry_octets, octets, octets_below, entry_octets_below, total}
 use Rattle.version_model.proofs.Orders.{ge_yes, ge_no}
-use Rattle.version_model.proofs.Entries.{read_at, length-versions, versions_push}
+use Rattle.version_model.proofs.Entries.{read_at, length-versions}
 use Rattle.version_model.proofs.Points.{here_or_before, same_here}
 use Rattle.std.proofs.lemmas.Option.{slice_get_within}
 use Rattle.version_model.proofs.sizing.are_before.Goals as goal

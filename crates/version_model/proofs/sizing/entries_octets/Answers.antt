@@ -1,8 +1,7 @@
-use Rattle.std.proofs.Common.{subst, sym, arith, ap, ◌≡◌, ◌∙◌, ◌++◌, ◌∷◌, [], ◌<◌, ◌≤◌, length, Some, slice_get, drop, inl, inr}
-use Rattle.version_model.specs.Versions.{Version}
+use Rattle.std.proofs.Common.{arith}
 use Rattle.version_model.specs.Entries.{versions_of, version_of}
-use Rattle.version_model.specs.Sizes.{entry_octets, octets, octets_below, entry_octets_below, total}
-use Rattle.version_model.proofs.Entries.{read_at, length-versions, versions_push}
+use Rattle.version_model.specs.Sizes.{entry_octets}
+use Rattle.version_model.proofs.Entries.{read_at}
 use Rattle.version_model.proofs.api.Sizing.{total-drop}
 use Rattle.version_model.proofs.sizing.entries_octets.Goals as goal
 

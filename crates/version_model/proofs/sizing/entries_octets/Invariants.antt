@@ -1,6 +1,6 @@
 use Rattle.std.proofs.Common.{◌≡◌, ◌+◌, drop}
 use Rattle.version_model.specs.Entries.{versions_of}
-use Rattle.version_model.specs.Sizes.{octets, octets_below}
+use Rattle.version_model.specs.Sizes.{octets}
 use Rattle.version_model.proofs.sizing.entries_octets.Given as goal
 
 abbrev pub invariant-loop-entry : goal.invariant-loop-entry

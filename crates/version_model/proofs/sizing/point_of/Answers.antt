@@ -1,8 +1,6 @@
-use Rattle.std.proofs.Common.{subst, sym, arith, ap, ◌≡◌, ◌∙◌, ◌++◌, ◌∷◌, [], ◌<◌, ◌≤◌, length, Some, slice_get, drop, inl, inr}
-use Rattle.version_model.specs.Versions.{Version}
+use Rattle.std.proofs.Common.{subst, arith, ◌≡◌, length}
 use Rattle.version_model.specs.Entries.{versions_of, version_of}
-use Rattle.version_model.specs.Sizes.{entry_octets, octets, octets_below, entry_octets_below, total}
-use Rattle.version_model.proofs.Entries.{read_at, length-versions, versions_push}
+use Rattle.version_model.proofs.Entries.{read_at, length-versions}
 use Rattle.version_model.proofs.Points.{PointSo, PointSo-yes, PointSo-few, PointSo-higher, PointSo-end}
 use Rattle.std.proofs.lemmas.Bool.{both_ways}
 use Rattle.version_model.proofs.sizing.point_of.Goals as goal

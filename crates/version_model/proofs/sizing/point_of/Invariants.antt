@@ -1,4 +1,3 @@
-use Rattle.std.proofs.Common.{length}
 use Rattle.version_model.specs.Entries.{versions_of}
 use Rattle.version_model.proofs.Points.{PointSo}
 use Rattle.version_model.proofs.sizing.point_of.Given as goal

@@ -1,7 +1,7 @@
-use Rattle.std.proofs.Common.{subst, sym, arith, ap, ◌≡◌, ◌∙◌, ◌++◌, ◌∷◌, [], ◌≤◌, length, inl, inr, drop}
+use Rattle.std.proofs.Common.{subst, arith, ◌≡◌, length, inl, inr}
 use Rattle.std.proofs.lemmas.Bool.{both_ways}
 use Rattle.version_model.specs.Entries.{versions_of, version_of}
-use Rattle.version_model.specs.Sizes.{octets, entry_octets}
+use Rattle.version_model.specs.Sizes.{entry_octets}
 use Rattle.version_model.proofs.Orders.{ge_yes, ge_no}
 use Rattle.version_model.proofs.Entries.{read_at, length-versions, keeps_push, versions_push}
 use Rattle.version_model.proofs.Kept.{Keeps, Keeps-no, MayStay, MustStay, IsFrom-kept}

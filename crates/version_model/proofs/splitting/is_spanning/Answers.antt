@@ -1,4 +1,4 @@
-use Rattle.std.proofs.Common.{◌≡◌, ◌∙◌, ap, subst, sym, Some, slice_get, IsSome}
+use Rattle.std.proofs.Common.{◌≡◌, subst, IsSome}
 use Rattle.version_model.specs.Versions.{Version, AsOf}
 use Rattle.version_model.specs.Entries.{version_of, versions_of}
 use Rattle.version_model.proofs.Entries.{is_entry, spans_iff, some_value}

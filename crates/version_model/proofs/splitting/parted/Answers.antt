@@ -1,6 +1,6 @@
-use Rattle.std.proofs.Common.{ap, ◌∙◌, drop, subst, sym, arith, ◌≡◌, length}
+use Rattle.std.proofs.Common.{ap, ◌∙◌, drop, subst, arith, ◌≡◌, length}
 use Rattle.version_model.specs.Entries.{versions_of, version_of}
-use Rattle.version_model.specs.Sizes.{octets, entry_octets, entry_octets_below, total}
+use Rattle.version_model.specs.Sizes.{entry_octets, entry_octets_below, total}
 use Rattle.version_model.proofs.Orders.{lt_yes, lt_no}
 use Rattle.version_model.proofs.Entries.{read_at, length-versions, keeps_push, versions_push}
 use Rattle.version_model.proofs.api.Sizing.{total-drop, total-all, below_is, below_not}
