@@ -10,5 +10,4 @@ pub mod Decoding
 mod PeersTold
 pub mod Prefixes
 pub mod Whole
-pub mod KeyNumbers
 pub mod api

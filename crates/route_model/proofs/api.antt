@@ -4,3 +4,4 @@ pub mod Admissions
 pub mod Keys
 pub mod Fronts
 pub mod PrefixFields
+pub mod KeyNumbers

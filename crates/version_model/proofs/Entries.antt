@@ -8,6 +8,7 @@ use Rattle.std.proofs.lemmas.Bool.{cases_order, eqb-true}
 use Rattle.std.proofs.lemmas.List.{length-map, map-append}
 use Rattle.std.proofs.lemmas.Option.{slice_get-map, slice_get_read, slice_get_within, same_Some}
 use Rattle.version_model.specs.declared.entry.Entry.{Entry}
+use Rattle.version_model.proofs.api.AsOfs.{AsOf-one}
 use Rattle.version_model.proofs.Kept.{Keeps, Keeps-yes}
 
 pub read_at : (es : List Entry) (i : ℕ) (e : Entry) → i < length es → e ≡ get_or es i e → slice_get (versions_of es) i ≡ Some (version_of e)
@@ -20,30 +21,6 @@ pub keeps_push : (P Q : Version → Type 0) (vs : List Version) (n : ℕ) (kept 
 keeps_push P Q vs n kept new e v items same at keeps rising p =
     let pushed : versions_of new ≡ versions_of kept ++ v ∷ [] = ap versions_of items ∙ map-append version_of kept (e ∷ []) ∙ ap (λ x. versions_of kept ++ x ∷ []) same in
     subst (Keeps P Q vs (n + 1)) (sym pushed) (Keeps-yes P Q vs n (versions_of kept) v at keeps rising p)
-
--- rising versions with one stamp are one
-pub same_stamp : (vs : List Version) (v w : Version) → IsRising vs → Has vs v → Has vs w → v.stamp ≡ w.stamp → v ≡ w
-same_stamp vs v w rising h i e = elim (cases_order h.place i.place) [
-  | inl here ↦ same_Some v w (sym h.is ∙ subst (λ k. slice_get vs k ≡ Some w) (sym here) i.is)
-  | inr other ↦ elim other [
-    | inl lt ↦ absurd (omega (arith, rising.rises h.place i.place v w lt h.is i.is))
-    | inr gt ↦ absurd (omega (arith, rising.rises i.place h.place w v gt i.is h.is))
-  ]
-]
-
--- one version holds
-pub AsOf-one : (vs : List Version) (key s : ℕ) (v w : Version) → IsRising vs → AsOf vs key s v → AsOf vs key s w → v ≡ w
-AsOf-one vs key s v w rising h i = same_stamp vs v w rising h.has i.has (omega (arith, h.greatest w i.has i.of_key i.not_after, i.greatest v h.has h.of_key h.not_after))
-
--- the version that holds is the answer
-pub answer_of : (vs : List Version) (key s : ℕ) (v : Version) (o : Option (List ℕ)) → IsRising vs → AsOf vs key s v → v.value ≡ o → Answers vs key s (option_map (found_at v.stamp) o)
-answer_of vs key s v None rising h is = λ w i. ap (λ (x : Version). x.value) (AsOf-one vs key s w v rising i h) ∙ is
-answer_of vs key s v (Some value) rising h is =
-    let same : v ≡ found_version key (found_at v.stamp value) = ap (λ k. record { key = k; stamp = v.stamp; value = v.value }) h.of_key ∙ ap (λ o. record { key = key; stamp = v.stamp; value = o }) is in
-    subst (AsOf vs key s) same h
-
-pub no_answer : (vs : List Version) (key s : ℕ) → ((v : Version) → AsOf vs key s v → ⊥) → Answers vs key s None
-no_answer vs key s none = λ v h. absurd (none v h)
 
 pub value_read : (o : Option (Vec ℕ Global)) (r : Option (Bor (Vec ℕ Global))) → option_map (λ x. x.now) r ≡ o → option_map (λ (v : Vec ℕ Global). v.items) o ≡ option_map (λ x. x.now.items) r
 value_read o None e = ap (option_map (λ (v : Vec ℕ Global). v.items)) (sym e)
@@ -76,16 +53,6 @@ some_value (Some x) h = refl
 
 pub versions_push : (kept new : List Entry) (e : Entry) (v : Version) → new ≡ kept ++ e ∷ [] → version_of e ≡ v → versions_of new ≡ versions_of kept ++ v ∷ []
 versions_push kept new e v items same = ap versions_of items ∙ map-append version_of kept (e ∷ []) ∙ ap (λ x. versions_of kept ++ x ∷ []) same
-
--- the version that holds is a value, or none
-pub live_of : (vs : List Version) (key s : ℕ) (v : Version) (o : Option (List ℕ)) → v.value ≡ o → AsOf vs key s v → IsSome v.value → IsLive vs s key
-live_of vs key s v None e h some = absurd (let f : true ≡ false = sym some ∙ ap is_some e in cc)
-live_of vs key s v (Some value) e h some =
-    let same : v ≡ found_version key (found_at v.stamp value) = ap (λ k. record { key = k; stamp = v.stamp; value = v.value }) h.of_key ∙ ap (λ o. record { key = key; stamp = v.stamp; value = o }) e in
-    (found_at v.stamp value, subst (AsOf vs key s) same h)
-
-pub dead_of : (vs : List Version) (key s : ℕ) (v : Version) → IsRising vs → AsOf vs key s v → v.value ≡ None → Answers vs key s None
-dead_of vs key s v rising h none = λ w i. ap (λ (x : Version). x.value) (AsOf-one vs key s w v rising i h) ∙ none
 
 pub value_some : (o : Option (Vec ℕ Global)) → is_some o ≡ true → IsSome (option_map (λ (x : Vec ℕ Global). x.items) o)
 value_some None h = absurd (let f : true ≡ false = sym h in cc)

@@ -2,6 +2,5 @@ pub mod Orders
 pub mod Kept
 pub mod Places
 pub mod Entries
-pub mod Least
 pub mod Points
 pub mod api

@@ -1,4 +1,5 @@
 pub mod Pushed
+pub mod AsOfs
 pub mod Shown
 pub mod LooksShown
 pub mod Sizing
@@ -15,3 +16,4 @@ pub mod Fits
 pub mod Later
 pub mod Grown
 pub mod Needed
+pub mod Least

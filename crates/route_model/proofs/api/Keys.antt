@@ -20,7 +20,7 @@ use Rattle.route_model.specs.declared.key.KeyParts.TheVariants.{Session, Prefix 
 use Rattle.route_model.specs.Octets.{AreOctets}
 use Rattle.route_model.specs.inner.Codec.Admissions.{parts_at}
 use Rattle.route_model.proofs.Fields.{octets_again}
-use Rattle.route_model.proofs.KeyNumbers.{number_cmp, number_one, cmp_less_is}
+use Rattle.route_model.proofs.api.KeyNumbers.{number_cmp, number_one, cmp_less_is}
 use Rattle.route_model.proofs.Peers.{length-wide, wide_again, peer_again}
 
 then_assoc : (a b c : Ordering) → ordering_then (ordering_then a b) c ≡ ordering_then a (ordering_then b c)

@@ -6,7 +6,7 @@ use Rattle.version_model.specs.Versions.{Version, Has, AsOf, Found, found_at, fo
 use Rattle.version_model.specs.Ranges.{Range, IsKeyOf, IsPoint, since}
 use Rattle.version_model.proofs.api.Pushed.{Has-nil}
 use Rattle.version_model.proofs.api.LooksShown.{Has-tail, Has-head, Has-cases}
-use Rattle.version_model.proofs.Entries.{AsOf-one, answer_of, no_answer, dead_of}
+use Rattle.version_model.proofs.api.AsOfs.{AsOf-one, answer_of, no_answer, dead_of}
 
 -- there is a version as of the stamp, or no version of the key is so early
 abbrev pub IsOrNot : List Version → ℕ → ℕ → Type 0

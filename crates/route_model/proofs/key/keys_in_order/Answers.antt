@@ -1,5 +1,5 @@
 use Rattle.route_model.proofs.api.Keys.{prefixes_cmp, sessions_cmp, session_below, session_above}
-use Rattle.route_model.proofs.KeyNumbers.{number_cmp, number_one}
+use Rattle.route_model.proofs.api.KeyNumbers.{number_cmp, number_one}
 use Rattle.route_model.proofs.key.keys_in_order.Goals as goal
 
 pub returns-clause-prefixes : goal.returns-clause-prefixes

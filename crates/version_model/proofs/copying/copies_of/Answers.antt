@@ -3,7 +3,7 @@ use Rattle.std.proofs.lemmas.Bool.{both_ways}
 use Rattle.version_model.specs.Ranges.{end_or}
 use Rattle.version_model.specs.Looks.{is_of}
 use Rattle.version_model.specs.Entries.{versions_of, version_of}
-use Rattle.version_model.proofs.Least.{filtered_yes, filtered_no, filtered_all}
+use Rattle.version_model.proofs.api.Least.{filtered_yes, filtered_no, filtered_all}
 use Rattle.version_model.proofs.api.LooksShown.{is_of_yes, is_of_no}
 use Rattle.version_model.proofs.Orders.{eq_yes, eq_no, ge_yes, ge_no}
 use Rattle.version_model.proofs.Entries.{read_at, length-versions, versions_push}

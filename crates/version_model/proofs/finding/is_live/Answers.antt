@@ -1,6 +1,7 @@
 use Rattle.std.proofs.Common.{◌∙◌, sym, refl}
 use Rattle.version_model.specs.Entries.{versions_of}
-use Rattle.version_model.proofs.Entries.{is_entry, live_of, dead_of, value_some, value_none}
+use Rattle.version_model.proofs.api.AsOfs.{live_of, dead_of}
+use Rattle.version_model.proofs.Entries.{is_entry, value_some, value_none}
 use Rattle.version_model.proofs.finding.is_live.Goals as goal
 
 pub returns-clause-live : goal.returns-clause-live

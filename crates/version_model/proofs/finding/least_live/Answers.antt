@@ -1,7 +1,7 @@
 use Rattle.std.proofs.Common.{subst, arith, ◌≡◌, length}
 use Rattle.std.proofs.lemmas.Bool.{both_ways}
 use Rattle.version_model.specs.Entries.{versions_of, version_of}
-use Rattle.version_model.proofs.Least.{LeastBelow, LeastBelow-yes, LeastBelow-no, LeastBelow-end}
+use Rattle.version_model.proofs.api.Least.{LeastBelow, LeastBelow-yes, LeastBelow-no, LeastBelow-end}
 use Rattle.version_model.proofs.Orders.{ge_yes, ge_no}
 use Rattle.version_model.proofs.Entries.{read_at, length-versions}
 use Rattle.version_model.proofs.finding.least_live.Goals as goal

@@ -1,5 +1,5 @@
 use Rattle.version_model.specs.Entries.{versions_of}
-use Rattle.version_model.proofs.Least.{LeastBelow}
+use Rattle.version_model.proofs.api.Least.{LeastBelow}
 use Rattle.version_model.proofs.finding.least_live.Given as goal
 
 abbrev pub invariant-loop-entry : goal.invariant-loop-entry

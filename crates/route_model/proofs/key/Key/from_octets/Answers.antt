@@ -1,5 +1,5 @@
 use Rattle.std.proofs.Common.{◌≡◌}
-use Rattle.route_model.proofs.KeyNumbers.{words_number}
+use Rattle.route_model.proofs.api.KeyNumbers.{words_number}
 use Rattle.route_model.proofs.key.Key.from_octets.Goals as goal
 
 pub returns : goal.returns

@@ -1,5 +1,5 @@
 use Rattle.std.proofs.Common.{◌∙◌}
-use Rattle.route_model.proofs.KeyNumbers.{octets_number}
+use Rattle.route_model.proofs.api.KeyNumbers.{octets_number}
 use Rattle.route_model.proofs.key.Key.to_octets.Goals as goal
 
 pub returns-clause-number : goal.returns-clause-number

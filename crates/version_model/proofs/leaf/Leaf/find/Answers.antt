@@ -2,7 +2,8 @@ use Rattle.std.proofs.Common.{◌≡◌, ◌∙◌, ap, None, ℕ, Vec, Global}
 use Rattle.std.specs.Option.{option_map}
 use Rattle.version_model.specs.Versions.{Version}
 use Rattle.version_model.specs.Entries.{version_of, versions_of}
-use Rattle.version_model.proofs.Entries.{answer_of, is_entry}
+use Rattle.version_model.proofs.api.AsOfs.{answer_of}
+use Rattle.version_model.proofs.Entries.{is_entry}
 use Rattle.version_model.proofs.leaf.Leaf.find.Goals as goal
 
 pub returns-in-None : goal.returns-in-None
