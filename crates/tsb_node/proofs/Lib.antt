@@ -1,0 +1,14 @@
+pub mod NumberLaws
+pub mod Entries
+pub mod Places
+pub mod Leaves
+pub mod Scanning
+pub mod Laying
+pub mod HeaderLaws
+pub mod CheckingLaws
+pub mod ReadingLaws
+pub mod SealingLaws
+pub mod KeyNodeLaws
+pub mod ColumnLaws
+pub mod WritingLaws
+pub mod SplittingLaws

@@ -1,0 +1,75 @@
+-- A block of a leaf is its page, with an end and a digest.
+use Rattle.std.proofs.Common.{◌≡◌, ℕ, ◌+◌, ◌-◌, ◌^◌, ◌<◌, List, [], ◌∷◌, ◌++◌, length, take, replicate, Some, refl, sym, ap, ◌∙◌, append_assoc, arith}
+use Rattle.std.specs.List.{AllByRecursion}
+use Rattle.std.proofs.lemmas.List.{append-nil, length-append, length-replicate, take_at}
+use Rattle.sha2.specs.Sha256.{sha256}
+use Rattle.sha2.proofs.Facts256.{length-sha256}
+use Rattle.tsb_node.specs.Numbers.{octets_of, bound_octets}
+use Rattle.version_model.specs.declared.bounds.Bounds.{Bounds}
+use Rattle.version_model.specs.Versions.{Version}
+use Rattle.tsb_node.specs.Nodes.{header, body, seconds}
+use Rattle.tsb_node.specs.Leaves.{LeafNode, IsLeaf, IsLeafPage, IsLeafBlock, entries, IsVersionOf}
+use Rattle.tsb_node.specs.inner.Laying.{laid}
+use Rattle.tsb_node.specs.Sealing.{ended}
+use Rattle.tsb_node.proofs.NumberLaws.{octets_of-size}
+use Rattle.tsb_node.proofs.Leaves.{bound_octets-size, body-size}
+use Rattle.tsb_node.proofs.Laying.{put_field}
+
+abbrev pub ending : Bounds → ℕ → Bounds
+ending b end = record { low = b.low; high = b.high; start = b.start; end = Some end }
+
+-- another end in a header
+header_ended : (kind unit level count used : ℕ) (b : Bounds) (end : ℕ) (rest : List ℕ) → laid 104 (octets_of 16 end) (header kind unit level count used b ++ rest) ≡ header kind unit level count used (ending b end) ++ rest
+unfolding header bound_octets
+header_ended kind unit level count used b end rest =
+    let front : List ℕ = (((((kind ∷ unit ∷ level ∷ 0 ∷ []) ++ octets_of 2 count) ++ octets_of 2 used) ++ octets_of 40 b.low) ++ bound_octets 40 b.high) ++ octets_of 16 b.start in
+    let old : List ℕ = bound_octets 16 b.end in
+    let e0 : List ℕ = kind ∷ unit ∷ level ∷ 0 ∷ [] in
+    let z1 : length (e0 ++ octets_of 2 count) ≡ 6 = omega (arith, length-append e0 (octets_of 2 count), octets_of-size 2 count) in
+    let z2 : length ((e0 ++ octets_of 2 count) ++ octets_of 2 used) ≡ 8 = omega (arith, z1, length-append (e0 ++ octets_of 2 count) (octets_of 2 used), octets_of-size 2 used) in
+    let z3 : length (((e0 ++ octets_of 2 count) ++ octets_of 2 used) ++ octets_of 40 b.low) ≡ 48 = omega (arith, z2, length-append ((e0 ++ octets_of 2 count) ++ octets_of 2 used) (octets_of 40 b.low), octets_of-size 40 b.low) in
+    let z4 : length ((((e0 ++ octets_of 2 count) ++ octets_of 2 used) ++ octets_of 40 b.low) ++ bound_octets 40 b.high) ≡ 88 =
+    omega (arith, z3, length-append (((e0 ++ octets_of 2 count) ++ octets_of 2 used) ++ octets_of 40 b.low) (bound_octets 40 b.high), bound_octets-size 40 b.high) in
+    let size : length front ≡ 104 = omega (arith, z4, length-append ((((e0 ++ octets_of 2 count) ++ octets_of 2 used) ++ octets_of 40 b.low) ++ bound_octets 40 b.high) (octets_of 16 b.start), octets_of-size 16 b.start) in
+    let same : length old ≡ length (octets_of 16 end) = bound_octets-size 16 b.end ∙ sym (octets_of-size 16 end) in
+    ap (laid 104 (octets_of 16 end)) (append_assoc front old rest) ∙ put_field 104 front old rest (octets_of 16 end) size same ∙ sym (append_assoc front (octets_of 16 end) rest)
+
+body_ended : (kind level count : ℕ) (b : Bounds) (es last : List ℕ) (end : ℕ) → laid 104 (octets_of 16 end) (body kind level count b es ++ last) ≡ body kind level count (ending b end) es ++ last
+unfolding body
+body_ended kind level count b es last end =
+    let h : List ℕ = header kind seconds level count (length es) b in
+    let h' : List ℕ = header kind seconds level count (length es) (ending b end) in
+    let p : List ℕ = replicate (16232 - length es) 0 in
+    ap (laid 104 (octets_of 16 end)) (append_assoc (h ++ es) p last ∙ append_assoc h es (p ++ last)) ∙ header_ended kind seconds level count (length es) b end (es ++ (p ++ last))
+    ∙ sym (append_assoc (h' ++ es) p last ∙ append_assoc h' es (p ++ last))
+
+-- what is kept of versions, where only the end changes
+versions_along : (b : Bounds) (end : ℕ) (vs : List Version) → AllByRecursion (IsVersionOf b) vs → AllByRecursion (IsVersionOf (ending b end)) vs
+versions_along b end [] all = tt
+versions_along b end (v ∷ vs) all = (record { key = all.0.key; low = all.0.low; high = all.0.high; stamp = all.0.stamp; size = all.0.size; octets = all.0.octets }, versions_along b end vs all.1)
+
+pub leaf_ended : (leaf : LeafNode) (end : ℕ) → IsLeaf leaf → end + 1 < 256 ^ 16 → leaf.bounds.start < end → IsLeaf (ended leaf end)
+leaf_ended leaf end valid lt after = record {
+  bounds = record { low = valid.bounds.low; high = valid.bounds.high; start = valid.bounds.start; end = (lt, after) };
+  each = versions_along leaf.bounds end leaf.versions valid.each;
+  rising = valid.rising;
+  fits = valid.fits;
+}
+
+pub block_made : (leaf : LeafNode) (page : List ℕ) (end : ℕ) → IsLeafPage leaf page → end + 1 < 256 ^ 16 → leaf.bounds.start < end
+    → IsLeafBlock (ended leaf end) (laid 16352 (sha256 (take 16352 (laid 104 (octets_of 16 end) page))) (laid 104 (octets_of 16 end) page))
+block_made leaf page end is lt after =
+    let n : ℕ = length leaf.versions in
+    let es : List ℕ = entries leaf.versions in
+    let node : List ℕ = body 1 0 n (ending leaf.bounds end) es in
+    let sealed : laid 104 (octets_of 16 end) page ≡ node ++ replicate 32 0 = ap (laid 104 (octets_of 16 end)) is.page.spelled ∙ body_ended 1 0 n leaf.bounds es (replicate 32 0) end in
+    let size : length node ≡ 16352 = body-size 1 0 n (ending leaf.bounds end) es is.valid.fits in
+    let digest : sha256 (take 16352 (laid 104 (octets_of 16 end) page)) ≡ sha256 node = ap sha256 (ap (take 16352) sealed ∙ take_at node (replicate 32 0) 16352 size) in
+    let d : List ℕ = sha256 node in
+    let long : length (replicate {A = ℕ} 32 0) ≡ length d = length-replicate {A = ℕ} 32 0 ∙ sym (length-sha256 node) in
+    let put : laid 16352 d (node ++ replicate 32 0) ≡ node ++ d =
+    ap (λ (t : List ℕ). laid 16352 d (node ++ t)) (sym (append-nil (replicate 32 0))) ∙ put_field 16352 node (replicate 32 0) [] d size long ∙ ap (λ (t : List ℕ). node ++ t) (append-nil d) in
+    record {
+      valid = leaf_ended leaf end is.valid lt after;
+      block = record { ended = refl; spelled = ap (λ (t : List ℕ). laid 16352 t (laid 104 (octets_of 16 end) page)) digest ∙ ap (laid 16352 d) sealed ∙ put };
+    }

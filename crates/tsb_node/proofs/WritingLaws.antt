@@ -1,0 +1,108 @@
+-- Entries are written one behind another on zeros.
+use Rattle.std.proofs.Common.{◌≡◌, ℕ, zero, suc, ◌+◌, ◌-◌, ◌*◌, ◌<◌, ◌≤◌, List, [], ◌∷◌, ◌++◌, length, take, replicate, slice_get, Some, None, refl, sym, ap, subst, ◌∙◌, append_assoc, arith}
+use Rattle.std.specs.List.{flat_map}
+use Rattle.std.proofs.lemmas.List.{append-nil, length-append, length-replicate, take_all}
+use Rattle.std.proofs.lemmas.Grind.{flat_map-append}
+use Rattle.tsb_node.specs.Numbers.{octets_of}
+use Rattle.version_model.specs.declared.bounds.Bounds.{Bounds}
+use Rattle.version_model.specs.declared.child.Child.{Child}
+use Rattle.tsb_node.specs.Nodes.{header, body, seconds}
+use Rattle.tsb_node.specs.KeyNodes.{KeyNode, IsKeyNode, IsKeyNodePage, child_octets}
+use Rattle.tsb_node.specs.inner.Laying.{laid}
+use Rattle.tsb_node.proofs.Leaves.{header-size}
+use Rattle.tsb_node.proofs.NumberLaws.{octets_of-size}
+use Rattle.std.proofs.lemmas.List.{length-take}
+use Rattle.std.proofs.lemmas.Option.{same_Some, none-some}
+use Rattle.tsb_node.proofs.KeyNodeLaws.{child-size, children-count}
+use Rattle.tsb_node.proofs.Laying.{put_field, put_two, replicate_add}
+
+-- a header, some entries, and zeros to the end of the page
+pub record IsFilling (h es page : List ℕ) : Type 0 where
+  pub size : length h ≡ 120
+  pub spelled : page ≡ (h ++ es) ++ replicate (16264 - length es) 0
+
+pub filling_start : (kind level count used : ℕ) (b : Bounds) (page : List ℕ) → page ≡ laid 0 (header kind seconds level count used b) (replicate 16384 0) → IsFilling (header kind seconds level count used b) [] page
+filling_start kind level count used b page is =
+    let h : List ℕ = header kind seconds level count used b in
+    let size : length h ≡ 120 = header-size kind seconds level count used b in
+    let split : replicate 16384 0 ≡ replicate 120 0 ++ replicate 16264 0 = replicate_add 120 16264 0 in
+    record {
+      size = size;
+      spelled = is ∙ ap (laid 0 h) split ∙ put_field 0 [] (replicate 120 0) (replicate 16264 0) h refl (length-replicate {A = ℕ} 120 0 ∙ sym size) ∙ ap (λ (t : List ℕ). t ++ replicate 16264 0) (sym (append-nil h));
+    }
+
+pub filling_on : (h es new page : List ℕ) (at : ℕ) → IsFilling h es page → at ≡ 120 + length es → length es + length new ≤ 16264 → IsFilling h (es ++ new) (laid at new page)
+filling_on h es new page at f here fits =
+    let left : ℕ = 16264 - length (es ++ new) in
+    let both = length-append es new in
+    let sum : 16264 - length es ≡ length new + left = omega (arith, both) in
+    let zeros_part : replicate (16264 - length es) 0 ≡ replicate (length new) 0 ++ replicate left 0 = ap (λ (n : ℕ). replicate n 0) sum ∙ replicate_add (length new) left 0 in
+    let front : length (h ++ es) ≡ at = omega (arith, length-append h es, f.size, here) in
+    record {
+      size = f.size;
+      spelled = ap (laid at new) (f.spelled ∙ ap (λ (t : List ℕ). (h ++ es) ++ t) zeros_part)
+          ∙ put_field at (h ++ es) (replicate (length new) 0) (replicate left 0) new front (length-replicate {A = ℕ} (length new) 0)
+          ∙ sym (append_assoc (h ++ es) new (replicate left 0)) ∙ ap (λ (t : List ℕ). t ++ replicate left 0) (append_assoc h es new);
+    }
+
+pub filled : (kind level count : ℕ) (b : Bounds) (es page : List ℕ) → IsFilling (header kind seconds level count (length es) b) es page → length es ≤ 16232 → page ≡ body kind level count b es ++ replicate 32 0
+unfolding body
+filled kind level count b es page f fits =
+    let h : List ℕ = header kind seconds level count (length es) b in
+    let n : ℕ = 16232 - length es in
+    let sum : 16264 - length es ≡ n + 32 = omega arith in
+    f.spelled ∙ ap (λ (t : List ℕ). (h ++ es) ++ t) (ap (λ (k : ℕ). replicate k 0) sum ∙ replicate_add n 32 0) ∙ sym (append_assoc (h ++ es) (replicate n 0) (replicate 32 0))
+
+-- ---- key nodes
+
+pub child_laid : (at : ℕ) (c : Child) (page : List ℕ) → at + 40 ≤ length page → laid (at + 40) (octets_of 8 c.page) (laid at (octets_of 40 c.low) page) ≡ laid at (child_octets c) page
+unfolding child_octets
+child_laid at c page le =
+    let size : length (octets_of 40 c.low) ≡ 40 = octets_of-size 40 c.low in
+    ap (λ (n : ℕ). laid n (octets_of 8 c.page) (laid at (octets_of 40 c.low) page)) (let e : at + 40 ≡ at + length (octets_of 40 c.low) = omega (arith, size) in e)
+    ∙ put_two at (octets_of 40 c.low) (octets_of 8 c.page) page (omega (arith, size))
+
+pub filling-size : (h es page : List ℕ) → IsFilling h es page → length es ≤ 16264 → length page ≡ 16384
+filling-size h es page f le =
+    let z : length (replicate {A = ℕ} (16264 - length es) 0) ≡ 16264 - length es = length-replicate {A = ℕ} (16264 - length es) 0 in
+    ap length f.spelled ∙ omega (arith, f.size, z, length-append (h ++ es) (replicate (16264 - length es) 0), length-append h es)
+
+-- the first n children have been written
+pub record HasWritten (h : List ℕ) (cs : List Child) (n at : ℕ) (page : List ℕ) : Type 0 where
+  pub at_is : at ≡ 120 + 48 * n
+  pub filling : IsFilling h (flat_map child_octets (take n cs)) page
+
+take_more : (cs : List Child) (n : ℕ) (c : Child) → slice_get cs n ≡ Some c → take (n + 1) cs ≡ take n cs ++ c ∷ []
+take_more [] n c e = absurd (none-some c e)
+take_more (d ∷ cs) zero c e = ap (λ (x : Child). x ∷ []) (same_Some d c e)
+take_more (d ∷ cs) (suc n) c e = ap (λ (k : ℕ). take k (d ∷ cs)) (let z : suc n + 1 ≡ suc (n + 1) = omega arith in z) ∙ ap (λ (t : List Child). d ∷ t) (take_more cs n c e)
+
+pub written_start : (h : List ℕ) (cs : List Child) (page : List ℕ) → IsFilling h [] page → HasWritten h cs 0 120 page
+written_start h cs page f = record { at_is = omega arith; filling = f }
+
+pub written_on : (h : List ℕ) (cs : List Child) (n at : ℕ) (c : Child) (page : List ℕ) → 48 * length cs ≤ 16232 → n < length cs → slice_get cs n ≡ Some c → HasWritten h cs n at page
+    → HasWritten h cs (n + 1) (at + 48) (laid (at + 40) (octets_of 8 c.page) (laid at (octets_of 40 c.low) page))
+written_on h cs n at c page fits lt is w =
+    let es : List ℕ = flat_map child_octets (take n cs) in
+    let len : length es ≡ 48 * n = omega (arith, children-count (take n cs), length-take n cs) in
+    let whole : length page ≡ 16384 = filling-size h es page w.filling (omega (arith, len)) in
+    let more : flat_map child_octets (take (n + 1) cs) ≡ es ++ child_octets c =
+    ap (flat_map child_octets) (take_more cs n c is) ∙ flat_map-append child_octets (take n cs) (c ∷ []) ∙ ap (λ (t : List ℕ). es ++ t) (append-nil (child_octets c)) in
+    record {
+      at_is = omega (arith, w.at_is);
+      filling = rw (child_laid at c page (omega (arith, whole, w.at_is)), more)
+          (filling_on h es (child_octets c) page at w.filling (omega (arith, len, w.at_is)) (omega (arith, len, child-size c)));
+    }
+
+pub written_end : (node : KeyNode) (count used at n : ℕ) (page : List ℕ) → IsKeyNode node → count ≡ length node.children → used ≡ 48 * length node.children → n ≡ length node.children
+    → HasWritten (header 3 seconds node.level count used node.bounds) node.children n at page → node.bounds.end ≡ None → IsKeyNodePage node page
+written_end node count used at n page valid counted sized done w current =
+    let cs : List Child = node.children in
+    let es : List ℕ = flat_map child_octets cs in
+    let all : take n cs ≡ cs = take_all n cs (omega (arith, done)) in
+    let size : used ≡ length es = sized ∙ sym (children-count cs) in
+    let f : IsFilling (header 3 seconds node.level (length cs) (length es) node.bounds) es page =
+    subst (λ (t : List ℕ). IsFilling (header 3 seconds node.level (length cs) (length es) node.bounds) t page) (ap (flat_map child_octets) all)
+    (subst (λ (k : ℕ). IsFilling (header 3 seconds node.level (length cs) k node.bounds) (flat_map child_octets (take n cs)) page) size
+    (subst (λ (k : ℕ). IsFilling (header 3 seconds node.level k used node.bounds) (flat_map child_octets (take n cs)) page) counted w.filling)) in
+    record { valid = valid; page = record { current = current; spelled = filled 3 node.level (length cs) node.bounds es page f (omega (arith, children-count cs, valid.fits)) } }

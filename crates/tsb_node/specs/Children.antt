@@ -1,0 +1,36 @@
+-- Which child of a key node a key lies under.
+use Rattle.std.specs.Prelude.{◌≡◌, ℕ, zero, suc, ◌≤◌, ◌<◌, List, [], ◌∷◌, ◌++◌, drop, slice_get, Option, Some, None, IfSome, Result, Ok, Err}
+use Rattle.tsb_node.specs.inner.Fields.{number_in}
+use Rattle.version_model.specs.declared.bounds.Bounds.{Bounds}
+use Rattle.version_model.specs.declared.child.Child.{Child}
+use Rattle.tsb_node.specs.declared.key_node.Under.{Under}
+use Rattle.tsb_node.specs.KeyNodes.{KeyNode, IsKeyNode, key_node_body}
+
+-- the octets begin as the page of the key node does
+pub record BeginsAsKeyNode (node : KeyNode) (octets : List ℕ) : Type 0 where
+  pub valid : IsKeyNode node
+  pub last : List ℕ
+  pub spelled : octets ≡ key_node_body node ++ last
+
+-- the key lies between the bounds
+pub record IsKeyWithin (b : Bounds) (key : ℕ) : Type 0 where
+  pub low : b.low ≤ key
+  pub high : IfSome b.high (λ n. key < n)
+
+-- up to where the keys of a child go: to the lowest of the next one, or to the node's high key
+abbrev pub high_of : Option ℕ → Option Child → Option ℕ
+high_of high None = high
+high_of high (Some next) = Some next.low
+
+-- the child, with its keys, under which the key lies
+pub record IsUnder (node : KeyNode) (key : ℕ) (under : Under) : Type 0 where
+  pub place : ℕ
+  pub at : slice_get node.children place ≡ Some (record { low = under.low; page = under.page })
+  pub to_high : under.high ≡ high_of node.bounds.high (slice_get node.children (suc place))
+  pub low : under.low ≤ key
+  pub high : IfSome under.high (λ n. key < n)
+
+-- the same, and a refusal nowhere
+abbrev pub IsUnderOr : {E : Type 0} → KeyNode → ℕ → Result Under E → Type 0
+IsUnderOr node key (Ok under) = IsUnder node key under
+IsUnderOr node key (Err e) = ⊥

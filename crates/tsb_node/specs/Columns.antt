@@ -1,0 +1,91 @@
+-- A column: the parts of its past, and in a page its current leaf.
+use Rattle.std.specs.Prelude.{◌≡◌, ℕ, ◌+◌, ◌*◌, ◌<◌, ◌≤◌, ◌^◌, List, [], ◌∷◌, ◌++◌, length, IfSome}
+use Rattle.std.specs.List.{flat_map, AllByRecursion}
+use Rattle.tsb_node.specs.Numbers.{octets_of}
+use Rattle.tsb_node.specs.Nodes.{IsBounds, body, IsInPage, IsInBlock}
+use Rattle.version_model.specs.declared.bounds.Bounds.{Bounds}
+use Rattle.version_model.specs.declared.part.PartKind.{PartKind}
+use Rattle.version_model.specs.declared.part.PartKind.TheVariants.{LeafBlock, ColumnBlock}
+use Rattle.version_model.specs.declared.part.Part.{Part}
+use Rattle.tsb_node.specs.declared.column.Current.{Current}
+
+-- a column in a page: the parts of its past, and its current leaf
+pub record ColumnNode : Type 0 where
+  pub bounds : Bounds
+  pub parts : List Part
+  pub current : Current
+
+-- a column in a block: the parts alone
+pub record OldColumnNode : Type 0 where
+  pub bounds : Bounds
+  pub parts : List Part
+
+-- 1 for a leaf block, 2 for a column block
+abbrev pub part_kind : PartKind → ℕ
+part_kind LeafBlock = 1
+part_kind ColumnBlock = 2
+
+-- a place in a column: start stamp, kind, number
+abbrev pub place_octets : ℕ → ℕ → ℕ → List ℕ
+place_octets start kind number = octets_of 16 start ++ (kind ∷ []) ++ octets_of 8 number
+
+unfoldable pub part_octets : Part → List ℕ
+part_octets p = place_octets p.start (part_kind p.kind) p.block
+
+unfoldable pub current_octets : Current → List ℕ
+current_octets c = place_octets c.start 0 c.page
+
+-- each number is below those that follow
+abbrev pub AreAscending : List ℕ → Type 0
+AreAscending [] = Unit {0}
+AreAscending (n ∷ rest) = AllByRecursion (λ later. n < later) rest × AreAscending rest
+
+-- the list begins with this number
+abbrev pub BeginsAt : ℕ → List ℕ → Type 0
+BeginsAt start [] = ⊥
+BeginsAt start (n ∷ rest) = n ≡ start
+
+abbrev pub starts_of : List Part → List ℕ
+starts_of [] = []
+starts_of (p ∷ rest) = p.start ∷ starts_of rest
+
+-- a stamp of 16 octets, and a block's number of eight
+pub record IsPart (p : Part) : Type 0 where
+  pub start : p.start < 256 ^ 16
+  pub block : p.block < 256 ^ 8
+
+-- the parts follow one another from the start on, and the current leaf follows them
+pub record IsColumn (c : ColumnNode) : Type 0 where
+  pub bounds : IsBounds c.bounds
+  pub from_first : c.bounds.start ≡ 0
+  pub each : AllByRecursion IsPart c.parts
+  pub current_start : c.current.start < 256 ^ 16
+  pub current_page : c.current.page < 256 ^ 8
+  pub first : BeginsAt c.bounds.start (starts_of c.parts ++ c.current.start ∷ [])
+  pub rising : AreAscending (starts_of c.parts ++ c.current.start ∷ [])
+  pub fits : 25 * (length c.parts + 1) ≤ 16232
+
+-- the parts follow one another from the start to the end
+pub record IsOldColumn (c : OldColumnNode) : Type 0 where
+  pub bounds : IsBounds c.bounds
+  pub each : AllByRecursion IsPart c.parts
+  pub first : BeginsAt c.bounds.start (starts_of c.parts)
+  pub rising : AreAscending (starts_of c.parts)
+  pub before_end : IfSome c.bounds.end (λ end. AllByRecursion (λ p. p.start < end) c.parts)
+  pub fits : 25 * length c.parts ≤ 16232
+
+abbrev pub column_body : ColumnNode → List ℕ
+column_body c = body 2 1 (length c.parts + 1) c.bounds (flat_map part_octets c.parts ++ current_octets c.current)
+
+abbrev pub old_column_body : OldColumnNode → List ℕ
+old_column_body c = body 2 1 (length c.parts) c.bounds (flat_map part_octets c.parts)
+
+-- the octets are the page of the column
+pub record IsColumnPage (column : ColumnNode) (octets : List ℕ) : Type 0 where
+  pub valid : IsColumn column
+  pub page : IsInPage column.bounds (column_body column) octets
+
+-- the octets are the block of the column
+pub record IsColumnBlock (column : OldColumnNode) (octets : List ℕ) : Type 0 where
+  pub valid : IsOldColumn column
+  pub block : IsInBlock column.bounds (old_column_body column) octets

@@ -1,0 +1,45 @@
+-- A key node: the lowest keys and the pages of its children.
+use Rattle.std.specs.Prelude.{◌≡◌, ℕ, ◌*◌, ◌<◌, ◌≤◌, ◌^◌, List, [], ◌∷◌, ◌++◌, length, IfSome}
+use Rattle.std.specs.List.{flat_map, AllByRecursion}
+use Rattle.tsb_node.specs.Numbers.{octets_of}
+use Rattle.tsb_node.specs.Nodes.{IsBounds, body, IsInPage}
+use Rattle.version_model.specs.declared.bounds.Bounds.{Bounds}
+use Rattle.tsb_node.specs.Columns.{BeginsAt, AreAscending}
+use Rattle.version_model.specs.declared.child.Child.{Child}
+
+pub record KeyNode : Type 0 where
+  pub level : ℕ
+  pub bounds : Bounds
+  pub children : List Child
+
+unfoldable pub child_octets : Child → List ℕ
+child_octets c = octets_of 40 c.low ++ octets_of 8 c.page
+
+abbrev pub lows_of : List Child → List ℕ
+lows_of [] = []
+lows_of (c ∷ rest) = c.low ∷ lows_of rest
+
+-- a key of 40 octets below the high one, and a page's number of eight
+pub record IsChildOf (b : Bounds) (c : Child) : Type 0 where
+  pub low : c.low < 256 ^ 40
+  pub high : IfSome b.high (λ n. c.low < n)
+  pub page : c.page < 256 ^ 8
+
+-- the children follow one another from the lowest key on, at all stamps
+pub record IsKeyNode (k : KeyNode) : Type 0 where
+  pub lowest : 2 ≤ k.level
+  pub highest : k.level ≤ 7
+  pub bounds : IsBounds k.bounds
+  pub from_first : k.bounds.start ≡ 0
+  pub each : AllByRecursion (IsChildOf k.bounds) k.children
+  pub first : BeginsAt k.bounds.low (lows_of k.children)
+  pub rising : AreAscending (lows_of k.children)
+  pub fits : 48 * length k.children ≤ 16232
+
+abbrev pub key_node_body : KeyNode → List ℕ
+key_node_body k = body 3 k.level (length k.children) k.bounds (flat_map child_octets k.children)
+
+-- the octets are the page of the key node
+pub record IsKeyNodePage (node : KeyNode) (octets : List ℕ) : Type 0 where
+  pub valid : IsKeyNode node
+  pub page : IsInPage node.bounds (key_node_body node) octets

@@ -1,0 +1,65 @@
+-- A leaf: the versions of its keys.
+use Rattle.std.specs.Prelude.{◌≡◌, ℕ, ◌<◌, ◌≤◌, ◌^◌, List, [], ◌∷◌, ◌++◌, length, Option, Some, None, IfSome}
+use Rattle.std.specs.List.{flat_map, AllByRecursion}
+use Rattle.route_model.specs.Octets.{AreOctets}
+use Rattle.tsb_node.specs.Numbers.{octets_of}
+use Rattle.version_model.specs.Versions.{Version, IsRising}
+use Rattle.tsb_node.specs.Nodes.{IsBounds, body, IsInPage, IsInBlock}
+use Rattle.version_model.specs.declared.bounds.Bounds.{Bounds}
+
+pub record LeafNode : Type 0 where
+  pub bounds : Bounds
+  pub versions : List Version
+
+-- 1 for a value, 0 for an end
+abbrev pub tag : Option (List ℕ) → ℕ
+tag None = 0
+tag (Some value) = 1
+
+-- the octets of a value; an end has none
+abbrev pub value_octets : Option (List ℕ) → List ℕ
+value_octets None = []
+value_octets (Some value) = value
+
+-- a version in octets: key, stamp, tag, length, value
+unfoldable pub entry : Version → List ℕ
+entry v = octets_of 40 v.key ++ octets_of 16 v.stamp ++ (tag v.value ∷ []) ++ octets_of 2 (length (value_octets v.value)) ++ value_octets v.value
+
+-- a version of one of these keys, with a stamp of 16 octets and a value of at most 3,072
+pub record IsVersionOf (b : Bounds) (v : Version) : Type 0 where
+  pub key : v.key < 256 ^ 40
+  pub low : b.low ≤ v.key
+  pub high : IfSome b.high (λ n. v.key < n)
+  pub stamp : v.stamp < 256 ^ 16
+  pub size : length (value_octets v.value) ≤ 3072
+  pub octets : AreOctets (value_octets v.value)
+
+-- the octets of all entries
+unfoldable pub entries : List Version → List ℕ
+entries versions = flat_map entry versions
+
+-- versions of the leaf's keys in the order of their stamps, in at most 16,232 octets
+pub record IsLeaf (leaf : LeafNode) : Type 0 where
+  pub bounds : IsBounds leaf.bounds
+  pub each : AllByRecursion (IsVersionOf leaf.bounds) leaf.versions
+  pub rising : IsRising leaf.versions
+  pub fits : length (entries leaf.versions) ≤ 16232
+
+abbrev pub leaf_body : LeafNode → List ℕ
+leaf_body leaf = body 1 0 (length leaf.versions) leaf.bounds (entries leaf.versions)
+
+-- the octets are the page of the leaf
+pub record IsLeafPage (leaf : LeafNode) (octets : List ℕ) : Type 0 where
+  pub valid : IsLeaf leaf
+  pub page : IsInPage leaf.bounds (leaf_body leaf) octets
+
+-- the octets are the block of the leaf
+pub record IsLeafBlock (leaf : LeafNode) (octets : List ℕ) : Type 0 where
+  pub valid : IsLeaf leaf
+  pub block : IsInBlock leaf.bounds (leaf_body leaf) octets
+
+-- the octets begin as a page or a block of the leaf does
+pub record BeginsAsLeaf (leaf : LeafNode) (octets : List ℕ) : Type 0 where
+  pub valid : IsLeaf leaf
+  pub last : List ℕ
+  pub spelled : octets ≡ leaf_body leaf ++ last

@@ -1,0 +1,13 @@
+pub mod Numbers
+pub mod Nodes
+pub mod Leaves
+pub mod Columns
+pub mod KeyNodes
+pub mod Finding
+pub mod Pushing
+pub mod Headers
+pub mod Sealing
+pub mod Children
+pub mod Parts
+pub mod Splitting
+pub mod inner

@@ -1,0 +1,13 @@
+-- Numbers in octets, in network order.
+use Rattle.std.specs.Prelude.{ℕ, List, take, drop, replicate, Option, Some, None}
+use Rattle.byteorder.specs.Endian.{big_bytes}
+use Rattle.route_model.specs.Keys.{number_of}
+
+-- a number in so many octets
+unfoldable pub octets_of : ℕ → ℕ → List ℕ
+octets_of size n = big_bytes size n
+
+-- a bound that may be missing: each octet is FF where there is none
+unfoldable pub bound_octets : ℕ → Option ℕ → List ℕ
+bound_octets size None = replicate size 255
+bound_octets size (Some n) = octets_of size n

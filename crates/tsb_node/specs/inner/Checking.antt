@@ -1,0 +1,27 @@
+-- What a reader checks of a leaf's entries.
+use Rattle.std.specs.Prelude.{◌≡◌, ℕ, ◌+◌, ◌<◌, List, length, take, Option, Some, None}
+use Rattle.std.specs.List.{AllByRecursion}
+use Rattle.version_model.specs.declared.bounds.Bounds.{Bounds}
+use Rattle.version_model.specs.Versions.{Version, IsRising}
+use Rattle.tsb_node.specs.Leaves.{entry, entries, IsVersionOf}
+use Rattle.tsb_node.specs.inner.Reading.{value_size, version_in}
+use Rattle.tsb_node.specs.inner.Scanning.{IsWhole}
+
+-- the octets begin with an entry of a leaf of these bounds
+pub record IsSpelled (b : Bounds) (bytes : List ℕ) : Type 0 where
+  pub whole : IsWhole bytes
+  pub valid : IsVersionOf b (version_in bytes)
+  pub spelled : take (59 + value_size bytes) bytes ≡ entry (version_in bytes)
+
+-- the octets are so many entries of a leaf of these bounds
+pub record AreEntries (b : Bounds) (count : ℕ) (bytes : List ℕ) : Type 0 where
+  pub versions : List Version
+  pub each : AllByRecursion (IsVersionOf b) versions
+  pub rising : IsRising versions
+  pub counted : length versions ≡ count
+  pub spelled : bytes ≡ entries versions
+
+-- the stamp is above the last one, where there is one
+abbrev pub IsAfter : ℕ → Option ℕ → Type 0
+IsAfter stamp None = Unit {0}
+IsAfter stamp (Some last) = last < stamp

@@ -1,0 +1,8 @@
+-- The number in a field of a node.
+use Rattle.std.specs.Prelude.{ℕ, List, take, drop, replicate, Option, Some, None}
+use Rattle.byteorder.specs.Endian.{big_bytes}
+use Rattle.route_model.specs.Keys.{number_of}
+
+-- the number that stands in so many octets from a place on
+abbrev pub number_in : ℕ → ℕ → List ℕ → ℕ
+number_in size place octets = number_of (take size (drop place octets))

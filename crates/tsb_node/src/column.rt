@@ -1,0 +1,142 @@
+//! Columns: the parts of a past, and in a page the current leaf.
+
+ghost use Rattle.std.specs.Prelude.{◌≡◌, ◌≤◌, ◌<◌, ◌+◌, length, IfSome, Some};
+ghost use Rattle.std.specs.Prelude.{ℕ, List, slice_index, drop, ◌++◌, Ok};
+ghost use Rattle.version_model.specs.declared.part.PartKind.{PartKind as PartKindValue};
+ghost use Rattle.version_model.specs.declared.part.Part.{Part as PartValue};
+ghost use Rattle.tsb_node.specs.Columns.{ColumnNode, OldColumnNode, IsPart, part_kind, part_octets};
+ghost use Rattle.tsb_node.specs.Parts.{BeginsAsColumn, BeginsAsOldColumn, IsSpotOr, IsPartAtOr};
+ghost use Rattle.tsb_node.specs.inner.PartReading.{IsPlaceBefore};
+
+use crate::header::is_stamp_below;
+use crate::leaf::{FIRST, LAST, NotANode};
+use crate::numbers::{number2, number8, stamp_at};
+use version_model::{Part, PartKind, Stamp};
+
+/// The page of a column's current leaf, and from which stamp on it is.
+#[derive(Clone, Copy, Debug)]
+pub struct Current {
+    pub start: Stamp,
+    pub page: u64,
+}
+
+/// A part of a column's past, and where it ends.
+#[derive(Clone, Copy, Debug)]
+pub struct PartAt {
+    pub part: Part,
+    pub end: Stamp,
+}
+
+/// Where a column has its versions at a stamp.
+#[derive(Clone, Copy, Debug)]
+pub enum Spot {
+    InPage(Current),
+    InBlock(PartAt),
+}
+
+/// How many entries a column may have.
+const PLACES: u16 = 649;
+
+/// The kind in the part at a place, or none where there is none of its kind.
+fn kind_at(area: &[u8], at: usize) -> Result<PartKind, NotANode>
+    requires { at + 25 ≤ length area.now }
+    ensures kind { (kind : PartKindValue) → slice_index area.now (at + 16) ≡ part_kind kind → result ≡ Ok kind }
+{
+    match area[at + 16] {
+        1 => Ok(PartKind::LeafBlock),
+        2 => Ok(PartKind::ColumnBlock),
+        _ => Err(NotANode),
+    }
+}
+
+/// The part at a place.
+fn part_in(area: &[u8], at: usize) -> Result<Part, NotANode>
+    requires { at + 25 ≤ length area.now }
+    ensures part { (p : PartValue) (rest : List ℕ) → IsPart p → drop at area.now ≡ part_octets p ++ rest → result ≡ Ok p }
+{
+    let Ok(kind) = kind_at(area, at) else {
+        return Err(NotANode);
+    };
+    Ok(Part {
+        start: stamp_at(area, at),
+        kind,
+        block: number8(area, at + 17),
+    })
+}
+
+/// Of so many entries, the place of the last one that doesn't start after the stamp; the first where all do.
+fn place_before(area: &[u8], count: u16, stamp: Stamp) -> usize
+    requires some { 0 < count }
+    requires few { count ≤ 649 }
+    requires size { length area.now ≡ 16232 }
+    ensures within { result ≤ 16200 }
+    ensures place { IsPlaceBefore count area.now stamp result }
+{
+    let mut at = 0;
+    for i in 1..count {
+        let next = 25 * i as usize;
+        if is_stamp_below(stamp, stamp_at(area, next)) {
+            return at;
+        }
+        at = next;
+    }
+    at
+}
+
+/// Where the column that begins these octets of a page has its versions at a stamp.
+/// Refused only where they aren't a column, and not always there.
+pub fn spot_for(octets: &[u8], stamp: Stamp) -> Result<Spot, NotANode>
+    requires size { length octets.now ≡ 16384 }
+    ensures spot { (column : ColumnNode) → BeginsAsColumn column octets.now → IsSpotOr column stamp result }
+{
+    let count = number2(octets, 4);
+    if count == 0 {
+        return Err(NotANode);
+    }
+    if count > PLACES {
+        return Err(NotANode);
+    }
+    let area = octets.split_at(LAST).0.split_at(FIRST).1;
+    let at = place_before(area, count, stamp);
+    if at + 25 == 25 * count as usize {
+        return Ok(Spot::InPage(Current {
+            start: stamp_at(area, at),
+            page: number8(area, at + 17),
+        }));
+    }
+    let Ok(part) = part_in(area, at) else {
+        return Err(NotANode);
+    };
+    Ok(Spot::InBlock(PartAt {
+        part,
+        end: stamp_at(area, at + 25),
+    }))
+}
+
+/// The part of a past in which a stamp lies, of the column of a block that ends at a stamp.
+/// Refused only where the octets aren't such a column, and not always there.
+pub fn part_for(octets: &[u8], end: Stamp, stamp: Stamp) -> Result<PartAt, NotANode>
+    requires size { length octets.now ≡ 16384 }
+    requires before { stamp < end }
+    ensures part { (column : OldColumnNode) → BeginsAsOldColumn column octets.now → column.bounds.end ≡ Some end → column.bounds.start ≤ stamp → IsPartAtOr column.parts end stamp result }
+{
+    let count = number2(octets, 4);
+    if count == 0 {
+        return Err(NotANode);
+    }
+    if count > PLACES {
+        return Err(NotANode);
+    }
+    let area = octets.split_at(LAST).0.split_at(FIRST).1;
+    let at = place_before(area, count, stamp);
+    let Ok(part) = part_in(area, at) else {
+        return Err(NotANode);
+    };
+    if at + 25 == 25 * count as usize {
+        return Ok(PartAt { part, end });
+    }
+    Ok(PartAt {
+        part,
+        end: stamp_at(area, at + 25),
+    })
+}

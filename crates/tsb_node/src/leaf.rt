@@ -1,0 +1,174 @@
+//! Leaves.
+
+ghost use Rattle.std.specs.Prelude.{None, []};
+ghost use Rattle.tsb_node.specs.Nodes.{IsBounds};
+ghost use Rattle.version_model.specs.Versions.{IsAbove};
+ghost use Rattle.tsb_node.specs.Pushing.{version, PushedTo, StaysUnlessPushed};
+ghost use Rattle.std.specs.Prelude.{◌≡◌, ◌≤◌, ◌+◌, length, option_map, IfSome, IfNone, IfOk, IfErr};
+ghost use Rattle.tsb_node.specs.Leaves.{LeafNode, BeginsAsLeaf, IsLeafPage, IsVersionOf, value_octets};
+ghost use Rattle.tsb_node.specs.Finding.{FindsOrRefuses};
+ghost use Rattle.tsb_node.specs.inner.Scanning.{IsLast, IsBroken, IsWhole};
+ghost use Rattle.tsb_node.specs.inner.Reading.{value_size, version_in, versions_in};
+
+use crate::numbers::{key_at, number2, stamp_at};
+use crate::writing::{clear, octets_in, put_entry, put_header, two_octets};
+use disk_models::Page;
+use route_model::Key;
+use std::marker::Model;
+use version_model::{Bounds, Stamp};
+
+/// The octets of a value, borrowed from those of a node.
+#[derive(Debug, Drop)]
+pub struct Value<'a> {
+    octets: &'a [u8],
+}
+
+impl<'a> Model for Value<'a> {
+    ghost use Rattle.std.specs.Prelude.{ℕ, List};
+
+    ghost Value = { List ℕ };
+
+    ghost view = { λ v. v.octets.now };
+}
+
+impl<'a> Value<'a> {
+    ghost use Rattle.std.specs.Prelude.{◌≡◌};
+
+    /// These octets.
+    pub fn new(octets: &'a [u8]) -> Value<'a>
+        ensures octets { result ≡ octets.now }
+    {
+        Value { octets }
+    }
+
+    /// The octets.
+    pub fn as_slice(&self) -> &'a [u8]
+        ensures octets { result.now ≡ self.now }
+    {
+        self.octets
+    }
+}
+
+/// The octets aren't a node of the kind that was wanted.
+#[derive(Clone, Copy, Debug, PartialEq, Eq)]
+pub struct NotANode;
+
+/// What a key has at a stamp: the stamp from which on it has it, and the value, or none where it has ended.
+#[derive(Debug, Drop)]
+pub struct Found<'a> {
+    pub stamp: Stamp,
+    pub value: Option<Value<'a>>,
+}
+
+/// Where the entries of a leaf begin, and where what they may fill ends.
+pub const FIRST: usize = 120;
+
+pub const LAST: usize = 16_352;
+
+/// How many octets the entry at the front takes, where it's whole.
+pub fn entry_size(bytes: &[u8]) -> Option<usize>
+    ensures found { IfSome result (λ n. (n ≡ 59 + value_size bytes.now) × IsWhole bytes.now) }
+    ensures none { IfNone result (IsWhole bytes.now → ⊥) }
+{
+    if bytes.len() < 59 {
+        return None;
+    }
+    let size = 59 + number2(bytes, 57) as usize;
+    if bytes.len() < size {
+        return None;
+    }
+    Some(size)
+}
+
+/// The last of so many entries that is of the key and not after the stamp, with all that stands behind it.
+fn last_of<'a>(
+    area: &'a [u8],
+    count: u16,
+    key: Key,
+    stamp: Stamp,
+) -> Result<Option<Value<'a>>, NotANode>
+    ensures last { IfOk result (IsLast (versions_in count area.now) area.now key stamp count) }
+    ensures broken { IfErr result (λ e. IsBroken area.now count) }
+{
+    let mut rest = area;
+    let mut best: Option<Value<'a>> = None;
+    for _ in 0..count {
+        let Some(size) = entry_size(rest) else {
+            return Err(NotANode);
+        };
+        if key_at(rest, 0) == key && stamp_at(rest, 40) <= stamp {
+            best = Some(Value::new(rest));
+        }
+        rest = rest.split_at(size).1;
+    }
+    Ok(best)
+}
+
+/// What the entry at the front says.
+fn found_at<'a>(bytes: &'a [u8]) -> Found<'a>
+    requires { IsWhole bytes.now }
+    ensures stamp { result.stamp ≡ (version_in bytes.now).stamp }
+    ensures value { result.value ≡ (version_in bytes.now).value }
+{
+    let size = number2(bytes, 57) as usize;
+    let value = if bytes[56] == 0 {
+        None
+    } else {
+        Some(Value::new(bytes.split_at(59).1.split_at(size).0))
+    };
+    Found {
+        stamp: stamp_at(bytes, 40),
+        value,
+    }
+}
+
+/// What the leaf that begins these octets, a page's or a block's, has for a key at a stamp.
+/// Refused only where they aren't a leaf, and not always there.
+pub fn find<'a>(octets: &'a [u8], key: Key, stamp: Stamp) -> Result<Option<Found<'a>>, NotANode>
+    requires size { length octets.now ≡ 16384 }
+    ensures found { (leaf : LeafNode) → BeginsAsLeaf leaf octets.now → FindsOrRefuses leaf.versions key stamp result }
+{
+    let count = number2(octets, 4);
+    let area = octets.split_at(LAST).0.split_at(FIRST).1;
+    match last_of(area, count, key, stamp)? {
+        Some(rest) => Ok(Some(found_at(rest.as_slice()))),
+        None => Ok(None),
+    }
+}
+
+/// How many octets the entries of a leaf may fill.
+pub const ROOM: usize = 16_232;
+
+/// Writes a version of the leaf's keys that is later than all behind the others of the leaf in this page, where
+/// there is room for it, and answers whether there was. Refused only where the page isn't a leaf, and not always
+/// there.
+pub fn push(page: &mut Page, key: Key, stamp: Stamp, value: Option<&[u8]>) -> Result<bool, NotANode>
+    requires short { length (value_octets (option_map (λ x. x.now) value)) ≤ 3072 }
+    ensures pushed { (leaf : LeafNode) → IsLeafPage leaf page.old → IsVersionOf leaf.bounds (version key stamp (option_map (λ x. x.now) value.entry)) → IsAbove leaf.versions stamp
+        → PushedTo leaf (version key stamp (option_map (λ x. x.now) value.entry)) page.new result }
+    ensures stays { StaysUnlessPushed page.old page.new result }
+{
+    let count = number2(page.octets(), 4);
+    let used = number2(page.octets(), 6) as usize;
+    let size = 59 + octets_in(value).len();
+    if ROOM < used + size {
+        return Ok(false);
+    }
+    if count == u16::MAX {
+        return Err(NotANode);
+    }
+    put_entry(page, FIRST + used, key, stamp, value);
+    page.put(4, &two_octets(count + 1));
+    page.put(6, &two_octets((used + size) as u16));
+    Ok(true)
+}
+
+/// Makes a page that of a leaf without versions.
+pub fn start_leaf(page: &mut Page, bounds: &Bounds)
+    requires valid { IsBounds bounds.now }
+    requires current { bounds.now.end ≡ None }
+    ensures { IsLeafPage (record { bounds = bounds.now; versions = [] }) page.new }
+{
+    clear(page);
+    put_header(page, 1, 0, 0, 0, bounds);
+}

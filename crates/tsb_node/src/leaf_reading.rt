@@ -1,0 +1,161 @@
+//! Pages are read as leaves exactly where they are leaves.
+
+ghost use Rattle.std.specs.Prelude.{List, ℕ, ◌≡◌, ◌≤◌, ◌<◌, ◌+◌, ◌↔◌, length, take, drop, All, IfSome, IfNone, IsTrue, None};
+ghost use Rattle.tsb_node.specs.inner.Reading.{value_size};
+ghost use Rattle.sha2.specs.Sha256.{sha256};
+ghost use Rattle.tsb_node.specs.Leaves.{LeafNode, BeginsAsLeaf, IsLeafPage, IsLeafBlock};
+ghost use Rattle.tsb_node.specs.inner.Checking.{IsSpelled, AreEntries, IsAfter};
+
+use crate::header::{is_below_high, is_key_below, is_stamp_below, read_header};
+use crate::leaf::{FIRST, LAST, ROOM, entry_size};
+use crate::numbers::{key_at, stamp_at};
+use disk_models::{Block, Page};
+use sha2::{Digest, Sha256};
+use version_model::{Bounds, Stamp};
+
+/// How many octets the entry at the front takes, where it is one of a leaf of these bounds.
+fn version_size(bytes: &[u8], bounds: &Bounds) -> Option<usize>
+    ensures found { IfSome result (λ n. (n ≡ 59 + value_size bytes.now) × IsSpelled bounds.now bytes.now) }
+    ensures none { IfNone result (IsSpelled bounds.now bytes.now → ⊥) }
+{
+    let size = entry_size(bytes)?;
+    if size > 59 + 3072 {
+        return None;
+    }
+    if bytes[56] > 1 {
+        return None;
+    }
+    if is_end_with_octets(bytes[56], size) {
+        return None;
+    }
+    let key = key_at(bytes, 0);
+    if is_key_below(key, bounds.low) {
+        return None;
+    }
+    if !is_below_high(key, bounds.high) {
+        return None;
+    }
+    Some(size)
+}
+
+/// Whether an entry of this tag and size is an end that has octets behind its length.
+fn is_end_with_octets(tag: u8, size: usize) -> bool
+    ensures { IsTrue result ↔ ((tag ≡ 0) × (59 < size)) }
+{
+    tag == 0 && size > 59
+}
+
+/// Whether a stamp is above the last one, where there is one.
+fn is_after(stamp: Stamp, last: Option<Stamp>) -> bool
+    ensures { IsTrue result ↔ IsAfter stamp last }
+{
+    match last {
+        Some(last) => is_stamp_below(last, stamp),
+        None => true,
+    }
+}
+
+/// Whether the octets are so many entries of a leaf of these bounds.
+fn are_entries(bytes: &[u8], count: u16, bounds: &Bounds) -> bool
+    ensures { IsTrue result ↔ AreEntries bounds.now count bytes.now }
+{
+    let mut rest = bytes;
+    let mut last = None;
+    for _ in 0..count {
+        let Some(size) = version_size(rest, bounds) else {
+            return false;
+        };
+        let stamp = stamp_at(rest, 40);
+        if !is_after(stamp, last) {
+            return false;
+        }
+        last = Some(stamp);
+        rest = rest.split_at(size).1;
+    }
+    rest.is_empty()
+}
+
+/// Whether all octets are zero.
+pub fn are_zeros(octets: &[u8]) -> bool
+    ensures { IsTrue result ↔ All (λ octet. octet ≡ 0) octets.now }
+{
+    octets.iter().all(|octet| *octet == 0)
+}
+
+/// The bounds of the leaf with which octets begin, or none where they begin with no leaf.
+pub fn leaf_in(octets: &[u8]) -> Option<Bounds>
+    requires size { length octets.now ≡ 16384 }
+    ensures found { IfSome result (λ bounds. (leaf : LeafNode) × BeginsAsLeaf leaf octets.now × (leaf.bounds ≡ bounds)) }
+    ensures none { IfNone result ((leaf : LeafNode) → BeginsAsLeaf leaf octets.now → ⊥) }
+{
+    let Some(header) = read_header(octets) else {
+        return None;
+    };
+    if header.kind != 1 {
+        return None;
+    }
+    if header.level != 0 {
+        return None;
+    }
+    let used = header.used as usize;
+    if used > ROOM {
+        return None;
+    }
+    let area = octets.split_at(LAST).0.split_at(FIRST).1;
+    let (entries, rest) = area.split_at(used);
+    if !are_zeros(rest) {
+        return None;
+    }
+    if !are_entries(entries, header.count, &header.bounds) {
+        return None;
+    }
+    Some(header.bounds)
+}
+
+/// The bounds of the leaf that a page is, or none where it is no leaf.
+pub fn read_leaf(page: &Page) -> Option<Bounds>
+    ensures found { IfSome result (λ bounds. (leaf : LeafNode) × IsLeafPage leaf page.now × (leaf.bounds ≡ bounds)) }
+    ensures none { IfNone result ((leaf : LeafNode) → IsLeafPage leaf page.now → ⊥) }
+{
+    let octets = page.octets();
+    if !are_zeros(octets.split_at(LAST).1) {
+        return None;
+    }
+    let Some(bounds) = leaf_in(octets) else {
+        return None;
+    };
+    if bounds.end.is_some() {
+        return None;
+    }
+    Some(bounds)
+}
+
+/// Whether a block ends in the SHA-256 of what stands before.
+pub fn is_digested(block: &Block) -> bool
+    ensures { IsTrue result ↔ (drop 16352 block.now ≡ sha256 (take 16352 block.now)) }
+{
+    let (node, digest) = block.octets().split_at(LAST);
+    Sha256::digest(node).as_slice() == digest
+}
+
+/// The bounds of the leaf that a block is, or none where it is no leaf.
+pub fn read_leaf_block(block: &Block) -> Option<Bounds>
+    ensures found { IfSome result (λ bounds. (leaf : LeafNode) × IsLeafBlock leaf block.now × (leaf.bounds ≡ bounds)) }
+    ensures none { IfNone result ((leaf : LeafNode) → IsLeafBlock leaf block.now → ⊥) }
+{
+    if !is_digested(block) {
+        return None;
+    }
+    let Some(bounds) = leaf_in(block.octets()) else {
+        return None;
+    };
+    if bounds.end.is_none() {
+        return None;
+    }
+    Some(bounds)
+}
+
+/// Octets are the page, or the block, of one leaf at most.
+pub fn leaves_are_one()
+    ensures leaves { (a b : LeafNode) (octets : List ℕ) → BeginsAsLeaf a octets → BeginsAsLeaf b octets → a ≡ b }
+{}

@@ -1,0 +1,24 @@
+//! The leaf of a page becomes that of a block.
+
+ghost use Rattle.std.specs.Prelude.{◌≡◌, ◌<◌, ◌+◌, ◌^◌};
+ghost use Rattle.tsb_node.specs.Leaves.{LeafNode, IsLeafPage, IsLeafBlock};
+ghost use Rattle.tsb_node.specs.Sealing.{ended};
+
+use crate::leaf::LAST;
+use crate::writing::stamp_octets;
+use disk_models::{Block, Page};
+use sha2::{Digest, Sha256};
+use version_model::Stamp;
+
+/// Makes a block that of the leaf in a page, with an end stamp.
+pub fn seal_leaf(page: &Page, end: Stamp, block: &mut Block)
+    requires { end + 1 < 256 ^ 16 }
+    ensures { (leaf : LeafNode) → IsLeafPage leaf page.now → leaf.bounds.start < end → IsLeafBlock (ended leaf end) block.new }
+{
+    let old = block.octets().len();
+    prove!(old == 16_384);
+    block.put(0, page.octets());
+    block.put(104, &stamp_octets(end));
+    let digest = Sha256::digest(block.octets().split_at(LAST).0);
+    block.put(LAST, &digest);
+}

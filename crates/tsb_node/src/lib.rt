@@ -1,0 +1,23 @@
+//! Nodes of the tree in the octets of pages and blocks: leaves, columns and key nodes.
+#![tactic(auto)]
+
+mod column;
+mod header;
+mod key_node;
+mod key_node_writing;
+mod leaf;
+mod leaf_reading;
+mod leaf_sealing;
+mod leaf_splitting;
+mod numbers;
+mod writing;
+
+pub use column::{Current, PartAt, Spot, part_for, spot_for};
+pub use header::{Header, read_header};
+pub use key_node::{Under, child_for};
+pub use key_node_writing::write_key_node;
+pub use leaf::{Found, NotANode, Value, find, push, start_leaf};
+pub use leaf_reading::{leaf_in, leaves_are_one, read_leaf, read_leaf_block};
+pub use leaf_sealing::seal_leaf;
+pub use leaf_splitting::copy_side;
+pub use numbers::{key_fits, stamp_fits};
