@@ -12,3 +12,5 @@ pub mod KeyNodeLaws
 pub mod ColumnLaws
 pub mod WritingLaws
 pub mod SplittingLaws
+pub mod Nexting
+pub mod Parting

@@ -10,4 +10,5 @@ pub mod Sealing
 pub mod Children
 pub mod Parts
 pub mod Splitting
+pub mod Nexts
 pub mod inner

@@ -19,6 +19,13 @@ pub struct Header {
     pub bounds: Bounds,
 }
 
+/// Whether a key is another one.
+pub fn is_same_key(key: Key, other: Key) -> bool
+    ensures { IsTrue result ↔ (key ≡ other) }
+{
+    key == other
+}
+
 /// Whether a key is below another.
 pub fn is_key_below(key: Key, other: Key) -> bool
     ensures { IsTrue result ↔ (key < other) }

@@ -1,0 +1,70 @@
+use Rattle.std.proofs.Common.{arith, ◌≡◌, ◌∙◌, ◌<◌, ◌≤◌, ◌+◌, ℕ, List, length, take, drop, ap, sym, subst, refl, filter}
+use Rattle.std.proofs.lemmas.Bool.{both_ways}
+use Rattle.version_model.specs.Entries.{versions_of, version_of}
+use Rattle.version_model.specs.Ranges.{end_or}
+use Rattle.version_model.specs.Looks.{is_of}
+use Rattle.version_model.proofs.api.Least.{filtered_yes, filtered_no, filtered_all}
+use Rattle.version_model.proofs.api.LooksShown.{is_of_yes, is_of_no}
+use Rattle.tsb_node.specs.Leaves.{LeafNode, BeginsAsLeaf}
+use Rattle.tsb_node.specs.inner.Reading.{area, version_in}
+use Rattle.tsb_node.specs.inner.Scanning.{IsWhole}
+use Rattle.tsb_node.proofs.Leaves.{leaf_says}
+use Rattle.tsb_node.proofs.Scanning.{scan_on, broken_none}
+use Rattle.tsb_node.proofs.SplittingLaws.{next_version, after_none}
+use Rattle.tsb_node.proofs.Parting.{version_next, versions_more, key_there, stamp_there}
+use Rattle.tsb_node.proofs.leaf_part.part.Goals as goal
+use Rattle.tsb_node.proofs.leaf_part.part.Goals.{then-is_entry_of+in_ok-entry_of+in_ok-keep, else-is_entry_of}
+
+pub loop-init : goal.loop-init
+loop-init c =
+    let there : c.split_at-2.result.1.now ≡ area c.args.octets.now = c.split_at-2.ensures.back ∙ ap (drop 120) c.split_at.ensures.front in
+    record {
+      there = there ∙ after_none (area c.args.octets.now);
+      kept = λ leaf is. rw c.new-kept.ensures.items refl;
+    }
+
+pub returns-in_default-clause-refused : goal.returns-in_default-clause-refused
+returns-in_default-clause-refused c = λ leaf is e.
+    broken_none leaf c.args.octets.now (record {
+      place = c.loop.counter;
+      below = omega (arith, c.loop-test.true, c.number2-count.ensures.number);
+      broken = λ whole. c.in_default.ensures.none (subst IsWhole (sym c.loop.invariant.there) whole);
+    }) is
+
+pub loop-preserved : goal.loop-preserved
+loop-preserved c =
+    let found = c.in-Some.ensures.found in
+    let rest = c.loop.rest.now in
+    let octets = c.args.octets.now in
+    let i = c.loop.counter in
+    let key = c.args.key in
+    let from = c.args.from in
+    let to = end_or c.args.end in
+    let p = is_of key from to in
+    let old = versions_of c.loop.kept.items in
+    let few : (leaf : LeafNode) → BeginsAsLeaf leaf octets → i < length leaf.versions = λ leaf is. (let says = leaf_says leaf octets is in omega (arith, says.count_is, c.loop-test.true, c.number2-count.ensures.number)) in
+    record {
+      there = c.split_at-in-loop.ensures.back ∙ ap (λ (n : ℕ). drop n rest) found.0 ∙ scan_on i rest (area octets) c.loop.invariant.there;
+      kept = λ leaf is.
+          (let n = next_version leaf octets rest i is (few leaf is) c.loop.invariant.there in
+          let here : version_in rest ≡ n.v = version_next leaf i rest n in
+          let k = key_there rest n.v here in
+          let s = stamp_there rest n.v here in
+          let before = c.loop.invariant.kept leaf is in
+          elim c.if-is_entry_of.branch [
+            | then-is_entry_of+in_ok-entry_of+in_ok-keep w ↦ rw w.kept-is (
+                let facts = c.is_entry_of.ensures.0 w.if-is_entry_of.true in
+                filtered_yes p leaf.versions old i n.v n.is before (versions_of w.keep.new.kept.items)
+                (versions_more c.loop.kept.items w.keep.new.kept.items w.in_ok-entry_of.field-0 n.v w.in_ok-keep.ensures (w.in_ok-entry_of.ensures ∙ here))
+                (is_of_yes key from to n.v (sym k ∙ facts.0) (omega (arith, facts.1, s)) (omega (arith, facts.2, s))))
+            | else-is_entry_of w ↦ rw w.kept-is (
+                filtered_no p leaf.versions old i n.v n.is before
+                (is_of_no key from to n.v (λ a b d. both_ways _ w.if-is_entry_of.false (c.is_entry_of.ensures.1 (k ∙ a, omega (arith, b, s), omega (arith, d, s))))))
+          ]);
+    }
+
+pub returns-clause-part : goal.returns-clause-part
+returns-clause-part c = λ leaf is.
+    let says = leaf_says leaf c.args.octets.now is in
+    let done : length leaf.versions ≤ c.loop.counter = omega (arith, c.loop-test.false, c.number2-count.ensures.number, says.count_is) in
+    filtered_all (is_of c.args.key c.args.from (end_or c.args.end)) leaf.versions (versions_of c.loop.kept.items) c.loop.counter done (c.loop.invariant.kept leaf is)
