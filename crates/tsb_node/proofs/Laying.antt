@@ -1,5 +1,5 @@
 -- Octets that are laid over others.
-use Rattle.std.proofs.Common.{◌≡◌, ℕ, zero, suc, ◌+◌, ◌-◌, ◌≤◌, List, [], ◌∷◌, ◌++◌, length, take, drop, replicate, None, refl, sym, ap, ◌∙◌, append_assoc, arith}
+use Rattle.std.proofs.Common.{◌≡◌, ℕ, zero, suc, ◌+◌, ◌-◌, ◌≤◌, ◌<◌, ◌^◌, List, [], ◌∷◌, ◌++◌, length, take, drop, replicate, Option, None, refl, sym, ap, ◌∙◌, append_assoc, arith}
 use Rattle.std.specs.List.{flat_map, AllByRecursion}
 use Rattle.std.proofs.lemmas.List.{append-nil, length-append, length-take, length-drop, length-replicate, take_at, drop_at}
 use Rattle.std.proofs.lemmas.Grind.{flat_map-append}
@@ -9,7 +9,9 @@ use Rattle.tsb_node.specs.Nodes.{header, body, seconds, IsBounds}
 use Rattle.version_model.specs.declared.bounds.Bounds.{Bounds}
 use Rattle.tsb_node.specs.Leaves.{LeafNode, IsLeaf, IsLeafPage, entry, entries, tag, value_octets, IsVersionOf}
 use Rattle.tsb_node.specs.inner.Laying.{laid}
-use Rattle.tsb_node.specs.Pushing.{with_version}
+use Rattle.tsb_node.specs.Pushing.{with_version, version}
+use Rattle.tsb_node.specs.Children.{IsKeyWithin}
+use Rattle.route_model.specs.Octets.{AreOctets}
 use Rattle.tsb_node.proofs.NumberLaws.{octets_of-size, drop_twice}
 use Rattle.tsb_node.proofs.Leaves.{header-size, bound_octets-size}
 use Rattle.std.proofs.lemmas.Option.{none-some}
@@ -238,3 +240,7 @@ laid_all o old same = ap (λ (t : List ℕ). o ++ t) (drop_over (0 + length o) o
     drop_over zero (x ∷ xs) le = absurd (omega (arith, le))
     drop_over (suc n) [] le = refl
     drop_over (suc n) (x ∷ xs) le = drop_over n xs (omega (arith, le))
+
+-- a version of a key within the bounds, of what the types say of its parts
+pub version_valid : (b : Bounds) (key stamp : ℕ) (value : Option (List ℕ)) → IsKeyWithin b key → key < 256 ^ 40 → stamp < 256 ^ 16 → length (value_octets value) ≤ 3072 → AreOctets (value_octets value) → IsVersionOf b (version key stamp value)
+version_valid b key stamp value within fits in_time short each = record { key = fits; low = within.low; high = within.high; stamp = in_time; size = short; octets = each }

@@ -14,3 +14,4 @@ pub mod WritingLaws
 pub mod SplittingLaws
 pub mod Nexting
 pub mod Parting
+pub mod WholeLeaves

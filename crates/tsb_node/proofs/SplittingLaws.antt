@@ -102,7 +102,7 @@ key_of_entry b v bytes is e =
     let r = entry_read b v [] is in
     ap (number_in 40 0) (e ∙ sym (append-nil (entry v))) ∙ sym (key_said (entry v ++ [])) ∙ ap (λ (w : Version). w.key) r.is
 
-take_version : (vs : List Version) (n : ℕ) (v : Version) → slice_get vs n ≡ Some v → take (n + 1) vs ≡ take n vs ++ v ∷ []
+pub take_version : (vs : List Version) (n : ℕ) (v : Version) → slice_get vs n ≡ Some v → take (n + 1) vs ≡ take n vs ++ v ∷ []
 take_version [] n v e = absurd (none-some v e)
 take_version (w ∷ vs) zero v e = ap (λ (x : Version). x ∷ []) (same_Some w v e)
 take_version (w ∷ vs) (suc n) v e = ap (λ (k : ℕ). take k (w ∷ vs)) (let z : suc n + 1 ≡ suc (n + 1) = omega arith in z) ∙ ap (λ (t : List Version). w ∷ t) (take_version vs n v e)

@@ -29,9 +29,11 @@ part_kind ColumnBlock = 2
 abbrev pub place_octets : ℕ → ℕ → ℕ → List ℕ
 place_octets start kind number = octets_of 16 start ++ (kind ∷ []) ++ octets_of 8 number
 
+-- a part in octets
 unfoldable pub part_octets : Part → List ℕ
 part_octets p = place_octets p.start (part_kind p.kind) p.block
 
+-- the current leaf in octets: kind 0, and its page
 unfoldable pub current_octets : Current → List ℕ
 current_octets c = place_octets c.start 0 c.page
 
@@ -45,6 +47,7 @@ abbrev pub BeginsAt : ℕ → List ℕ → Type 0
 BeginsAt start [] = ⊥
 BeginsAt start (n ∷ rest) = n ≡ start
 
+-- the stamps where parts start
 abbrev pub starts_of : List Part → List ℕ
 starts_of [] = []
 starts_of (p ∷ rest) = p.start ∷ starts_of rest
@@ -74,9 +77,11 @@ pub record IsOldColumn (c : OldColumnNode) : Type 0 where
   pub before_end : IfSome c.bounds.end (λ end. AllByRecursion (λ p. p.start < end) c.parts)
   pub fits : 25 * length c.parts ≤ 16232
 
+-- the octets of a column's page but for the last 32: a node of kind 2 and level 1, the current leaf behind the parts
 abbrev pub column_body : ColumnNode → List ℕ
 column_body c = body 2 1 (length c.parts + 1) c.bounds (flat_map part_octets c.parts ++ current_octets c.current)
 
+-- the octets of a column's block but for the last 32
 abbrev pub old_column_body : OldColumnNode → List ℕ
 old_column_body c = body 2 1 (length c.parts) c.bounds (flat_map part_octets c.parts)
 

@@ -7,14 +7,17 @@ use Rattle.version_model.specs.declared.bounds.Bounds.{Bounds}
 use Rattle.tsb_node.specs.Columns.{BeginsAt, AreAscending}
 use Rattle.version_model.specs.declared.child.Child.{Child}
 
+-- a key node: its level, its keys, and its children
 pub record KeyNode : Type 0 where
   pub level : ℕ
   pub bounds : Bounds
   pub children : List Child
 
+-- a child in octets: its lowest key, and its page
 unfoldable pub child_octets : Child → List ℕ
 child_octets c = octets_of 40 c.low ++ octets_of 8 c.page
 
+-- the lowest keys of children
 abbrev pub lows_of : List Child → List ℕ
 lows_of [] = []
 lows_of (c ∷ rest) = c.low ∷ lows_of rest
@@ -36,6 +39,7 @@ pub record IsKeyNode (k : KeyNode) : Type 0 where
   pub rising : AreAscending (lows_of k.children)
   pub fits : 48 * length k.children ≤ 16232
 
+-- the octets of a key node but for the last 32: a node of kind 3
 abbrev pub key_node_body : KeyNode → List ℕ
 key_node_body k = body 3 k.level (length k.children) k.bounds (flat_map child_octets k.children)
 

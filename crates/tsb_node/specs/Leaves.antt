@@ -7,6 +7,7 @@ use Rattle.version_model.specs.Versions.{Version, IsRising}
 use Rattle.tsb_node.specs.Nodes.{IsBounds, body, IsInPage, IsInBlock}
 use Rattle.version_model.specs.declared.bounds.Bounds.{Bounds}
 
+-- a leaf: its keys and stamps, and its versions
 pub record LeafNode : Type 0 where
   pub bounds : Bounds
   pub versions : List Version
@@ -45,6 +46,7 @@ pub record IsLeaf (leaf : LeafNode) : Type 0 where
   pub rising : IsRising leaf.versions
   pub fits : length (entries leaf.versions) ≤ 16232
 
+-- the octets of a leaf but for the last 32: a node of kind 1 and level 0
 abbrev pub leaf_body : LeafNode → List ℕ
 leaf_body leaf = body 1 0 (length leaf.versions) leaf.bounds (entries leaf.versions)
 

@@ -11,4 +11,5 @@ pub mod Children
 pub mod Parts
 pub mod Splitting
 pub mod Nexts
+pub mod Saying
 pub mod inner

@@ -37,10 +37,12 @@ abbrev pub IsSpot : ColumnNode → ℕ → Spot → Type 0
 IsSpot column stamp (InPage current) = (current ≡ column.current) × (column.current.start ≤ stamp)
 IsSpot column stamp (InBlock found) = IsPartAt column.parts column.current.start stamp found
 
+-- the same, and a refusal nowhere
 abbrev pub IsSpotOr : {E : Type 0} → ColumnNode → ℕ → Result Spot E → Type 0
 IsSpotOr column stamp (Ok spot) = IsSpot column stamp spot
 IsSpotOr column stamp (Err e) = ⊥
 
+-- the same of a part, and a refusal nowhere
 abbrev pub IsPartAtOr : {E : Type 0} → List Part → ℕ → ℕ → Result PartAt E → Type 0
 IsPartAtOr parts end stamp (Ok found) = IsPartAt parts end stamp found
 IsPartAtOr parts end stamp (Err e) = ⊥

@@ -2,15 +2,16 @@
 
 ghost use Rattle.std.specs.Prelude.{None, []};
 ghost use Rattle.tsb_node.specs.Nodes.{IsBounds};
+ghost use Rattle.tsb_node.specs.Children.{IsKeyWithin};
 ghost use Rattle.version_model.specs.Versions.{IsAbove};
 ghost use Rattle.tsb_node.specs.Pushing.{version, PushedTo, StaysUnlessPushed};
 ghost use Rattle.std.specs.Prelude.{◌≡◌, ◌≤◌, ◌+◌, length, option_map, IfSome, IfNone, IfOk, IfErr};
-ghost use Rattle.tsb_node.specs.Leaves.{LeafNode, BeginsAsLeaf, IsLeafPage, IsVersionOf, value_octets};
+ghost use Rattle.tsb_node.specs.Leaves.{LeafNode, BeginsAsLeaf, IsLeafPage, value_octets};
 ghost use Rattle.tsb_node.specs.Finding.{FindsOrRefuses};
 ghost use Rattle.tsb_node.specs.inner.Scanning.{IsLast, IsBroken, IsWhole};
 ghost use Rattle.tsb_node.specs.inner.Reading.{value_size, version_in, versions_in};
 
-use crate::numbers::{key_at, number2, stamp_at};
+use crate::numbers::{key_at, key_fits, number2, stamp_at, stamp_fits};
 use crate::writing::{clear, octets_in, put_entry, put_header, two_octets};
 use disk_models::Page;
 use route_model::Key;
@@ -144,10 +145,12 @@ pub const ROOM: usize = 16_232;
 /// there.
 pub fn push(page: &mut Page, key: Key, stamp: Stamp, value: Option<&[u8]>) -> Result<bool, NotANode>
     requires short { length (value_octets (option_map (λ x. x.now) value)) ≤ 3072 }
-    ensures pushed { (leaf : LeafNode) → IsLeafPage leaf page.old → IsVersionOf leaf.bounds (version key stamp (option_map (λ x. x.now) value.entry)) → IsAbove leaf.versions stamp
+    ensures pushed { (leaf : LeafNode) → IsLeafPage leaf page.old → IsKeyWithin leaf.bounds key → IsAbove leaf.versions stamp
         → PushedTo leaf (version key stamp (option_map (λ x. x.now) value.entry)) page.new result }
     ensures stays { StaysUnlessPushed page.old page.new result }
 {
+    key_fits(key);
+    stamp_fits(stamp);
     let count = number2(page.octets(), 4);
     let used = number2(page.octets(), 6) as usize;
     let size = 59 + octets_in(value).len();

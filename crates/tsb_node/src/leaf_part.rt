@@ -107,3 +107,22 @@ pub fn part(
     }
     Ok(kept)
 }
+
+/// The entries of the leaf that begins these octets. Refused as no node only where they aren't a leaf, and not always there.
+pub fn entries_in(alloc: Global, octets: &[u8]) -> Result<Vec<Entry>, ReadFault>
+    requires size { length octets.now ≡ 16384 }
+    ensures entries { IfOk result (λ all. (leaf : LeafNode) → BeginsAsLeaf leaf octets.now → versions_of all.items ≡ leaf.versions) }
+    ensures refused { (leaf : LeafNode) → BeginsAsLeaf leaf octets.now → result ≡ Err ReadFault.NotANode → ⊥ }
+{
+    let count = number2(octets, 4);
+    let mut rest = octets.split_at(LAST).0.split_at(FIRST).1;
+    let mut kept = Vec::new(alloc);
+    for _ in 0..count {
+        let Some(size) = entry_size(rest) else {
+            return Err(ReadFault::NotANode);
+        };
+        keep(&mut kept, entry_of(alloc, rest)?)?;
+        rest = rest.split_at(size).1;
+    }
+    Ok(kept)
+}

@@ -2,6 +2,7 @@
 
 ghost use Rattle.std.specs.Prelude.{◌≡◌, ◌≤◌, ◌+◌, length, option_map};
 ghost use Rattle.tsb_node.specs.Numbers.{octets_of, bound_octets};
+ghost use Rattle.route_model.specs.Octets.{AreOctets};
 ghost use Rattle.tsb_node.specs.Leaves.{tag, value_octets, entry};
 ghost use Rattle.tsb_node.specs.inner.Laying.{laid};
 ghost use Rattle.tsb_node.specs.Pushing.{version};
@@ -60,12 +61,23 @@ fn tag_of(value: Option<&[u8]>) -> u8
     }
 }
 
+/// The count of the octets, each of which is one.
+fn each_octet(octets: &[u8]) -> usize
+    ensures { AreOctets octets.now }
+{
+    octets.len()
+}
+
 /// The octets of a value; an end has none.
 pub fn octets_in<'a>(value: Option<&'a [u8]>) -> &'a [u8]
-    ensures { result.now ≡ value_octets (option_map (λ x. x.now) value.entry) }
+    ensures value { result.now ≡ value_octets (option_map (λ x. x.now) value.entry) }
+    ensures octets { AreOctets result.now }
 {
     match value {
-        Some(octets) => octets,
+        Some(octets) => {
+            let _count = each_octet(octets);
+            octets
+        }
         None => &[],
     }
 }

@@ -8,7 +8,7 @@ pub returns : goal.returns
 returns c =
     let at = c.args.at in
     let old = c.args.page.now in
-    let o = c.octets_in-octets.ensures in
+    let o = c.octets_in-octets.ensures.value in
     let e1 = laid_is at c.key_octets.result old c.put.new.self c.put.ensures ∙ ap (λ (t : List ℕ). laid at t old) c.key_octets.ensures in
     let e2 = laid_is (at + 40) c.stamp_octets.result c.put.new.self c.put-2.new.self c.put-2.ensures ∙ ap (λ (t : List ℕ). laid (at + 40) t c.put.new.self) c.stamp_octets.ensures
     ∙ ap (laid (at + 40) (octets_of 16 c.args.stamp)) e1 in
