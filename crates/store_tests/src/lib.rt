@@ -1,5 +1,7 @@
-//! Tests of version_model: leaves in memory, split in all ways, beside a plain scan of a table.
+//! Tests of version_model and tsb_node: leaves in memory, split in all ways, beside a plain scan of a table; nodes built by hand.
 #![tactic(auto)]
 
 #[cfg(test)]
 mod leaves;
+#[cfg(test)]
+mod nodes;
