@@ -1,18 +1,14 @@
 -- Looking for the next key over the entries of a leaf.
-use Rattle.std.proofs.Common.{◌≡◌, ℕ, ◌+◌, ◌<◌, ◌≤◌, ◌++◌, List, length, take, Option, Some, None, Bool, true, false, slice_get, refl, sym, ap, subst, ◌∙◌, arith}
+use Rattle.std.proofs.Common.{◌≡◌, ℕ, ◌++◌, List, Option, Some, None, Bool, true, false, refl, sym, ap, ◌∙◌}
 use Rattle.std.specs.Option.{is_some}
-use Rattle.version_model.specs.Versions.{Version, AsOf, Answers, IsRising}
-use Rattle.version_model.specs.Looks.{IsLive}
-use Rattle.version_model.specs.inner.Lower.{IsLower}
-use Rattle.version_model.proofs.api.AsOfs.{no_answer, dead_of, live_of}
-use Rattle.version_model.proofs.api.Least.{LeastBelow, LeastBelow-yes, LeastBelow-no}
+use Rattle.version_model.specs.Versions.{Version, AsOf, IsRising}
+use Rattle.version_model.proofs.api.AsOfs.{dead_of, live_of}
 use Rattle.tsb_node.specs.declared.leaf.Found.{Found}
-use Rattle.tsb_node.specs.Leaves.{LeafNode, BeginsAsLeaf, entry}
+use Rattle.tsb_node.specs.Leaves.{LeafNode, entry}
 use Rattle.tsb_node.specs.Finding.{version_found}
 use Rattle.tsb_node.specs.Nexts.{TellsLive}
 use Rattle.tsb_node.specs.inner.Fields.{number_in}
-use Rattle.tsb_node.specs.inner.Reading.{value_size, area, after}
-use Rattle.tsb_node.proofs.SplittingLaws.{next_version, IsNext, key_of_entry}
+use Rattle.tsb_node.proofs.SplittingLaws.{IsNext}
 use Rattle.tsb_node.proofs.Entries.{entry_read}
 use Rattle.tsb_node.proofs.Scanning.{key_said}
 

@@ -1,7 +1,7 @@
 -- What is kept of the entries of a leaf.
-use Rattle.std.proofs.Common.{◌≡◌, ℕ, zero, suc, ◌+◌, ◌<◌, ◌≤◌, ◌++◌, ◌∷◌, [], List, length, take, drop, append_assoc, refl, Some, slice_get, sym, ap, subst, ◌∙◌, arith}
+use Rattle.std.proofs.Common.{◌≡◌, ℕ, zero, suc, ◌+◌, ◌≤◌, ◌++◌, ◌∷◌, [], List, length, drop, append_assoc, refl, Some, slice_get, sym, ap, ◌∙◌, arith}
 use Rattle.version_model.specs.Versions.{Version}
-use Rattle.tsb_node.specs.Leaves.{LeafNode, entry}
+use Rattle.tsb_node.specs.Leaves.{LeafNode}
 use Rattle.tsb_node.specs.inner.Reading.{version_in}
 use Rattle.tsb_node.proofs.SplittingLaws.{IsNext}
 use Rattle.std.proofs.lemmas.List.{map-append, append-nil}

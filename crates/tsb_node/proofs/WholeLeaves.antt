@@ -1,13 +1,12 @@
 -- A leaf that is written version by version.
 use Rattle.std.proofs.Common.{◌≡◌, ℕ, zero, suc, ◌+◌, ◌<◌, ◌≤◌, List, [], ◌∷◌, ◌++◌, length, take, drop, Some, slice_get, refl, sym, ap, subst, ◌∙◌, arith}
 use Rattle.std.specs.List.{AllByRecursion}
-use Rattle.std.proofs.lemmas.List.{length-append, take-append-drop, length-map, length-take}
-use Rattle.std.proofs.lemmas.Option.{same_Some, none-some, slice_get-map, slice_get_read, slice_get_within}
+use Rattle.std.proofs.lemmas.List.{length-append, take-append-drop}
+use Rattle.std.proofs.lemmas.Option.{same_Some, none-some, slice_get-map, slice_get_read}
 use Rattle.std.specs.Option.{option_map}
 use Rattle.std.proofs.Common.{get_or}
 use Rattle.version_model.specs.declared.entry.Entry.{Entry}
-use Rattle.version_model.specs.declared.bounds.Bounds.{Bounds}
-use Rattle.version_model.specs.Versions.{Version, Has, IsRising, IsAbove}
+use Rattle.version_model.specs.Versions.{Version, IsAbove}
 use Rattle.version_model.specs.Entries.{version_of, versions_of}
 use Rattle.tsb_node.specs.Leaves.{LeafNode, IsLeaf, IsVersionOf, entry, entries}
 use Rattle.tsb_node.specs.Children.{IsKeyWithin}

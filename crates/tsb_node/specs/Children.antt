@@ -1,6 +1,5 @@
 -- Which child of a key node a key lies under.
-use Rattle.std.specs.Prelude.{◌≡◌, ℕ, zero, suc, ◌≤◌, ◌<◌, List, [], ◌∷◌, ◌++◌, drop, slice_get, Option, Some, None, IfSome, Result, Ok, Err}
-use Rattle.tsb_node.specs.inner.Fields.{number_in}
+use Rattle.std.specs.Prelude.{◌≡◌, ℕ, suc, ◌≤◌, ◌<◌, List, ◌++◌, slice_get, Option, Some, None, IfSome, Result, Ok, Err}
 use Rattle.version_model.specs.declared.bounds.Bounds.{Bounds}
 use Rattle.version_model.specs.declared.child.Child.{Child}
 use Rattle.tsb_node.specs.declared.key_node.Under.{Under}

@@ -1,7 +1,6 @@
 -- What a look-up in a leaf finds.
-use Rattle.std.specs.Prelude.{◌≡◌, ℕ, ◌+◌, ◌<◌, ◌≤◌, List, length, slice_get, Option, Some, None, Result, Ok, Err}
+use Rattle.std.specs.Prelude.{ℕ, List, Option, Some, None, Result, Ok, Err}
 use Rattle.version_model.specs.Versions.{Version, AsOf}
-use Rattle.tsb_node.specs.inner.Reading.{value_size, version_in, after}
 use Rattle.tsb_node.specs.declared.leaf.Found.{Found}
 
 -- what was found of a key, as a version

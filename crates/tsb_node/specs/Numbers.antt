@@ -1,7 +1,6 @@
 -- Numbers in octets, in network order.
-use Rattle.std.specs.Prelude.{ℕ, List, take, drop, replicate, Option, Some, None}
+use Rattle.std.specs.Prelude.{ℕ, List, replicate, Option, Some, None}
 use Rattle.byteorder.specs.Endian.{big_bytes}
-use Rattle.route_model.specs.Keys.{number_of}
 
 -- a number in so many octets
 unfoldable pub octets_of : ℕ → ℕ → List ℕ

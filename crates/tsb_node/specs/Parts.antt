@@ -1,6 +1,5 @@
 -- Where a column has its versions at a stamp.
-use Rattle.std.specs.Prelude.{◌≡◌, ℕ, suc, ◌*◌, ◌⊎◌, ◌≤◌, ◌<◌, List, ◌++◌, slice_get, Option, Some, None, Result, Ok, Err}
-use Rattle.tsb_node.specs.inner.Fields.{number_in}
+use Rattle.std.specs.Prelude.{◌≡◌, ℕ, suc, ◌≤◌, ◌<◌, List, ◌++◌, slice_get, Option, Some, None, Result, Ok, Err}
 use Rattle.version_model.specs.declared.part.Part.{Part}
 use Rattle.tsb_node.specs.declared.column.Spot.{Spot}
 use Rattle.tsb_node.specs.declared.column.Spot.TheVariants.{InPage, InBlock}

@@ -1,5 +1,5 @@
 -- What writes in a node leave.
-use Rattle.std.specs.Prelude.{◌≡◌, ℕ, ◌+◌, ◌<◌, Bool, true, false, List, [], ◌∷◌, ◌++◌, length, take, drop, Option, Result, Ok, Err}
+use Rattle.std.specs.Prelude.{◌≡◌, ℕ, ◌+◌, ◌<◌, Bool, true, false, List, [], ◌∷◌, ◌++◌, length, Option, Result, Ok, Err}
 use Rattle.version_model.specs.Versions.{Version}
 use Rattle.tsb_node.specs.Leaves.{LeafNode, IsLeafPage, entry, entries}
 

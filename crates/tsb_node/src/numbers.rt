@@ -44,13 +44,9 @@ pub fn key_at(octets: &[u8], place: usize) -> Key
 /// A key is a number of forty octets: what a caller says of bounds and versions that it makes.
 pub fn key_fits(key: Key)
     ensures fits { key < 256 ^ 40 }
-{
-    let _octets = key.to_octets();
-}
+{}
 
 /// A stamp is a number of sixteen octets.
 pub fn stamp_fits(stamp: Stamp)
     ensures fits { stamp < 256 ^ 16 }
-{
-    let _number = stamp.number();
-}
+{}

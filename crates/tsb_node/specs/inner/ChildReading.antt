@@ -1,10 +1,7 @@
 -- What octets say of a key node where they are one.
-use Rattle.std.specs.Prelude.{◌≡◌, ℕ, zero, suc, ◌≤◌, ◌<◌, List, [], ◌∷◌, ◌++◌, drop, slice_get, Option, Some, None, IfSome, Result, Ok, Err}
+use Rattle.std.specs.Prelude.{ℕ, zero, suc, List, [], ◌∷◌, drop}
 use Rattle.tsb_node.specs.inner.Fields.{number_in}
-use Rattle.version_model.specs.declared.bounds.Bounds.{Bounds}
 use Rattle.version_model.specs.declared.child.Child.{Child}
-use Rattle.tsb_node.specs.declared.key_node.Under.{Under}
-use Rattle.tsb_node.specs.KeyNodes.{KeyNode, IsKeyNode, key_node_body}
 
 -- the child at the front
 unfoldable pub child_in : List ℕ → Child

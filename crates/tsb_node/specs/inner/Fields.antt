@@ -1,6 +1,5 @@
 -- The number in a field of a node.
-use Rattle.std.specs.Prelude.{ℕ, List, take, drop, replicate, Option, Some, None}
-use Rattle.byteorder.specs.Endian.{big_bytes}
+use Rattle.std.specs.Prelude.{ℕ, List, take, drop}
 use Rattle.route_model.specs.Keys.{number_of}
 
 -- the number that stands in so many octets from a place on

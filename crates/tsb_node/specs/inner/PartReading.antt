@@ -1,11 +1,6 @@
 -- How a look-up goes over the entries of a column.
-use Rattle.std.specs.Prelude.{◌≡◌, ℕ, suc, ◌*◌, ◌⊎◌, ◌≤◌, ◌<◌, List, ◌++◌, slice_get, Option, Some, None, Result, Ok, Err}
+use Rattle.std.specs.Prelude.{◌≡◌, ℕ, suc, ◌*◌, ◌⊎◌, ◌≤◌, ◌<◌, List}
 use Rattle.tsb_node.specs.inner.Fields.{number_in}
-use Rattle.version_model.specs.declared.part.Part.{Part}
-use Rattle.tsb_node.specs.declared.column.Spot.{Spot}
-use Rattle.tsb_node.specs.declared.column.Spot.TheVariants.{InPage, InBlock}
-use Rattle.tsb_node.specs.declared.column.PartAt.{PartAt}
-use Rattle.tsb_node.specs.Columns.{ColumnNode, OldColumnNode, IsColumn, IsOldColumn, column_body, old_column_body}
 
 -- where the i-th entry starts
 abbrev pub start_at : ℕ → List ℕ → ℕ

@@ -1,8 +1,7 @@
 -- How a look-up goes over the entries of a leaf.
-use Rattle.std.specs.Prelude.{◌≡◌, ℕ, ◌+◌, ◌<◌, ◌≤◌, List, length, slice_get, Option, Some, None, Result, Ok, Err}
-use Rattle.version_model.specs.Versions.{Version, AsOf}
+use Rattle.std.specs.Prelude.{◌≡◌, ℕ, ◌+◌, ◌<◌, ◌≤◌, List, length, slice_get, Option, Some, None}
+use Rattle.version_model.specs.Versions.{Version}
 use Rattle.tsb_node.specs.inner.Reading.{value_size, version_in, after}
-use Rattle.tsb_node.specs.declared.leaf.Found.{Found}
 
 -- the version is of the key, and not after the stamp
 pub record Counts (key s : ℕ) (v : Version) : Type 0 where

@@ -1,7 +1,7 @@
-use Rattle.std.proofs.Common.{arith, ◌≡◌, ◌∙◌, ◌<◌, ◌≤◌, ◌+◌, ℕ, List, length, take, drop, ap, sym, subst, refl}
-use Rattle.version_model.specs.Entries.{versions_of, version_of}
+use Rattle.std.proofs.Common.{arith, ◌≡◌, ◌∙◌, ◌<◌, ◌≤◌, ℕ, length, drop, ap, sym, subst, refl}
+use Rattle.version_model.specs.Entries.{versions_of}
 use Rattle.tsb_node.specs.Leaves.{LeafNode, BeginsAsLeaf}
-use Rattle.tsb_node.specs.inner.Reading.{area, version_in}
+use Rattle.tsb_node.specs.inner.Reading.{area}
 use Rattle.tsb_node.specs.inner.Scanning.{IsWhole}
 use Rattle.tsb_node.proofs.Leaves.{leaf_says}
 use Rattle.tsb_node.proofs.Scanning.{scan_on, broken_none}

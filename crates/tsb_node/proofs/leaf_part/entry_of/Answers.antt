@@ -1,4 +1,4 @@
-use Rattle.std.proofs.Common.{◌≡◌, ◌∙◌, sym, ap, ℕ, List, Vec, Global, Some}
+use Rattle.std.proofs.Common.{◌≡◌, ◌∙◌, sym, ap, ℕ, Vec, Global}
 use Rattle.std.specs.Option.{option_map}
 use Rattle.tsb_node.specs.inner.Reading.{version_in}
 use Rattle.tsb_node.proofs.Scanning.{key_said, stamp_said, value_said, value_none, value_some}

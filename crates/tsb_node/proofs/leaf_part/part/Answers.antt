@@ -1,6 +1,6 @@
-use Rattle.std.proofs.Common.{arith, ◌≡◌, ◌∙◌, ◌<◌, ◌≤◌, ◌+◌, ℕ, List, length, take, drop, ap, sym, subst, refl, filter}
+use Rattle.std.proofs.Common.{arith, ◌≡◌, ◌∙◌, ◌<◌, ◌≤◌, ℕ, length, drop, ap, sym, subst, refl}
 use Rattle.std.proofs.lemmas.Bool.{both_ways}
-use Rattle.version_model.specs.Entries.{versions_of, version_of}
+use Rattle.version_model.specs.Entries.{versions_of}
 use Rattle.version_model.specs.Ranges.{end_or}
 use Rattle.version_model.specs.Looks.{is_of}
 use Rattle.version_model.proofs.api.Least.{filtered_yes, filtered_no, filtered_all}

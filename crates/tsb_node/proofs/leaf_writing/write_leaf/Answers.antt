@@ -1,8 +1,7 @@
-use Rattle.std.proofs.Common.{arith, ◌≡◌, ◌∙◌, ◌+◌, ◌<◌, ◌++◌, ◌∷◌, [], List, Some, length, take, ap, sym, subst, slice_get}
-use Rattle.std.specs.Option.{option_map}
+use Rattle.std.proofs.Common.{arith, ◌∙◌, ◌++◌, ◌∷◌, [], List, length, take, ap, sym, subst}
 use Rattle.version_model.specs.Versions.{Version}
 use Rattle.version_model.specs.Entries.{versions_of, version_of}
-use Rattle.tsb_node.specs.Leaves.{LeafNode, IsLeafPage, value_octets, entry, entries}
+use Rattle.tsb_node.specs.Leaves.{LeafNode, IsLeafPage, value_octets, entry}
 use Rattle.tsb_node.specs.Pushing.{version}
 use Rattle.tsb_node.proofs.SplittingLaws.{take_version}
 use Rattle.tsb_node.proofs.WholeLeaves.{version_read, whole_valid, whole_within, whole_above, whole_fits}
