@@ -1,7 +1,6 @@
 -- The versions that entries say.
 use Rattle.std.proofs.Common.{◌≡◌, ℕ, ◌+◌, ◌<◌, List, [], ◌∷◌, ◌++◌, length, get_or, Option, Some, None, IsSome, slice_get, refl, sym, ◌∙◌, ap, subst, arith, inl, inr, Bor, Vec, Global, IsTrue, true, false, eqb, eq-eqb}
-use Rattle.version_model.specs.Versions.{Version, Has, AsOf, found_at, found_version, Answers, IsRising}
-use Rattle.version_model.specs.Looks.{IsLive}
+use Rattle.version_model.specs.Versions.{Version, AsOf, IsRising}
 use Rattle.version_model.specs.Entries.{version_of, versions_of}
 use Rattle.std.specs.Option.{option_map, is_some}
 use Rattle.std.proofs.lemmas.Bool.{cases_order, eqb-true}

@@ -1,13 +1,10 @@
 -- The version as of a stamp, and what a look-up answers by it.
-use Rattle.std.proofs.Common.{◌≡◌, ℕ, ◌+◌, ◌<◌, List, [], ◌∷◌, ◌++◌, length, get_or, Option, Some, None, IsSome, slice_get, refl, sym, ◌∙◌, ap, subst, arith, inl, inr, Bor, Vec, Global, IsTrue, true, false, eqb, eq-eqb}
+use Rattle.std.proofs.Common.{◌≡◌, ℕ, List, Option, Some, None, IsSome, slice_get, sym, ◌∙◌, ap, subst, arith, inl, inr, true, false}
 use Rattle.version_model.specs.Versions.{Version, Has, AsOf, found_at, found_version, Answers, IsRising}
 use Rattle.version_model.specs.Looks.{IsLive}
-use Rattle.version_model.specs.Entries.{version_of, versions_of}
 use Rattle.std.specs.Option.{option_map, is_some}
-use Rattle.std.proofs.lemmas.Bool.{cases_order, eqb-true}
-use Rattle.std.proofs.lemmas.List.{length-map, map-append}
-use Rattle.std.proofs.lemmas.Option.{slice_get-map, slice_get_read, slice_get_within, same_Some}
-use Rattle.version_model.specs.declared.entry.Entry.{Entry}
+use Rattle.std.proofs.lemmas.Bool.{cases_order}
+use Rattle.std.proofs.lemmas.Option.{same_Some}
 
 -- rising versions with one stamp are one
 pub same_stamp : (vs : List Version) (v w : Version) → IsRising vs → Has vs v → Has vs w → v.stamp ≡ w.stamp → v ≡ w
