@@ -1,0 +1,93 @@
+-- What a cache keeps after its calls.
+use Rattle.std.proofs.Common.{◌≡◌, ℕ, true, false, ◌⊎◌, List, [], ◌∷◌, Option, Some, None, nat_eq, is_some, IsSome, IfSome, OnOk, OnErr, Result, Ok, Err, IfNone, Bor, refl, sym, ap, ◌∙◌, subst, inl, inr}
+use Rattle.std.specs.List.{AllByRecursion, Contains}
+use Rattle.std.specs.Option.{option_map_or, option_copied}
+use Rattle.std.specs.Map.{lookup, lookup_entry, remove_entry}
+use Rattle.std.specs.Cmp.{nat_eq_equiv}
+use Rattle.std.proofs.lemmas.Bool.{eqb-true, eq-eqb, false≢true}
+use Rattle.lru.specs.LruCache.{LruCache, lru_cache, promoted, put_entries}
+use Rattle.lru.proofs.Splits.{Contains-head, Contains-tail, Contains-cons, Contains-nil}
+use Rattle.lru.proofs.CallerLemmas.{Contains-lookup, Contains-lookup_entry, Contains-promoted, Contains-put_entries, lookup-put_entries}
+
+pub all_of : {X : Type 0} (P : X → Type 0) (xs : List X) → ((x : X) → Contains xs x → P x) → AllByRecursion P xs
+all_of P [] f = tt
+all_of P (x ∷ xs) f = (f x (Contains-head x xs), all_of P xs (λ y c. f y (Contains-tail x xs y c)))
+
+pub in_all : {X : Type 0} (P : X → Type 0) (xs : List X) (x : X) → AllByRecursion P xs → Contains xs x → P x
+in_all P [] x a c = absurd (Contains-nil x c)
+in_all P (y ∷ xs) x a c = elim (Contains-cons y xs x c) [ inl e ↦ subst P e a.0 | inr d ↦ in_all P xs x a.1 d ]
+
+abbrev Pairs : Type 0
+Pairs = List (ℕ × List ℕ)
+
+none_found : (n : ℕ) (es : Pairs) → lookup_entry (nat_eq n) es ≡ None → is_some (lookup (nat_eq n) es) ≡ false
+none_found n [] e = refl
+none_found n (f ∷ es) e = (elim (nat_eq n f.0) as (λ y. nat_eq n f.0 ≡ y → is_some (lookup (nat_eq n) (f ∷ es)) ≡ false) [
+  | true ↦ λ t. let e' = rw t at e in cc
+  | false ↦ λ t. rw t (none_found n es (rw t at e))
+]) refl
+
+-- what is found is first once it was touched
+pub touched : (n : ℕ) (es : Pairs) → is_some (lookup (nat_eq n) es) ≡ true → (block : List ℕ) × Contains (promoted (nat_eq n) es) (n, block)
+touched n es found = by (lookup_entry (nat_eq n) es) refl
+  where
+    by : (o : Option (ℕ × List ℕ)) → lookup_entry (nat_eq n) es ≡ o → (block : List ℕ) × Contains (option_map_or (λ f. f ∷ remove_entry (nat_eq n) es) o es) (n, block)
+    by None e = absurd (false≢true (sym (none_found n es e) ∙ found))
+    by (Some f) e =
+        let same : n ≡ f.0 = eqb-true n f.0 (Contains-lookup_entry (nat_eq n) es f e).1 in
+        (f.1, subst (λ (k : ℕ). Contains (f ∷ remove_entry (nat_eq n) es) (k, f.1)) (sym same) (Contains-head f (remove_entry (nat_eq n) es)))
+
+pub put_kept : (c : LruCache ℕ (List ℕ)) (n : ℕ) (block : List ℕ) → Contains (put_entries nat_eq c n block) (n, block)
+put_kept c n block =
+    let f = Contains-lookup (nat_eq n) (put_entries nat_eq c n block) block (lookup-put_entries nat_eq c n block nat_eq_equiv) in
+    let same : n ≡ f.0 = eqb-true n f.0 f.2 in
+    subst (λ (k : ℕ). Contains (put_entries nat_eq c n block) (k, block)) (sym same) f.1
+
+pub put_only : (c : LruCache ℕ (List ℕ)) (n : ℕ) (block : List ℕ) (m : ℕ) (other : List ℕ) → Contains (put_entries nat_eq c n block) (m, other) → Contains c.entries (m, other) ⊎ ((m ≡ n) × (other ≡ block))
+put_only c n block m other k = elim (Contains-put_entries nat_eq c n block (m, other) k) [
+  | inl old ↦ inl old
+  | inr p ↦ inr (elim p.1 [ inl e ↦ e | inr was ↦ sym (eqb-true n m was.2) ], p.0)
+]
+
+pub peeked : (n : ℕ) (es : Pairs) (r : Option (Bor (List ℕ))) → option_copied r ≡ lookup (nat_eq n) es → IfSome r (λ block. Contains es (n, block.now))
+peeked n es None e = tt
+peeked n es (Some b) e =
+    let f = Contains-lookup (nat_eq n) es b.now (sym e) in
+    let same : n ≡ f.0 = eqb-true n f.0 f.2 in
+    subst (λ (k : ℕ). Contains es (k, b.now)) (sym same) f.1
+
+-- what was read is what is known
+pub read_known : (known : ℕ → Option (List ℕ)) (n : ℕ) (into : List ℕ) → IsSome (known n) → ((block : List ℕ) → known n ≡ Some block → into ≡ block) → known n ≡ Some into
+read_known known n into some is = by (known n) refl some
+  where
+    by : (o : Option (List ℕ)) → known n ≡ o → IsSome o → known n ≡ Some into
+    by None e s = cc
+    by (Some block) e s = e ∙ ap Some (sym (is block e))
+
+-- what is looked for and isn't found isn't there
+pub not_peeked : (n : ℕ) (es : Pairs) (r : Option (Bor (List ℕ))) → option_copied r ≡ lookup (nat_eq n) es → IfNone r ((block : List ℕ) → Contains es (n, block) → ⊥)
+not_peeked n es (Some b) e = tt
+not_peeked n es None e = λ block c. absent es (sym e) block c
+  where
+    absent : (l : Pairs) → lookup (nat_eq n) l ≡ None → (block : List ℕ) → Contains l (n, block) → ⊥
+    absent [] h block c = Contains-nil (n, block) c
+    absent (f ∷ l) h block c = (elim (nat_eq n f.0) as (λ y. nat_eq n f.0 ≡ y → ⊥) [
+      | true ↦ λ t. let h' = rw t at h in cc
+      | false ↦ λ t. elim (Contains-cons f l (n, block) c) [
+        | inl same ↦ false≢true (sym t ∙ eq-eqb n f.0 (sym (ap (λ (p : ℕ × List ℕ). p.0) same)))
+        | inr d ↦ absent l (rw t at h) block d
+      ]
+    ]) refl
+
+-- each that is kept is whole after a put, done or refused
+pub put_all : {T E : Type 0} (P : ℕ × List ℕ → Type 0) (result : Result T E) (old new : LruCache ℕ (List ℕ)) (n : ℕ) (block : List ℕ) → OnOk result (new ≡ lru_cache (put_entries nat_eq old n block) old.cap) → OnErr result (new ≡ old) → AllByRecursion P old.entries → P (n, block) → AllByRecursion P new.entries
+put_all P (Ok r) old new n block ok err all one =
+    rw ok (all_of P (put_entries nat_eq old n block) (λ e k. elim (put_only old n block e.0 e.1 k) [
+      | inl was ↦ in_all P old.entries e all was
+      | inr is ↦ subst (λ (m : ℕ). P (m, e.1)) (sym is.0) (subst (λ (b : List ℕ). P (n, b)) (sym is.1) one)
+    ]))
+put_all P (Err r) old new n block ok err all one = rw err all
+
+-- what a cache keeps once an entry was promoted it kept before
+pub promoted_was : (n : ℕ) (old new : LruCache ℕ (List ℕ)) → new ≡ lru_cache (promoted (nat_eq n) old.entries) old.cap → (e : ℕ × List ℕ) → Contains new.entries e → Contains old.entries e
+promoted_was n old new same e k = Contains-promoted (nat_eq n) old.entries e (subst (λ (l : LruCache ℕ (List ℕ)). Contains l.entries e) same k)

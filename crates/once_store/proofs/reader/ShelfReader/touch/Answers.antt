@@ -1,0 +1,20 @@
+use Rattle.std.proofs.Common.{ℕ, List, subst, sym, ◌∙◌}
+use Rattle.std.specs.List.{Contains}
+use Rattle.lru.specs.LruCache.{LruCache}
+use Rattle.once_store.specs.Digests.{IsWhole}
+use Rattle.once_store.proofs.Kept.{all_of, in_all, touched, promoted_was}
+use Rattle.once_store.proofs.reader.ShelfReader.touch.Goals as goal
+
+pub invariant_of-self : goal.invariant_of-self
+invariant_of-self g c = record {
+  whole = all_of (λ e. IsWhole e.1) c.promote.new.self.entries (λ e k. in_all (λ e. IsWhole e.1) c.args.self.now.kept.entries e c.args.self.now.whole (promoted_was c.args.n c.args.self.now.kept c.promote.new.self c.promote.ensures.entries e k));
+}
+
+pub returns-clause-fewer : goal.returns-clause-fewer
+returns-clause-fewer g c = λ m block k. promoted_was c.args.n c.args.self.now.kept c.promote.new.self c.promote.ensures.entries (m, block) k
+
+pub returns-clause-kept : goal.returns-clause-kept
+returns-clause-kept g c = λ e.
+    let t = touched c.args.n c.args.self.now.kept.entries (sym c.promote.ensures.value ∙ e) in
+    let k = subst (λ (l : LruCache ℕ (List ℕ)). Contains l.entries (c.args.n, t.0)) (sym c.promote.ensures.entries) t.1 in
+    (t.0, k, in_all (λ e. IsWhole e.1) c.args.self.now.kept.entries (c.args.n, t.0) c.args.self.now.whole (promoted_was c.args.n c.args.self.now.kept c.promote.new.self c.promote.ensures.entries (c.args.n, t.0) k))

@@ -1,0 +1,20 @@
+-- What contracts say of a reader of blocks.
+use Rattle.std.specs.Prelude.{ℕ, List, Some, Contains, ◌≡◌}
+use Rattle.disk_models.specs.declared.once.OnceDisk.{Ghosts}
+use Rattle.once_store.specs.declared.reader.ShelfReader.{ShelfReader}
+
+-- its disk
+abbrev pub reader_disk : {O Pen Seen : Type 0} {device : Ghosts O Pen Seen} → ShelfReader O Pen Seen device → O
+reader_disk reader = reader.disk.value
+
+-- how many blocks it keeps at most
+abbrev pub capacity_of : {O Pen Seen : Type 0} {device : Ghosts O Pen Seen} → ShelfReader O Pen Seen device → ℕ
+capacity_of reader = reader.kept.cap
+
+-- it keeps this block under this number
+abbrev pub IsKept : {O Pen Seen : Type 0} {device : Ghosts O Pen Seen} → ShelfReader O Pen Seen device → ℕ → List ℕ → Type 0
+IsKept reader n block = Contains reader.kept.entries (n, block)
+
+-- each block that it keeps is the one that is known to be settled under its number
+abbrev pub KnowsKept : {O Pen Seen : Type 0} (device : Ghosts O Pen Seen) → ShelfReader O Pen Seen device → Seen → Type 0
+KnowsKept device reader seen = (n : ℕ) (block : List ℕ) → IsKept reader n block → device.known seen n ≡ Some block

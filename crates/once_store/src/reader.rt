@@ -1,0 +1,121 @@
+//! What reads blocks.
+ghost use Rattle.std.specs.Prelude.{◌≡◌, ◌<◌, ◌≤◌, ◌+◌, ◌↔◌, ◌⊎◌, IsTrue, ℕ, List, Some, None, Err, IfOk, OnOk, IfErr, IsErr, IsErrOf, IfSome, IfNone, IsSome, min};
+ghost use Rattle.std.specs.List.{AllByRecursion, AllByRecursion-prop};
+ghost use Rattle.std.proofs.Props.{props};
+ghost use Rattle.std.specs.NonZero.{non_zero_usize_get};
+ghost use Rattle.once_store.specs.Digests.{IsWhole};
+
+use crate::digest::is_whole;
+use crate::error::BlockError;
+use disk_models::{Block, OnceDisk};
+use lru::LruCache;
+use std::alloc::{AllocError, AllocFailed, Global};
+use std::num::NonZeroUsize;
+use std::sync::Arc;
+
+/// Reads blocks of a write-once disk, and keeps those that it read last. Each that it keeps carries its digest.
+///
+/// A reader stands on a `Seen` that knows the blocks which it keeps. One that was got later knows them too.
+#[derive(Drop)]
+pub struct ShelfReader<O: OnceDisk + Drop> {
+    disk: Arc<O>,
+    kept: LruCache<u64, Block>,
+    alloc: Global,
+    ghost whole: { AllByRecursion (λ entry. IsWhole entry.1) kept.entries } by { AllByRecursion-prop (λ entry. IsWhole entry.1) (λ entry. Prim.hlevel props) kept.entries },
+}
+
+impl<O: OnceDisk + Drop> ShelfReader<O> {
+    ghost use Rattle.once_store.specs.Readers.{IsKept, KnowsKept, capacity_of, reader_disk};
+
+    /// A reader of a disk that keeps at most so many blocks. It has read none.
+    pub(crate) fn new(
+        alloc: Global,
+        disk: Arc<O>,
+        capacity: NonZeroUsize,
+    ) -> Result<Self, AllocError>
+        ensures disk { IfOk result (λ reader. reader_disk reader ≡ disk.value) }
+        ensures capacity { IfOk result (λ reader. capacity_of reader ≡ non_zero_usize_get capacity) }
+        ensures none { IfOk result (λ reader. (n : ℕ) (block : List ℕ) → IsKept reader n block → ⊥) }
+    {
+        let kept = LruCache::new(alloc, capacity)?;
+        Ok(ShelfReader { disk, kept, alloc })
+    }
+
+    /// Makes a block one of those that are kept: it is read where it isn't one.
+    ///
+    /// It takes no lock. Where as many are kept as may be, the one that was asked for longest ago makes room. A block
+    /// that is refused isn't kept.
+    pub fn fetch(&mut self, seen: &mut O::Seen, n: u64) -> Result<(), BlockError>
+        ensures kept { OnOk result ((block : List ℕ) × IsKept self.new n block × IsWhole block) }
+        ensures octets { O.honest_seen (reader_disk self.old) seen.old → KnowsKept O.OnceDisk self.old seen.old → (block : List ℕ) → O.known seen.old n ≡ Some block → OnOk result (IsKept self.new n block) }
+        ensures knows { O.honest_seen (reader_disk self.old) seen.old → KnowsKept O.OnceDisk self.old seen.old → IsSome (O.known seen.old n) → KnowsKept O.OnceDisk self.new seen.new }
+        ensures damaged { O.honest_seen (reader_disk self.old) seen.old → (block : List ℕ) → n < O.block_count (reader_disk self.old) → O.known seen.old n ≡ Some block → (m : ℕ) → result ≡ Err (BlockError.Damaged m) → (m ≡ n) × (IsWhole block → ⊥) }
+        ensures beyond { O.block_count (reader_disk self.old) ≤ n → ((block : List ℕ) → IsKept self.old n block → ⊥) → result ≡ Err (BlockError.Damaged n) }
+        ensures number { (m : ℕ) → result ≡ Err (BlockError.Damaged m) → m ≡ n }
+        ensures same { O.honest_seen (reader_disk self.old) seen.old → O.known seen.new ≡ O.known seen.old }
+        ensures disk { reader_disk self.new ≡ reader_disk self.old }
+        ensures capacity { capacity_of self.new ≡ capacity_of self.old }
+        ensures honest { O.honest_seen (reader_disk self.old) seen.old ↔ O.honest_seen (reader_disk self.old) seen.new }
+        ensures quiet { (IsErrOf result BlockError.Fault → ⊥) → O.seen_fault_count seen.new ≡ O.seen_fault_count seen.old }
+        ensures counted { IsErrOf result BlockError.Fault → O.seen_fault_count seen.new ≡ min (O.seen_fault_count seen.old + 1) 18446744073709551615 }
+    {
+        if self.touch(n) {
+            return Ok(());
+        }
+        if n >= self.disk.blocks() {
+            return Err(BlockError::Damaged(n));
+        }
+        let mut block = self.room()?;
+        self.disk.read(seen, n, &mut block)?;
+        if !is_whole(&block) {
+            return Err(BlockError::Damaged(n));
+        }
+        self.keep(n, block)?;
+        Ok(())
+    }
+
+    /// A block that is kept. Ask for it by [`ShelfReader::fetch`] before.
+    pub fn block(&self, n: u64) -> Option<&Block>
+        ensures some { IfSome result (λ block. IsKept self.now n block.now) }
+        ensures none { IfNone result ((block : List ℕ) → IsKept self.now n block → ⊥) }
+    {
+        self.kept.peek(&n)
+    }
+
+    // Makes a block the one that was asked for last, and tells whether it is kept.
+    fn touch(&mut self, n: u64) -> bool
+        ensures kept { IsTrue result → (block : List ℕ) × IsKept self.new n block × IsWhole block }
+        ensures fewer { (m : ℕ) (block : List ℕ) → IsKept self.new m block → IsKept self.old m block }
+        ensures disk { reader_disk self.new ≡ reader_disk self.old }
+        ensures capacity { capacity_of self.new ≡ capacity_of self.old }
+    {
+        self.kept.promote(&n)
+    }
+
+    // A block to read into: that of the entry that makes room, where as many are kept as may be.
+    fn room(&mut self) -> Result<Block, AllocError>
+        ensures fewer { (m : ℕ) (block : List ℕ) → IsKept self.new m block → IsKept self.old m block }
+        ensures disk { reader_disk self.new ≡ reader_disk self.old }
+        ensures capacity { capacity_of self.new ≡ capacity_of self.old }
+    {
+        if self.kept.len() < self.kept.cap().get() {
+            return Block::new(self.alloc);
+        }
+        match self.kept.pop_lru() {
+            Some((_, block)) => Ok(block),
+            None => Block::new(self.alloc),
+        }
+    }
+
+    // Keeps a block.
+    fn keep(&mut self, n: u64, block: Block) -> Result<(), AllocFailed<(u64, Block)>>
+        requires { IsWhole block }
+        ensures kept { OnOk result (IsKept self.new n block) }
+        ensures only { (m : ℕ) (other : List ℕ) → IsKept self.new m other → IsKept self.old m other ⊎ ((m ≡ n) × (other ≡ block)) }
+        ensures disk { reader_disk self.new ≡ reader_disk self.old }
+        ensures capacity { capacity_of self.new ≡ capacity_of self.old }
+    {
+        self.kept.put(n, block)?;
+        Ok(())
+    }
+}
