@@ -12,6 +12,4 @@ mod once;
 #[cfg(test)]
 mod pages;
 #[cfg(test)]
-mod pool;
-#[cfg(test)]
-mod transactions;
+mod shelf;

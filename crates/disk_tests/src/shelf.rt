@@ -1,0 +1,179 @@
+// Blocks with digests on the write-once disk in memory: appended, read, damaged, refused and crashed.
+use disk_memory::{MemOnce, MemPen, OnceFailure, Torn};
+use disk_models::{Block, Fault, OnceDisk};
+use once_store::{AppendError, BlockError, Shelf, ShelfReader, seal};
+use std::alloc::Global;
+use std::sync::Arc;
+use std::test::Fail;
+
+// A block of one octet, with its digest.
+fn sealed(alloc: Global, octet: u8) -> Result<Block, Fail> {
+    let mut block = Block::new(alloc)?;
+    block.octets_mut().fill(octet);
+    seal(&mut block);
+    Ok(block)
+}
+
+fn open(disk: Arc<MemOnce>, pen: MemPen) -> Result<Shelf<MemOnce>, Fault> {
+    Shelf::open(disk, pen, 0).map_err(|refused| refused.fault)
+}
+
+// A shelf over a disk of so many blank blocks, where these calls fail.
+fn shelf_of(alloc: Global, blocks: u64, script: Vec<OnceFailure>) -> Result<Shelf<MemOnce>, Fail> {
+    let (disk, mut pen) = MemOnce::new(alloc, blocks);
+    pen.set_script(script);
+    Ok(open(Arc::new(alloc, disk)?, pen)?)
+}
+
+// What a reader that keeps so many blocks answers of some: the first octet, or why there is none.
+fn first_octets(
+    alloc: Global,
+    shelf: &mut Shelf<MemOnce>,
+    capacity: usize,
+    numbers: &[u64],
+) -> Result<Vec<Result<Option<u8>, BlockError>>, Fail> {
+    let mut answers = Vec::new(alloc);
+    if !(1..=1024).contains(&capacity) {
+        return Ok(answers);
+    }
+    let mut seen = shelf.seen()?;
+    let mut reader = shelf.reader(alloc, capacity)?;
+    for &n in numbers {
+        let answer = reader.fetch(&mut seen, n);
+        answers.push(answer.map(|()| {
+            reader
+                .block(n)
+                .and_then(|block| block.octets().first().copied())
+        }))?;
+    }
+    Ok(answers)
+}
+
+#[test]
+fn what_is_appended_is_read_until_the_disk_is_full(rt: HostRuntime) -> Result<(), Fail> {
+    let alloc = rt.alloc();
+    let mut shelf = shelf_of(alloc, 2, Vec::new(alloc))?;
+    let mut damaged = sealed(alloc, 8)?;
+    damaged.put(9, &[9]);
+    assert_eq!(rt; shelf.append(&sealed(alloc, 7)?), Ok(0));
+    assert_eq!(rt; shelf.append(&damaged), Ok(1));
+    assert_eq!(rt; shelf.append(&damaged), Err(AppendError::OnceFull));
+    assert_eq!(rt; shelf.next(), 2);
+    let numbers = [0, 1, 0, 2, 0, 1];
+    let few = first_octets(alloc, &mut shelf, 1, &numbers)?;
+    let seven = Ok(Some(7));
+    let one = Err(BlockError::Damaged(1));
+    let two = Err(BlockError::Damaged(2));
+    assert_eq!(rt;
+        few.as_slice(),
+        [seven, one, seven, two, seven, one].as_slice()
+    );
+    let many = first_octets(alloc, &mut shelf, 1024, &numbers)?;
+    assert_eq!(rt; many.as_slice(), few.as_slice());
+    Ok(())
+}
+
+// What two appends answer where this call fails, and the number behind them.
+fn appended(
+    alloc: Global,
+    failure: OnceFailure,
+) -> Result<(Result<u64, AppendError>, Result<u64, AppendError>, u64), Fail> {
+    let mut shelf = shelf_of(alloc, 4, Vec::new(alloc))?;
+    let block = sealed(alloc, 7)?;
+    let (disk, mut pen) = shelf.into_disk();
+    let mut script = Vec::new(alloc);
+    script.push(failure)?;
+    pen.set_script(script);
+    // an opening asks about block 0, so the first append's look is the second
+    let mut shelf = open(disk, pen)?;
+    let first = shelf.append(&block);
+    Ok((first, shelf.append(&block), shelf.next()))
+}
+
+#[test]
+fn a_block_whose_call_failed_is_spent_once_it_was_tried(rt: HostRuntime) -> Result<(), Fail> {
+    let alloc = rt.alloc();
+    let fault = Err(AppendError::Fault);
+    assert_eq!(rt; appended(alloc, OnceFailure::Blank(1))?, (fault, Ok(0), 1));
+    assert_eq!(rt;
+        appended(alloc, OnceFailure::Burn(0, Torn::Half))?,
+        (fault, Ok(1), 2)
+    );
+    assert_eq!(rt; appended(alloc, OnceFailure::Settle(0))?, (fault, Ok(1), 2));
+    let mut script = Vec::new(alloc);
+    script.push(OnceFailure::Look(0))?;
+    let mut shelf = shelf_of(alloc, 4, script)?;
+    assert!(rt; shelf.seen().is_err());
+    assert_eq!(rt; shelf.faults(), 1);
+    assert!(rt; shelf.seen().is_ok());
+    Ok(())
+}
+
+#[test]
+fn a_read_that_fails_is_no_damage(rt: HostRuntime) -> Result<(), Fail> {
+    let alloc = rt.alloc();
+    let mut script = Vec::new(alloc);
+    script.push(OnceFailure::Read(0))?;
+    let mut shelf = shelf_of(alloc, 4, script)?;
+    shelf.append(&sealed(alloc, 7)?)?;
+    let answers = first_octets(alloc, &mut shelf, 4, &[0, 0])?;
+    assert_eq!(rt;
+        answers.as_slice(),
+        [Err(BlockError::Fault), Ok(Some(7))].as_slice()
+    );
+    Ok(())
+}
+
+// Each kind of torn block.
+fn torn(alloc: Global, kind: u8) -> Result<Torn, Fail> {
+    Ok(match kind {
+        0 => Torn::Old,
+        1 => Torn::New,
+        2 => Torn::Half,
+        _ => Torn::Octets(vec![in alloc; 0xa5; 20_000]?),
+    })
+}
+
+// Three appends, of which the power ends one at its burn or its settle; then an opening and one append more. It answers
+// how many blocks were told before, and whether each of them is there and the last one has a higher number.
+fn stopped(alloc: Global, burn: bool, call: u64, kind: u8) -> Result<(u64, bool), Fail> {
+    let mut script = Vec::new(alloc);
+    script.push(if burn {
+        OnceFailure::Burn(call, torn(alloc, kind)?)
+    } else {
+        OnceFailure::Settle(call)
+    })?;
+    let mut shelf = shelf_of(alloc, 8, script)?;
+    let mut told = 0u64;
+    for octet in 0..3u8 {
+        if shelf.append(&sealed(alloc, octet)?).is_err() {
+            break;
+        }
+        told += 1;
+    }
+    let (disk, pen) = shelf.into_disk();
+    let mut choice = Vec::new(alloc);
+    choice.push(torn(alloc, kind)?)?;
+    let (left, pen) = disk.crash(&pen, &choice)?;
+    let mut shelf = open(Arc::new(alloc, left)?, pen)?;
+    let last = shelf.append(&sealed(alloc, 9)?)?;
+    let answers = first_octets(alloc, &mut shelf, 8, &[0, 1, 2])?;
+    let kept = answers
+        .iter()
+        .zip(0..told)
+        .all(|(answer, n)| *answer == Ok(Some(n as u8)));
+    Ok((told, kept && last > told))
+}
+
+#[test]
+fn what_was_told_outlives_each_crash(rt: HostRuntime) -> Result<(), Fail> {
+    let alloc = rt.alloc();
+    for call in 0..3u64 {
+        for kind in 0..4u8 {
+            for burn in [true, false] {
+                assert_eq!(rt; stopped(alloc, burn, call, kind)?, (call, true));
+            }
+        }
+    }
+    Ok(())
+}
