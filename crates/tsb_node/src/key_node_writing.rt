@@ -4,7 +4,7 @@ ghost use Rattle.std.specs.Prelude.{◌≡◌, None};
 ghost use Rattle.tsb_node.specs.KeyNodes.{IsKeyNode, IsKeyNodePage};
 
 use crate::leaf::FIRST;
-use crate::writing::{clear, eight_octets, key_octets, put_header};
+use crate::writing::{eight_octets, key_octets, put_header};
 use disk_models::Page;
 use version_model::{Bounds, Child};
 
@@ -15,7 +15,7 @@ pub fn write_key_node(page: &mut Page, level: u8, bounds: &Bounds, children: &[C
     ensures { IsKeyNodePage (record { level = level; bounds = bounds.now; children = children.now }) page.new }
 {
     let count = children.len();
-    clear(page);
+    page.clear();
     put_header(page, 3, level, count as u16, 48 * count as u16, bounds);
     let mut at = FIRST;
     for child in children {

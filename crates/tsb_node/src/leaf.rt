@@ -12,7 +12,7 @@ ghost use Rattle.tsb_node.specs.inner.Scanning.{IsLast, IsBroken, IsWhole};
 ghost use Rattle.tsb_node.specs.inner.Reading.{value_size, version_in, versions_in};
 
 use crate::numbers::{key_at, key_fits, number2, stamp_at, stamp_fits};
-use crate::writing::{clear, octets_in, put_entry, put_header, two_octets};
+use crate::writing::{octets_in, put_entry, put_header, two_octets};
 use disk_models::Page;
 use route_model::Key;
 use std::marker::Model;
@@ -172,6 +172,6 @@ pub fn start_leaf(page: &mut Page, bounds: &Bounds)
     requires current { bounds.now.end ≡ None }
     ensures { IsLeafPage (record { bounds = bounds.now; versions = [] }) page.new }
 {
-    clear(page);
+    page.clear();
     put_header(page, 1, 0, 0, 0, bounds);
 }

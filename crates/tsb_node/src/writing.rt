@@ -7,7 +7,6 @@ ghost use Rattle.tsb_node.specs.Leaves.{tag, value_octets, entry};
 ghost use Rattle.tsb_node.specs.inner.Laying.{laid};
 ghost use Rattle.tsb_node.specs.Pushing.{version};
 ghost use Rattle.tsb_node.specs.Nodes.{header, seconds};
-ghost use Rattle.std.specs.Prelude.{replicate};
 
 use byteorder::{BigEndian, ByteOrder};
 use disk_models::Page;
@@ -117,13 +116,6 @@ fn end_octets(end: Option<Stamp>) -> [u8; 16]
         Some(stamp) => stamp_octets(stamp),
         None => [255; 16],
     }
-}
-
-/// Makes a page all zeros.
-pub fn clear(page: &mut Page)
-    ensures { page.new ≡ replicate 16384 0 }
-{
-    page.octets_mut().fill(0);
 }
 
 /// Writes the header of a node into a page.

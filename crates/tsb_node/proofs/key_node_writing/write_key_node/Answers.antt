@@ -1,5 +1,6 @@
 use Rattle.std.proofs.Common.{arith, ◌≡◌, ◌∙◌, ◌*◌, ◌+◌, ℕ, List, Some, length, slice_get, ap, refl}
 use Rattle.std.proofs.lemmas.Option.{slice_get_read}
+use Rattle.disk_models.specs.Octets.{zeros}
 use Rattle.tsb_node.specs.Nodes.{header, seconds}
 use Rattle.tsb_node.specs.inner.Laying.{laid}
 use Rattle.tsb_node.proofs.NumberLaws.{octets_of-size}
@@ -8,6 +9,7 @@ use Rattle.tsb_node.proofs.WritingLaws.{filling_start, written_start, written_on
 use Rattle.tsb_node.proofs.key_node_writing.write_key_node.Goals as goal
 
 pub loop-child-init : goal.loop-child-init
+unfolding zeros
 loop-child-init c =
     let n = length c.args.children.now in
     let h = header 3 seconds c.args.level n (48 * n) c.args.bounds.now in
