@@ -6,7 +6,7 @@ use Rattle.route_meaning.specs.Holds.{admitted_time, time_of}
 use Rattle.route_meaning.specs.Merged.{Placed, part, merged}
 use Rattle.route_meaning.specs.History.{Intake, History, IsIntake, IsHistory, IsBelowMarks, all_of, front, applied}
 use Rattle.route_meaning.proofs.api.Sorting.{all_weaker}
-use Rattle.sequencer.specs.Lanes.{Waiting, marks, Raises, IsAbove}
+use Rattle.sequencer.specs.Lanes.{Waiting, marks, Raises, HasMarkAbove}
 use Rattle.sequencer.proofs.api.Setting.{one_there}
 use Rattle.archive.specs.Kept.{Queued, intakes_of, history_of, IsKept}
 use Rattle.archive.specs.Steps.{changed, with_mark, marked, IsMarkAbove}
@@ -90,12 +90,12 @@ intake_of d c ps (w ∷ lanes) [] lane n e = cc
 intake_of d zero ps (w ∷ lanes) (q ∷ queues) lane n e = (record { admitted = part d ps ++ q.waiting; mark = w.mark; offered = q.offered }, refl, let same : w ≡ lane = cc in ap (λ (x : Waiting). x.mark) (sym same))
 intake_of d (suc c) ps (w ∷ lanes) (q ∷ queues) lane n e = intake_of (suc d) c ps lanes queues lane (omega arith) e
 
-pub mark_above : (lanes : List Waiting) (queues : List Queued) (ps : List (Placed Admitted)) (begun c mark : ℕ) → IsKept lanes queues ps begun → IsAbove lanes c mark → IsMarkAbove (history_of lanes queues ps begun) c mark
+pub mark_above : (lanes : List Waiting) (queues : List Queued) (ps : List (Placed Admitted)) (begun c mark : ℕ) → IsKept lanes queues ps begun → HasMarkAbove lanes c mark → IsMarkAbove (history_of lanes queues ps begun) c mark
 mark_above lanes queues ps begun c mark k above =
     let i = intake_of 0 c ps lanes queues above.lane (same_number lanes queues k.times) above.here in
     record { intake = i.0; here = i.1; above = (let same = i.2 in let lt = above.above in omega arith) }
 
-pub above_mark : (lanes : List Waiting) (queues : List Queued) (ps : List (Placed Admitted)) (begun c mark : ℕ) → IsMarkAbove (history_of lanes queues ps begun) c mark → IsAbove lanes c mark
+pub above_mark : (lanes : List Waiting) (queues : List Queued) (ps : List (Placed Admitted)) (begun c mark : ℕ) → IsMarkAbove (history_of lanes queues ps begun) c mark → HasMarkAbove lanes c mark
 above_mark lanes queues ps begun c mark above =
     let w = lane_of 0 c ps lanes queues above.intake above.here in
     record { lane = w.0; here = w.1; above = (let same = w.2 in let lt = above.above in omega arith) }

@@ -35,18 +35,22 @@ pub record Changes : Type 0 where
   pub announced : Option Announced
   pub reachable : Option Announced
 
+-- what a message says: an UPDATE what it changes; a NOTIFICATION nothing more; of another type the type alone
 pub data Told : Type 0 where
   Update : (changes : Changes) → Told
   Notification : Told
   Other : (kind : ℕ) → Told
 
+-- an announcement, with a list for its prefixes
 abbrev pub announced_told : Announcement → Announced
 announced_told a = record { route = a.route; prefixes = a.prefixes.items }
 
+-- the same where there is one
 abbrev pub option_told : Option Announcement → Option Announced
 option_told None = None
 option_told (Some a) = Some (announced_told a)
 
+-- the changes of an UPDATE, with lists for its four places
 abbrev pub changes_told : updates.Update → Changes
 changes_told u = record {
   withdrawn = u.withdrawn.items;
@@ -55,6 +59,7 @@ changes_told u = record {
   reachable = option_told u.reachable;
 }
 
+-- what a message says, with lists for what it owns
 abbrev pub told : Message → Told
 told (messages.Update update) = Update (changes_told update)
 told messages.Notification = Notification
@@ -120,14 +125,15 @@ abbrev pub IsLarge : Option Announced → Type 0
 IsLarge None = ⊥
 IsLarge (Some a) = 3072 < length (route_octets a.route)
 
+-- the message announces such a route
 abbrev pub HasLarge : Told → Type 0
 HasLarge (Update changes) = IsLarge changes.announced ⊎ IsLarge changes.reachable
 HasLarge Notification = ⊥
 HasLarge (Other kind) = ⊥
 
 -- a message whose routes all fit; or why there is none. Only an UPDATE wants memory
-abbrev pub Reads : AsWidth → List ℕ → Result Message MessageFault → Type 0
-Reads width bytes (Ok message) = IsMessage width bytes (told message) × (HasLarge (told message) → ⊥)
-Reads width bytes (Err faults.Malformed) = (m : Told) → IsMessage width bytes m → ⊥
-Reads width bytes (Err faults.RouteTooLarge) = (m : Told) × IsMessage width bytes m × HasLarge m
-Reads width bytes (Err faults.OutOfMemory) = IsHeader bytes 2
+abbrev pub AnswersMessage : AsWidth → List ℕ → Result Message MessageFault → Type 0
+AnswersMessage width bytes (Ok message) = IsMessage width bytes (told message) × (HasLarge (told message) → ⊥)
+AnswersMessage width bytes (Err faults.Malformed) = (m : Told) → IsMessage width bytes m → ⊥
+AnswersMessage width bytes (Err faults.RouteTooLarge) = (m : Told) × IsMessage width bytes m × HasLarge m
+AnswersMessage width bytes (Err faults.OutOfMemory) = IsHeader bytes 2

@@ -10,6 +10,7 @@ abbrev pub code : Segment → ℕ
 code (segments.Set ns) = 1
 code (segments.Sequence ns) = 2
 
+-- the AS numbers of a segment
 abbrev pub numbers : Segment → List ℕ
 numbers (segments.Set ns) = ns
 numbers (segments.Sequence ns) = ns
@@ -21,6 +22,7 @@ pub record IsSegmentField (width : ℕ) (field : List ℕ) (s : Segment) : Type 
   pub count : length (numbers s) ≡ slice_index field 1
   pub each : (i : ℕ) → i < length (numbers s) → slice_index (numbers s) i ≡ number_at width (2 + width * i) field
 
+-- does the segment have any?
 abbrev pub has_numbers : Segment → Bool
 has_numbers s = nat_lt 0 (length (numbers s))
 

@@ -9,7 +9,7 @@ use Rattle.bgp_update.specs.declared.reading.PathAttributes.{PathAttributes}
 use Rattle.bgp_update.specs.AttributeFields.{AreListed, value_of}
 use Rattle.bgp_update.specs.Paths.{IsPath}
 use Rattle.bgp_update.specs.Joining.{IsLaid}
-use Rattle.bgp_update.specs.Values.{Optionally, IsOrigin, IsNumber, IsFour, IsFlag, IsAggregator, as4_aggregator, as4_path, merged, others_of}
+use Rattle.bgp_update.specs.Values.{Optionally, IsOrigin, IsNumber, IsFour, IsFlag, IsAggregator, as4_aggregator, as4_path, counted_aggregator, others_of}
 
 -- the path of AS_PATH, with AS4_PATH laid over it where that is looked at
 pub record IsWholePath (width : AsWidth) (list : List PathAttribute) (aggregator : Option Aggregator) (path : Option (List Segment)) : Type 0 where
@@ -27,7 +27,7 @@ pub record IsReading (width : AsWidth) (list : List PathAttribute) (r : PathAttr
   pub med : Optionally IsNumber (value_of 4 list) r.med
   pub local_pref : Optionally IsNumber (value_of 5 list) r.local_pref
   pub atomic : IsFlag (value_of 6 list) r.atomic_aggregate
-  pub whole_aggregator : r.aggregator ≡ merged aggregator (as4_aggregator width list)
+  pub whole_aggregator : r.aggregator ≡ counted_aggregator aggregator (as4_aggregator width list)
   pub reach : r.reach ≡ value_of 14 list
   pub unreach : r.unreach ≡ value_of 15 list
   pub others : r.others ≡ others_of list

@@ -31,6 +31,7 @@ from_parts a (Some origin) None hop = None
 from_parts a (Some origin) (Some path) None = None
 from_parts a (Some origin) (Some path) (Some hop) = Some (made a origin path hop)
 
+-- the route of these attributes with this next hop: none where ORIGIN, AS_PATH or the next hop is missing
 abbrev pub route_of : PathAttributes → Option NextHop → Option Route
 route_of a hop = from_parts a a.origin a.path hop
 

@@ -59,10 +59,10 @@ abbrev pub as_trans : ℕ
 as_trans = 23456
 
 -- AS4_AGGREGATOR replaces an AGGREGATOR of AS_TRANS; beside another it is left aside, and alone too
-abbrev pub merged : Option Aggregator → Option Aggregator → Option Aggregator
-merged None longer = None
-merged (Some own) None = Some own
-merged (Some own) (Some longer) = if own.as_number == as_trans then Some longer else Some own
+abbrev pub counted_aggregator : Option Aggregator → Option Aggregator → Option Aggregator
+counted_aggregator None longer = None
+counted_aggregator (Some own) None = Some own
+counted_aggregator (Some own) (Some longer) = if own.as_number == as_trans then Some longer else Some own
 
 -- an AGGREGATOR of another AS than AS_TRANS beside AS4_AGGREGATOR: both attributes of four-octet numbers are left aside
 abbrev pub is_aside : Option Aggregator → Option Aggregator → Bool

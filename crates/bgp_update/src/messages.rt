@@ -4,7 +4,7 @@ ghost use Rattle.std.specs.Prelude.{◌≡◌, ◌==◌, ℕ, IfSome, IfNone, If
 ghost use Rattle.std.specs.List.{list_all};
 ghost use Rattle.route_model.specs.Reading.{Exactly};
 ghost use Rattle.route_model.specs.declared.octets.ReadFault.TheVariants.{OutOfMemory};
-ghost use Rattle.bgp_update.specs.Messages.{IsHeader, IsMessage, IsLarge, HasLarge, Reads, told, option_told};
+ghost use Rattle.bgp_update.specs.Messages.{IsHeader, IsMessage, IsLarge, HasLarge, AnswersMessage, told, option_told};
 
 use crate::fault::MessageFault;
 use crate::message::Message;
@@ -96,7 +96,7 @@ fn has_large(message: &Message) -> bool
 /// RFC 4760, RFC 6793). `Malformed` where they are none; `RouteTooLarge` where they are one that announces a route
 /// whose spelling has more than 3,072 octets; `OutOfMemory` where a growth was refused, which only an UPDATE wants.
 pub fn read_message(alloc: Global, bytes: &[u8], width: AsWidth) -> Result<Message, MessageFault>
-    ensures message { Reads width bytes.now result }
+    ensures message { AnswersMessage width bytes.now result }
 {
     let message = message_of(alloc, bytes, width)?;
     if has_large(&message) {

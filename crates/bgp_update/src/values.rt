@@ -5,7 +5,7 @@ ghost use Rattle.route_model.specs.Reading.{Exactly};
 ghost use Rattle.route_model.specs.declared.route.Origin.{Origin};
 ghost use Rattle.route_model.specs.declared.route.Aggregator.{Aggregator};
 ghost use Rattle.bgp_update.specs.AttributeFields.{value_of};
-ghost use Rattle.bgp_update.specs.Values.{Optionally, IsOrigin, IsNumber, IsFour, IsFlag, IsAggregator, as4_aggregator, as4_path, merged, is_aside, longer_aggregator};
+ghost use Rattle.bgp_update.specs.Values.{Optionally, IsOrigin, IsNumber, IsFour, IsFlag, IsAggregator, as4_aggregator, as4_path, counted_aggregator, is_aside, longer_aggregator};
 
 use crate::attribute::{PathAttribute, ValueOctets, value_in};
 use route_model::octets::{ReadFault, u16_at, u32_at};
@@ -183,7 +183,7 @@ pub(crate) fn as4_path_in<'a>(
 
 /// The aggregator of the route.
 pub(crate) fn merge(own: Option<Aggregator>, longer: Option<Aggregator>) -> Option<Aggregator>
-    ensures { result ≡ merged own longer }
+    ensures { result ≡ counted_aggregator own longer }
 {
     match (own, longer) {
         (None, _) => None,

@@ -42,6 +42,7 @@ next_number n = min (n + 1) 18446744073709551615
 abbrev pub IsReadToFail : MemErase → Type 0
 IsReadToFail disk = IsTrue (list_any (λ failure. is_read_failure disk.reads failure) (script_of disk))
 
+-- the script names the next sync
 abbrev pub IsSyncToFail : MemErase → Type 0
 IsSyncToFail disk = IsTrue (list_any (λ failure. is_sync_failure disk.syncs failure) (script_of disk))
 
@@ -54,10 +55,12 @@ pub record CalledRead (old new : MemErase) : Type 0 where
   pub script : script_of new ≡ script_of old
   pub next : IsAtCall new (next_number old.reads) old.writes old.syncs
 
+-- the script is the same, and one write more was made
 pub record CalledWrite (old new : MemErase) : Type 0 where
   pub script : script_of new ≡ script_of old
   pub next : IsAtCall new old.reads (next_number old.writes) old.syncs
 
+-- the same, of a sync
 pub record CalledSync (old new : MemErase) : Type 0 where
   pub script : script_of new ≡ script_of old
   pub next : IsAtCall new old.reads old.writes (next_number old.syncs)

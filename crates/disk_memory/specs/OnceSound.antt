@@ -26,6 +26,7 @@ burnt_tried (b ∷ bs) n block is =
     ] in
     go is
 
+-- (a lemma) the state that is made of burns is sound
 pub once_is_sound : (settled waiting : List Burning) → IsOnceSound (once_state_of settled waiting)
 once_is_sound settled waiting = record {
   burnt = λ n block is. burnt_still settled waiting n block is;

@@ -50,9 +50,11 @@ pub record KeepsBurns (old new : MemPen) : Type 0 where
 abbrev pub IsBlankToFail : MemPen → Type 0
 IsBlankToFail pen = IsTrue (list_any (λ failure. is_blank_failure pen.blanks failure) (once_script_of pen))
 
+-- the script names the next settle
 abbrev pub IsSettleToFail : MemPen → Type 0
 IsSettleToFail pen = IsTrue (list_any (λ failure. is_settle_failure pen.settles failure) (once_script_of pen))
 
+-- the script names the next look
 abbrev pub IsLookToFail : MemPen → Type 0
 IsLookToFail pen = IsTrue (list_any (λ failure. is_look_failure pen.looks failure) (once_script_of pen))
 
@@ -65,14 +67,17 @@ pub record CalledBlank (old new : MemPen) : Type 0 where
   pub script : once_script_of new ≡ once_script_of old
   pub next : IsAtOnceCall new (next_number old.blanks) old.burns old.settles old.looks
 
+-- the script is the same, and one burn more was made
 pub record CalledBurn (old new : MemPen) : Type 0 where
   pub script : once_script_of new ≡ once_script_of old
   pub next : IsAtOnceCall new old.blanks (next_number old.burns) old.settles old.looks
 
+-- the same, of a settle
 pub record CalledSettle (old new : MemPen) : Type 0 where
   pub script : once_script_of new ≡ once_script_of old
   pub next : IsAtOnceCall new old.blanks old.burns (next_number old.settles) old.looks
 
+-- the same, of a look
 pub record CalledLook (old new : MemPen) : Type 0 where
   pub script : once_script_of new ≡ once_script_of old
   pub next : IsAtOnceCall new old.blanks old.burns old.settles (next_number old.looks)

@@ -86,6 +86,7 @@ abbrev pub torn_call : Option Torn → Call → Call
 torn_call torn (Write w) = Write (torn_writing torn w)
 torn_call torn Sync = Sync
 
+-- the same of a list of calls
 abbrev pub torn_calls : List Torn → List Call → List Call
 torn_calls choice [] = []
 torn_calls [] (call ∷ calls) = torn_call None call ∷ torn_calls [] calls

@@ -12,4 +12,8 @@ mod once;
 #[cfg(test)]
 mod pages;
 #[cfg(test)]
+mod pool;
+#[cfg(test)]
 mod shelf;
+#[cfg(test)]
+mod transactions;

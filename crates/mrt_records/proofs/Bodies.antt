@@ -15,12 +15,12 @@ use Rattle.mrt_records.specs.declared.form.Form.{Form}
 use Rattle.mrt_records.specs.declared.form.Form.TheVariants as forms
 use Rattle.mrt_records.specs.Entries.{Entry, IsEntryField}
 use Rattle.route_model.specs.PrefixFields.{IsPrefixField}
-use Rattle.mrt_records.specs.Sessions.{IsMessage, IsStateChange}
+use Rattle.mrt_records.specs.Sessions.{IsMessageBody, IsStateChange}
 use Rattle.mrt_records.specs.PeerTables.{IsPeerField, IsPeerTable}
 use Rattle.mrt_records.specs.Ribs.{IsRib}
 use Rattle.mrt_records.specs.Values.{Message, StateChange, PeerTable, Rib, Told, Read, Skipped, Malformed}
 use Rattle.mrt_records.specs.Records.{timestamp, kind, subtype, body}
-use Rattle.mrt_records.specs.Bodies.{Reads, IsTold, IsListed, Body}
+use Rattle.mrt_records.specs.Bodies.{HasReading, IsTold, IsListedType, Body}
 use Rattle.mrt_records.proofs.Peers.{peers_free}
 use Rattle.mrt_records.proofs.EntryFields.{entries_free}
 use Rattle.route_model.proofs.api.PrefixFields.{prefixes_free}
@@ -84,18 +84,18 @@ entries_none bytes count es ws p other q e = other (ap length (sequence_one IsEn
 -- ---- by the form
 
 pub message_none : (form : Form) (width : AsWidth) (t : ℕ) (bytes : List ℕ) (v : Told) → form ≡ forms.Message width
-    → ((m : Neighbor × List ℕ) → IsMessage width bytes m.0 m.1 → ⊥) → IsTold form t bytes v → ⊥
+    → ((m : Neighbor × List ℕ) → IsMessageBody width bytes m.0 m.1 → ⊥) → IsTold form t bytes v → ⊥
 message_none form width t bytes (Skipped k s) e none q = q
 message_none form width t bytes (Malformed k s) e none q = q
 message_none form width t bytes (Read (Message time peer w octets)) e none q =
     let same : w ≡ width = cc (q.0, e) in
-    none (peer, octets) (subst (λ (x : AsWidth). IsMessage x bytes peer octets) same q.2)
+    none (peer, octets) (subst (λ (x : AsWidth). IsMessageBody x bytes peer octets) same q.2)
 message_none form width t bytes (Read (StateChange time peer state)) e none q = absurd (cc (q.1, e))
 message_none form width t bytes (Read (PeerTable peers)) e none q = absurd (cc (q.0, e))
 message_none form width t bytes (Read (Rib time prefix entries)) e none q = absurd (cc (q.1, e))
 
 pub told_message : (form : Form) (width : AsWidth) (t : ℕ) (bytes : List ℕ) (fault : ReadFault) → form ≡ forms.Message width
-    → NoReading (λ (m : Neighbor × List ℕ). IsMessage width bytes m.0 m.1) fault → NoReading (IsTold form t bytes) fault
+    → NoReading (λ (m : Neighbor × List ℕ). IsMessageBody width bytes m.0 m.1) fault → NoReading (IsTold form t bytes) fault
 told_message form width t bytes faults.OutOfMemory e none = tt
 told_message form width t bytes faults.Malformed e none = λ v q. message_none form width t bytes v e none q
 
@@ -140,13 +140,13 @@ told_rib form family t bytes faults.Malformed e none = λ v q. rib_told_none for
 
 -- a listed record whose body has no reading is malformed
 pub malformed_body : (bytes b : List ℕ) (k s t : ℕ) (form : Form) (fault : ReadFault) → k ≡ kind bytes → s ≡ subtype bytes → t ≡ timestamp bytes → b ≡ body bytes
-    → IsListed k s form → NoReading (IsTold form t b) fault → fault ≡ faults.Malformed → Body bytes (Malformed k s)
+    → IsListedType k s form → NoReading (IsTold form t b) fault → fault ≡ faults.Malformed → Body bytes (Malformed k s)
 malformed_body bytes b k s t form fault k_is s_is t_is b_is listed none fault_is =
     let no : (v : Told) → IsTold form t b v → ⊥ = subst (λ (f : ReadFault). NoReading (IsTold form t b) f) fault_is none in
-    let there = subst (λ (x : ℕ). IsListed (kind bytes) x form) s_is (subst (λ (x : ℕ). IsListed x s form) k_is listed) in (
+    let there = subst (λ (x : ℕ). IsListedType (kind bytes) x form) s_is (subst (λ (x : ℕ). IsListedType x s form) k_is listed) in (
       k_is,
       s_is,
       form,
       there,
-      λ reading q. no (Read reading) (subst (λ (x : ℕ). Reads form x b reading) (sym t_is) (subst (λ (x : List ℕ). Reads form (timestamp bytes) x reading) (sym b_is) q)),
+      λ reading q. no (Read reading) (subst (λ (x : ℕ). HasReading form x b reading) (sym t_is) (subst (λ (x : List ℕ). HasReading form (timestamp bytes) x reading) (sym b_is) q)),
     )

@@ -16,13 +16,13 @@ use Rattle.mrt_records.specs.declared.form.Form.{Form}
 use Rattle.mrt_records.specs.declared.form.Form.TheVariants as forms
 use Rattle.mrt_records.specs.Entries.{Entry, IsEntryField}
 use Rattle.route_model.specs.PrefixFields.{address_size}
-use Rattle.mrt_records.specs.Sessions.{family_code, IsAddressOf, IsSession, IsMessage, IsStateChange}
+use Rattle.mrt_records.specs.Sessions.{family_code, IsAddressOf, IsSession, IsMessageBody, IsStateChange}
 use Rattle.route_model.specs.Widths.{width_of}
 use Rattle.mrt_records.specs.PeerTables.{IsPeerField}
 use Rattle.mrt_records.specs.Ribs.{IsRib}
 use Rattle.mrt_records.specs.Values.{Reading, Message, StateChange, PeerTable, Rib, Told, Read, Skipped, Malformed}
 use Rattle.mrt_records.specs.Records.{timestamp, kind, subtype, body}
-use Rattle.mrt_records.specs.Bodies.{IsListed, Reads, Body}
+use Rattle.mrt_records.specs.Bodies.{IsListedType, HasReading, Body}
 use Rattle.mrt_records.proofs.Peers.{made, address_one, peers_free}
 use Rattle.mrt_records.proofs.EntryFields.{entries_free}
 use Rattle.route_model.proofs.api.PrefixFields.{prefixes_free}
@@ -35,7 +35,7 @@ form_from table s =
     if table then (if s == 1 then forms.PeerTable else if s == 2 then forms.Rib families.Ipv4 else forms.Rib families.Ipv6)
     else (if s == 0 then forms.StateChange widths.Two else if s == 5 then forms.StateChange widths.Four else if s == 1 then forms.Message widths.Two else forms.Message widths.Four)
 
-form_is : (k s : ℕ) (form : Form) → IsListed k s form → form ≡ form_from (k == 13) s
+form_is : (k s : ℕ) (form : Form) → IsListedType k s form → form ≡ form_from (k == 13) s
 form_is k s (forms.StateChange widths.Two) p = elim p.0 [ inl e ↦ rw (e, p.1) refl | inr e ↦ rw (e, p.1) refl ]
 form_is k s (forms.StateChange widths.Four) p = elim p.0 [ inl e ↦ rw (e, p.1) refl | inr e ↦ rw (e, p.1) refl ]
 form_is k s (forms.Message widths.Two) p = elim p.0 [ inl e ↦ rw (e, p.1) refl | inr e ↦ rw (e, p.1) refl ]
@@ -44,7 +44,7 @@ form_is k s forms.PeerTable p = rw (p.0, p.1) refl
 form_is k s (forms.Rib families.Ipv4) p = rw (p.0, p.1) refl
 form_is k s (forms.Rib families.Ipv6) p = rw (p.0, p.1) refl
 
-form_one : (k s : ℕ) (f g : Form) → IsListed k s f → IsListed k s g → f ≡ g
+form_one : (k s : ℕ) (f g : Form) → IsListedType k s f → IsListedType k s g → f ≡ g
 form_one k s f g p q = form_is k s f p ∙ sym (form_is k s g q)
 
 -- ---- a body has one reading
@@ -72,10 +72,10 @@ rib_one family bytes v w x y p q =
     let there = subst (λ (t : List ℕ). Sequence IsEntryField (drop 2 t) x) rests p.are_entries in
     (same.1, sequence_one IsEntryField entries_free (drop 2 q.rest) x y there q.are_entries)
 
-reads_one : (form : Form) (t : ℕ) (bytes : List ℕ) (v w : Reading) → Reads form t bytes v → Reads form t bytes w → v ≡ w
+reads_one : (form : Form) (t : ℕ) (bytes : List ℕ) (v w : Reading) → HasReading form t bytes v → HasReading form t bytes w → v ≡ w
 reads_one form t bytes (Message time peer width octets) (Message time' peer' width' octets') p q =
     let widths : width ≡ width' = cc (p.0, q.0) in
-    let there = subst (λ (x : AsWidth). IsMessage x bytes peer octets) widths p.2 in
+    let there = subst (λ (x : AsWidth). IsMessageBody x bytes peer octets) widths p.2 in
     let same = session_one width' bytes peer peer' octets octets' there.session q.2.session in
     let times : time ≡ time' = p.1 ∙ sym q.1 in
     cc (widths, same.0, same.1, times)
@@ -110,10 +110,10 @@ reads_one form t bytes (Rib time prefix entries) (Rib time' prefix' entries') p 
 
 -- ---- a record is told as one item
 
-told_one : (k s t : ℕ) (b : List ℕ) (f g : Form) (v w : Reading) → IsListed k s f → IsListed k s g → Reads f t b v → Reads g t b w → v ≡ w
+told_one : (k s t : ℕ) (b : List ℕ) (f g : Form) (v w : Reading) → IsListedType k s f → IsListedType k s g → HasReading f t b v → HasReading g t b w → v ≡ w
 told_one k s t b f g v w lf lg p q =
     let same = form_one k s f g lf lg in
-    reads_one g t b v w (subst (λ (x : Form). Reads x t b v) same p) q
+    reads_one g t b v w (subst (λ (x : Form). HasReading x t b v) same p) q
 
 pub item_one : (bytes : List ℕ) (v w : Told) → Body bytes v → Body bytes w → v ≡ w
 item_one bytes (Read v) (Read w) p q =
@@ -121,7 +121,7 @@ item_one bytes (Read v) (Read w) p q =
 item_one bytes (Read v) (Skipped k s) p q = absurd (q.2 p.0 p.1)
 item_one bytes (Read v) (Malformed k s) p q =
     let same = form_one (kind bytes) (subtype bytes) p.0 q.2 p.1 q.3 in
-    absurd (q.4 v (subst (λ (x : Form). Reads x (timestamp bytes) (body bytes) v) same p.2))
+    absurd (q.4 v (subst (λ (x : Form). HasReading x (timestamp bytes) (body bytes) v) same p.2))
 item_one bytes (Skipped k s) (Read w) p q = absurd (p.2 q.0 q.1)
 item_one bytes (Skipped k s) (Skipped k' s') p q =
     let kinds : k ≡ k' = p.0 ∙ sym q.0 in
@@ -130,7 +130,7 @@ item_one bytes (Skipped k s) (Skipped k' s') p q =
 item_one bytes (Skipped k s) (Malformed k' s') p q = absurd (p.2 q.2 q.3)
 item_one bytes (Malformed k s) (Read w) p q =
     let same = form_one (kind bytes) (subtype bytes) q.0 p.2 q.1 p.3 in
-    absurd (p.4 w (subst (λ (x : Form). Reads x (timestamp bytes) (body bytes) w) same q.2))
+    absurd (p.4 w (subst (λ (x : Form). HasReading x (timestamp bytes) (body bytes) w) same q.2))
 item_one bytes (Malformed k s) (Skipped k' s') p q = absurd (q.2 p.2 p.3)
 item_one bytes (Malformed k s) (Malformed k' s') p q =
     let kinds : k ≡ k' = p.0 ∙ sym q.0 in

@@ -11,7 +11,7 @@ use Rattle.route_model.specs.declared.wire.Family.TheVariants as families
 use Rattle.route_model.specs.PrefixFields.{address_size}
 use Rattle.mrt_records.specs.Sessions.{IsAddressOf}
 use Rattle.route_model.specs.Widths.{width_of}
-use Rattle.mrt_records.specs.PeerTables.{IsPeer, IsPeerField, family_of_type, width_of_type}
+use Rattle.mrt_records.specs.PeerTables.{IsNeighbor, IsPeerField, family_of_type, width_of_type}
 use Rattle.route_model.proofs.api.Fronts.{number_at-take, same_first, first_octet}
 
 abbrev pub made : Address → ℕ → Neighbor
@@ -22,7 +22,7 @@ pub address_one : (family : Family) (bytes : List ℕ) (x y : Address) → IsAdd
 address_one families.Ipv4 bytes x y p q = p ∙ sym q
 address_one families.Ipv6 bytes x y p q = p ∙ sym q
 
-peer_one : (family : Family) (width : AsWidth) (field : List ℕ) (v w : Neighbor) → IsPeer family width field v → IsPeer family width field w → v ≡ w
+peer_one : (family : Family) (width : AsWidth) (field : List ℕ) (v w : Neighbor) → IsNeighbor family width field v → IsNeighbor family width field w → v ≡ w
 peer_one family width field v w p q =
     let addresses = address_one family (take (address_size family) (drop 5 field)) v.address w.address p.address q.address in
     let numbers : v.as_number ≡ w.as_number = p.as_number ∙ sym q.as_number in
@@ -53,10 +53,10 @@ peer_front bytes family width address as_number room is_family is_width is_addre
     let field : take (address_size family) (drop 5 bytes) ≡ take (address_size family) (drop 5 (take size bytes)) =
     sym (ap (λ (t : List ℕ). take (address_size family) t) (ap (λ (n : ℕ). drop 5 (take n bytes)) (omega arith) ∙ drop-take 5 (address_size family + width_of width) bytes)
     ∙ take-take (address_size family) (address_size family + width_of width) (drop 5 bytes) (omega arith)) in
-    let peer : IsPeer family width (take size bytes) (made address as_number) = record {
+    let peer : IsNeighbor family width (take size bytes) (made address as_number) = record {
       size = omega (arith, len, room);
       address = subst (λ (t : List ℕ). IsAddressOf family t address) field is_address;
       as_number = is_number ∙ sym (number_at-take (width_of width) (5 + address_size family) size bytes (omega arith) room);
     } in
-    let at_family = subst (λ (f : Family). IsPeer f width (take size bytes) (made address as_number)) (is_family ∙ ap family_of_type (sym first)) peer in
-    subst (λ (w : AsWidth). IsPeer (family_of_type (get_or (take size bytes) 0 0)) w (take size bytes) (made address as_number)) (is_width ∙ ap width_of_type (sym first)) at_family
+    let at_family = subst (λ (f : Family). IsNeighbor f width (take size bytes) (made address as_number)) (is_family ∙ ap family_of_type (sym first)) peer in
+    subst (λ (w : AsWidth). IsNeighbor (family_of_type (get_or (take size bytes) 0 0)) w (take size bytes) (made address as_number)) (is_width ∙ ap width_of_type (sym first)) at_family

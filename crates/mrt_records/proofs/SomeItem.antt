@@ -19,13 +19,13 @@ use Rattle.mrt_records.specs.declared.form.Form.{Form}
 use Rattle.mrt_records.specs.declared.form.Form.TheVariants as forms
 use Rattle.mrt_records.specs.Entries.{Entry, IsEntryField}
 use Rattle.route_model.specs.PrefixFields.{IsPrefixField, address_size}
-use Rattle.mrt_records.specs.Sessions.{family_code, IsAddressOf, IsSession, IsMessage, IsStateChange}
+use Rattle.mrt_records.specs.Sessions.{family_code, IsAddressOf, IsSession, IsMessageBody, IsStateChange}
 use Rattle.route_model.specs.Widths.{width_of}
 use Rattle.mrt_records.specs.PeerTables.{IsPeerField, IsPeerTable, family_of_type, width_of_type}
 use Rattle.mrt_records.specs.Ribs.{IsRib}
 use Rattle.mrt_records.specs.Values.{Reading, Message, StateChange, PeerTable, Rib, Told, Read, Skipped, Malformed}
 use Rattle.mrt_records.specs.Records.{timestamp, kind, subtype, body}
-use Rattle.mrt_records.specs.Bodies.{IsSessionKind, IsListed, Reads, Body}
+use Rattle.mrt_records.specs.Bodies.{IsSessionKind, IsListedType, HasReading, Body}
 use Rattle.route_model.proofs.api.Fronts.{number_at-append, first_octet}
 use Rattle.mrt_records.proofs.Peers.{made, peers_free, peer_front}
 use Rattle.mrt_records.proofs.EntryFields.{entries_free, entry_front}
@@ -41,7 +41,7 @@ same_or m n = elim (cases_lt m n) [
 
 -- ---- the form
 
-session_none : (k s : ℕ) (form : Form) → IsSessionKind k → (s ≡ 0 → ⊥) → (s ≡ 5 → ⊥) → (s ≡ 1 → ⊥) → (s ≡ 4 → ⊥) → IsListed k s form → ⊥
+session_none : (k s : ℕ) (form : Form) → IsSessionKind k → (s ≡ 0 → ⊥) → (s ≡ 5 → ⊥) → (s ≡ 1 → ⊥) → (s ≡ 4 → ⊥) → IsListedType k s form → ⊥
 session_none k s (forms.StateChange widths.Two) is a b c d p = a p.1
 session_none k s (forms.StateChange widths.Four) is a b c d p = b p.1
 session_none k s (forms.Message widths.Two) is a b c d p = c p.1
@@ -53,7 +53,7 @@ session_none k s (forms.Rib families.Ipv6) is a b c d p = elim is [ inl e ↦ om
 no_table : (k : ℕ) → k ≡ 13 → IsSessionKind k → ⊥
 no_table k e is = elim is [ inl f ↦ omega (arith, e, f) | inr f ↦ omega (arith, e, f) ]
 
-table_none : (k s : ℕ) (form : Form) → k ≡ 13 → (s ≡ 1 → ⊥) → (s ≡ 2 → ⊥) → (s ≡ 4 → ⊥) → IsListed k s form → ⊥
+table_none : (k s : ℕ) (form : Form) → k ≡ 13 → (s ≡ 1 → ⊥) → (s ≡ 2 → ⊥) → (s ≡ 4 → ⊥) → IsListedType k s form → ⊥
 table_none k s (forms.StateChange widths.Two) e a b c p = no_table k e p.0
 table_none k s (forms.StateChange widths.Four) e a b c p = no_table k e p.0
 table_none k s (forms.Message widths.Two) e a b c p = no_table k e p.0
@@ -62,7 +62,7 @@ table_none k s forms.PeerTable e a b c p = a p.1
 table_none k s (forms.Rib families.Ipv4) e a b c p = b p.1
 table_none k s (forms.Rib families.Ipv6) e a b c p = c p.1
 
-other_none : (k s : ℕ) (form : Form) → (IsSessionKind k → ⊥) → (k ≡ 13 → ⊥) → IsListed k s form → ⊥
+other_none : (k s : ℕ) (form : Form) → (IsSessionKind k → ⊥) → (k ≡ 13 → ⊥) → IsListedType k s form → ⊥
 other_none k s (forms.StateChange widths.Two) a b p = a p.0
 other_none k s (forms.StateChange widths.Four) a b p = a p.0
 other_none k s (forms.Message widths.Two) a b p = a p.0
@@ -72,7 +72,7 @@ other_none k s (forms.Rib families.Ipv4) a b p = b p.0
 other_none k s (forms.Rib families.Ipv6) a b p = b p.0
 
 abbrev Listing : ℕ → ℕ → Type 0
-Listing k s = ((form : Form) × IsListed k s form) ⊎ ((form : Form) → IsListed k s form → ⊥)
+Listing k s = ((form : Form) × IsListedType k s form) ⊎ ((form : Form) → IsListedType k s form → ⊥)
 
 session_listing : (k s : ℕ) → IsSessionKind k → Listing k s
 session_listing k s is = elim (same_or s 0) [
@@ -153,7 +153,7 @@ session_some width bytes = elim (family_some (number_at 2 (2 * width_of width + 
   | inr none ↦ inr (λ v x q. none q.family q.code)
 ]
 
-message_some : (width : AsWidth) (bytes : List ℕ) → ((m : Neighbor × List ℕ) × IsMessage width bytes m.0 m.1) ⊎ ((m : Neighbor × List ℕ) → IsMessage width bytes m.0 m.1 → ⊥)
+message_some : (width : AsWidth) (bytes : List ℕ) → ((m : Neighbor × List ℕ) × IsMessageBody width bytes m.0 m.1) ⊎ ((m : Neighbor × List ℕ) → IsMessageBody width bytes m.0 m.1 → ⊥)
 message_some width bytes = elim (session_some width bytes) [
   | inr none ↦ inr (λ m q. none m.0 m.1 q.session)
   | inl s ↦ elim (cases_lt (length s.1) 19) [
@@ -364,7 +364,7 @@ rib_some of bytes = elim (cases_lt (length bytes) 4) [
 -- ---- a body, and a record
 
 abbrev Outcome : Form → ℕ → List ℕ → Type 0
-Outcome form t bytes = ((r : Reading) × Reads form t bytes r) ⊎ ((r : Reading) → Reads form t bytes r → ⊥)
+Outcome form t bytes = ((r : Reading) × HasReading form t bytes r) ⊎ ((r : Reading) → HasReading form t bytes r → ⊥)
 
 reads_some : (form : Form) (t : ℕ) (bytes : List ℕ) → Outcome form t bytes
 reads_some (forms.Message width) t bytes = elim (message_some width bytes) [

@@ -2,7 +2,7 @@
 use Rattle.std.specs.Prelude.{◌≡◌, ℕ, ◌⊎◌, List}
 use Rattle.mrt_records.specs.Records.{timestamp, kind, subtype, body}
 use Rattle.mrt_records.specs.Values.{Reading, Message, StateChange, PeerTable, Rib, Told, Read, Skipped, Malformed}
-use Rattle.mrt_records.specs.Sessions.{IsMessage, IsStateChange}
+use Rattle.mrt_records.specs.Sessions.{IsMessageBody, IsStateChange}
 use Rattle.mrt_records.specs.PeerTables.{IsPeerTable}
 use Rattle.mrt_records.specs.Ribs.{IsRib}
 use Rattle.route_model.specs.declared.wire.AsWidth.{AsWidth}
@@ -17,32 +17,32 @@ abbrev pub IsSessionKind : ℕ → Type 0
 IsSessionKind k = (k ≡ 16) ⊎ (k ≡ 17)
 
 -- the types and subtypes that are read, and as what
-abbrev pub IsListed : ℕ → ℕ → Form → Type 0
-IsListed k s (forms.StateChange widths.Two) = IsSessionKind k × (s ≡ 0)
-IsListed k s (forms.StateChange widths.Four) = IsSessionKind k × (s ≡ 5)
-IsListed k s (forms.Message widths.Two) = IsSessionKind k × (s ≡ 1)
-IsListed k s (forms.Message widths.Four) = IsSessionKind k × (s ≡ 4)
-IsListed k s forms.PeerTable = (k ≡ 13) × (s ≡ 1)
-IsListed k s (forms.Rib families.Ipv4) = (k ≡ 13) × (s ≡ 2)
-IsListed k s (forms.Rib families.Ipv6) = (k ≡ 13) × (s ≡ 4)
+abbrev pub IsListedType : ℕ → ℕ → Form → Type 0
+IsListedType k s (forms.StateChange widths.Two) = IsSessionKind k × (s ≡ 0)
+IsListedType k s (forms.StateChange widths.Four) = IsSessionKind k × (s ≡ 5)
+IsListedType k s (forms.Message widths.Two) = IsSessionKind k × (s ≡ 1)
+IsListedType k s (forms.Message widths.Four) = IsSessionKind k × (s ≡ 4)
+IsListedType k s forms.PeerTable = (k ≡ 13) × (s ≡ 1)
+IsListedType k s (forms.Rib families.Ipv4) = (k ≡ 13) × (s ≡ 2)
+IsListedType k s (forms.Rib families.Ipv6) = (k ≡ 13) × (s ≡ 4)
 
 -- a record of this form, with this time, whose body is the octets, reads so
-abbrev pub Reads : Form → ℕ → List ℕ → Reading → Type 0
-Reads form t bytes (Message time peer width octets) = (form ≡ forms.Message width) × (time ≡ t) × IsMessage width bytes peer octets
-Reads form t bytes (StateChange time peer state) = (width : AsWidth) × (form ≡ forms.StateChange width) × (time ≡ t) × IsStateChange width bytes peer state
-Reads form t bytes (PeerTable peers) = (form ≡ forms.PeerTable) × IsPeerTable bytes peers
-Reads form t bytes (Rib time prefix entries) = (family : Family) × (form ≡ forms.Rib family) × (time ≡ t) × IsRib family bytes prefix entries
+abbrev pub HasReading : Form → ℕ → List ℕ → Reading → Type 0
+HasReading form t bytes (Message time peer width octets) = (form ≡ forms.Message width) × (time ≡ t) × IsMessageBody width bytes peer octets
+HasReading form t bytes (StateChange time peer state) = (width : AsWidth) × (form ≡ forms.StateChange width) × (time ≡ t) × IsStateChange width bytes peer state
+HasReading form t bytes (PeerTable peers) = (form ≡ forms.PeerTable) × IsPeerTable bytes peers
+HasReading form t bytes (Rib time prefix entries) = (family : Family) × (form ≡ forms.Rib family) × (time ≡ t) × IsRib family bytes prefix entries
 
 -- a listed record is what it reads as, or malformed where it has no reading; one that isn't listed is skipped
 abbrev pub Body : List ℕ → Told → Type 0
-Body bytes (Read reading) = (form : Form) × IsListed (kind bytes) (subtype bytes) form × Reads form (timestamp bytes) (body bytes) reading
-Body bytes (Skipped k s) = (k ≡ kind bytes) × (s ≡ subtype bytes) × ((form : Form) → IsListed (kind bytes) (subtype bytes) form → ⊥)
+Body bytes (Read reading) = (form : Form) × IsListedType (kind bytes) (subtype bytes) form × HasReading form (timestamp bytes) (body bytes) reading
+Body bytes (Skipped k s) = (k ≡ kind bytes) × (s ≡ subtype bytes) × ((form : Form) → IsListedType (kind bytes) (subtype bytes) form → ⊥)
 Body bytes (Malformed k s) =
-    (k ≡ kind bytes) × (s ≡ subtype bytes) × (form : Form) × IsListed (kind bytes) (subtype bytes) form
-    × ((reading : Reading) → Reads form (timestamp bytes) (body bytes) reading → ⊥)
+    (k ≡ kind bytes) × (s ≡ subtype bytes) × (form : Form) × IsListedType (kind bytes) (subtype bytes) form
+    × ((reading : Reading) → HasReading form (timestamp bytes) (body bytes) reading → ⊥)
 
 -- what is told is a reading of the form
 abbrev pub IsTold : Form → ℕ → List ℕ → Told → Type 0
-IsTold form t bytes (Read reading) = Reads form t bytes reading
+IsTold form t bytes (Read reading) = HasReading form t bytes reading
 IsTold form t bytes (Skipped k s) = ⊥
 IsTold form t bytes (Malformed k s) = ⊥

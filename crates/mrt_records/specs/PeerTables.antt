@@ -20,14 +20,14 @@ abbrev pub width_of_type : ℕ → AsWidth
 width_of_type type = if bit_and type 2 == 0 then widths.Two else widths.Four
 
 -- a peer of such a family and width: Peer Type 1, BGP ID 4, address, AS
-pub record IsPeer (family : Family) (width : AsWidth) (field : List ℕ) (peer : Neighbor) : Type 0 where
+pub record IsNeighbor (family : Family) (width : AsWidth) (field : List ℕ) (peer : Neighbor) : Type 0 where
   pub size : length field ≡ 5 + address_size family + width_of width
   pub address : IsAddressOf family (take (address_size family) (drop 5 field)) peer.address
   pub as_number : peer.as_number ≡ number_at (width_of width) (5 + address_size family) field
 
 -- a peer as its own type says
 abbrev pub IsPeerField : List ℕ → Neighbor → Type 0
-IsPeerField field peer = IsPeer (family_of_type (slice_index field 0)) (width_of_type (slice_index field 0)) field peer
+IsPeerField field peer = IsNeighbor (family_of_type (slice_index field 0)) (width_of_type (slice_index field 0)) field peer
 
 -- an identifier, a name, a count, and exactly so many peers
 pub record IsPeerTable (bytes : List ℕ) (peers : List Neighbor) : Type 0 where

@@ -12,8 +12,10 @@ entry_in octets place = record { peer_index = place.peer_index; attributes = tak
 abbrev pub IsWithin : List ℕ → Place → Type 0
 IsWithin octets place = place.start + place.size ≤ length octets
 
+-- all of the places lie in the octets
 abbrev pub AreWithin : List ℕ → List Place → Type 0
 AreWithin octets places = AllByRecursion (IsWithin octets) places
 
+-- the entries at these places
 abbrev pub entries_in : List ℕ → List Place → List Entry
 entries_in octets places = map (entry_in octets) places

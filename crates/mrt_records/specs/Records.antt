@@ -4,16 +4,19 @@ use Rattle.std.specs.List.{AllByRecursion}
 use Rattle.route_model.specs.Octets.{number_at}
 use Rattle.route_model.specs.Sequence.{joined}
 
--- the header's fields
+-- the timestamp of a header (RFC 6396 section 2)
 abbrev pub timestamp : List ℕ → ℕ
 timestamp bytes = number_at 4 0 bytes
 
+-- its type
 abbrev pub kind : List ℕ → ℕ
 kind bytes = number_at 2 4 bytes
 
+-- its subtype
 abbrev pub subtype : List ℕ → ℕ
 subtype bytes = number_at 2 6 bytes
 
+-- its Length: how many octets follow the header
 abbrev pub body_length : List ℕ → ℕ
 body_length bytes = number_at 4 8 bytes
 

@@ -36,7 +36,7 @@ pub record IsWholeMessage (bytes : List ℕ) : Type 0 where
   pub length : number_at 2 16 bytes ≡ Rattle.std.specs.Prelude.length bytes
 
 -- a session, and one whole message
-pub record IsMessage (width : AsWidth) (bytes : List ℕ) (peer : Neighbor) (octets : List ℕ) : Type 0 where
+pub record IsMessageBody (width : AsWidth) (bytes : List ℕ) (peer : Neighbor) (octets : List ℕ) : Type 0 where
   pub session : IsSession width bytes peer octets
   pub message : IsWholeMessage octets
 

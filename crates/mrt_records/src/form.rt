@@ -1,7 +1,7 @@
 //! The types and subtypes of records that are read (RFC 6396 section 4, and section 3 for type 17).
 
 ghost use Rattle.std.specs.Prelude.{◌≡◌, IfSome, IfNone};
-ghost use Rattle.mrt_records.specs.Bodies.{IsListed};
+ghost use Rattle.mrt_records.specs.Bodies.{IsListedType};
 ghost use Rattle.mrt_records.specs.declared.form.Form.{Form};
 
 use route_model::wire::{AsWidth, Family};
@@ -23,8 +23,8 @@ const BGP4MP_ET: u16 = 17;
 
 /// The form of a record of this type and subtype, or none where these aren't read.
 pub(crate) fn form_of(kind: u16, subtype: u16) -> Option<Form>
-    ensures listed { IfSome result (λ form. IsListed kind subtype form) }
-    ensures other { IfNone result ((form : Form) → IsListed kind subtype form → ⊥) }
+    ensures listed { IfSome result (λ form. IsListedType kind subtype form) }
+    ensures other { IfNone result ((form : Form) → IsListedType kind subtype form → ⊥) }
 {
     match kind {
         BGP4MP | BGP4MP_ET => session_form(subtype),
@@ -34,8 +34,8 @@ pub(crate) fn form_of(kind: u16, subtype: u16) -> Option<Form>
 }
 
 fn session_form(subtype: u16) -> Option<Form>
-    ensures listed { IfSome result (λ form. IsListed 16 subtype form × IsListed 17 subtype form) }
-    ensures other { IfNone result ((form : Form) → (IsListed 16 subtype form → ⊥) × (IsListed 17 subtype form → ⊥)) }
+    ensures listed { IfSome result (λ form. IsListedType 16 subtype form × IsListedType 17 subtype form) }
+    ensures other { IfNone result ((form : Form) → (IsListedType 16 subtype form → ⊥) × (IsListedType 17 subtype form → ⊥)) }
 {
     match subtype {
         0 => Some(Form::StateChange(AsWidth::Two)),
@@ -47,8 +47,8 @@ fn session_form(subtype: u16) -> Option<Form>
 }
 
 fn table_form(subtype: u16) -> Option<Form>
-    ensures listed { IfSome result (λ form. IsListed 13 subtype form) }
-    ensures other { IfNone result ((form : Form) → IsListed 13 subtype form → ⊥) }
+    ensures listed { IfSome result (λ form. IsListedType 13 subtype form) }
+    ensures other { IfNone result ((form : Form) → IsListedType 13 subtype form → ⊥) }
 {
     match subtype {
         1 => Some(Form::PeerTable),

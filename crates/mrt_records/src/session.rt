@@ -4,7 +4,7 @@ ghost use Rattle.std.specs.Prelude.{◌≡◌, ◌+◌, ◌≤◌, ℕ, List, le
 ghost use Rattle.route_model.specs.Octets.{number_at};
 ghost use Rattle.route_model.specs.Reading.{Exactly};
 ghost use Rattle.route_model.specs.PrefixFields.{address_size};
-ghost use Rattle.mrt_records.specs.Sessions.{IsAddressOf, IsSession, IsMessage, IsStateChange};
+ghost use Rattle.mrt_records.specs.Sessions.{IsAddressOf, IsSession, IsMessageBody, IsStateChange};
 ghost use Rattle.route_model.specs.Widths.{width_of};
 ghost use Rattle.mrt_records.specs.declared.neighbor.Neighbor.{Neighbor};
 
@@ -64,7 +64,7 @@ pub(crate) fn read_message(
     width: AsWidth,
     bytes: &[u8],
 ) -> Result<(Neighbor, Vec<u8>), ReadFault>
-    ensures { Exactly (λ m. (m.0, m.1.items)) (λ (m : Neighbor × List ℕ). IsMessage width bytes.now m.0 m.1) result }
+    ensures { Exactly (λ m. (m.0, m.1.items)) (λ (m : Neighbor × List ℕ). IsMessageBody width bytes.now m.0 m.1) result }
 {
     let Some((peer, rest)) = session_of(width, bytes) else {
         return Err(ReadFault::Malformed);

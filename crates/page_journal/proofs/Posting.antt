@@ -10,7 +10,7 @@ use Rattle.disk_models.proofs.api.Moments.{leaves_then, leaves_weaker, synced_le
 use Rattle.page_journal.specs.Layout.{Image, gate_place, header_place, image_place, number_from, IsOpen, transaction, images, pages_of}
 use Rattle.page_journal.specs.inner.Writing.{header_octets, Fills, OpensGate, ImagesStand}
 use Rattle.page_journal.specs.Bookkeeping.{AreNumbered, open_slots}
-use Rattle.page_journal.specs.Recovers.{laid, AreDistinct, AreBelow, IsWhole, RecoversBy, RecoversEither, Carries}
+use Rattle.page_journal.specs.Recovers.{laid, AreDistinct, AreBelow, IsWhole, RecoversBy, RecoversEither, CarriesPages}
 use Rattle.page_journal.proofs.Staging.{ReadsAs, staged, length-header_octets}
 use Rattle.page_journal.proofs.Frame.{InBody, InSlot, SameSlot, same_open, same_reading, closed_same, each_same, contents_each}
 use Rattle.page_journal.proofs.Opening.{opened}
@@ -28,7 +28,7 @@ pub record IsFree (slot next : ℕ) (order : List ℕ) (f : ℕ → ℕ) : Type 
   pub closed : ¬ IsOpen f slot
   pub lower : AllByRecursion (λ t. transaction f t < next) order
 
-module _ (homes : ℕ) (note order : List ℕ) (slot next : ℕ) (below : slot < 8) (s0 : DiskState) (pages : List (List ℕ)) (carries : Carries homes note order s0 pages) (free : (c : ℕ → ℕ) → MayLeave s0 c → IsFree slot next order c) where
+module _ (homes : ℕ) (note order : List ℕ) (slot next : ℕ) (below : slot < 8) (s0 : DiskState) (pages : List (List ℕ)) (carries : CarriesPages homes note order s0 pages) (free : (c : ℕ → ℕ) → MayLeave s0 c → IsFree slot next order c) where
   lower_same : (c d : ℕ → ℕ) (o : List ℕ) → ((t : ℕ) → IsWhole homes d t → SameSlot c d t) → AllByRecursion (IsWhole homes d) o → AllByRecursion (λ t. transaction d t < next) o → AllByRecursion (λ t. transaction c t < next) o
   lower_same c d [] same w lower = tt
   lower_same c d (t ∷ o) same w lower = (omega (arith, (same t w.0).number, lower.0), lower_same c d o same w.1 lower.1)
@@ -90,7 +90,7 @@ module _ (homes : ℕ) (note order : List ℕ) (slot next : ℕ) (below : slot <
         (cases_eq (c (gate_place slot)) 165)
 
     -- once it is open for good, each crash leaves the new pages
-    pub posted : (s2 : DiskState) → OpensGate slot s1 s2 → Carries homes note (order ++ slot ∷ []) s2 (laid named pages)
+    pub posted : (s2 : DiskState) → OpensGate slot s1 s2 → CarriesPages homes note (order ++ slot ∷ []) s2 (laid named pages)
     posted s2 opens c may =
         let same : (i : ℕ) → c i ≡ s2.octet i = λ i. may i (opens.settled i) in
         gate_open c (λ i out. same i ∙ opens.outside i out) (same (gate_place slot) ∙ opens.is_open)
@@ -122,7 +122,7 @@ pub number_same : (c d : ℕ → ℕ) (slot : ℕ) → ((i : ℕ) → Within (he
 number_same c d slot agree = ap number_from (octets_agree c d (header_place slot) 8 agree)
 
 -- A whole post into the first closed slot.
-module _ (homes : ℕ) (note : List ℕ) (opened : ℕ) (room : opened < 8) (s0 s1 : DiskState) (pages : List (List ℕ)) (carries : Carries homes note (open_slots opened) s0 pages)
+module _ (homes : ℕ) (note : List ℕ) (opened : ℕ) (room : opened < 8) (s0 s1 : DiskState) (pages : List (List ℕ)) (carries : CarriesPages homes note (open_slots opened) s0 pages)
     (numbered : (c : ℕ → ℕ) → MayLeave s0 c → AreNumbered opened c) (named : List Image) (header : List ℕ) where
   free : (c : ℕ → ℕ) → MayLeave s0 c → IsFree opened (opened + 1) (open_slots opened) c
   free c may = first_free homes note opened c pages room (carries c may) (numbered c may)
@@ -138,8 +138,8 @@ module _ (homes : ℕ) (note : List ℕ) (opened : ℕ) (room : opened < 8) (s0 
         (leaves_weaker s1 s2 (MayLeaveBut (gate_place opened) 1 s1) (RecoversEither homes note pages (laid named pages))
         (torn_gate homes note (open_slots opened) opened (opened + 1) room s0 pages carries free named header s1 (omega (arith, some)) few (omega (arith, room)) (omega (arith, small)) below distinct is_header fills) two)
 
-    pub post_carries : OpensGate opened s1 s2 → Carries homes note (open_slots (opened + 1)) s2 (laid named pages)
-    post_carries opens = subst (λ (o : List ℕ). Carries homes note o s2 (laid named pages)) (open_push opened)
+    pub post_carries : OpensGate opened s1 s2 → CarriesPages homes note (open_slots (opened + 1)) s2 (laid named pages)
+    post_carries opens = subst (λ (o : List ℕ). CarriesPages homes note o s2 (laid named pages)) (open_push opened)
         (posted homes note (open_slots opened) opened (opened + 1) room s0 pages carries free named header s1 (omega (arith, some)) few (omega (arith, room)) (omega (arith, small)) below distinct is_header fills s2 opens)
 
     post_reads : OpensGate opened s1 s2 → ReadsAs s2.octet opened (opened + 1) named

@@ -23,7 +23,7 @@ use Rattle.bgp_update.specs.declared.reading.PathAttributes.{PathAttributes}
 use Rattle.bgp_update.proofs.api.OneReading.{attributes_one}
 use Rattle.bgp_update.proofs.api.Reached.{entry_reach_one}
 use Rattle.bgp_update.proofs.api.Told.{message_one}
-use Rattle.resolve.specs.Changes.{peer_of, message_changes}
+use Rattle.resolve.specs.Changes.{peer_of_neighbor, message_changes}
 use Rattle.resolve.specs.Entries.{family_of, IsRouteOf, IsChangeOf, IsFaultOf, AreChangesOf, IsFirstFault}
 use Rattle.resolve.specs.Meanings.{IsMeaning, Means}
 use Rattle.resolve.specs.Records.{admitted, IsLong, MessageGives, StateGives, RibGives, RibGivesUnder, Gives, state_changes}
@@ -112,7 +112,7 @@ change_one : (c : ℕ) (peers : List Neighbor) (prefix : IpPrefix) (entry : Entr
 change_one c peers prefix entry x y p q =
     let neighbor = some_one p.neighbor q.neighbor (slice_get peers entry.peer_index) p.named q.named in
     let route = route_one prefix entry p.route q.route p.gives q.gives in
-    p.announces ∙ ap (λ (t : Neighbor). changes.Announce (peer_of c t) prefix p.route) neighbor ∙ ap (λ (t : Route). changes.Announce (peer_of c q.neighbor) prefix t) route ∙ sym q.announces
+    p.announces ∙ ap (λ (t : Neighbor). changes.Announce (peer_of_neighbor c t) prefix p.route) neighbor ∙ ap (λ (t : Route). changes.Announce (peer_of_neighbor c q.neighbor) prefix t) route ∙ sym q.announces
 
 changes_one : (c : ℕ) (peers : List Neighbor) (prefix : IpPrefix) (entries : List Entry) (xs ys : List Change) → AreChangesOf c peers prefix entries xs → AreChangesOf c peers prefix entries ys → xs ≡ ys
 changes_one c peers prefix [] [] [] p q = refl
@@ -250,9 +250,9 @@ table_result x (inr e) n = absurd (n e)
 
 gives_one : (c : ℕ) (table : Option (List Neighbor)) (r : records.Told) (x y : Meaning) → Gives c table r x → Gives c table r y → (x ≡ Err faults.OutOfMemory → ⊥) → (y ≡ Err faults.OutOfMemory → ⊥) → x ≡ y
 gives_one c table (records.Read (records.Message time peer width octets)) x y p q n m =
-    of_message_one (peer_of c peer) time width octets x y (of_message (peer_of c peer) time width octets x p n) (of_message (peer_of c peer) time width octets y q m)
+    of_message_one (peer_of_neighbor c peer) time width octets x y (of_message (peer_of_neighbor c peer) time width octets x p n) (of_message (peer_of_neighbor c peer) time width octets y q m)
 gives_one c table (records.Read (records.StateChange time peer state)) x y p q n m =
-    fits_one time (state_changes (peer_of c peer) state) x y (of_state (peer_of c peer) time state x p n) (of_state (peer_of c peer) time state y q m)
+    fits_one time (state_changes (peer_of_neighbor c peer) state) x y (of_state (peer_of_neighbor c peer) time state x p n) (of_state (peer_of_neighbor c peer) time state y q m)
 gives_one c table (records.Read (records.Rib time prefix entries)) x y p q n m = under_one c table time prefix entries x y p q n m
 gives_one c table (records.Read (records.PeerTable peers)) x y p q n m = table_result x p n ∙ sym (table_result y q m)
 gives_one c table (records.Skipped kind subtype) x y p q n m = p ∙ sym q

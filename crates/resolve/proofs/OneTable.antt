@@ -4,18 +4,18 @@ use Rattle.std.proofs.lemmas.Bool.Decides.{eqb_tells}
 use Rattle.std.specs.List.{AllByRecursion}
 use Rattle.mrt_records.specs.Values.{Told, Read, Skipped, Malformed, PeerTable, Message, StateChange, Rib}
 use Rattle.mrt_records.specs.declared.neighbor.Neighbor.{Neighbor}
-use Rattle.resolve.specs.Tables.{IsPeerTable, LastTable, peers_of}
+use Rattle.resolve.specs.Tables.{IsPeerTableRecord, LastTable, peers_of}
 
 -- no record is a peer table
 abbrev HasNone : List Told → Type 0
-HasNone records = AllByRecursion (λ r. IsPeerTable r → ⊥) records
+HasNone records = AllByRecursion (λ r. IsPeerTableRecord r → ⊥) records
 
 -- the last peer table of the records has these peers
 abbrev HasLast : List Told → Option (List Neighbor) → Type 0
 HasLast records table =
-    (before after : List Told) × (last : Told) × (records ≡ before ++ last ∷ after) × IsPeerTable last × HasNone after × (table ≡ peers_of last)
+    (before after : List Told) × (last : Told) × (records ≡ before ++ last ∷ after) × IsPeerTableRecord last × HasNone after × (table ≡ peers_of last)
 
-is_table : (r : Told) → IsPeerTable r ⊎ (IsPeerTable r → ⊥)
+is_table : (r : Told) → IsPeerTableRecord r ⊎ (IsPeerTableRecord r → ⊥)
 is_table (Read (PeerTable peers)) = inl tt
 is_table (Read (Message time peer width octets)) = inr (λ x. x)
 is_table (Read (StateChange time peer state)) = inr (λ x. x)
@@ -35,7 +35,7 @@ pub some_table : (records : List Told) → (table : Option (List Neighbor)) × L
 some_table [] = (None, inl (tt, refl))
 some_table (r ∷ rs) = in_front r rs (some_table rs)
 
-none_there : (before after : List Told) (last : Told) → IsPeerTable last → HasNone (before ++ last ∷ after) → ⊥
+none_there : (before after : List Told) (last : Told) → IsPeerTableRecord last → HasNone (before ++ last ∷ after) → ⊥
 none_there [] after last is none = none.0 is
 none_there (b ∷ before) after last is none = none_there before after last is none.1
 
@@ -44,14 +44,14 @@ not_both records table none (before, after, last, parts, is, rest, same) = none_
 
 -- behind a record and others: the last peer table is among the others, or it is the first, or there is none
 abbrev Parted : Told → List Told → Option (List Neighbor) → Type 0
-Parted r rs table = HasLast rs table ⊎ (HasNone rs × ((IsPeerTable r × (table ≡ peers_of r)) ⊎ ((IsPeerTable r → ⊥) × (table ≡ None))))
+Parted r rs table = HasLast rs table ⊎ (HasNone rs × ((IsPeerTableRecord r × (table ≡ peers_of r)) ⊎ ((IsPeerTableRecord r → ⊥) × (table ≡ None))))
 
 parted : (r : Told) (rs : List Told) (table : Option (List Neighbor)) → LastTable (r ∷ rs) table → Parted r rs table
 parted r rs table (inl none) = inr (none.0.1, inr (none.0.0, none.1))
 parted r rs table (inr ([], after, last, parts, is, rest, same)) =
     let first : last ≡ r = cc in
     let others : after ≡ rs = cc in
-    inr (subst (λ (t : List Told). HasNone t) others rest, inl (subst (λ (t : Told). IsPeerTable t) first is, same ∙ ap peers_of first))
+    inr (subst (λ (t : List Told). HasNone t) others rest, inl (subst (λ (t : Told). IsPeerTableRecord t) first is, same ∙ ap peers_of first))
 parted r rs table (inr (b ∷ before, after, last, parts, is, rest, same)) =
     let others : rs ≡ before ++ last ∷ after = cc in
     inl (before, after, last, others, is, rest, same)

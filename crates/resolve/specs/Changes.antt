@@ -10,17 +10,19 @@ use Rattle.mrt_records.specs.declared.neighbor.Neighbor.{Neighbor}
 use Rattle.bgp_update.specs.Messages.{Announced, Changes, Told, Update, Notification, Other}
 
 -- the neighbor as a peer of the collector
-abbrev pub peer_of : ℕ → Neighbor → Peer
-peer_of collector n = record { collector = collector; address = n.address; as_number = n.as_number }
+abbrev pub peer_of_neighbor : ℕ → Neighbor → Peer
+peer_of_neighbor collector n = record { collector = collector; address = n.address; as_number = n.as_number }
 
 -- is the prefix among those that are announced?
 abbrev pub is_among : Option Announced → IpPrefix → Bool
 is_among None x = false
 is_among (Some a) x = list_any (λ y. same_prefix x y) a.prefixes
 
+-- a withdrawal of each of the prefixes
 abbrev pub withdrawals : Peer → List IpPrefix → List Change
 withdrawals peer prefixes = map (λ x. changes.Withdraw peer x) prefixes
 
+-- an announcement of each of the prefixes, by the route that they share
 abbrev pub announcements : Peer → Option Announced → List Change
 announcements peer None = []
 announcements peer (Some a) = map (λ x. changes.Announce peer x a.route) a.prefixes

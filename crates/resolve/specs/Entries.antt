@@ -20,7 +20,7 @@ use Rattle.bgp_update.specs.declared.fault.MessageFault.{MessageFault}
 use Rattle.bgp_update.specs.declared.fault.MessageFault.TheVariants as messages
 use Rattle.mrt_records.specs.declared.entries.RibEntry.{RibEntry}
 use Rattle.bgp_update.specs.declared.reading.PathAttributes.{PathAttributes}
-use Rattle.resolve.specs.Changes.{peer_of}
+use Rattle.resolve.specs.Changes.{peer_of_neighbor}
 use Rattle.resolve.specs.declared.fault.ResolveFault.{ResolveFault}
 use Rattle.resolve.specs.declared.fault.ResolveFault.TheVariants as faults
 
@@ -40,7 +40,7 @@ pub record IsChangeOf (collector : ℕ) (peers : List Neighbor) (prefix : IpPref
   pub named : slice_get peers entry.peer_index ≡ Some neighbor
   pub gives : IsRouteOf prefix entry route
   pub fits : length (route_octets route) ≤ 3072
-  pub announces : change ≡ changes.Announce (peer_of collector neighbor) prefix route
+  pub announces : change ≡ changes.Announce (peer_of_neighbor collector neighbor) prefix route
 
 -- why an entry announces nothing: the peer is looked at first, then the attributes; memory may be wanting at any entry
 abbrev pub IsFaultOf : List Neighbor → IpPrefix → Entry → ResolveFault → Type 0

@@ -6,11 +6,13 @@ use Rattle.route_model.specs.declared.admission.AdmissionError.TheVariants as ad
 use Rattle.resolve.specs.declared.fault.ResolveFault.{ResolveFault}
 use Rattle.resolve.specs.declared.fault.ResolveFault.TheVariants as faults
 
+-- the fault of a message, as one of its record
 abbrev pub of_message : MessageFault → ResolveFault
 of_message messages.Malformed = faults.Malformed
 of_message messages.RouteTooLarge = faults.RouteTooLarge
 of_message messages.OutOfMemory = faults.OutOfMemory
 
+-- why there is no such admission, as a fault of its record
 abbrev pub of_admission : AdmissionError → ResolveFault
 of_admission admissions.RouteTooLarge = faults.RouteTooLarge
 of_admission admissions.AdmissionTooLarge = faults.AdmissionTooLarge

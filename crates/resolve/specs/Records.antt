@@ -10,7 +10,7 @@ use Rattle.mrt_records.specs.Entries.{Entry}
 use Rattle.mrt_records.specs.Values as records
 use Rattle.mrt_records.specs.declared.neighbor.Neighbor.{Neighbor}
 use Rattle.bgp_update.specs.Messages.{Told, IsMessage, HasLarge}
-use Rattle.resolve.specs.Changes.{peer_of, message_changes}
+use Rattle.resolve.specs.Changes.{peer_of_neighbor, message_changes}
 use Rattle.resolve.specs.Entries.{AreChangesOf, IsFirstFault}
 use Rattle.resolve.specs.declared.fault.ResolveFault.{ResolveFault}
 use Rattle.resolve.specs.declared.fault.ResolveFault.TheVariants as faults
@@ -38,6 +38,7 @@ MessageGives peer time width octets (Err faults.OutOfMemory) = Unit {0}
 abbrev pub state_changes : Peer → ℕ → List Change
 state_changes peer state = if state == 6 then [] else changes.Down peer ∷ []
 
+-- what a state change gives: the end of the routes of the peer, where that fits an admission; never nothing
 abbrev pub StateGives : Peer → ℕ → ℕ → Result (Option Admitted) ResolveFault → Type 0
 StateGives peer time state (Ok None) = ⊥
 StateGives peer time state (Ok (Some a)) = (a ≡ admitted time (state_changes peer state)) × (IsLong a → ⊥)
@@ -66,8 +67,8 @@ RibGivesUnder c (Some peers) time prefix entries result = RibGives c peers time 
 
 -- what a record gives, for the collector c, in a feed with this peer table
 abbrev pub Gives : ℕ → Option (List Neighbor) → records.Told → Result (Option Admitted) ResolveFault → Type 0
-Gives c table (records.Read (records.Message time peer width octets)) result = MessageGives (peer_of c peer) time width octets result
-Gives c table (records.Read (records.StateChange time peer state)) result = StateGives (peer_of c peer) time state result
+Gives c table (records.Read (records.Message time peer width octets)) result = MessageGives (peer_of_neighbor c peer) time width octets result
+Gives c table (records.Read (records.StateChange time peer state)) result = StateGives (peer_of_neighbor c peer) time state result
 Gives c table (records.Read (records.Rib time prefix entries)) result = RibGivesUnder c table time prefix entries result
 Gives c table (records.Read (records.PeerTable peers)) result = (result ≡ Ok None) ⊎ (result ≡ Err faults.OutOfMemory)
 Gives c table (records.Skipped kind subtype) result = result ≡ Ok None

@@ -6,13 +6,13 @@ use Rattle.mrt_records.specs.declared.neighbor.Neighbor.{Neighbor}
 use Rattle.mrt_records.specs.Values.{Told, Read, Skipped, Malformed, PeerTable, Message, StateChange, Rib}
 
 -- the record is of type 13 and subtype 1, whether it can be read or not (RFC 6396 section 4.3.1)
-abbrev pub IsPeerTable : Told → Type 0
-IsPeerTable (Read (PeerTable peers)) = Unit {0}
-IsPeerTable (Read (Message time peer width octets)) = ⊥
-IsPeerTable (Read (StateChange time peer state)) = ⊥
-IsPeerTable (Read (Rib time prefix entries)) = ⊥
-IsPeerTable (Skipped kind subtype) = ⊥
-IsPeerTable (Malformed kind subtype) = (kind ≡ 13) × (subtype ≡ 1)
+abbrev pub IsPeerTableRecord : Told → Type 0
+IsPeerTableRecord (Read (PeerTable peers)) = Unit {0}
+IsPeerTableRecord (Read (Message time peer width octets)) = ⊥
+IsPeerTableRecord (Read (StateChange time peer state)) = ⊥
+IsPeerTableRecord (Read (Rib time prefix entries)) = ⊥
+IsPeerTableRecord (Skipped kind subtype) = ⊥
+IsPeerTableRecord (Malformed kind subtype) = (kind ≡ 13) × (subtype ≡ 1)
 
 -- the peers of a record that is a peer table: none where it is malformed
 abbrev pub peers_of : Told → Option (List Neighbor)
@@ -27,15 +27,16 @@ peers_of (Malformed kind subtype) = None
 -- malformed, or none came
 abbrev pub LastTable : List Told → Option (List Neighbor) → Type 0
 LastTable records table =
-    (AllByRecursion (λ r. IsPeerTable r → ⊥) records × (table ≡ None))
-    ⊎ ((before after : List Told) × (last : Told) × (records ≡ before ++ last ∷ after) × IsPeerTable last
-    × AllByRecursion (λ r. IsPeerTable r → ⊥) after × (table ≡ peers_of last))
+    (AllByRecursion (λ r. IsPeerTableRecord r → ⊥) records × (table ≡ None))
+    ⊎ ((before after : List Told) × (last : Told) × (records ≡ before ++ last ∷ after) × IsPeerTableRecord last
+    × AllByRecursion (λ r. IsPeerTableRecord r → ⊥) after × (table ≡ peers_of last))
 
 -- what a resolver keeps of a feed: its collector and its peer table
 pub record Feed : Type 0 where
   pub collector : ℕ
   pub table : Option (List Neighbor)
 
+-- a peer table as a list
 abbrev pub table_told : Option (Vec Neighbor Global) → Option (List Neighbor)
 table_told None = None
 table_told (Some peers) = Some peers.items

@@ -1,7 +1,7 @@
 //! What the entries of RIB records announce (RFC 6396 section 4.3.4).
 
 ghost use Rattle.std.specs.Prelude.{◌≡◌};
-ghost use Rattle.resolve.specs.Changes.{peer_of};
+ghost use Rattle.resolve.specs.Changes.{peer_of_neighbor};
 ghost use Rattle.resolve.specs.Entries.{family_of, EntryGives, EntriesGive, entry_shown, RouteRead};
 
 use crate::fault::ResolveFault;
@@ -12,8 +12,8 @@ use route_model::{Address, Change, Peer, Prefix, Route, SharedRoute};
 use std::alloc::Global;
 
 /// The neighbor as a peer of the collector.
-pub(crate) fn peer_of(collector: u8, neighbor: &Neighbor) -> Peer
-    ensures { result ≡ peer_of collector neighbor.now }
+pub(crate) fn peer_of_neighbor(collector: u8, neighbor: &Neighbor) -> Peer
+    ensures { result ≡ peer_of_neighbor collector neighbor.now }
 {
     Peer {
         collector,
@@ -54,7 +54,7 @@ fn change_of(
     };
     let route = route_of(alloc, prefix, entry.attributes)?;
     let route = SharedRoute::new(alloc, route)?;
-    Ok(Change::Announce(peer_of(collector, neighbor), *prefix, route))
+    Ok(Change::Announce(peer_of_neighbor(collector, neighbor), *prefix, route))
 }
 
 /// The announcements of the entries, or the fault of the first that has one.

@@ -5,7 +5,7 @@ ghost use Rattle.mrt_records.specs.Values.{Told, told};
 ghost use Rattle.resolve.specs.Tables.{LastTable};
 ghost use Rattle.resolve.specs.Records.{MessageGives, StateGives, RibGives, RibGivesUnder, Gives, state_changes};
 
-use crate::entries::{entry_changes, peer_of};
+use crate::entries::{entry_changes, peer_of_neighbor};
 use crate::fault::ResolveFault;
 use crate::messages::{add, message_changes};
 use bgp_update::read_message;
@@ -151,9 +151,22 @@ impl Resolver {
                 peer,
                 width,
                 octets,
-            } => { of_message(alloc, &peer_of(self.collector, peer), *time, *width, octets) }
+            } => {
+                of_message(
+                    alloc,
+                    &peer_of_neighbor(self.collector, peer),
+                    *time,
+                    *width,
+                    octets,
+                )
+            }
             Item::StateChange { time, peer, state } => {
-                of_state(alloc, &peer_of(self.collector, peer), *time, *state)
+                of_state(
+                    alloc,
+                    &peer_of_neighbor(self.collector, peer),
+                    *time,
+                    *state,
+                )
             }
             Item::Rib {
                 time,

@@ -13,6 +13,7 @@ use Rattle.route_meaning.specs.Rows.{most_rows}
 abbrev pub events_in : Peer → IpPrefix → Placed Admitted → List Event
 events_in peer prefix p = map (λ change. record { time = time_of p; change = change }) (filter (concerns peer prefix) p.item.changes)
 
+-- the same of a list of admissions, in their order
 abbrev pub all_events : Peer → IpPrefix → List (Placed Admitted) → List Event
 all_events peer prefix [] = []
 all_events peer prefix (p ∷ ps) = events_in peer prefix p ++ all_events peer prefix ps

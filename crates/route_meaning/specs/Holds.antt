@@ -16,6 +16,7 @@ use Rattle.route_meaning.specs.Merged.{Placed}
 abbrev pub admitted_time : Admitted → ℕ
 admitted_time a = a.time
 
+-- the same of an admission with its collector
 abbrev pub time_of : Placed Admitted → ℕ
 time_of p = p.item.time
 

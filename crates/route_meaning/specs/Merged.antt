@@ -7,6 +7,7 @@ pub record Placed (X : Type 0) : Type 0 where
   pub collector : ℕ
   pub item : X
 
+-- the item with this number
 abbrev pub placed : {X : Type 0} → ℕ → X → Placed X
 placed c x = record { collector = c; item = x }
 

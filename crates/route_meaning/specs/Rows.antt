@@ -31,6 +31,7 @@ Selects Everything peer prefix = Unit {0}
 abbrev pub row_number : Row → ℕ
 row_number row = key_number row.peer row.prefix
 
+-- the place of a spot in the same order
 abbrev pub spot_number : Spot → ℕ
 spot_number spot = key_number spot.peer spot.prefix
 

@@ -29,9 +29,11 @@ words_of n = record {
   fifth = n % 2 ^ 64;
 }
 
+-- (a lemma) a number followed by a word, without the word
 pub front_of : (n word : ℕ) → word < 2 ^ 64 → followed_by n word / 2 ^ 64 ≡ n
 front_of n word lt = omega arith
 
+-- (a lemma) that word
 pub last_of : (n word : ℕ) → word < 2 ^ 64 → followed_by n word % 2 ^ 64 ≡ word
 last_of n word lt = omega arith
 

@@ -65,7 +65,7 @@ pub record Raises (old : List Waiting) (c mark : ℕ) (new : List Waiting) : Typ
   pub times : waiting_times new ≡ waiting_times old
 
 -- the collector's mark is above this one
-pub record IsAbove (lanes : List Waiting) (c mark : ℕ) : Type 0 where
+pub record HasMarkAbove (lanes : List Waiting) (c mark : ℕ) : Type 0 where
   pub lane : Waiting
   pub here : slice_get lanes c ≡ Some lane
   pub above : mark < lane.mark

@@ -2,7 +2,7 @@
 
 ghost use Rattle.std.specs.Prelude.{map, ◌≡◌, ◌<◌, ◌≤◌, ◌++◌, [], ℕ, List, IfOk, IfSome, IfNone, OnOk, OnErr, Some, IsErr, slice_get, length, replicate, ◌↔◌};
 ghost use Rattle.std.specs.List.{AllByRecursion};
-ghost use Rattle.sequencer.specs.Lanes.{Waiting, Releases, NoneOpen, SameLanes, Raises, IsAbove, marks, waiting_times, bound_of};
+ghost use Rattle.sequencer.specs.Lanes.{Waiting, Releases, NoneOpen, SameLanes, Raises, HasMarkAbove, marks, waiting_times, bound_of};
 ghost use Rattle.route_meaning.specs.History.{least};
 ghost use Rattle.sequencer.specs.First.{IsNext};
 ghost use Rattle.sequencer.specs.Taking.{IsSieved, MayTakeIn, TakesIn};
@@ -98,7 +98,7 @@ impl Sequencer {
     pub fn raise(&mut self, collector: usize, mark: Mark) -> Result<(), MarkBack>
         requires { collector < length self.old }
         ensures raised { OnOk result (Raises self.old collector mark self.new) }
-        ensures back { IsErr result ↔ IsAbove self.old collector mark }
+        ensures back { IsErr result ↔ HasMarkAbove self.old collector mark }
         ensures same { OnErr result (self.new ≡ self.old) }
     {
         let lane = &mut self.lanes[collector];

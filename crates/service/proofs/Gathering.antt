@@ -3,7 +3,7 @@ use Rattle.std.proofs.Common.{◌≡◌, ℕ, ◌+◌, ◌≤◌, List, [], ◌�
 use Rattle.std.proofs.lemmas.Bool.{cases_lt, lt-ltb}
 use Rattle.route_model.specs.Admission.{Admitted, admission_octets}
 use Rattle.archive.specs.Steps.{batch_octets}
-use Rattle.service.specs.Turns.{is_crowded, wait_unless, joined}
+use Rattle.service.specs.Turns.{is_crowded, wait_unless, waiting_with}
 use Rattle.service.specs.inner.Feeding.{IsCounted}
 use Rattle.service.specs.declared.feeding.Feeding.{Feeding}
 use Rattle.service.proofs.Turning.{octets_more}
@@ -11,7 +11,7 @@ use Rattle.service.proofs.Turning.{octets_more}
 pub crowded_is : (waiting : List Admitted) (a : Admitted) (octets n : ℕ) → octets ≡ batch_octets waiting → n ≡ length (admission_octets a) → ltb 262144 (octets + (n + 4)) ≡ is_crowded waiting a
 crowded_is waiting a octets n counted len = ap (ltb 262144) (let more = octets_more waiting a in let e : octets + (n + 4) ≡ batch_octets (waiting ++ a ∷ []) = omega (arith, more, counted, len) in e)
 
-pub joined_is : (waiting left now : List Admitted) (a : Admitted) (b : Bool) → b ≡ is_crowded waiting a → left ≡ wait_unless b waiting → now ≡ left ++ a ∷ [] → now ≡ joined waiting a
+pub joined_is : (waiting left now : List Admitted) (a : Admitted) (b : Bool) → b ≡ is_crowded waiting a → left ≡ wait_unless b waiting → now ≡ left ++ a ∷ [] → now ≡ waiting_with waiting a
 joined_is waiting left now a b crowded stays more = more ∙ ap (λ (t : List Admitted). t ++ a ∷ []) (stays ∙ ap (λ (t : Bool). wait_unless t waiting) crowded)
 
 pub not_above : (n : ℕ) → ltb 262144 n ≡ false → n ≤ 262144

@@ -19,7 +19,7 @@ use Rattle.resolve.specs.declared.fault.ResolveFault.{ResolveFault}
 use Rattle.service.specs.Faults.{of_record}
 use Rattle.service.specs.FeedLines.{admitted_text, batch_line, late_line}
 use Rattle.service.specs.Refusals.{refused_record_line}
-use Rattle.service.specs.Turns.{Turn, Offer, Refuse, offered, refusals, admissions_of, is_crowded, is_full, offer_where, wait_unless, joined, turns_at, waits_after, turns_for, waits_behind, last_turns, feed_turns}
+use Rattle.service.specs.Turns.{Turn, Offer, Refuse, offered, refusals, admissions_of, is_crowded, is_full, offer_where, wait_unless, waiting_with, turns_at, waits_after, turns_for, waits_behind, last_turns, feed_turns}
 use Rattle.service.specs.FeedTexts.{capped, intake_in, admitted_of, batch_text, turns_text}
 use Rattle.service.specs.inner.Feeding.{HasDone}
 use Rattle.service.specs.declared.feed_lines.FeedCounts.{FeedCounts}
@@ -141,7 +141,7 @@ offer_wait false waiting = refl
 admission_turns : (limit place : ℕ) (waiting : List Admitted) (a : Admitted) → offered (turns_at limit place waiting (Ok (Some a))) ++ waits_after limit waiting (Ok (Some a)) ≡ waiting ++ a ∷ []
 admission_turns limit place waiting a =
     let b = is_crowded waiting a in
-    let j = joined waiting a in
+    let j = waiting_with waiting a in
     ap (λ (t : List Admitted). t ++ wait_unless (is_full limit j) j) (offered_both (offer_where b waiting) (offer_where (is_full limit j) j))
     ∙ append_assoc (offered (offer_where b waiting)) (offered (offer_where (is_full limit j) j)) (wait_unless (is_full limit j) j)
     ∙ ap (λ (t : List Admitted). offered (offer_where b waiting) ++ t) (offer_wait (is_full limit j) j)

@@ -25,7 +25,7 @@ pub record IsReplyText (h : History) (line text : List ℕ) : Type 0 where
   pub told : text ≡ answer_text answer
 
 -- the line asks of a moment that isn't below the settled watermark, which is this one
-pub record IsAbove (h : History) (line : List ℕ) (watermark : ℕ) : Type 0 where
+pub record IsUnsettled (h : History) (line : List ℕ) (watermark : ℕ) : Type 0 where
   pub query : Query
   pub asked : IsQueryLine line query
   pub above : settled h ≤ last_moment query
@@ -34,7 +34,7 @@ pub record IsAbove (h : History) (line : List ℕ) (watermark : ℕ) : Type 0 wh
 -- why there is no answer: the line is no request, its moment isn't settled, or memory was wanting
 abbrev pub IsRefused : History → List ℕ → Unanswered → Type 0
 IsRefused h line whys.BadRequest = (query : Query) → IsQueryLine line query → ⊥
-IsRefused h line (whys.AboveWatermark watermark) = IsAbove h line watermark
+IsRefused h line (whys.AboveWatermark watermark) = IsUnsettled h line watermark
 IsRefused h line whys.OutOfMemory = Unit {0}
 
 -- this is the text of an answer to the line, or the line of a refusal of it

@@ -47,18 +47,18 @@ wait_unless true waiting = []
 wait_unless false waiting = waiting
 
 -- what waits with one more admission, for which room is made first
-abbrev pub joined : List Admitted → Admitted → List Admitted
-joined waiting a = wait_unless (is_crowded waiting a) waiting ++ a ∷ []
+abbrev pub waiting_with : List Admitted → Admitted → List Admitted
+waiting_with waiting a = wait_unless (is_crowded waiting a) waiting ++ a ∷ []
 
 -- what is done for the record at this place, where these admissions wait
 abbrev pub turns_at : ℕ → ℕ → List Admitted → Result (Option Admitted) ResolveFault → List Turn
-turns_at limit place waiting (Ok (Some a)) = offer_where (is_crowded waiting a) waiting ++ offer_where (is_full limit (joined waiting a)) (joined waiting a)
+turns_at limit place waiting (Ok (Some a)) = offer_where (is_crowded waiting a) waiting ++ offer_where (is_full limit (waiting_with waiting a)) (waiting_with waiting a)
 turns_at limit place waiting (Ok None) = []
 turns_at limit place waiting (Err fault) = Refuse place fault ∷ []
 
 -- what waits after it
 abbrev pub waits_after : ℕ → List Admitted → Result (Option Admitted) ResolveFault → List Admitted
-waits_after limit waiting (Ok (Some a)) = wait_unless (is_full limit (joined waiting a)) (joined waiting a)
+waits_after limit waiting (Ok (Some a)) = wait_unless (is_full limit (waiting_with waiting a)) (waiting_with waiting a)
 waits_after limit waiting (Ok None) = waiting
 waits_after limit waiting (Err fault) = waiting
 
@@ -82,6 +82,6 @@ abbrev pub feed_turns : ℕ → List (Result (Option Admitted) ResolveFault) →
 feed_turns limit results = turns_for limit 0 [] results ++ last_turns (waits_behind limit [] results)
 
 -- an offered batch has at most so many admissions, and no more octets than a batch may have
-abbrev pub IsWithin : ℕ → Turn → Type 0
-IsWithin limit (Offer batch) = (length batch ≤ limit) × (batch_octets batch ≤ 262144)
-IsWithin limit (Refuse place fault) = Unit {0}
+abbrev pub IsWithinLimits : ℕ → Turn → Type 0
+IsWithinLimits limit (Offer batch) = (length batch ≤ limit) × (batch_octets batch ≤ 262144)
+IsWithinLimits limit (Refuse place fault) = Unit {0}

@@ -16,7 +16,7 @@ use Rattle.bgp_update.specs.declared.reading.PathAttributes.{PathAttributes}
 use Rattle.bgp_update.specs.AttributeFields.{IsAttributeField, AreListed, value_of}
 use Rattle.route_model.specs.Spelling.{origin_octet}
 use Rattle.route_model.specs.declared.attribute.Attribute.{Attribute}
-use Rattle.bgp_update.specs.Values.{Optionally, IsOrigin, IsNumber, IsFour, IsFlag, IsAggregator, as4_path, as4_aggregator, merged}
+use Rattle.bgp_update.specs.Values.{Optionally, IsOrigin, IsNumber, IsFour, IsFlag, IsAggregator, as4_path, as4_aggregator, counted_aggregator}
 use Rattle.bgp_update.specs.Paths.{IsPath}
 use Rattle.bgp_update.specs.Joining.{IsLaid}
 use Rattle.bgp_update.proofs.SegmentFields.{path_one}
@@ -117,7 +117,7 @@ reading_one width list x y p q =
     let med = optional_one IsNumber number_one (value_of 4 list) x.med y.med p.med q.med in
     let pref = optional_one IsNumber number_one (value_of 5 list) x.local_pref y.local_pref p.local_pref q.local_pref in
     let atomic = flag_one (value_of 6 list) x.atomic_aggregate y.atomic_aggregate p.atomic q.atomic in
-    let aggregator : x.aggregator ≡ y.aggregator = p.whole_aggregator ∙ ap (λ (t : Option Aggregator). merged t (as4_aggregator width list)) own ∙ sym q.whole_aggregator in
+    let aggregator : x.aggregator ≡ y.aggregator = p.whole_aggregator ∙ ap (λ (t : Option Aggregator). counted_aggregator t (as4_aggregator width list)) own ∙ sym q.whole_aggregator in
     let reach : x.reach ≡ y.reach = p.reach ∙ sym q.reach in
     let unreach : x.unreach ≡ y.unreach = p.unreach ∙ sym q.unreach in
     let others : x.others ≡ y.others = p.others ∙ sym q.others in

@@ -4,7 +4,7 @@ use Rattle.std.specs.List.{AllByRecursion, slice_get, slice_set}
 use Rattle.route_meaning.specs.Merged.{IsRising}
 use Rattle.sequencer.specs.declared.late.Sieved.{Sieved}
 use Rattle.sequencer.specs.Late.{greatest, timely, lates}
-use Rattle.sequencer.specs.Lanes.{Waiting, marks, waiting_times, IsLane, IsOpen, Releases, SameLanes, Raises, IsAbove}
+use Rattle.sequencer.specs.Lanes.{Waiting, marks, waiting_times, IsLane, IsOpen, Releases, SameLanes, Raises, HasMarkAbove}
 use Rattle.sequencer.specs.First.{IsFirstLane}
 use Rattle.sequencer.specs.Taking.{IsSieved, MayTakeIn, TakesIn}
 use Rattle.sequencer.proofs.api.Setting.{get_some, marks_at, marks_set, times_set, marks_same, times_same, all_set, all_at, set_there, one_there}
@@ -24,7 +24,7 @@ raises_lanes lanes c mark v w lt is le m t =
     let here = get_some lanes c v lt is in
     record { lane = v; here = here; not_back = le; marks = marks_set lanes c w ∙ ap (slice_set (marks lanes) c) m; times = times_same lanes c v w here t }
 
-pub not_above : (lanes : List Waiting) (c mark : ℕ) (v : Waiting) → c < length lanes → v ≡ get_or lanes c v → v.mark ≤ mark → IsAbove lanes c mark → false ≡ true
+pub not_above : (lanes : List Waiting) (c mark : ℕ) (v : Waiting) → c < length lanes → v ≡ get_or lanes c v → v.mark ≤ mark → HasMarkAbove lanes c mark → false ≡ true
 not_above lanes c mark v lt is le above =
     let same : above.lane ≡ v = one_there (slice_get lanes c) above.lane v above.here (get_some lanes c v lt is) in
     let marks_are : above.lane.mark ≡ v.mark = ap (λ (w : Waiting). w.mark) same in

@@ -17,5 +17,5 @@ returns c = record {
   named = slice_get_read c.args.peers.now (length c.args.peers.now) c.args.entry.now.peer_index c.in-Some.neighbor.now refl c.in-Some.ensures.lookup.3.0 c.in-Some.ensures.lookup.1;
   gives = (c.in_ok-route.ensures.0, c.in_ok-route.ensures.1, c.in_ok-route.ensures.2);
   fits = c.in_ok-route.ensures.3;
-  announces = rw (c.peer_of.ensures, c.in_ok-route-2.ensures.route) refl;
+  announces = rw (c.peer_of_neighbor.ensures, c.in_ok-route-2.ensures.route) refl;
 }

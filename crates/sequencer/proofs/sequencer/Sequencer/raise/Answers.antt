@@ -1,6 +1,6 @@
 use Rattle.std.proofs.Common.{◌<◌, List, length, arith, sym, subst}
 use Rattle.std.specs.List.{slice_set}
-use Rattle.sequencer.specs.Lanes.{Waiting, Raises, IsAbove}
+use Rattle.sequencer.specs.Lanes.{Waiting, Raises, HasMarkAbove}
 use Rattle.sequencer.proofs.api.Calls.{raises_lanes, not_above}
 use Rattle.sequencer.proofs.sequencer.Sequencer.raise.Goals as goal
 
@@ -16,5 +16,5 @@ returns-clause-back c =
     let lanes : List Waiting = c.self.inside.lanes.items in
     let lt : c.args.collector < length lanes = subst (λ (l : List Waiting). c.args.collector < length l) (sym c.self.view_is) c.requires in (
       λ e. absurd cc,
-      λ above. not_above lanes c.args.collector c.args.mark c.index_mut-lane.result.now lt c.index_mut-lane.ensures.value (omega (arith, c.if-seconds.false, c.seconds.ensures.seconds, c.seconds-2.ensures.seconds, c.mark.ensures)) (subst (λ (l : List Waiting). IsAbove l c.args.collector c.args.mark) (sym c.self.view_is) above),
+      λ above. not_above lanes c.args.collector c.args.mark c.index_mut-lane.result.now lt c.index_mut-lane.ensures.value (omega (arith, c.if-seconds.false, c.seconds.ensures.seconds, c.seconds-2.ensures.seconds, c.mark.ensures)) (subst (λ (l : List Waiting). HasMarkAbove l c.args.collector c.args.mark) (sym c.self.view_is) above),
     )

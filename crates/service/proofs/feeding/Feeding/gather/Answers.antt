@@ -1,6 +1,6 @@
 use Rattle.std.proofs.Common.{◌≡◌, ◌≤◌, ◌+◌, ◌++◌, ◌∙◌, List, ltb, refl, sym, subst, append_assoc, arith, IfErr}
 use Rattle.std.proofs.lemmas.Result.{err_from_is_err_and}
-use Rattle.service.specs.Turns.{Turn, offer_where, wait_unless, is_full, joined}
+use Rattle.service.specs.Turns.{Turn, offer_where, wait_unless, is_full, waiting_with}
 use Rattle.service.specs.inner.Feeding.{HasDone, GivesUp}
 use Rattle.service.specs.declared.faults.FeedStop.TheVariants as stops
 use Rattle.service.specs.declared.feed_lines.FeedCounts.{FeedCounts}
@@ -16,7 +16,7 @@ returns-in-Ok-clause-gathered g c = λ counted.
     (crowded_is c.args.self.now.gathered.items c.args.admission c.args.self.now.octets c.encoded_len-octets.result counted.octets c.encoded_len-octets.ensures.len)
     c.in_ok-make_room.ensures.gathered c.in-Ok.ensures.gathered in
     let w = c.push.new.self.gathered.items in
-    let j = joined c.args.self.now.gathered.items c.args.admission in
+    let j = waiting_with c.args.self.now.gathered.items c.args.admission in
     on_ok_more (c.offer_full.new.self.gathered.items ≡ wait_unless (is_full c.push.new.self.limit w) w) (c.offer_full.new.self.gathered.items ≡ wait_unless (is_full c.args.self.now.limit j) j) c.offer_full.result
     c.offer_full.ensures.gathered (λ e. e ∙ (λ k. wait_unless (is_full (limits k) (now k)) (now k)))
 
@@ -48,7 +48,7 @@ returns-in_err-make_room-clause-given_up g c = λ k h turns was place same count
     let crowded = crowded_is c.args.self.now.gathered.items c.args.admission c.args.self.now.octets c.encoded_len-octets.result counted.octets c.encoded_len-octets.ensures.len in
     let p = err_from_is_err_and c.from_residual.result c.from_residual.ensures.1 in
     let first = offer_where (ltb 262144 (c.args.self.now.octets + (c.encoded_len-octets.result + 4))) c.args.self.now.gathered.items in
-    let j = joined c.args.self.now.gathered.items c.args.admission in
+    let j = waiting_with c.args.self.now.gathered.items c.args.admission in
     let second = offer_where (is_full c.args.self.now.limit j) j in
     rw p.1 (rw p.2
     (subst (λ (t : List Turn). GivesUp k h t c.make_room.new.archive was c.make_room.new.out c.in_err-make_room.field-0.0)
@@ -77,7 +77,7 @@ pub returns-in-Err-clause-given_up : goal.returns-in-Err-clause-given_up
 returns-in-Err-clause-given_up g c = λ k h turns was place same counted d.
     let crowded = crowded_is c.args.self.now.gathered.items c.args.admission c.args.self.now.octets c.encoded_len-octets.result counted.octets c.encoded_len-octets.ensures.len in
     let first = offer_where (ltb 262144 (c.args.self.now.octets + (c.encoded_len-octets.result + 4))) c.args.self.now.gathered.items in
-    let j = joined c.args.self.now.gathered.items c.args.admission in
+    let j = waiting_with c.args.self.now.gathered.items c.args.admission in
     let second = offer_where (is_full c.args.self.now.limit j) j in
     subst (λ (t : List Turn). GivesUp k h t c.make_room.new.archive was c.make_room.new.out stops.OutOfMemory)
     (append_assoc turns first second ∙ (λ i. turns ++ (offer_where (crowded i) c.args.self.now.gathered.items ++ second)))
