@@ -537,7 +537,8 @@ fn the_greater_status_is_that_of_try(rt: HostRuntime) -> Result<(), Fail> {
     let (out, code) = try_octets(alloc, &octets, "settled")?;
     assert!(rt; out.as_slice() == [loaded, "X|28|BadRequest\n"].join(alloc, "")?.as_bytes());
     assert_eq!(rt; code, 1);
-    let (out, code) = try_octets(alloc, &octets[..72], "settled")?;
+    let cut = octets.len().min(72);
+    let (out, code) = try_octets(alloc, &octets[..cut], "settled")?;
     assert!(rt; out.as_slice().starts_with("X|13|Truncated|0\n".as_bytes()));
     assert_eq!(rt; code, 1);
     Ok(())

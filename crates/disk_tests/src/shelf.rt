@@ -149,7 +149,7 @@ fn stopped(alloc: Global, burn: bool, call: u64, kind: u8) -> Result<(u64, bool)
         if shelf.append(&sealed(alloc, octet)?).is_err() {
             break;
         }
-        told += 1;
+        told = u64::from(octet) + 1;
     }
     let (disk, pen) = shelf.into_disk();
     let mut choice = Vec::new(alloc);
@@ -158,10 +158,12 @@ fn stopped(alloc: Global, burn: bool, call: u64, kind: u8) -> Result<(u64, bool)
     let mut shelf = open(Arc::new(alloc, left)?, pen)?;
     let last = shelf.append(&sealed(alloc, 9)?)?;
     let answers = first_octets(alloc, &mut shelf, 8, &[0, 1, 2])?;
+    let wanted = [Ok(Some(0)), Ok(Some(1)), Ok(Some(2))];
     let kept = answers
         .iter()
-        .zip(0..told)
-        .all(|(answer, n)| *answer == Ok(Some(n as u8)));
+        .zip(wanted.iter())
+        .take(told as usize)
+        .all(|(answer, wanted)| answer == wanted);
     Ok((told, kept && last > told))
 }
 
