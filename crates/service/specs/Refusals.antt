@@ -3,6 +3,7 @@ use Rattle.std.specs.Prelude.{ℕ, List, [], ◌∷◌, ◌++◌, codes, decimal
 use Rattle.service.specs.declared.refusal.Refusal.{Refusal}
 use Rattle.service.specs.declared.refusal.Refusal.TheVariants as refusals
 
+-- its number, 12 to 29
 abbrev pub number_of : Refusal → ℕ
 number_of refusals.BadText = 12
 number_of refusals.Truncated = 13
@@ -21,6 +22,7 @@ number_of refusals.OutOfMemory = 27
 number_of refusals.BadRequest = 28
 number_of refusals.Outside = 29
 
+-- its name
 abbrev pub name_of : Refusal → List ℕ
 name_of refusals.BadText = codes "BadText"
 name_of refusals.Truncated = codes "Truncated"
