@@ -1,6 +1,7 @@
 -- What a cache keeps after its calls.
-use Rattle.std.proofs.Common.{◌≡◌, ℕ, true, false, ◌⊎◌, List, [], ◌∷◌, Option, Some, None, nat_eq, is_some, IsSome, IfSome, OnOk, OnErr, Result, Ok, Err, IfNone, Bor, refl, sym, ap, ◌∙◌, subst, inl, inr}
+use Rattle.std.proofs.Common.{◌≡◌, ◌<◌, ◌-◌, ℕ, length, take, arith, true, false, ◌⊎◌, List, [], ◌∷◌, Option, Some, None, nat_eq, is_some, IsSome, IfSome, OnOk, OnErr, Result, Ok, Err, IfNone, Bor, refl, sym, ap, ◌∙◌, subst, inl, inr}
 use Rattle.std.specs.List.{AllByRecursion, Contains}
+use Rattle.std.proofs.lemmas.List.{take_all}
 use Rattle.std.specs.Option.{option_map_or, option_copied}
 use Rattle.std.specs.Map.{lookup, lookup_entry, remove_entry}
 use Rattle.std.specs.Cmp.{nat_eq_equiv}
@@ -64,20 +65,79 @@ read_known known n into some is = by (known n) refl some
     by None e s = cc
     by (Some block) e s = e ∙ ap Some (sym (is block e))
 
+-- where no value is found under a number, no block is kept under it
+absent : (n : ℕ) (es : Pairs) → lookup (nat_eq n) es ≡ None → (block : List ℕ) → Contains es (n, block) → ⊥
+absent n [] h block c = Contains-nil (n, block) c
+absent n (f ∷ es) h block c = (elim (nat_eq n f.0) as (λ y. nat_eq n f.0 ≡ y → ⊥) [
+  | true ↦ λ t. let h' = rw t at h in cc
+  | false ↦ λ t. elim (Contains-cons f es (n, block) c) [
+    | inl same ↦ false≢true (sym t ∙ eq-eqb n f.0 (sym (ap (λ (p : ℕ × List ℕ). p.0) same)))
+    | inr d ↦ absent n es (rw t at h) block d
+  ]
+]) refl
+
 -- what is looked for and isn't found isn't there
 pub not_peeked : (n : ℕ) (es : Pairs) (r : Option (Bor (List ℕ))) → option_copied r ≡ lookup (nat_eq n) es → IfNone r ((block : List ℕ) → Contains es (n, block) → ⊥)
 not_peeked n es (Some b) e = tt
-not_peeked n es None e = λ block c. absent es (sym e) block c
+not_peeked n es None e = absent n es (sym e)
+
+-- what is there is found
+pub is_found : (n : ℕ) (es : Pairs) (block : List ℕ) → Contains es (n, block) → is_some (lookup (nat_eq n) es) ≡ true
+is_found n es block k = by (lookup (nat_eq n) es) refl
   where
-    absent : (l : Pairs) → lookup (nat_eq n) l ≡ None → (block : List ℕ) → Contains l (n, block) → ⊥
-    absent [] h block c = Contains-nil (n, block) c
-    absent (f ∷ l) h block c = (elim (nat_eq n f.0) as (λ y. nat_eq n f.0 ≡ y → ⊥) [
-      | true ↦ λ t. let h' = rw t at h in cc
-      | false ↦ λ t. elim (Contains-cons f l (n, block) c) [
-        | inl same ↦ false≢true (sym t ∙ eq-eqb n f.0 (sym (ap (λ (p : ℕ × List ℕ). p.0) same)))
-        | inr d ↦ absent l (rw t at h) block d
-      ]
-    ]) refl
+    by : (o : Option (List ℕ)) → lookup (nat_eq n) es ≡ o → is_some o ≡ true
+    by None e = absurd (absent n es e block k)
+    by (Some b) e = refl
+
+-- an entry is the one that is taken out, or stays
+not_removed : (n : ℕ) (es : Pairs) (f e : ℕ × List ℕ) → lookup_entry (nat_eq n) es ≡ Some f → Contains es e → (f ≡ e) ⊎ Contains (remove_entry (nat_eq n) es) e
+not_removed n [] f e h k = absurd (Contains-nil e k)
+not_removed n (g ∷ es) f e h k = (elim (nat_eq n g.0) as (λ y. nat_eq n g.0 ≡ y → (f ≡ e) ⊎ Contains (remove_entry (nat_eq n) (g ∷ es)) e) [
+  | true ↦ λ t. rw t (elim (Contains-cons g es e k) [
+    | inl same ↦ inl (by_some (rw t at h) ∙ same)
+    | inr d ↦ inr d
+  ])
+  | false ↦ λ t. rw t (elim (Contains-cons g es e k) [
+    | inl same ↦ inr (subst (λ (x : ℕ × List ℕ). Contains (g ∷ remove_entry (nat_eq n) es) x) same (Contains-head g (remove_entry (nat_eq n) es)))
+    | inr d ↦ elim (not_removed n es f e (rw t at h) d) [ inl same ↦ inl same | inr there ↦ inr (Contains-tail g (remove_entry (nat_eq n) es) e there) ]
+  ])
+]) refl
+  where
+    by_some : Some g ≡ Some f → f ≡ g
+    by_some h = cc
+
+-- an entry that is kept stays where one is promoted
+pub promoted_all : (n : ℕ) (es : Pairs) (e : ℕ × List ℕ) → Contains es e → Contains (promoted (nat_eq n) es) e
+promoted_all n es e k = by (lookup_entry (nat_eq n) es) refl
+  where
+    by : (o : Option (ℕ × List ℕ)) → lookup_entry (nat_eq n) es ≡ o → Contains (option_map_or (λ f. f ∷ remove_entry (nat_eq n) es) o es) e
+    by None h = k
+    by (Some f) h = elim (not_removed n es f e h k) [
+      | inl same ↦ subst (λ (x : ℕ × List ℕ). Contains (f ∷ remove_entry (nat_eq n) es) x) same (Contains-head f (remove_entry (nat_eq n) es))
+      | inr there ↦ Contains-tail f (remove_entry (nat_eq n) es) e there
+    ]
+
+-- where nothing is found, nothing is promoted
+pub promoted_none : (n : ℕ) (es : Pairs) → is_some (lookup (nat_eq n) es) ≡ false → promoted (nat_eq n) es ≡ es
+promoted_none n es missed = by (lookup_entry (nat_eq n) es) refl
+  where
+    by : (o : Option (ℕ × List ℕ)) → lookup_entry (nat_eq n) es ≡ o → option_map_or (λ f. f ∷ remove_entry (nat_eq n) es) o es ≡ es
+    by None h = refl
+    by (Some f) h =
+        let there = Contains-lookup_entry (nat_eq n) es f h in
+        let same : n ≡ f.0 = eqb-true n f.0 there.1 in
+        absurd (false≢true (sym missed ∙ is_found n es f.1 (subst (λ (k : ℕ). Contains es (k, f.1)) (sym same) there.0)))
+
+-- where there is room, a put drops no entry
+pub put_stays : (c : LruCache ℕ (List ℕ)) (n : ℕ) (block : List ℕ) → length c.entries < c.cap → ((other : List ℕ) → Contains c.entries (n, other) → ⊥) → (m : ℕ) (other : List ℕ) → Contains c.entries (m, other) → Contains (put_entries nat_eq c n block) (m, other)
+put_stays c n block room none m other k = by (lookup_entry (nat_eq n) c.entries) refl
+  where
+    by : (o : Option (ℕ × List ℕ)) → lookup_entry (nat_eq n) c.entries ≡ o → Contains (option_map_or (λ e. (e.0, block) ∷ remove_entry (nat_eq n) c.entries) o ((n, block) ∷ take (c.cap - 1) c.entries)) (m, other)
+    by None h = Contains-tail (n, block) (take (c.cap - 1) c.entries) (m, other) (subst (λ (l : Pairs). Contains l (m, other)) (sym (take_all (c.cap - 1) c.entries (omega arith))) k)
+    by (Some f) h =
+        let there = Contains-lookup_entry (nat_eq n) c.entries f h in
+        let same : n ≡ f.0 = eqb-true n f.0 there.1 in
+        absurd (none f.1 (subst (λ (x : ℕ). Contains c.entries (x, f.1)) (sym same) there.0))
 
 -- each that is kept is whole after a put, done or refused
 pub put_all : {T E : Type 0} (P : ℕ × List ℕ → Type 0) (result : Result T E) (old new : LruCache ℕ (List ℕ)) (n : ℕ) (block : List ℕ) → OnOk result (new ≡ lru_cache (put_entries nat_eq old n block) old.cap) → OnErr result (new ≡ old) → AllByRecursion P old.entries → P (n, block) → AllByRecursion P new.entries

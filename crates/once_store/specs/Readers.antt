@@ -1,5 +1,5 @@
 -- What contracts say of a reader of blocks.
-use Rattle.std.specs.Prelude.{ℕ, List, Some, Contains, ◌≡◌}
+use Rattle.std.specs.Prelude.{ℕ, List, Some, Contains, ◌≡◌, length}
 use Rattle.disk_models.specs.declared.once.OnceDisk.{Ghosts}
 use Rattle.once_store.specs.declared.reader.ShelfReader.{ShelfReader}
 
@@ -10,6 +10,10 @@ reader_disk reader = reader.disk.value
 -- how many blocks it keeps at most
 abbrev pub capacity_of : {O Pen Seen : Type 0} {device : Ghosts O Pen Seen} → ShelfReader O Pen Seen device → ℕ
 capacity_of reader = reader.kept.cap
+
+-- how many it keeps now
+abbrev pub kept_count : {O Pen Seen : Type 0} {device : Ghosts O Pen Seen} → ShelfReader O Pen Seen device → ℕ
+kept_count reader = length reader.kept.entries
 
 -- it keeps this block under this number
 abbrev pub IsKept : {O Pen Seen : Type 0} {device : Ghosts O Pen Seen} → ShelfReader O Pen Seen device → ℕ → List ℕ → Type 0

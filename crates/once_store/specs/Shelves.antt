@@ -1,6 +1,6 @@
 -- What contracts say of a shelf, and what its calls do to the write-once disk.
-use Rattle.std.specs.Prelude.{ℕ, List, suc, ◌≡◌, ◌≢◌, ◌<◌, ◌≤◌, ◌⊎◌, true, false, Result, Ok, Err}
-use Rattle.disk_models.specs.Once.{OnceState, settled_in}
+use Rattle.std.specs.Prelude.{ℕ, suc, ◌≡◌, ◌≢◌, ◌<◌, ◌≤◌, ◌⊎◌, true, false, Result, Ok, Err}
+use Rattle.disk_models.specs.Once.{OnceState}
 use Rattle.once_store.specs.declared.refused.Refused.{Refused}
 use Rattle.once_store.specs.declared.shelf.Shelf.{Shelf}
 
@@ -41,10 +41,9 @@ pub record IsFirstBlank (o : OnceState) (count from n : ℕ) : Type 0 where
   pub blank : n < count → o.tried n ≡ false
 
 -- At most one block became tried or burnt, the last one below `to`, where `to` has moved behind it; all before it from
--- `from` on were tried. What was settled is settled.
+-- `from` on were tried.
 pub record Spends (from to : ℕ) (old new : OnceState) : Type 0 where
   pub forward : from ≤ to
   pub passed : (i : ℕ) → from ≤ i → suc i < to → old.tried i ≡ true
   pub tried : (i : ℕ) → (i < from) ⊎ (suc i ≢ to) → new.tried i ≡ old.tried i
   pub burnt : (i : ℕ) → (i < from) ⊎ (suc i ≢ to) → new.burnt i ≡ old.burnt i
-  pub settled : (n : ℕ) (block : List ℕ) → settled_in old n block → settled_in new n block

@@ -1,5 +1,5 @@
 //! What reads blocks.
-ghost use Rattle.std.specs.Prelude.{◌≡◌, ◌<◌, ◌≤◌, ◌+◌, ◌↔◌, ◌⊎◌, IsTrue, ℕ, List, Some, None, Err, IfOk, OnOk, IfErr, IsErr, IsErrOf, IfSome, IfNone, IsSome, min};
+ghost use Rattle.std.specs.Prelude.{◌≡◌, ◌<◌, ◌≤◌, ◌+◌, ◌↔◌, ◌⊎◌, IsTrue, ℕ, List, Some, None, Err, true, false, IfOk, IsOk, OnOk, OnErr, IsErrOf, IfSome, IfNone, IsSome, min};
 ghost use Rattle.std.specs.List.{AllByRecursion, AllByRecursion-prop};
 ghost use Rattle.std.proofs.Props.{props};
 ghost use Rattle.std.specs.NonZero.{non_zero_usize_get};
@@ -13,6 +13,18 @@ use std::alloc::{AllocError, AllocFailed, Global};
 use std::num::NonZeroUsize;
 use std::sync::Arc;
 
+// Whether a block with this number carries its digest.
+fn checked(block: &Block, n: u64) -> Result<(), BlockError>
+    ensures whole { IsWhole block.now → IsOk result }
+    ensures found { OnOk result (IsWhole block.now) }
+    ensures damaged { (IsWhole block.now → ⊥) → result ≡ Err (BlockError.Damaged n) }
+{
+    if is_whole(block) {
+        return Ok(());
+    }
+    Err(BlockError::Damaged(n))
+}
+
 /// Reads blocks of a write-once disk, and keeps those that it read last. Each that it keeps carries its digest.
 ///
 /// A reader stands on a `Seen` that knows the blocks which it keeps. One that was got later knows them too.
@@ -25,7 +37,7 @@ pub struct ShelfReader<O: OnceDisk + Drop> {
 }
 
 impl<O: OnceDisk + Drop> ShelfReader<O> {
-    ghost use Rattle.once_store.specs.Readers.{IsKept, KnowsKept, capacity_of, reader_disk};
+    ghost use Rattle.once_store.specs.Readers.{IsKept, KnowsKept, capacity_of, kept_count, reader_disk};
 
     /// A reader of a disk that keeps at most so many blocks. It has read none.
     pub(crate) fn new(
@@ -47,7 +59,17 @@ impl<O: OnceDisk + Drop> ShelfReader<O> {
     /// that is refused isn't kept.
     pub fn fetch(&mut self, seen: &mut O::Seen, n: u64) -> Result<(), BlockError>
         ensures kept { OnOk result ((block : List ℕ) × IsKept self.new n block × IsWhole block) }
-        ensures octets { O.honest_seen (reader_disk self.old) seen.old → KnowsKept O.OnceDisk self.old seen.old → (block : List ℕ) → O.known seen.old n ≡ Some block → OnOk result (IsKept self.new n block) }
+        ensures octets { O.honest_seen (reader_disk self.old) seen.old → KnowsKept O.OnceDisk self.old seen.old → (block : List ℕ) → O.known seen.old n ≡ Some block → OnOk result (IsKept self.new n block × IsWhole block) }
+
+        // A block that is kept is there, is not read again, and none that is kept makes room for it.
+        ensures hit { (block : List ℕ) → IsKept self.old n block → IsOk result }
+        ensures unread { (block : List ℕ) → IsKept self.old n block → seen.new ≡ seen.old }
+        ensures all { (block : List ℕ) → IsKept self.old n block → (m : ℕ) (other : List ℕ) → IsKept self.old m other → IsKept self.new m other }
+
+        // None makes room before as many are kept as may be, and a refusal adds none.
+        ensures stays { kept_count self.old < capacity_of self.old → (m : ℕ) (other : List ℕ) → IsKept self.old m other → IsKept self.new m other }
+        ensures refused { OnErr result ((m : ℕ) (other : List ℕ) → IsKept self.new m other → IsKept self.old m other) }
+
         ensures knows { O.honest_seen (reader_disk self.old) seen.old → KnowsKept O.OnceDisk self.old seen.old → IsSome (O.known seen.old n) → KnowsKept O.OnceDisk self.new seen.new }
         ensures damaged { O.honest_seen (reader_disk self.old) seen.old → (block : List ℕ) → n < O.block_count (reader_disk self.old) → O.known seen.old n ≡ Some block → (m : ℕ) → result ≡ Err (BlockError.Damaged m) → (m ≡ n) × (IsWhole block → ⊥) }
         ensures beyond { O.block_count (reader_disk self.old) ≤ n → ((block : List ℕ) → IsKept self.old n block → ⊥) → result ≡ Err (BlockError.Damaged n) }
@@ -67,9 +89,7 @@ impl<O: OnceDisk + Drop> ShelfReader<O> {
         }
         let mut block = self.room()?;
         self.disk.read(seen, n, &mut block)?;
-        if !is_whole(&block) {
-            return Err(BlockError::Damaged(n));
-        }
+        checked(&block, n)?;
         self.keep(n, block)?;
         Ok(())
     }
@@ -82,10 +102,21 @@ impl<O: OnceDisk + Drop> ShelfReader<O> {
         self.kept.peek(&n)
     }
 
+    /// How many blocks it keeps, which is never more than its capacity.
+    pub fn kept(&self) -> usize
+        ensures count { result ≡ kept_count self.now }
+        ensures few { result ≤ capacity_of self.now }
+    {
+        self.kept.len()
+    }
+
     // Makes a block the one that was asked for last, and tells whether it is kept.
     fn touch(&mut self, n: u64) -> bool
         ensures kept { IsTrue result → (block : List ℕ) × IsKept self.new n block × IsWhole block }
+        ensures found { (block : List ℕ) → IsKept self.old n block → result ≡ true }
+        ensures missed { result ≡ false → self.new.kept ≡ self.old.kept }
         ensures fewer { (m : ℕ) (block : List ℕ) → IsKept self.new m block → IsKept self.old m block }
+        ensures all { (m : ℕ) (block : List ℕ) → IsKept self.old m block → IsKept self.new m block }
         ensures disk { reader_disk self.new ≡ reader_disk self.old }
         ensures capacity { capacity_of self.new ≡ capacity_of self.old }
     {
@@ -95,6 +126,7 @@ impl<O: OnceDisk + Drop> ShelfReader<O> {
     // A block to read into: that of the entry that makes room, where as many are kept as may be.
     fn room(&mut self) -> Result<Block, AllocError>
         ensures fewer { (m : ℕ) (block : List ℕ) → IsKept self.new m block → IsKept self.old m block }
+        ensures stays { kept_count self.old < capacity_of self.old → self.new.kept ≡ self.old.kept }
         ensures disk { reader_disk self.new ≡ reader_disk self.old }
         ensures capacity { capacity_of self.new ≡ capacity_of self.old }
     {
@@ -111,6 +143,8 @@ impl<O: OnceDisk + Drop> ShelfReader<O> {
     fn keep(&mut self, n: u64, block: Block) -> Result<(), AllocFailed<(u64, Block)>>
         requires { IsWhole block }
         ensures kept { OnOk result (IsKept self.new n block) }
+        ensures stays { kept_count self.old < capacity_of self.old → ((other : List ℕ) → IsKept self.old n other → ⊥) → (m : ℕ) (other : List ℕ) → IsKept self.old m other → IsKept self.new m other }
+        ensures refused { OnErr result (self.new.kept ≡ self.old.kept) }
         ensures only { (m : ℕ) (other : List ℕ) → IsKept self.new m other → IsKept self.old m other ⊎ ((m ≡ n) × (other ≡ block)) }
         ensures disk { reader_disk self.new ≡ reader_disk self.old }
         ensures capacity { capacity_of self.new ≡ capacity_of self.old }

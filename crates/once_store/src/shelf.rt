@@ -1,5 +1,5 @@
 //! The shelf.
-ghost use Rattle.std.specs.Prelude.{◌≡◌, ◌<◌, ◌≤◌, ◌+◌, ◌↔◌, ℕ, List, IfOk, OnOk, IfErr, IsErr, IsErrOf, min, true};
+ghost use Rattle.std.specs.Prelude.{◌≡◌, ◌<◌, ◌≤◌, ◌+◌, ◌↔◌, ℕ, List, IfOk, OnOk, IfErr, IsErr, IsErrOf, max, min, true};
 ghost use Rattle.disk_models.specs.Erase.{Counts};
 ghost use Rattle.disk_models.specs.Once.{Grows, settled_in};
 ghost use Rattle.disk_models.specs.Left.{HasSettled, Left};
@@ -27,6 +27,7 @@ fn skip_tried<O: OnceDisk>(disk: &O, pen: &mut O::Pen, next: &mut u64) -> Result
     ensures honest { O.honest disk.now pen.old ↔ O.honest disk.now pen.new }
     ensures same { O.honest disk.now pen.old → O.model pen.new ≡ O.model pen.old }
     ensures forward { next.old ≤ next.new }
+    ensures within { next.new ≤ max next.old (O.block_count disk.now) }
     ensures tried { O.honest disk.now pen.old → AllTried (O.model pen.old) next.old next.new }
     ensures blank { O.honest disk.now pen.old → OnOk result (IsFirstBlank (O.model pen.old) (O.block_count disk.now) next.old next.new) }
 {
@@ -48,6 +49,11 @@ impl<O: OnceDisk + Drop> Shelf<O> {
     /// It asks the disk about each block that it passes, and trusts no number. A device that fails is handed back.
     pub fn open(disk: Arc<O>, mut pen: O::Pen, mut next: u64) -> Result<Self, Refused<O>>
         ensures next { O.honest disk.value pen → IfOk result (λ shelf. IsFirstBlank (O.model pen) (O.block_count disk.value) next (next_of shelf)) }
+        ensures forward { IfOk result (λ shelf. next ≤ next_of shelf) }
+        ensures within { IfOk result (λ shelf. next_of shelf ≤ max next (O.block_count disk.value)) }
+
+        // A burn that failed may have left its block blank. Then the tried blocks have a gap, this doesn't hold, and the
+        // next append fills the gap.
         ensures below { O.honest disk.value pen → (n : ℕ) → ((i : ℕ) → (O.model pen).tried i ≡ true ↔ i < n) → IfOk result (λ shelf. AreTriedBelow (O.model pen) (O.block_count disk.value) (next_of shelf)) }
         ensures disk { disk_after result ≡ disk.value }
         ensures honest { O.honest disk.value pen ↔ O.honest disk.value (pen_after result) }
@@ -68,6 +74,8 @@ impl<O: OnceDisk + Drop> Shelf<O> {
         ensures blank { O.honest (disk_of self.old) (pen_of self.old) → IfOk result (IsFirstBlank (O.model (pen_of self.old)) (O.block_count (disk_of self.old)) (next_of self.old)) }
         ensures number { IfOk result (λ n. n < O.block_count (disk_of self.old)) }
         ensures next { IfOk result (λ n. next_of self.new ≡ n + 1) }
+        ensures forward { next_of self.old ≤ next_of self.new }
+        ensures within { next_of self.new ≤ max (next_of self.old) (O.block_count (disk_of self.old)) }
         ensures spends { O.honest (disk_of self.old) (pen_of self.old) → Spends (next_of self.old) (next_of self.new) (O.model (pen_of self.old)) (O.model (pen_of self.new)) }
         ensures grows { O.honest (disk_of self.old) (pen_of self.old) → Grows (O.model (pen_of self.old)) (O.model (pen_of self.new)) }
         ensures below { O.honest (disk_of self.old) (pen_of self.old) → AreTriedBelow (O.model (pen_of self.old)) (O.block_count (disk_of self.old)) (next_of self.old) → AreTriedBelow (O.model (pen_of self.new)) (O.block_count (disk_of self.old)) (next_of self.new) }

@@ -1,4 +1,4 @@
-use Rattle.std.proofs.Common.{◌≡◌, ◌≤◌, ◌↔◌, ◌-◌}
+use Rattle.std.proofs.Common.{◌≡◌, ◌≤◌, ◌↔◌, ◌-◌, max}
 use Rattle.once_store.specs.Shelves.{AllTried}
 use Rattle.once_store.proofs.shelf.skip_tried.Given as goal
 
@@ -8,6 +8,7 @@ invariant-blocks-2 g l =
     × (g.O.OnceDisk.honest l.disk l.fn.pen ↔ g.O.OnceDisk.honest l.disk l.pen)
     × (g.O.OnceDisk.honest l.disk l.fn.pen → g.O.OnceDisk.model l.pen ≡ g.O.OnceDisk.model l.fn.pen)
     × (l.fn.next ≤ l.next)
+    × (l.next ≤ max l.fn.next (g.O.OnceDisk.block_count l.disk))
     × (g.O.OnceDisk.honest l.disk l.fn.pen → AllTried (g.O.OnceDisk.model l.fn.pen) l.fn.next l.next)
 
 abbrev pub decreases-blocks-2 : goal.decreases-blocks-2

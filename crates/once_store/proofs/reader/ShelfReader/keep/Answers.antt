@@ -2,7 +2,7 @@ use Rattle.std.proofs.Common.{ℕ, List, subst, sym}
 use Rattle.std.specs.List.{Contains}
 use Rattle.lru.specs.LruCache.{LruCache}
 use Rattle.once_store.specs.Digests.{IsWhole}
-use Rattle.once_store.proofs.Kept.{put_all, put_kept, put_only}
+use Rattle.once_store.proofs.Kept.{put_all, put_kept, put_only, put_stays}
 use Rattle.once_store.proofs.reader.ShelfReader.keep.Goals as goal
 
 pub returns-clause-kept : goal.returns-clause-kept
@@ -13,3 +13,6 @@ returns-clause-only g c = λ m other k. put_only c.args.self.now.kept c.args.n c
 
 pub invariant_of-self : goal.invariant_of-self
 invariant_of-self g c = record { whole = put_all (λ e. IsWhole e.1) c.put.result c.args.self.now.kept c.put.new.self c.args.n c.args.block c.put.ensures.entries c.put.ensures.err c.args.self.now.whole c.requires }
+
+pub returns-clause-stays : goal.returns-clause-stays
+returns-clause-stays g c = λ room none m other k. subst (λ (l : LruCache ℕ (List ℕ)). Contains l.entries (m, other)) (sym c.in_ok-put.ensures.entries) (put_stays c.args.self.now.kept c.args.n c.args.block room none m other k)

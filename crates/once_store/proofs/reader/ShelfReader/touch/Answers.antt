@@ -1,8 +1,8 @@
-use Rattle.std.proofs.Common.{ℕ, List, subst, sym, ◌∙◌}
+use Rattle.std.proofs.Common.{ℕ, List, subst, sym, ap, ◌∙◌}
 use Rattle.std.specs.List.{Contains}
-use Rattle.lru.specs.LruCache.{LruCache}
+use Rattle.lru.specs.LruCache.{LruCache, lru_cache}
 use Rattle.once_store.specs.Digests.{IsWhole}
-use Rattle.once_store.proofs.Kept.{all_of, in_all, touched, promoted_was}
+use Rattle.once_store.proofs.Kept.{all_of, in_all, touched, promoted_was, promoted_all, promoted_none, is_found}
 use Rattle.once_store.proofs.reader.ShelfReader.touch.Goals as goal
 
 pub invariant_of-self : goal.invariant_of-self
@@ -18,3 +18,12 @@ returns-clause-kept g c = λ e.
     let t = touched c.args.n c.args.self.now.kept.entries (sym c.promote.ensures.value ∙ e) in
     let k = subst (λ (l : LruCache ℕ (List ℕ)). Contains l.entries (c.args.n, t.0)) (sym c.promote.ensures.entries) t.1 in
     (t.0, k, in_all (λ e. IsWhole e.1) c.args.self.now.kept.entries (c.args.n, t.0) c.args.self.now.whole (promoted_was c.args.n c.args.self.now.kept c.promote.new.self c.promote.ensures.entries (c.args.n, t.0) k))
+
+pub returns-clause-found : goal.returns-clause-found
+returns-clause-found g c = λ block k. c.promote.ensures.value ∙ is_found c.args.n c.args.self.now.kept.entries block k
+
+pub returns-clause-missed : goal.returns-clause-missed
+returns-clause-missed g c = λ e. c.promote.ensures.entries ∙ ap (λ es. lru_cache es c.args.self.now.kept.cap) (promoted_none c.args.n c.args.self.now.kept.entries (sym c.promote.ensures.value ∙ e))
+
+pub returns-clause-all : goal.returns-clause-all
+returns-clause-all g c = λ m block k. subst (λ (l : LruCache ℕ (List ℕ)). Contains l.entries (m, block)) (sym c.promote.ensures.entries) (promoted_all c.args.n c.args.self.now.kept.entries (m, block) k)
