@@ -16,4 +16,6 @@ mod pool;
 #[cfg(test)]
 mod shelf;
 #[cfg(test)]
+mod spoiled;
+#[cfg(test)]
 mod transactions;

@@ -1,4 +1,5 @@
 // Blocks with digests on the write-once disk in memory: appended, read, damaged, refused and crashed.
+use crate::spoiled::Spoiled;
 use disk_memory::{MemOnce, MemPen, OnceFailure, Torn};
 use disk_models::{Block, Fault, OnceDisk};
 use once_store::{AppendError, BlockError, Shelf, ShelfReader, seal};
@@ -26,9 +27,9 @@ fn shelf_of(alloc: Global, blocks: u64, script: Vec<OnceFailure>) -> Result<Shel
 }
 
 // What a reader that keeps so many blocks answers of some: the first octet, or why there is none.
-fn first_octets(
+fn first_octets<O: OnceDisk + Drop>(
     alloc: Global,
-    shelf: &mut Shelf<MemOnce>,
+    shelf: &mut Shelf<O>,
     capacity: usize,
     numbers: &[u64],
 ) -> Result<Vec<Result<Option<u8>, BlockError>>, Fail> {
@@ -49,27 +50,76 @@ fn first_octets(
     Ok(answers)
 }
 
+// What small and large readers answer alike.
+fn answers_alike<O: OnceDisk + Drop>(
+    alloc: Global,
+    shelf: &mut Shelf<O>,
+    numbers: &[u64],
+) -> Result<Option<Vec<Result<Option<u8>, BlockError>>>, Fail> {
+    let few = first_octets(alloc, shelf, 1, numbers)?;
+    let many = first_octets(alloc, shelf, 1024, numbers)?;
+    Ok(if few.as_slice() == many.as_slice() {
+        Some(many)
+    } else {
+        None
+    })
+}
+
 #[test]
 fn what_is_appended_is_read_until_the_disk_is_full(rt: HostRuntime) -> Result<(), Fail> {
     let alloc = rt.alloc();
     let mut shelf = shelf_of(alloc, 2, Vec::new(alloc))?;
-    let mut damaged = sealed(alloc, 8)?;
-    damaged.put(9, &[9]);
-    assert_eq!(rt; shelf.append(&sealed(alloc, 7)?), Ok(0));
-    assert_eq!(rt; shelf.append(&damaged), Ok(1));
-    assert_eq!(rt; shelf.append(&damaged), Err(AppendError::OnceFull));
-    assert_eq!(rt; shelf.next(), 2);
-    let numbers = [0, 1, 0, 2, 0, 1];
-    let few = first_octets(alloc, &mut shelf, 1, &numbers)?;
-    let seven = Ok(Some(7));
-    let one = Err(BlockError::Damaged(1));
-    let two = Err(BlockError::Damaged(2));
-    assert_eq!(rt;
-        few.as_slice(),
-        [seven, one, seven, two, seven, one].as_slice()
-    );
-    let many = first_octets(alloc, &mut shelf, 1024, &numbers)?;
-    assert_eq!(rt; many.as_slice(), few.as_slice());
+    for octet in [7, 8] {
+        shelf.append(&sealed(alloc, octet)?)?;
+    }
+    let third = shelf.append(&sealed(alloc, 9)?);
+    assert_eq!(rt; third, Err(AppendError::OnceFull));
+    assert_eq!(rt; (shelf.next(), shelf.faults()), (2, 0));
+    let answers = answers_alike(alloc, &mut shelf, &[0, 1, 0, 2, 0, 1])?;
+    let beyond = Err(BlockError::Damaged(2));
+    let wanted = [
+        Ok(Some(7)),
+        Ok(Some(8)),
+        Ok(Some(7)),
+        beyond,
+        Ok(Some(7)),
+        Ok(Some(8)),
+    ];
+    assert!(rt; answers.is_some_and(|answers| answers.as_slice() == wanted.as_slice()));
+    Ok(())
+}
+
+// A shelf of three blocks, of which the second one is read with one octet changed.
+fn spoiled(alloc: Global, place: usize) -> Result<Shelf<Spoiled>, Fail> {
+    let (disk, pen) = MemOnce::new(alloc, 4);
+    let disk = Spoiled {
+        disk,
+        number: 1,
+        place,
+    };
+    let mut shelf = match Shelf::open(Arc::new(alloc, disk)?, pen, 0) {
+        Ok(shelf) => shelf,
+        Err(refused) => return Err(refused.fault.into()),
+    };
+    for octet in [7, 8, 9] {
+        shelf.append(&sealed(alloc, octet)?)?;
+    }
+    Ok(shelf)
+}
+
+#[test]
+fn an_octet_that_changed_is_damage_of_its_block(rt: HostRuntime) -> Result<(), Fail> {
+    let alloc = rt.alloc();
+    for place in [0, 9, 16_351, 16_352, 16_383] {
+        let mut shelf = spoiled(alloc, place)?;
+        let answers = answers_alike(alloc, &mut shelf, &[0, 1, 2, 1, 0])?;
+        let damaged = Err(BlockError::Damaged(1));
+        let wanted = [Ok(Some(7)), damaged, Ok(Some(9)), damaged, Ok(Some(7))];
+        assert!(rt;
+            answers.is_some_and(|answers| answers.as_slice() == wanted.as_slice()),
+            "{place}"
+        );
+    }
     Ok(())
 }
 
@@ -134,15 +184,21 @@ fn torn(alloc: Global, kind: u8) -> Result<Torn, Fail> {
     })
 }
 
-// Three appends, of which the power ends one at its burn or its settle; then an opening and one append more. It answers
-// how many blocks were told before, and whether each of them is there and the last one has a higher number.
-fn stopped(alloc: Global, burn: bool, call: u64, kind: u8) -> Result<(u64, bool), Fail> {
+// The n-th call of a run of appends, each of which asks, burns and settles, behind an opening that asks once.
+fn failure(alloc: Global, n: u64, kind: u8) -> Result<OnceFailure, Fail> {
+    let append = n / 3;
+    Ok(match n % 3 {
+        0 => OnceFailure::Blank(append + 1),
+        1 => OnceFailure::Burn(append, torn(alloc, kind)?),
+        _ => OnceFailure::Settle(append),
+    })
+}
+
+// Three appends, of which the power ends one at its n-th call; then an opening and one append more. It answers how many
+// blocks were told before, whether each of them is there, and the number of the last one.
+fn stopped(alloc: Global, n: u64, kind: u8) -> Result<(u64, bool, u64), Fail> {
     let mut script = Vec::new(alloc);
-    script.push(if burn {
-        OnceFailure::Burn(call, torn(alloc, kind)?)
-    } else {
-        OnceFailure::Settle(call)
-    })?;
+    script.push(failure(alloc, n, kind)?)?;
     let mut shelf = shelf_of(alloc, 8, script)?;
     let mut told = 0u64;
     for octet in 0..3u8 {
@@ -164,17 +220,18 @@ fn stopped(alloc: Global, burn: bool, call: u64, kind: u8) -> Result<(u64, bool)
         .zip(wanted.iter())
         .take(told as usize)
         .all(|(answer, wanted)| answer == wanted);
-    Ok((told, kept && last > told))
+    Ok((told, kept, last))
 }
 
 #[test]
 fn what_was_told_outlives_each_crash(rt: HostRuntime) -> Result<(), Fail> {
     let alloc = rt.alloc();
-    for call in 0..3u64 {
+    for n in 0..9u64 {
+        // a call that only asks leaves its block blank
+        let spent = u64::from(n % 3 > 0);
         for kind in 0..4u8 {
-            for burn in [true, false] {
-                assert_eq!(rt; stopped(alloc, burn, call, kind)?, (call, true));
-            }
+            let wanted = (n / 3, true, n / 3 + spent);
+            assert_eq!(rt; stopped(alloc, n, kind)?, wanted, "{n}, {kind}");
         }
     }
     Ok(())
