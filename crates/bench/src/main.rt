@@ -2,6 +2,7 @@
 #![tactic(auto)]
 
 mod admissions;
+mod blocks;
 mod codec;
 mod framing;
 mod messages;
@@ -35,6 +36,9 @@ fn number<'a>(alloc: Global, name: &'a str, help: &'a str) -> Arg<'a> {
 /// The command line: a word for each measure, and `counts` for all that is counted.
 fn program<'a>(alloc: Global) -> Result<Command<'a>, AllocError> {
     let codec = Command::new(alloc, "codec").about("Times encoding and decoding of admissions");
+    let blocks = Command::new(alloc, "blocks").about(
+        "Times blocks with digests, over the write-once disk in memory",
+    );
     let framing = Command::new(alloc, "framing")
         .about("Frames a file, and counts its items by kind")
         .arg(file(alloc))?
@@ -54,6 +58,7 @@ fn program<'a>(alloc: Global) -> Result<Command<'a>, AllocError> {
         .subcommand_required(true)
         .disable_help_subcommand(true)
         .subcommand(codec)?
+        .subcommand(blocks)?
         .subcommand(framing)?
         .subcommand(messages)?
         .subcommand(admissions)?
@@ -111,6 +116,7 @@ fn measure(rt: &HostRuntime, word: &str, matches: &ArgMatches<'_>) -> Result<()>
         }
         "messages" => print_messages(rt, path, number_or(matches, "times", 1)?),
         "admissions" => print_admissions(rt, path),
+        "blocks" => Ok(blocks::measure_all(rt)?),
         "counts" => print_counts(rt, matches.get_strs("FILE").unwrap_or(&[])),
         _ => Ok(codec::measure_all(rt)?),
     }
