@@ -168,79 +168,43 @@ fn run_with(alloc: Global, failure: Failure) -> Result<([bool; 5], u64, [u8; 12]
     Ok((failed, disk.faults(), read, left))
 }
 
+// The failures that are tried: the first one never comes.
+fn failure(n: usize) -> Failure {
+    match n {
+        0 => Failure::Read(7),
+        1 => Failure::Write(0, Torn::Half),
+        2 => Failure::Sync(0),
+        3 => Failure::Write(1, Torn::Half),
+        4 => Failure::Write(1, Torn::Old),
+        5 => Failure::Read(0),
+        _ => Failure::Sync(1),
+    }
+}
+
 #[test]
 fn each_call_fails_once(rt: HostRuntime) -> Result<(), Fail> {
-    let alloc = rt.alloc();
-    let none = run_with(alloc, Failure::Read(7))?;
-    assert_eq!(rt;
-        none,
+    // The call that fails, what is read then, and what a crash leaves.
+    let wanted = [
+        (5, *b"settunsynced", *b"settunsynced"),
+        (0, *b"settunsynced", *b"settunsynced"),
+        (1, *b"settunsynced", *b"settunsynced"),
         (
-            [false, false, false, false, false],
-            0,
-            *b"settunsynced",
-            *b"settunsynced"
-        )
-    );
-    let write = run_with(alloc, Failure::Write(0, Torn::Half))?;
-    assert_eq!(rt;
-        write,
-        (
-            [true, false, false, false, false],
-            1,
-            *b"settunsynced",
-            *b"settunsynced"
-        )
-    );
-    let sync = run_with(alloc, Failure::Sync(0))?;
-    assert_eq!(rt;
-        sync,
-        (
-            [false, true, false, false, false],
-            1,
-            *b"settunsynced",
-            *b"settunsynced"
-        )
-    );
-    let later = run_with(alloc, Failure::Write(1, Torn::Half))?;
-    assert_eq!(rt;
-        later,
-        (
-            [false, false, true, false, false],
-            1,
+            2,
             *b"settunsy\xff\xff\xff\xff",
-            *b"settunsy\xff\xff\xff\xff"
-        )
-    );
-    let nothing = run_with(alloc, Failure::Write(1, Torn::Old))?;
-    assert_eq!(rt;
-        nothing,
-        (
-            [false, false, true, false, false],
-            1,
-            *b"settled!\0\0\0\0",
-            *b"settled!\0\0\0\0"
-        )
-    );
-    let read = run_with(alloc, Failure::Read(0))?;
-    assert_eq!(rt;
-        read,
-        (
-            [false, false, false, true, false],
-            1,
-            *b"settunsynced",
-            *b"settunsynced"
-        )
-    );
-    let last = run_with(alloc, Failure::Sync(1))?;
-    assert_eq!(rt;
-        last,
-        (
-            [false, false, false, false, true],
-            1,
-            *b"settunsynced",
-            *b"settled!\0\0\0\0"
-        )
-    );
+            *b"settunsy\xff\xff\xff\xff",
+        ),
+        (2, *b"settled!\0\0\0\0", *b"settled!\0\0\0\0"),
+        (3, *b"settunsynced", *b"settunsynced"),
+        (4, *b"settunsynced", *b"settled!\0\0\0\0"),
+    ];
+    for (n, (call, read, left)) in wanted.iter().enumerate() {
+        let mut failed = [false; 5];
+        if let Some(failed) = failed.get_mut(*call) {
+            *failed = true;
+        }
+        let wanted = (failed, u64::from(n > 0), *read, *left);
+        assert_eq!(rt; run_with(rt.alloc(), failure(n))?, wanted, "{n}");
+    }
     Ok(())
 }
 

@@ -43,15 +43,6 @@ pub(crate) fn all_torn(alloc: Global, kind: u8, count: u64) -> Result<Vec<Torn>,
     Ok(choice)
 }
 
-// The n-th of the failures of four writes and of three syncs, the first of which has this number.
-fn failure(alloc: Global, n: u64, kind: u8, first_sync: u64) -> Result<Failure, AllocError> {
-    if n < 4 {
-        Ok(Failure::Write(n, torn(alloc, kind)?))
-    } else {
-        Ok(Failure::Sync((n - 4).saturating_add(first_sync)))
-    }
-}
-
 fn opened(alloc: Global, disk: MemErase) -> Result<Journal<MemErase>, JournalError> {
     match Journal::open(alloc, disk) {
         Ok(journal) => Ok(journal),
@@ -90,11 +81,16 @@ fn shown(alloc: Global, journal: &mut Journal<MemErase>) -> Result<[u8; 4], Jour
 }
 
 // Posts new pages 1 and 2.
-fn post(alloc: Global, journal: &mut Journal<MemErase>) -> Result<(), JournalError> {
+fn post(
+    alloc: Global,
+    journal: &mut Journal<MemErase>,
+    one: u8,
+    two: u8,
+) -> Result<(), JournalError> {
     if journal.home_pages() != 4 {
         return Err(JournalError::NotAJournal);
     }
-    let images = [(1, filled(alloc, 21)?), (2, filled(alloc, 22)?)];
+    let images = [(1, filled(alloc, one)?), (2, filled(alloc, two)?)];
     Ok(journal.post(alloc, &images)?)
 }
 
@@ -202,56 +198,106 @@ fn the_newest_image_of_a_page_stays(rt: HostRuntime) -> Result<(), Fail> {
     Ok(())
 }
 
-// The pages after each of three posts: page 1, page 2, and page 1 again.
-const POSTED: [[u8; 4]; 4] = [OLD, [10, 31, 12, 13], [10, 31, 41, 13], [10, 32, 41, 13]];
+// The pages after each of three posts: of page 1, of pages 1 and 2, and of page 1 again.
+const POSTED: [[u8; 4]; 4] = [OLD, [10, 31, 12, 13], [10, 32, 41, 13], [10, 33, 41, 13]];
 
-// Three posts, their pages home, and a checkpoint. Counts the posts that were done.
+// Three posts. Counts those that were done.
+fn post_all(
+    alloc: Global,
+    journal: &mut Journal<MemErase>,
+    done: &mut usize,
+) -> Result<(), JournalError> {
+    post_one(alloc, journal, 1, 31)?;
+    *done = 1;
+    post(alloc, journal, 32, 41)?;
+    *done = 2;
+    post_one(alloc, journal, 1, 33)?;
+    *done = 3;
+    Ok(())
+}
+
+// Three posts, their pages home, and a checkpoint.
 fn run(
     alloc: Global,
     journal: &mut Journal<MemErase>,
     done: &mut usize,
 ) -> Result<(), JournalError> {
-    for (n, octet) in [(1, 31), (2, 41), (1, 32)] {
-        post_one(alloc, journal, n, octet)?;
-        *done = done.saturating_add(1);
-    }
-    home(alloc, journal, 1, 32)?;
+    post_all(alloc, journal, done)?;
+    home(alloc, journal, 1, 33)?;
     home(alloc, journal, 2, 41)?;
     checkpoint(journal)
 }
 
-// The n-th of the failures of a run: 14 writes, and then 10 syncs after the two of the opening.
+// Is one of the pages after so many posts, or after one more, left by each crash?
+fn is_left(alloc: Global, disk: &MemErase, done: usize) -> Result<bool, Fail> {
+    for choice in 0..KINDS {
+        let left = after_crash(alloc, disk, choice)?;
+        if !POSTED.iter().skip(done).take(2).any(|pages| *pages == left) {
+            return Ok(false);
+        }
+    }
+    Ok(true)
+}
+
+// The n-th of the failures of a run: 15 writes, and then 10 syncs after the two of the opening.
 fn failure_of_a_run(alloc: Global, n: u64, kind: u8) -> Result<Failure, AllocError> {
-    if n < 14 {
+    if n < 15 {
         Ok(Failure::Write(n, torn(alloc, kind)?))
     } else {
-        Ok(Failure::Sync(n - 12))
+        Ok(Failure::Sync(n - 13))
     }
 }
 
 #[test]
 fn a_run_that_is_stopped_leaves_each_post_whole(rt: HostRuntime) -> Result<(), Fail> {
     let alloc = rt.alloc();
-    for n in 0..24u64 {
+    for n in 0..25u64 {
         for kind in 0..KINDS {
             let disk = scripted(alloc, made(alloc)?, failure_of_a_run(alloc, n, kind)?)?;
             let mut journal = opened(alloc, disk)?;
             let mut done = 0;
             let stopped = run(alloc, &mut journal, &mut done);
+            let again = run(alloc, &mut journal, &mut 0);
             assert_eq!(rt; stopped, Err(JournalError::Fault), "{n}, {kind}");
-            let disk = journal.into_disk();
-            for choice in 0..KINDS {
-                let left = after_crash(alloc, &disk, choice)?;
-                let is_left = POSTED.iter().skip(done).take(2).any(|pages| *pages == left);
-                assert!(rt; is_left, "{n}, {kind}, {choice}");
-            }
+            assert_eq!(rt; again, Err(JournalError::NeedsRecovery));
+            assert!(rt; is_left(alloc, &journal.into_disk(), done)?, "{n}, {kind}");
         }
     }
-    let mut journal = opened(alloc, made(alloc)?)?;
-    let mut done = 0;
-    run(alloc, &mut journal, &mut done)?;
-    assert_eq!(rt; done, 3);
-    assert_eq!(rt; journal.into_disk().calls().len(), 15 + 2 + 14 + 10);
+    Ok(())
+}
+
+// The n-th of the failures of an opening with three open slots of four images. It reads the identity page, eight gates, and
+// of each slot its number, its count, its page numbers and its images.
+fn failure_of_an_opening(alloc: Global, n: u64, kind: u8) -> Result<Failure, AllocError> {
+    Ok(match n {
+        0..=6 => Failure::Write(n, torn(alloc, kind)?),
+        7..=11 => Failure::Sync(n - 7),
+        _ => Failure::Read(n.saturating_sub(12)),
+    })
+}
+
+#[test]
+fn an_opening_that_is_stopped_loses_nothing(rt: HostRuntime) -> Result<(), Fail> {
+    let alloc = rt.alloc();
+    for n in 0..35u64 {
+        for kind in 0..KINDS {
+            let mut journal = opened(alloc, made(alloc)?)?;
+            post_all(alloc, &mut journal, &mut 0)?;
+            let failure = failure_of_an_opening(alloc, n, kind)?;
+            let stopped = match Journal::open(
+                alloc,
+                scripted(alloc, journal.into_disk(), failure)?,
+            ) {
+                Ok(_) => None,
+                Err(refused) => Some(refused),
+            };
+            let Some(refused) = stopped else {
+                return Err(JournalError::NotAJournal.into());
+            };
+            assert_eq!(rt; refused.error, OpenError::Fault, "{n}, {kind}");
+            assert!(rt; is_left(alloc, &refused.disk, 3)?, "{n}, {kind}");
+        }
+    }
     Ok(())
 }
 
@@ -283,87 +329,6 @@ fn a_post_of_32_pages_is_refused(rt: HostRuntime) -> Result<(), Fail> {
     assert_eq!(rt; journal.closed(), 8);
     assert_eq!(rt; journal.unhomed(), 0);
     assert_eq!(rt; shown(alloc, &mut journal)?, [0; 4]);
-    Ok(())
-}
-
-#[test]
-fn a_post_that_is_stopped_leaves_all_or_none(rt: HostRuntime) -> Result<(), Fail> {
-    let alloc = rt.alloc();
-    for n in 0..6u64 {
-        for kind in 0..KINDS {
-            let disk = scripted(alloc, made(alloc)?, failure(alloc, n, kind, 2)?)?;
-            let mut journal = opened(alloc, disk)?;
-            assert_eq!(rt; post(alloc, &mut journal), Err(JournalError::Fault));
-            assert_eq!(rt; post(alloc, &mut journal), Err(JournalError::NeedsRecovery));
-            let disk = journal.into_disk();
-            for choice in 0..KINDS {
-                let left = after_crash(alloc, &disk, choice)?;
-                assert!(rt;
-                    left == OLD || left == NEW,
-                    "stopped at {n}, {kind}, {choice}"
-                );
-            }
-        }
-    }
-    Ok(())
-}
-
-#[test]
-fn a_post_that_is_done_stays(rt: HostRuntime) -> Result<(), Fail> {
-    let alloc = rt.alloc();
-    let mut journal = opened(alloc, made(alloc)?)?;
-    post(alloc, &mut journal)?;
-    home(alloc, &mut journal, 1, 21)?;
-    let disk = journal.into_disk();
-    for choice in 0..KINDS {
-        assert_eq!(rt; after_crash(alloc, &disk, choice)?, NEW, "torn as {choice}");
-    }
-    Ok(())
-}
-
-#[test]
-fn an_opening_whose_read_fails_loses_nothing(rt: HostRuntime) -> Result<(), Fail> {
-    let alloc = rt.alloc();
-    // The identity page, eight gates, a number, a count, two page numbers, two images: 15 reads.
-    for n in 0..15u64 {
-        let mut journal = opened(alloc, made(alloc)?)?;
-        post(alloc, &mut journal)?;
-        let disk = scripted(alloc, journal.into_disk(), Failure::Read(n))?;
-        let disk = match Journal::open(alloc, disk) {
-            Ok(_) => return Err(JournalError::NotAJournal.into()),
-            Err(refused) => {
-                assert_eq!(rt; refused.error, OpenError::Fault);
-                refused.disk
-            }
-        };
-        for choice in 0..KINDS {
-            assert_eq!(rt; after_crash(alloc, &disk, choice)?, NEW, "{n}, {choice}");
-        }
-    }
-    Ok(())
-}
-
-#[test]
-fn an_opening_that_is_stopped_loses_nothing(rt: HostRuntime) -> Result<(), Fail> {
-    let alloc = rt.alloc();
-    for n in 0..7u64 {
-        for kind in 0..KINDS {
-            let mut journal = opened(alloc, made(alloc)?)?;
-            post(alloc, &mut journal)?;
-            let disk = scripted(alloc, journal.into_disk(), failure(alloc, n, kind, 0)?)?;
-            let disk = match Journal::open(alloc, disk) {
-                Ok(journal) => journal.into_disk(),
-                Err(refused) => refused.disk,
-            };
-            for choice in 0..KINDS {
-                assert_eq!(rt;
-                    after_crash(alloc, &disk, choice)?,
-                    NEW,
-                    "{n}, {kind}, {choice}"
-                );
-            }
-        }
-    }
     Ok(())
 }
 
@@ -464,7 +429,7 @@ fn a_creation_writes_the_identity_page_last(rt: HostRuntime) -> Result<(), Fail>
 fn each_call_writes_and_syncs_in_its_order(rt: HostRuntime) -> Result<(), Fail> {
     let alloc = rt.alloc();
     let mut journal = opened(alloc, made(alloc)?)?;
-    post(alloc, &mut journal)?;
+    post(alloc, &mut journal, 21, 22)?;
     let disk = journal.into_disk();
     // The opening has nothing to do but for its two syncs.
     let calls = [
@@ -481,7 +446,7 @@ fn each_call_writes_and_syncs_in_its_order(rt: HostRuntime) -> Result<(), Fail> 
     let header = b"\0\0\0\0\0\0\0\x01\x02\0\0\0\0\0\0\0\x01\0\0\0\0\0\0\0\x02";
     assert_eq!(rt; written(&disk, 17), header.as_slice());
     let mut journal = opened(alloc, disk)?;
-    post(alloc, &mut journal)?;
+    post(alloc, &mut journal, 21, 22)?;
     home(alloc, &mut journal, 2, 22)?;
     home(alloc, &mut journal, 1, 21)?;
     checkpoint(&mut journal)?;
@@ -511,8 +476,14 @@ fn each_call_writes_and_syncs_in_its_order(rt: HostRuntime) -> Result<(), Fail> 
 }
 
 #[test]
-fn disks_that_are_no_journal(rt: HostRuntime) -> Result<(), Fail> {
+fn disks_that_are_no_journal_or_damaged(rt: HostRuntime) -> Result<(), Fail> {
     let alloc = rt.alloc();
+    let mut empty_slot = made(alloc)?;
+    if empty_slot.size() > 1_000_000 {
+        empty_slot.write_at(PAGE * 34, &[0xa5])?;
+    }
+    let damaged = opened(alloc, empty_slot).err();
+    assert_eq!(rt; damaged, Some(JournalError::BadNode(35)));
     let small = match Journal::create(alloc, MemErase::new(alloc, 268 * PAGE), 4) {
         Ok(_) => None,
         Err(refused) => Some((refused.error, refused.disk.calls().len())),
@@ -526,49 +497,10 @@ fn disks_that_are_no_journal(rt: HostRuntime) -> Result<(), Fail> {
 }
 
 #[test]
-fn an_open_slot_without_images_is_damage(rt: HostRuntime) -> Result<(), Fail> {
-    let alloc = rt.alloc();
-    let mut disk = made(alloc)?;
-    if disk.size() > 1_000_000 {
-        disk.write_at(PAGE * 34, &[0xa5])?;
-    }
-    assert_eq!(rt; opened(alloc, disk).err(), Some(JournalError::BadNode(35)));
-    Ok(())
-}
-
-#[test]
-fn each_other_call_fails_once(rt: HostRuntime) -> Result<(), Fail> {
-    let alloc = rt.alloc();
-    for n in 0..4u64 {
-        let mut journal = opened(alloc, made(alloc)?)?;
-        post(alloc, &mut journal)?;
-        let failure = match n {
-            0 => Failure::Write(3, Torn::Half),
-            1 => Failure::Write(6, Torn::New),
-            2 => Failure::Sync(4),
-            _ => Failure::Sync(5),
-        };
-        let disk = journal.into_disk();
-        let mut journal = opened(alloc, scripted(alloc, disk, failure)?)?;
-        post(alloc, &mut journal).ok();
-        home(alloc, &mut journal, 1, 21).ok();
-        home(alloc, &mut journal, 2, 22).ok();
-        checkpoint(&mut journal).ok();
-        let asks = shown(alloc, &mut journal).err();
-        assert_eq!(rt; asks, Some(JournalError::NeedsRecovery), "call {n}");
-        let disk = journal.into_disk();
-        for choice in 0..KINDS {
-            assert_eq!(rt; after_crash(alloc, &disk, choice)?, NEW, "{n}, {choice}");
-        }
-    }
-    Ok(())
-}
-
-#[test]
 fn a_read_that_fails_keeps_all(rt: HostRuntime) -> Result<(), Fail> {
     let alloc = rt.alloc();
     let mut journal = opened(alloc, made(alloc)?)?;
-    post(alloc, &mut journal)?;
+    post(alloc, &mut journal, 21, 22)?;
     let disk = scripted(alloc, journal.into_disk(), Failure::Read(40))?;
     let mut journal = opened(alloc, disk)?;
     let mut faults = 0;

@@ -180,34 +180,36 @@ fn run_with(
     ))
 }
 
+// The failures that are tried: the first one never comes.
+fn failure(n: usize) -> OnceFailure {
+    match n {
+        0 => OnceFailure::Blank(5),
+        1 => OnceFailure::Blank(0),
+        2 => OnceFailure::Burn(0, Torn::Half),
+        3 => OnceFailure::Settle(0),
+        4 => OnceFailure::Look(0),
+        _ => OnceFailure::Read(0),
+    }
+}
+
 #[test]
 fn each_call_fails_once(rt: HostRuntime) -> Result<(), Fail> {
-    let alloc = rt.alloc();
-    let whole = Some((7, 7));
-    assert_eq!(rt;
-        run_with(alloc, OnceFailure::Blank(5))?,
-        ([false; 5], 0, whole)
-    );
-    assert_eq!(rt;
-        run_with(alloc, OnceFailure::Blank(0))?,
-        ([true, false, false, false, false], 1, whole)
-    );
-    let torn = run_with(alloc, OnceFailure::Burn(0, Torn::Half))?;
-    assert_eq!(rt;
-        torn,
-        ([false, true, false, false, false], 1, Some((7, 255)))
-    );
-    assert_eq!(rt;
-        run_with(alloc, OnceFailure::Settle(0))?,
-        ([false, false, true, false, false], 1, Some((0, 0)))
-    );
-    assert_eq!(rt;
-        run_with(alloc, OnceFailure::Look(0))?,
-        ([false, false, false, true, false], 1, whole)
-    );
-    assert_eq!(rt;
-        run_with(alloc, OnceFailure::Read(0))?,
-        ([false, false, false, false, true], 0, whole)
-    );
+    // The call that fails, how often one that takes the pen did, and what is settled of block 0.
+    let wanted = [
+        (5, 0, (7, 7)),
+        (0, 1, (7, 7)),
+        (1, 1, (7, 255)),
+        (2, 1, (0, 0)),
+        (3, 1, (7, 7)),
+        (4, 0, (7, 7)),
+    ];
+    for (n, (call, faults, settled)) in wanted.iter().enumerate() {
+        let mut failed = [false; 5];
+        if let Some(failed) = failed.get_mut(*call) {
+            *failed = true;
+        }
+        let wanted = (failed, *faults, Some(*settled));
+        assert_eq!(rt; run_with(rt.alloc(), failure(n))?, wanted, "{n}");
+    }
     Ok(())
 }
