@@ -4,7 +4,8 @@ use Rattle.std.proofs.lemmas.List.{take-append-drop, drop_more}
 use Rattle.disk_models.specs.Octets.{octets, Within}
 use Rattle.disk_memory.specs.declared.call.Call.{Call}
 use Rattle.disk_memory.specs.Writing.{Writing}
-use Rattle.disk_memory.specs.Replay.{replayed, written}
+use Rattle.disk_memory.specs.Replay.{written}
+use Rattle.disk_memory.specs.inner.Replaying.{replayed}
 use Rattle.disk_memory.proofs.Laying.{written_in}
 use Rattle.disk_memory.proofs.Replaying.{replayed-append, replayed_agree}
 

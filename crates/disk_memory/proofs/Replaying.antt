@@ -9,7 +9,8 @@ use Rattle.disk_models.proofs.api.OctetLemmas.{octets_by_index}
 use Rattle.disk_memory.specs.declared.call.Call.{Call}
 use Rattle.disk_memory.specs.declared.call.Call.TheVariants.{Write, Sync}
 use Rattle.disk_memory.specs.Writing.{Writing}
-use Rattle.disk_memory.specs.Replay.{written, all_written, Image, image_after, image_of, octet_of, IsWithinSome, IsUnsynced, IsLeftBy, state_of, replayed}
+use Rattle.disk_memory.specs.Replay.{written, all_written, Image, image_after, image_of, octet_of, IsWithinSome, IsUnsynced, IsLeftBy, state_of}
+use Rattle.disk_memory.specs.inner.Replaying.{replayed}
 use Rattle.disk_memory.proofs.Laying.{written_out, written_in, written_agrees, all_written-append, within_some-append, within_some_before, within_some_last}
 
 pub image_after-append : (calls more : List Call) (m : Image) → image_after (calls ++ more) m ≡ image_after more (image_after calls m)

@@ -4,7 +4,8 @@ use Rattle.std.proofs.lemmas.List.{take-append-le, drop-append-le, drop_all, map
 use Rattle.disk_memory.specs.declared.call.Call.{Call}
 use Rattle.disk_memory.specs.declared.call.Call.TheVariants.{Write, Sync}
 use Rattle.disk_memory.specs.Writing.{Writing}
-use Rattle.disk_memory.specs.Replay.{Image, image_of, SplitsAtSync}
+use Rattle.disk_memory.specs.Replay.{Image, image_of}
+use Rattle.disk_memory.specs.inner.Replaying.{SplitsAtSync}
 use Rattle.disk_memory.proofs.Replaying.{image_write, image_sync}
 
 pub split_none : SplitsAtSync 0 []

@@ -8,7 +8,8 @@ use Rattle.disk_memory.specs.declared.call.Call.{Call}
 use Rattle.disk_memory.specs.declared.call.Call.TheVariants.{Write, Sync}
 use Rattle.disk_memory.specs.Writing.{Writing}
 use Rattle.disk_memory.specs.Torn.{torn_octets}
-use Rattle.disk_memory.specs.Replay.{written, all_written, Image, image_after, image_of, octet_of, IsWithinSome, IsUnsynced, state_of, torn_writing, torn_writings, left_by, torn_call, torn_calls, SplitsAtSync, LeavesTorn}
+use Rattle.disk_memory.specs.Replay.{written, all_written, Image, image_after, image_of, octet_of, IsWithinSome, IsUnsynced, state_of, torn_writing, torn_writings, left_by, torn_call, LeavesTorn}
+use Rattle.disk_memory.specs.inner.Replaying.{torn_calls, SplitsAtSync}
 use Rattle.disk_memory.proofs.Laying.{written_out, all_written_out}
 use Rattle.disk_memory.proofs.Replaying.{image_after-append, sync_octet, sync_unsynced, same_within, more_within}
 

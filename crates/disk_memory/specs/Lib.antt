@@ -11,3 +11,4 @@ pub mod Seen
 pub mod OnceSound
 pub mod Once
 pub mod Both
+pub mod inner

@@ -29,11 +29,6 @@ pub record IsAtCall (disk : MemErase) (next_read next_write next_sync : ℕ) : T
   pub write : disk.writes ≡ next_write
   pub sync : disk.syncs ≡ next_sync
 
--- what fails next is the same
-pub record KeepsScript (old new : MemErase) : Type 0 where
-  pub script : script_of new ≡ script_of old
-  pub next : IsAtCall new old.reads old.writes old.syncs
-
 -- the number behind this one; the last one of 64 bits stays
 abbrev pub next_number : ℕ → ℕ
 next_number n = min (n + 1) 18446744073709551615

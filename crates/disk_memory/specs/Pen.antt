@@ -36,11 +36,6 @@ pub record IsAtOnceCall (pen : MemPen) (next_blank next_burn next_settle next_lo
   pub settle : pen.settles ≡ next_settle
   pub look : pen.looks ≡ next_look
 
--- what fails next is the same
-pub record KeepsOnceScript (old new : MemPen) : Type 0 where
-  pub script : once_script_of new ≡ once_script_of old
-  pub next : IsAtOnceCall new old.blanks old.burns old.settles old.looks
-
 -- the same burns are settled and waiting
 pub record KeepsBurns (old new : MemPen) : Type 0 where
   pub settled : settled_of new ≡ settled_of old

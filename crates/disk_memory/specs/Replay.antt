@@ -1,5 +1,5 @@
 -- What a run of calls leaves on a disk of zeros.
-use Rattle.std.specs.Prelude.{◌≡◌, ◌≤◌, ◌⊎◌, ℕ, ◌+◌, ◌-◌, min, List, [], ◌∷◌, ◌++◌, length, take, drop, map, slice_index, nat_lt, if◌then◌else◌, Option, None, Some}
+use Rattle.std.specs.Prelude.{◌≡◌, ◌≤◌, ◌⊎◌, ℕ, ◌+◌, ◌-◌, min, List, [], ◌∷◌, ◌++◌, length, take, slice_index, nat_lt, if◌then◌else◌, Option, None, Some}
 use Rattle.disk_models.specs.Octets.{Within}
 use Rattle.disk_models.specs.Erase.{DiskState}
 use Rattle.disk_memory.specs.Writing.{Writing}
@@ -81,31 +81,13 @@ torn_writings (torn ∷ choice) (w ∷ ws) = torn_writing (Some torn) w ∷ torn
 abbrev pub left_by : List Torn → List Call → ℕ → ℕ
 left_by choice calls = all_written (torn_writings choice (image_of calls).waiting) (image_of calls).synced
 
--- what a crash leaves of one call, and of several by a choice
+-- what a crash leaves of one call
 abbrev pub torn_call : Option Torn → Call → Call
 torn_call torn (Write w) = Write (torn_writing torn w)
 torn_call torn Sync = Sync
-
--- the same of a list of calls
-abbrev pub torn_calls : List Torn → List Call → List Call
-torn_calls choice [] = []
-torn_calls [] (call ∷ calls) = torn_call None call ∷ torn_calls [] calls
-torn_calls (torn ∷ choice) (call ∷ calls) = torn_call (Some torn) call ∷ torn_calls choice calls
 
 -- A write that failed: nothing was recorded, or, where the script has it fail, the write with the torn octets.
 abbrev pub LeavesTorn : ℕ → List ℕ → Option Torn → List Call → List Call → Type 0
 LeavesTorn at from None old new = new ≡ old
 LeavesTorn at from (Some torn) old new =
     (new ≡ old) ⊎ (new ≡ old ++ Write (record { at = at; length = length from; octets = torn_octets torn from }) ∷ [])
-
--- a disk over which the writes of these calls are laid
-abbrev pub replayed : List Call → (ℕ → ℕ) → ℕ → ℕ
-replayed [] f = f
-replayed (Write w ∷ calls) f = replayed calls (written w f)
-replayed (Sync ∷ calls) f = replayed calls f
-
--- The first calls end with the last sync, or are none, and the others are the writes since then.
-pub record SplitsAtSync (count : ℕ) (calls : List Call) : Type 0 where
-  pub inside : count ≤ length calls
-  pub synced : image_of (take count calls) ≡ record { synced = (image_of calls).synced; waiting = [] }
-  pub since : drop count calls ≡ map Write (image_of calls).waiting

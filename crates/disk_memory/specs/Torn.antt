@@ -1,5 +1,5 @@
 -- What is laid over a range that a failure or a crash may have changed.
-use Rattle.std.specs.Prelude.{ℕ, ◌-◌, ◌/◌, List, [], ◌++◌, length, take, replicate, Option, None, Some}
+use Rattle.std.specs.Prelude.{ℕ, ◌-◌, ◌/◌, List, [], ◌++◌, length, take, replicate}
 use Rattle.disk_memory.specs.declared.torn.Torn.{Torn}
 use Rattle.disk_memory.specs.declared.torn.Torn.TheVariants.{Old, New, Half, Octets}
 
@@ -9,8 +9,3 @@ torn_octets Old new = []
 torn_octets New new = new
 torn_octets Half new = take (length new / 2) new ++ replicate (length new - length new / 2) 255
 torn_octets (Octets octets) new = octets.items
-
--- the same of a write that may have failed
-abbrev pub octets_kept : Option Torn → List ℕ → List ℕ
-octets_kept None new = new
-octets_kept (Some torn) new = torn_octets torn new

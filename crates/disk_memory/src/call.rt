@@ -1,7 +1,8 @@
 // What an erasable disk in memory remembers of its calls.
 ghost use Rattle.std.specs.Prelude.{◌≡◌, ℕ, List, length, IfOk, option_copied, Option};
 ghost use Rattle.disk_memory.specs.Writing.{Writing};
-ghost use Rattle.disk_memory.specs.Torn.{torn_octets, octets_kept};
+ghost use Rattle.disk_memory.specs.Torn.{torn_octets};
+ghost use Rattle.disk_memory.specs.inner.Failing.{octets_kept};
 
 use crate::torn::Torn;
 use std::alloc::{AllocError, Global};

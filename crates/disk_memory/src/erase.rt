@@ -33,9 +33,9 @@ ghost use Rattle.disk_models.specs.Octets.{octets};
 ghost use Rattle.disk_models.specs.Erase.{Counts, Lingers, MayLeave, Stays, Syncs, WritesWithin};
 ghost use Rattle.disk_models.specs.Left.{EraseFound};
 ghost use Rattle.disk_memory.specs.Writing.{Writing};
-ghost use Rattle.disk_memory.specs.Torn.{octets_kept};
 ghost use Rattle.disk_memory.specs.Failure.{is_read_failure, is_sync_failure, write_failure_at};
-ghost use Rattle.disk_memory.specs.Replay.{LeavesTorn, SplitsAtSync, left_by, octet_of, state_of, torn_call, torn_calls};
+ghost use Rattle.disk_memory.specs.Replay.{LeavesTorn, left_by, octet_of, state_of, torn_call};
+ghost use Rattle.disk_memory.specs.inner.Replaying.{SplitsAtSync, torn_calls};
 
 use crate::call::{Call, Written};
 use crate::failure::{Failure, write_failure};
@@ -112,9 +112,9 @@ fn tear(
 }
 
 impl MemErase {
+    ghost use Rattle.disk_memory.specs.inner.Failing.{KeepsScript};
     ghost use Rattle.disk_memory.specs.Memory.{
       IsAtCall,
-      KeepsScript,
       calls_of,
       faults_of,
       script_of,

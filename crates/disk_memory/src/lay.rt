@@ -1,7 +1,8 @@
 // Reading by replay.
 ghost use Rattle.std.specs.Prelude.{◌≡◌, ◌≤◌, ◌<◌, ◌+◌, ◌∷◌, [], ◌++◌, ℕ, List, length, take, drop, IsTrue};
 ghost use Rattle.disk_models.specs.Octets.{Within, octets};
-ghost use Rattle.disk_memory.specs.Replay.{octet_of, replayed, written};
+ghost use Rattle.disk_memory.specs.Replay.{octet_of, written};
+ghost use Rattle.disk_memory.specs.inner.Replaying.{replayed};
 
 use crate::call::{Call, Written};
 

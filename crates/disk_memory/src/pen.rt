@@ -75,7 +75,6 @@ impl MemPen {
     ghost use Rattle.disk_memory.specs.Pen.{
       IsAtOnceCall,
       KeepsBurns,
-      KeepsOnceScript,
       once_faults_of,
       once_script_of,
       settled_of,

@@ -5,7 +5,8 @@ use Rattle.std.specs.Option.{IfSome, IfNone}
 use Rattle.std.proofs.lemmas.Bool.{cond_both, cases_eq, cases_lt, leb-true, leb-false}
 use Rattle.sequencer.specs.declared.first.Candidate.{Candidate}
 use Rattle.sequencer.specs.Lanes.{Waiting, waiting_times}
-use Rattle.sequencer.specs.First.{IsFirstLane, NoneWaits, better_of}
+use Rattle.sequencer.specs.First.{IsFirstLane}
+use Rattle.sequencer.specs.inner.Searching.{NoneWaits, better_of}
 
 -- the first of the lanes below i
 pub record Best (lanes : List Waiting) (i c t : ℕ) : Type 0 where

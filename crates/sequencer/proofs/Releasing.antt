@@ -6,7 +6,8 @@ use Rattle.route_meaning.specs.Merged.{Placed, placed, all_placed, merged, IsRis
 use Rattle.route_meaning.proofs.api.Sorting.{all_weaker, rises_by_time}
 use Rattle.route_meaning.proofs.api.OneOrder.{merged-first}
 use Rattle.sequencer.specs.Lanes.{Waiting, waiting_times, in_order, IsOpen, IsLane, NoneOpen, Releases}
-use Rattle.sequencer.specs.First.{IsFirstLane, NoneWaits}
+use Rattle.sequencer.specs.First.{IsFirstLane}
+use Rattle.sequencer.specs.inner.Searching.{NoneWaits}
 use Rattle.sequencer.proofs.Firsts.{at_lane, past_end}
 use Rattle.sequencer.proofs.api.Setting.{times_set}
 

@@ -1,6 +1,5 @@
--- The collector whose first time goes before each other's: what the search for it keeps.
-use Rattle.std.specs.Prelude.{ℕ, List, ◌∷◌, ◌≡◌, ◌<◌, ◌≤◌, Some, None, Option, if◌then◌else◌, nat_le, slice_get}
-use Rattle.sequencer.specs.declared.first.Candidate.{Candidate}
+-- The collector whose first time goes before each other's.
+use Rattle.std.specs.Prelude.{ℕ, List, ◌∷◌, ◌≡◌, ◌<◌, ◌≤◌, Some, slice_get}
 use Rattle.sequencer.specs.Lanes.{Waiting, waiting_times, IsOpen}
 
 -- the collector's first time goes before each other's, by time and then by number
@@ -14,13 +13,3 @@ pub record IsNext (lanes : List Waiting) (c : ℕ) : Type 0 where
   pub time : ℕ
   pub first : IsFirstLane lanes c time
   pub below : IsOpen lanes time
-
--- no time waits
-abbrev pub NoneWaits : List Waiting → Type 0
-NoneWaits lanes = (k u : ℕ) (us : List ℕ) → slice_get (waiting_times lanes) k ≡ Some (u ∷ us) → ⊥
-
--- the earlier of what was found and a new first time
-abbrev pub better_of : Option Candidate → ℕ → Option ℕ → Option Candidate
-better_of found number None = found
-better_of None number (Some time) = Some (record { number = number; time = time })
-better_of (Some best) number (Some time) = if nat_le best.time time then Some best else Some (record { number = number; time = time })

@@ -3,3 +3,4 @@ pub mod Lanes
 pub mod First
 pub mod Taking
 pub mod Runs
+pub mod inner

@@ -3,7 +3,8 @@
 ghost use Rattle.std.specs.Prelude.{map, ◌≡◌, ◌<◌, ℕ, List, IfSome, IfNone, IsTrue, ◌↔◌, length};
 ghost use Rattle.sequencer.specs.Lanes.{IsOpen, bound_of};
 ghost use Rattle.route_meaning.specs.History.{least};
-ghost use Rattle.sequencer.specs.First.{better_of, IsFirstLane, NoneWaits};
+ghost use Rattle.sequencer.specs.First.{IsFirstLane};
+ghost use Rattle.sequencer.specs.inner.Searching.{better_of, NoneWaits};
 
 use crate::lane::Lane;
 use route_model::{Mark, Moment};

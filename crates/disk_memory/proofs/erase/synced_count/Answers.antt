@@ -2,7 +2,7 @@ use Rattle.std.proofs.Common.{◌≡◌, ◌∙◌, ◌+◌, ◌<◌, ◌++◌, 
 use Rattle.std.proofs.lemmas.List.{take_more, length-take}
 use Rattle.disk_memory.specs.declared.call.Call.{Call}
 use Rattle.disk_memory.specs.declared.call.Call.TheVariants.{Write, Sync}
-use Rattle.disk_memory.specs.Replay.{SplitsAtSync}
+use Rattle.disk_memory.specs.inner.Replaying.{SplitsAtSync}
 use Rattle.disk_memory.proofs.Splitting.{split_write, split_sync}
 use Rattle.disk_memory.proofs.erase.synced_count.Goals as goal
 use Rattle.disk_memory.proofs.erase.synced_count.Goals.{in-Sync, in-Write}

@@ -1,5 +1,5 @@
 use Rattle.std.proofs.Common.{take}
-use Rattle.disk_memory.specs.Replay.{SplitsAtSync}
+use Rattle.disk_memory.specs.inner.Replaying.{SplitsAtSync}
 use Rattle.disk_memory.proofs.erase.synced_count.Given as goal
 
 abbrev pub invariant-loop-i : goal.invariant-loop-i

@@ -1,5 +1,5 @@
 use Rattle.std.proofs.Common.{◌≡◌, ◌++◌, take}
-use Rattle.disk_memory.specs.Replay.{torn_calls}
+use Rattle.disk_memory.specs.inner.Replaying.{torn_calls}
 use Rattle.disk_memory.proofs.erase.tear.Given as goal
 
 abbrev pub invariant-loop-k : goal.invariant-loop-k

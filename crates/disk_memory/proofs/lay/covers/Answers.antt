@@ -3,7 +3,7 @@ use Rattle.std.proofs.lemmas.Bool.{leb-true}
 use Rattle.disk_memory.specs.declared.call.Call.{Call}
 use Rattle.disk_memory.specs.declared.call.Call.TheVariants.{Write}
 use Rattle.disk_memory.specs.Writing.{Writing}
-use Rattle.disk_memory.specs.Replay.{replayed}
+use Rattle.disk_memory.specs.inner.Replaying.{replayed}
 use Rattle.disk_memory.proofs.Covering.{written_covers}
 use Rattle.disk_memory.proofs.lay.covers.Goals as goal
 

@@ -3,7 +3,7 @@ use Rattle.std.proofs.lemmas.List.{take_more, length-drop}
 use Rattle.disk_models.specs.Octets.{octets}
 use Rattle.disk_models.proofs.api.OctetLemmas.{octets_agree}
 use Rattle.disk_memory.specs.declared.call.Call.{Call}
-use Rattle.disk_memory.specs.Replay.{replayed}
+use Rattle.disk_memory.specs.inner.Replaying.{replayed}
 use Rattle.disk_memory.proofs.Covering.{octets_zeros}
 use Rattle.disk_memory.proofs.Replaying.{replayed-append, replayed_octets}
 use Rattle.disk_memory.proofs.lay.replay.Goals as goal

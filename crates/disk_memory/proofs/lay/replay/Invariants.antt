@@ -1,6 +1,6 @@
 use Rattle.std.proofs.Common.{◌≡◌, length, take}
 use Rattle.disk_models.specs.Octets.{octets}
-use Rattle.disk_memory.specs.Replay.{replayed}
+use Rattle.disk_memory.specs.inner.Replaying.{replayed}
 use Rattle.disk_memory.proofs.lay.replay.Given as goal
 
 abbrev pub invariant-loop-call : goal.invariant-loop-call

@@ -2,7 +2,7 @@ use Rattle.std.proofs.Common.{◌≡◌, ◌∙◌, ◌-◌, ◌++◌, ◌∷◌
 use Rattle.std.proofs.lemmas.List.{length-drop}
 use Rattle.disk_memory.specs.declared.call.Call.{Call}
 use Rattle.disk_memory.specs.declared.call.Call.TheVariants.{Sync}
-use Rattle.disk_memory.specs.Replay.{SplitsAtSync, torn_calls}
+use Rattle.disk_memory.specs.inner.Replaying.{SplitsAtSync, torn_calls}
 use Rattle.disk_memory.proofs.Tearing.{crash_begins, crash_allowed}
 use Rattle.disk_memory.proofs.erase.MemErase.crash.Goals as goal
 

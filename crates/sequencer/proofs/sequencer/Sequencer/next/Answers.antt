@@ -1,7 +1,8 @@
 use Rattle.std.proofs.Common.{List, refl, sym, subst}
 use Rattle.sequencer.specs.Lanes.{Waiting, IsOpen, NoneOpen}
 use Rattle.std.proofs.lemmas.Bool.{false≢true}
-use Rattle.sequencer.specs.First.{IsFirstLane, IsNext, NoneWaits}
+use Rattle.sequencer.specs.First.{IsFirstLane, IsNext}
+use Rattle.sequencer.specs.inner.Searching.{NoneWaits}
 use Rattle.sequencer.proofs.Releasing.{none_waits, none_open}
 use Rattle.sequencer.proofs.sequencer.Sequencer.next.Goals as goal
 
