@@ -14,7 +14,8 @@ use Rattle.sequencer.specs.Lanes.{Waiting, marks, waiting_times, in_order, IsOpe
 use Rattle.sequencer.specs.First.{IsNext}
 use Rattle.sequencer.proofs.api.Setting.{one_there, marks_same, times_set}
 use Rattle.archive.proofs.Batches.{times_at}
-use Rattle.archive.specs.Kept.{Queued, intakes_of, history_of, waiting_of, AreCounted, IsKept}
+use Rattle.archive.specs.Kept.{Queued, intakes_of, history_of, AreCounted, IsKept}
+use Rattle.archive.specs.inner.Waiting.{waiting_of}
 use Rattle.archive.specs.Steps.{Applies, NothingToApply, moved}
 use Rattle.archive.proofs.Keeping.{same_number, waiting-merged, part-append}
 use Rattle.archive.proofs.Marking.{same_marks}

@@ -11,7 +11,8 @@ use Rattle.route_meaning.proofs.api.Sorting.{all_weaker, all_by_time}
 use Rattle.route_meaning.proofs.api.OneOrder.{merged-parts, parts-merged, IsInOrder-merged}
 use Rattle.route_meaning.proofs.api.Settling.{all_drop, all_placed_within}
 use Rattle.sequencer.specs.Lanes.{Waiting, waiting_times, bound_of}
-use Rattle.archive.specs.Kept.{Queued, intakes_of, history_of, waiting_of, IsKept}
+use Rattle.archive.specs.Kept.{Queued, intakes_of, history_of, IsKept}
+use Rattle.archive.specs.inner.Waiting.{waiting_of}
 
 cancel : {X : Type 0} (xs ys zs : List X) → xs ++ ys ≡ xs ++ zs → ys ≡ zs
 cancel [] ys zs e = e

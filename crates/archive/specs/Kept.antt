@@ -23,10 +23,6 @@ intakes_of c applied (w ∷ lanes) (q ∷ queues) = record { admitted = part c a
 abbrev pub history_of : List Waiting → List Queued → List (Placed Admitted) → ℕ → History
 history_of lanes queues applied begun = record { intakes = intakes_of 0 applied lanes queues; whole = length applied; some = begun }
 
--- the admissions that wait of each collector
-abbrev pub waiting_of : List Queued → List (List Admitted)
-waiting_of queues = map (λ q. q.waiting) queues
-
 -- each count is that of the admissions
 abbrev pub AreCounted : ℕ → List (Placed Admitted) → List Queued → Type 0
 AreCounted c applied [] = Unit {0}
