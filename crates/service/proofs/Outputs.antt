@@ -5,6 +5,7 @@ use Rattle.std.proofs.lemmas.Bool.Decides.{Decides-eqb}
 use Rattle.std.specs.Io.KnownBytes.{Appends, Keeps}
 use Rattle.std.proofs.KnownBytes.{Appends-nil, Appends-trans}
 use Rattle.service.specs.Outputs.{OutputState, Tells}
+use Rattle.service.specs.Refusals.{TellsFailure}
 
 pub is_nil : (octets : List ℕ) (r : Bool) → r ≡ eqb (length octets) 0 → r ≡ true → octets ≡ []
 is_nil octets r e t = nil_from_length octets ((Decides-eqb (length octets) 0).0 (sym e ∙ t))
@@ -77,3 +78,7 @@ trans_by false was mid now a b e p q =
 
 pub Tells-trans : (was mid now : OutputState) (a b : List ℕ) → Tells was mid a → Tells mid now b → Tells was now (a ++ b)
 Tells-trans was mid now a b p q = trans_by mid.failed was mid now a b refl p q
+
+-- standard error stays as it was where standard output hasn't failed
+pub still_failed : (failed err_failed : Bool) (err_was err_now : OutputState) → failed ≡ false → err_was.failed ≡ err_failed → TellsFailure failed err_was err_now → err_now.failed ≡ err_failed
+still_failed failed err_failed err_was err_now sound e t = ap (λ (s : OutputState). s.failed) (t.quiet sound) ∙ e

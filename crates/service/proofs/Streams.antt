@@ -15,7 +15,7 @@ use Rattle.mrt_records.proofs.api.Pieces.{frames_then}
 use Rattle.mrt_records.proofs.api.Streams.{frames_none, part_begins_none, over_begins_none, over-append}
 use Rattle.archive.specs.Carries.{Carries}
 use Rattle.archive.specs.Steps.{given}
-use Rattle.service.specs.Feeds.{IsCut, IsFed, MayGive}
+use Rattle.service.specs.Feeds.{IsCut, IsFed, IsReason, MayGive}
 use Rattle.service.specs.Turns.{Turn, turns_for, last_turns, feed_turns}
 use Rattle.service.specs.FeedTexts.{intake_in, cut_line, counts_of}
 use Rattle.service.specs.FeedLines.{counts_line}
@@ -135,14 +135,14 @@ taken_more c limit h bytes piece known reader next held left old new archive lat
 
 -- the feed is given up where nothing more is read
 pub taken_gives : (c limit : ℕ) (h : History) (bytes : List ℕ) (known reader : Option (List ℕ)) (held : List ℕ) (feeding : Feeding) (archive : History) (was now : OutputState)
-    → Taken c limit h bytes known reader held feeding archive was now
-    → (more : List ℕ) × MayGive known more × StopsWithin c limit h (bytes ++ more) archive was now stops.Outside
-taken_gives c limit h bytes known reader held feeding archive was now l =
+    → (why : FeedStop) → ((made : List Turn) → IsReason c h made [] why) → Taken c limit h bytes known reader held feeding archive was now
+    → (more : List ℕ) × MayGive known more × StopsWithin c limit h (bytes ++ more) archive was now why
+taken_gives c limit h bytes known reader held feeding archive was now why reason l =
     let rest = left_of reader in (
       l.done ++ rest,
       may_give known reader l.done l.gone,
-      subst (λ (t : List ℕ). StopsWithin c limit h t archive was now stops.Outside) (append_assoc bytes l.done rest)
-          (within_more c limit h (bytes ++ l.done) rest archive was now stops.Outside (stops_behind c limit h (bytes ++ l.done) held feeding archive was now stops.Outside (λ made. tt) l.reads)),
+      subst (λ (t : List ℕ). StopsWithin c limit h t archive was now why) (append_assoc bytes l.done rest)
+          (within_more c limit h (bytes ++ l.done) rest archive was now why (stops_behind c limit h (bytes ++ l.done) held feeding archive was now why reason l.reads)),
     )
 
 -- the feed is given up in the next piece

@@ -1,5 +1,6 @@
 -- Refusals by number and name, and the lines that tell them. Each line ends in LF.
-use Rattle.std.specs.Prelude.{ℕ, List, [], ◌∷◌, ◌++◌, codes, decimal}
+use Rattle.std.specs.Prelude.{◌≡◌, ℕ, Bool, true, false, List, [], ◌∷◌, ◌++◌, codes, decimal}
+use Rattle.service.specs.Outputs.{OutputState, Tells}
 use Rattle.service.specs.declared.refusal.Refusal.{Refusal}
 use Rattle.service.specs.declared.refusal.Refusal.TheVariants as refusals
 
@@ -65,6 +66,11 @@ refused_record_line r place = refusal_head r ++ codes "|" ++ decimal place ++ li
 -- a refusal as standard error shows it
 abbrev pub error_line : Refusal → List ℕ
 error_line r = codes "rha: " ++ decimal (number_of r) ++ codes " " ++ name_of r ++ line_end
+
+-- standard error is told that lines couldn't be written where it is so, and nothing where it isn't
+pub record TellsFailure (failed : Bool) (err_was err_now : OutputState) : Type 0 where
+  pub told : failed ≡ true → Tells err_was err_now (error_line refusals.Outside)
+  pub quiet : failed ≡ false → err_now ≡ err_was
 
 -- what a refusal is of, as a file or an argument, and why, as standard error shows it behind the refusal
 abbrev pub reason_line : List ℕ → List ℕ → List ℕ

@@ -7,7 +7,7 @@ use Rattle.archive.specs.declared.question.Query.{Query}
 use Rattle.archive.specs.declared.question.Answer.TheVariants.{Rows}
 use Rattle.archive.specs.Replies.{last_moment, IsAnswered}
 use Rattle.service.specs.AnswerLines.{answer_text}
-use Rattle.service.specs.Refusals.{refusal_line}
+use Rattle.service.specs.Refusals.{refusal_line, TellsFailure}
 use Rattle.service.specs.Requests.{IsQueryLine}
 use Rattle.service.specs.Faults.{of_unanswered}
 use Rattle.service.specs.declared.status.Status.{Status}
@@ -41,8 +41,12 @@ IsRefused h line whys.OutOfMemory = Unit {0}
 abbrev pub IsTold : History → List ℕ → List ℕ → Type 0
 IsTold h line text = IsReplyText h line text ⊎ ((why : Unanswered) × IsRefused h line why × (text ≡ refusal_line (of_unanswered why)))
 
--- How a line was answered, by the status. `Failed` is answered where not all could be written: a front of what should have been told was.
+-- How a line was answered, by the status. `Failed` is answered where not all could be written: where that was so before, nothing is
+-- done; else a front of what should have been told was written, and standard error is told where a write of it failed.
 abbrev pub IsAskEnd : History → List ℕ → Status → OutputState → OutputState → OutputState → OutputState → Type 0
-IsAskEnd h line statuses.Done was now err_was err_now = (text : List ℕ) × IsReplyText h line text × Tells was now text × (now.failed ≡ false) × (err_now ≡ err_was)
-IsAskEnd h line statuses.Refused was now err_was err_now = (why : Unanswered) × IsRefused h line why × Tells was now (refusal_line (of_unanswered why)) × (now.failed ≡ false) × (err_now ≡ err_was)
-IsAskEnd h line statuses.Failed was now err_was err_now = ((now.failed ≡ true) ⊎ (err_now.failed ≡ true)) × ((now ≡ was) ⊎ ((text : List ℕ) × IsTold h line text × Tells was now text))
+IsAskEnd h line statuses.Done was now err_was err_now = (text : List ℕ) × IsReplyText h line text × Tells was now text × (now.failed ≡ false) × (err_now.failed ≡ false) × (err_now ≡ err_was)
+IsAskEnd h line statuses.Refused was now err_was err_now = (why : Unanswered) × IsRefused h line why × Tells was now (refusal_line (of_unanswered why)) × (now.failed ≡ false) × (err_now.failed ≡ false) × (err_now ≡ err_was)
+IsAskEnd h line statuses.Failed was now err_was err_now =
+    ((now.failed ≡ true) ⊎ (err_now.failed ≡ true))
+    × (((was.failed ≡ true) × (now ≡ was) × (err_now ≡ err_was))
+    ⊎ ((was.failed ≡ false) × ((text : List ℕ) × IsTold h line text × Tells was now text) × TellsFailure now.failed err_was err_now))

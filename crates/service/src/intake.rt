@@ -70,6 +70,7 @@ impl Feeding {
         ensures read { (c limit : ℕ) (h : History) (bytes : List ℕ) (was : OutputState) → Reads c limit h bytes framer.old self.old archive.old was out.old → OnOk result ((more : List ℕ) × MayGive reader.old.left more × IsReadOut c limit h (bytes ++ more) framer.new self.new archive.new was out.new) }
         ensures given_up { (c limit : ℕ) (h : History) (bytes : List ℕ) (was : OutputState) → Reads c limit h bytes framer.old self.old archive.old was out.old → IfErr result (λ why. (more : List ℕ) × MayGive reader.old.left more × StopsWithin c limit h (bytes ++ more) archive.new was out.new why) }
         ensures outside { result ≡ Err FeedStop.Outside → (reader.new.failed ≡ true) ⊎ (out.new.failed ≡ true) }
+        ensures sound { (result ≡ Err FeedStop.Outside → ⊥) → reader.new.failed ≡ reader.old.failed }
     {
         let mut piece = [0u8; PIECE];
         for _ in 0..u64::MAX {
@@ -87,8 +88,8 @@ impl Feeding {
                 return Ok(());
             }
         }
-        reader.give_up();
-        Err(FeedStop::Outside)
+        // No memory holds a count of so many pieces.
+        Err(FeedStop::OutOfMemory)
     }
 }
 
@@ -132,6 +133,7 @@ fn take_in<R: Read, W: Write>(
     ensures fed { (h : History) → Carries archive.old h → IfOk result (λ cut. (bytes : List ℕ) × MayGive reader.old.left bytes × IsFed collector limit h bytes cut archive.new out.old out.new) }
     ensures given_up { (h : History) → Carries archive.old h → IfErr result (λ why. (bytes : List ℕ) × MayGive reader.old.left bytes × StopsWithin collector limit h bytes archive.new out.old out.new why) }
     ensures outside { result ≡ Err FeedStop.Outside → (reader.new.failed ≡ true) ⊎ (out.new.failed ≡ true) }
+    ensures sound { (result ≡ Err FeedStop.Outside → ⊥) → reader.new.failed ≡ reader.old.failed }
 {
     let mut feeding = Feeding::new(alloc, collector, limit);
     let mut framer = Framer::new(alloc);
@@ -169,6 +171,7 @@ pub fn feed<R: Read, W: Write>(
 ) -> End
     ensures ended { (h : History) → Carries archive.old h → (bytes : List ℕ) × MayGive reader.old.left bytes × (end : End) × (result ≡ as_told out.new.failed end) × IsEnd collector limit h bytes end archive.new out.old out.new }
     ensures outside { result ≡ End.Refused FeedStop.Outside → (reader.new.failed ≡ true) ⊎ (out.new.failed ≡ true) }
+    ensures sound { (result ≡ End.Refused FeedStop.Outside → ⊥) → reader.new.failed ≡ reader.old.failed }
 {
     match take_in(alloc, archive, collector, limit, reader, out) {
         Ok(None) => as_told(End::Well, out),

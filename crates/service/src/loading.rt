@@ -5,7 +5,7 @@ ghost use Rattle.route_meaning.specs.History.{History};
 ghost use Rattle.archive.specs.Carries.{Carries};
 ghost use Rattle.service.specs.Feeds.{MayGive};
 ghost use Rattle.service.specs.Loads.{IsLoadEnd, IsSettled, HasIntakes, marked_if};
-ghost use Rattle.service.specs.inner.Loading.{IsUnsettled, mark_after, status_after};
+ghost use Rattle.service.specs.inner.Loading.{HasNotSettled, mark_after, status_after};
 
 use crate::faults::LoadStop;
 use crate::feed_lines::write_settled;
@@ -32,7 +32,7 @@ pub struct LoadSettings {
 /// Sets the mark of a collector, if there is one to set.
 fn set_mark(archive: &mut Archive, collector: u8, mark: Option<Mark>) -> Result<(), LoadStop>
     ensures marked { (h : History) → Carries archive.old h → OnOk result (Carries archive.new (marked_if collector mark h)) }
-    ensures unmarked { (h : History) → Carries archive.old h → IfErr result (IsUnsettled collector mark h archive.new) }
+    ensures unmarked { (h : History) → Carries archive.old h → IfErr result (HasNotSettled collector mark h archive.new) }
 {
     let Some(mark) = mark else {
         return Ok(());
@@ -74,7 +74,7 @@ fn flush_all(archive: &mut Archive)
 /// Sets the mark, applies what may be applied, and flushes.
 fn settle(archive: &mut Archive, collector: u8, mark: Option<Mark>) -> Result<(), LoadStop>
     ensures settled { (h : History) → Carries archive.old h → OnOk result (IsSettled (marked_if collector mark h).intakes archive.new) }
-    ensures unsettled { (h : History) → Carries archive.old h → IfErr result (IsUnsettled collector mark h archive.new) }
+    ensures unsettled { (h : History) → Carries archive.old h → IfErr result (HasNotSettled collector mark h archive.new) }
 {
     set_mark(archive, collector, mark)?;
     apply_all(archive)?;
@@ -112,7 +112,8 @@ pub fn load<R: Read, W: Write, E: Write>(
     out: &mut Output<W>,
     err: &mut Output<E>,
 ) -> Status
-    ensures ended { (h : History) → Carries archive.old h → (bytes : List ℕ) × MayGive reader.old.left bytes × IsLoadEnd how.collector how.limit how.mark h bytes result archive.new out.old out.new err.old err.new }
+    ensures ended { (h : History) → Carries archive.old h → (bytes : List ℕ) × MayGive reader.old.left bytes × IsLoadEnd how.collector how.limit how.mark h bytes reader.new.failed result archive.new out.old out.new err.old err.new }
+    ensures sound { result ≡ Status.Done → reader.new.failed ≡ reader.old.failed }
 {
     if how.collector >= archive.collectors() {
         write_error(err, &Refusal::from(LoadStop::NoCollector));

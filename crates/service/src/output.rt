@@ -166,6 +166,7 @@ impl<R: Read> Input<R> {
         ensures fits { IfSome result (λ count. count ≤ length piece.new) }
         ensures read { IfSome result (λ count. Consumes self.old.left self.new.left (take count piece.new)) }
         ensures end { 0 < length piece.old → result ≡ Some 0 → IsAtEnd self.new.left }
+        ensures sound { IfSome result (λ _. self.new.failed ≡ self.old.failed) }
         ensures failed { IfNone result (self.new.failed ≡ true) }
     {
         match self.reader.read(piece) {
@@ -175,13 +176,5 @@ impl<R: Read> Input<R> {
                 None
             }
         }
-    }
-
-    /// Tells that there are more octets than can be counted.
-    pub(crate) fn give_up(&mut self)
-        ensures failed { self.new.failed ≡ true }
-        ensures left { self.new.left ≡ self.old.left }
-    {
-        self.failure = Some(Error::from(ErrorKind::Other));
     }
 }

@@ -2,6 +2,7 @@
 
 ghost use Rattle.std.specs.Prelude.{◌≡◌, ◌⊎◌, true, false, []};
 ghost use Rattle.service.specs.Outputs.{Tells};
+ghost use Rattle.service.specs.Refusals.{TellsFailure};
 ghost use Rattle.service.specs.Trying.{IsTried, IsUntried};
 
 use crate::asking::ask;
@@ -21,8 +22,10 @@ const BATCH: usize = 1000;
 /// Writes out what is buffered: `Failed` where that fails, which `err` is told where nothing failed before.
 fn write_out<W: Write, E: Write>(out: &mut Output<W>, err: &mut Output<E>) -> Status
     ensures flushed { Tells out.old out.new [] }
-    ensures done { out.new.failed ≡ false → (result ≡ Status.Done) × (err.new ≡ err.old) }
+    ensures done { out.new.failed ≡ false → result ≡ Status.Done }
     ensures failed { out.new.failed ≡ true → result ≡ Status.Failed }
+    ensures quiet { out.old.failed ≡ true → err.new ≡ err.old }
+    ensures told { out.old.failed ≡ false → TellsFailure out.new.failed err.old err.new }
 {
     if out.has_failed() {
         return Status::Failed;
@@ -45,7 +48,8 @@ pub fn try_file<R: Read, W: Write, E: Write>(
     out: &mut Output<W>,
     err: &mut Output<E>,
 ) -> u8
-    ensures ended { IsTried asked.now file.old.left result out.old out.new err.old err.new ⊎ IsUntried result out.old out.new err.old err.new }
+    ensures ended { IsTried asked.now file.old.left file.new.failed result out.old out.new err.old err.new ⊎ IsUntried result out.old out.new err.old err.new }
+    ensures sound { result ≡ 0 → file.new.failed ≡ file.old.failed }
 {
     let Ok(mut archive) = Archive::plain(alloc, 1) else {
         write_error(err, &Refusal::OutOfMemory);

@@ -24,10 +24,10 @@ status_after ends.Cut = statuses.Refused
 status_after (ends.Refused why) = statuses.Refused
 
 -- why a mark isn't set, or what may be applied isn't
-abbrev pub IsUnsettled : ℕ → Option ℕ → History → History → LoadStop → Type 0
-IsUnsettled c mark h archive stops.NoCollector = (IsCollector h c → ⊥) × Carries archive h
-IsUnsettled c mark h archive stops.MarkBack = (lower : ℕ) × (mark ≡ Some lower) × IsMarkAbove h c lower × Carries archive h
-IsUnsettled c mark h archive stops.OutOfMemory = HasIntakes (marked_if c mark h).intakes archive
+abbrev pub HasNotSettled : ℕ → Option ℕ → History → History → LoadStop → Type 0
+HasNotSettled c mark h archive stops.NoCollector = (IsCollector h c → ⊥) × Carries archive h
+HasNotSettled c mark h archive stops.MarkBack = (lower : ℕ) × (mark ≡ Some lower) × IsMarkAbove h c lower × Carries archive h
+HasNotSettled c mark h archive stops.OutOfMemory = HasIntakes (marked_if c mark h).intakes archive
 
 -- the status that is told where a write to standard output failed, or one to standard error
 abbrev pub told_as : Bool → Bool → Status → Status

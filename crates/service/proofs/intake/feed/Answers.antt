@@ -1,6 +1,8 @@
-use Rattle.std.proofs.Common.{◌≡◌, Err, inl, inr, ap, ⊎_elim}
+use Rattle.std.proofs.Common.{◌≡◌, ◌∙◌, Bool, true, false, Option, Result, Err, inl, inr, ap, refl, ⊎_elim}
 use Rattle.service.specs.declared.intake.End.{End}
 use Rattle.service.specs.declared.intake.End.TheVariants.{Well, Cut, Refused}
+use Rattle.service.specs.Feeds.{as_told}
+use Rattle.service.specs.declared.faults.FeedCut.{FeedCut}
 use Rattle.service.specs.declared.faults.FeedStop.{FeedStop}
 use Rattle.service.specs.declared.faults.FeedStop.TheVariants.{Outside}
 use Rattle.service.proofs.GivingUp.{given_up_told}
@@ -8,6 +10,14 @@ use Rattle.service.proofs.intake.feed.Goals as goal
 
 same_stop : (why : FeedStop) → ◌≡◌ {A = End} (Refused why) (Refused Outside) → why ≡ Outside
 same_stop why e = cc
+
+-- what was given up for what is outside is told so
+told_outside : (failed : Bool) (why : FeedStop) → why ≡ Outside → as_told failed (Refused why) ≡ Refused Outside
+told_outside true why is = refl
+told_outside false why is = ap (λ (t : FeedStop). Refused t) is
+
+err_is : (why : FeedStop) → ◌≡◌ {A = Result (Option FeedCut) FeedStop} (Err why) (Err Outside) → why ≡ Outside
+err_is why e = cc
 
 not_well : ◌≡◌ {A = End} Well (Refused Outside) → ⊥
 not_well e = absurd cc
@@ -19,12 +29,14 @@ pub returns-in-Ok-None : goal.returns-in-Ok-None
 returns-in-Ok-None g c = record {
   ended = λ h carried. let fed = rw c.in-Ok-None.field-0-is at (c.in-Ok-None.ensures.fed h carried) in (fed.0, fed.1, Well, c.as_told.ensures.told, fed.2);
   outside = λ e. ⊎_elim (λ failed. inr failed) (λ same. absurd (not_well same)) (c.as_told.ensures.outside e);
+  sound = λ none. c.in-Ok-None.ensures.sound (λ e. absurd cc);
 }
 
 pub returns-in-Ok-Some : goal.returns-in-Ok-Some
 returns-in-Ok-Some g c = record {
   ended = λ h carried. let fed = rw c.in-Ok-Some.field-0-is at (c.in-Ok-Some.ensures.fed h carried) in (fed.0, fed.1, Cut, c.as_told-in-Ok-Some.ensures.told, (_, fed.2));
   outside = λ e. ⊎_elim (λ failed. inr failed) (λ same. absurd (not_cut same)) (c.as_told-in-Ok-Some.ensures.outside e);
+  sound = λ none. c.in-Ok-Some.ensures.sound (λ e. absurd cc);
 }
 
 pub returns-in-Err : goal.returns-in-Err
@@ -36,4 +48,5 @@ returns-in-Err g c = record {
       ⊎_elim (λ failed. inr failed)
       (λ same. ⊎_elim (λ failed. inl failed) (λ failed. inr (c.write_refusal.ensures.line.stays failed).0) (c.in-Err.ensures.outside (ap Err (same_stop c.in-Err.why same))))
       (c.as_told-in-Err.ensures.outside e);
+  sound = λ none. c.in-Err.ensures.sound (λ e. none (c.as_told-in-Err.ensures.told ∙ told_outside _ c.in-Err.why (err_is c.in-Err.why e)));
 }

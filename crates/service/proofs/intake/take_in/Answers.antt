@@ -20,6 +20,7 @@ returns g c = record {
       );
   given_up = λ h carried. tt;
   outside = λ e. absurd cc;
+  sound = λ none. c.in_ok-take_stream.ensures.sound (λ e. absurd cc);
 }
 
 pub returns-in_err-take_stream-clause-given_up : goal.returns-in_err-take_stream-clause-given_up

@@ -1,15 +1,21 @@
-use Rattle.std.proofs.Common.{◌∙◌, ℕ, Option, arith, subst, ap}
+use Rattle.std.proofs.Common.{◌≡◌, ◌⊎◌, ◌∙◌, ℕ, Bool, true, Option, arith, subst, sym, ap, refl}
 use Rattle.route_meaning.specs.History.{History}
 use Rattle.archive.specs.Carries.{Carries}
 use Rattle.archive.specs.Steps.{IsCollector}
 use Rattle.service.specs.Loads.{IsSettled, marked_if}
 use Rattle.service.specs.Outputs.{Tells}
 use Rattle.service.specs.FeedLines.{settled_line}
+use Rattle.service.specs.declared.faults.FeedStop.TheVariants.{Outside}
 use Rattle.service.specs.declared.intake.End.{End}
-use Rattle.service.specs.inner.Loading.{IsUnsettled, mark_after, status_after, told_as}
+use Rattle.service.specs.declared.intake.End.TheVariants.{Refused}
+use Rattle.service.specs.inner.Loading.{HasNotSettled, mark_after, status_after, told_as}
 use Rattle.service.proofs.Streams.{some_given}
-use Rattle.service.proofs.Unloading.{load_ends, load_stops, load_nowhere}
+use Rattle.service.proofs.Unloading.{done_inside, load_ends, load_stops, load_nowhere, refused_undone}
 use Rattle.service.proofs.loading.load.Goals as goal
+
+-- the answer that is told of an end, and that end
+lost : {end told : End} {reader writer : Bool} → told ≡ end → (told ≡ Refused Outside → (reader ≡ true) ⊎ (writer ≡ true)) → end ≡ Refused Outside → (reader ≡ true) ⊎ (writer ≡ true)
+lost same l e = l (same ∙ e)
 
 pub returns-then-how-collectors : goal.returns-then-how-collectors
 returns-then-how-collectors g c = record {
@@ -20,9 +26,10 @@ returns-then-how-collectors g c = record {
       let given = some_given c.args.reader.now.left in (
         given.0,
         given.1,
-        load_nowhere c.told.result how.collector how.limit how.mark h given.0 c.args.archive.now c.args.out.now c.args.err.now c.write_error.new.out c.told.new.err (λ here. absurd (omega (arith, here, count, few))) carried c.told.ensures.status c.told.ensures.quiet
+        load_nowhere c.told.result how.collector how.limit how.mark h given.0 c.args.reader.now.failed c.args.archive.now c.args.out.now c.args.err.now c.write_error.new.out c.told.new.err (λ here. absurd (omega (arith, here, count, few))) carried c.told.ensures.status (record { told = c.told.ensures.told; quiet = c.told.ensures.quiet })
             (rw c.from.ensures at c.write_error.ensures.line),
       );
+  sound = λ done. refl;
 }
 
 pub returns-in-Ok : goal.returns-in-Ok
@@ -35,12 +42,13 @@ returns-in-Ok g c = record {
       let fed = c.feed-end.ensures.ended h carried in (
         fed.0,
         fed.1,
-        load_ends fed.2 c.told-in-Ok.result how.collector how.limit how.mark h fed.0 c.feed-end.new.archive c.settle.new.archive c.args.out.now c.feed-end.new.out c.write_settled.new.out c.args.err.now c.told-in-Ok.new.err here fed.4
+        load_ends fed.2 c.told-in-Ok.result how.collector how.limit how.mark h fed.0 c.feed-end.new.reader.failed c.feed-end.new.archive c.settle.new.archive c.args.out.now c.feed-end.new.out c.write_settled.new.out c.args.err.now c.told-in-Ok.new.err here fed.4 (lost fed.3 c.feed-end.ensures.outside)
             (subst (λ (m : Option ℕ). (past : History) → Carries c.feed-end.new.archive past → IsSettled (marked_if how.collector m past).intakes c.settle.new.archive)
             (c.mark_after.ensures.mark ∙ ap (λ (e : End). mark_after e how.mark) fed.3) c.in-Ok.ensures.settled)
             (λ past stands. subst (λ (n : ℕ). Tells c.feed-end.new.out c.write_settled.new.out (settled_line n)) (c.settled.ensures.settled past stands) c.write_settled.ensures.line)
-            (c.told-in-Ok.ensures.status ∙ ap (told_as c.write_settled.new.out.failed c.args.err.now.failed) (c.status_after.ensures.status ∙ ap status_after fed.3)) c.told-in-Ok.ensures.quiet,
+            (c.told-in-Ok.ensures.status ∙ ap (told_as c.write_settled.new.out.failed c.args.err.now.failed) (c.status_after.ensures.status ∙ ap status_after fed.3)) (record { told = c.told-in-Ok.ensures.told; quiet = c.told-in-Ok.ensures.quiet }),
       );
+  sound = λ done. c.feed-end.ensures.sound (λ up. done_inside _ _ c.feed-end.result (ap (told_as c.write_settled.new.out.failed c.args.err.now.failed) (sym c.status_after.ensures.status) ∙ sym c.told-in-Ok.ensures.status ∙ done) up);
 }
 
 pub returns-in-Err : goal.returns-in-Err
@@ -53,9 +61,10 @@ returns-in-Err g c = record {
       let fed = c.feed-end.ensures.ended h carried in (
         fed.0,
         fed.1,
-        load_stops fed.2 c.told-in-Err.result how.collector how.limit how.mark h fed.0 c.feed-end.new.archive c.settle.new.archive c.args.out.now c.feed-end.new.out c.args.err.now c.write_error-in-Err.new.out c.told-in-Err.new.err c.in-Err.why here fed.4
-            (subst (λ (m : Option ℕ). (past : History) → Carries c.feed-end.new.archive past → IsUnsettled how.collector m past c.settle.new.archive c.in-Err.why)
+        load_stops fed.2 c.told-in-Err.result how.collector how.limit how.mark h fed.0 c.feed-end.new.reader.failed c.feed-end.new.archive c.settle.new.archive c.args.out.now c.feed-end.new.out c.args.err.now c.write_error-in-Err.new.out c.told-in-Err.new.err c.in-Err.why here fed.4 (lost fed.3 c.feed-end.ensures.outside)
+            (subst (λ (m : Option ℕ). (past : History) → Carries c.feed-end.new.archive past → HasNotSettled how.collector m past c.settle.new.archive c.in-Err.why)
             (c.mark_after.ensures.mark ∙ ap (λ (e : End). mark_after e how.mark) fed.3) c.in-Err.ensures.unsettled)
-            c.told-in-Err.ensures.status c.told-in-Err.ensures.quiet (rw c.from-in-Err.ensures at c.write_error-in-Err.ensures.line),
+            c.told-in-Err.ensures.status (record { told = c.told-in-Err.ensures.told; quiet = c.told-in-Err.ensures.quiet }) (rw c.from-in-Err.ensures at c.write_error-in-Err.ensures.line),
       );
+  sound = λ done. absurd (refused_undone _ _ (sym c.told-in-Err.ensures.status ∙ done));
 }

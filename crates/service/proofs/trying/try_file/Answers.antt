@@ -1,4 +1,4 @@
-use Rattle.std.proofs.Common.{◌≡◌, ◌∙◌, ◌≤◌, ℕ, max, List, string_bytes, inl, ap, subst, arith}
+use Rattle.std.proofs.Common.{◌≡◌, ◌∙◌, ◌≤◌, ℕ, max, List, string_bytes, inl, ap, refl, subst, arith}
 use Rattle.archive.specs.Steps.{empty}
 use Rattle.service.specs.Replies.{IsAskEnd}
 use Rattle.service.specs.Statuses.{code_of}
@@ -10,6 +10,12 @@ few : (s : Status) → code_of s ≤ 1
 few Done = omega arith
 few Refused = omega arith
 few Failed = omega arith
+
+-- a command whose exit status is 0 has done all
+all_done : (s : Status) → code_of s ≡ 0 → s ≡ Done
+all_done Done e = refl
+all_done Refused e = absurd cc
+all_done Failed e = absurd cc
 
 pub returns : goal.returns
 returns g c =
@@ -35,15 +41,20 @@ returns g c =
             subst (λ (t : List ℕ). IsAskEnd past t answered c.load-loaded.new.out c.ask-answered.new.out c.load-loaded.new.err c.ask-answered.new.err) line (c.ask-answered.ensures.ended past carried);
         flushed = c.write_out-flushed.ensures.flushed;
         sound = λ sound.
-            let done = c.write_out-flushed.ensures.done sound in
-            let none : c.code-3.result ≡ 0 = c.code-3.ensures.code ∙ ap code_of done.0 in
+            let none : c.code-3.result ≡ 0 = c.code-3.ensures.code ∙ ap code_of (c.write_out-flushed.ensures.done sound) in
             let m = c.max-2.ensures in
-            (omega (arith, first, none, m), done.1);
+            omega (arith, first, none, m);
         failed = λ failed.
             let one : c.code-3.result ≡ 1 = c.code-3.ensures.code ∙ ap code_of (c.write_out-flushed.ensures.failed failed) in
             let m = c.max-2.ensures in
             let a = few loaded in
             let b = few answered in
             omega (arith, first, one, m, a, b);
+        quiet = c.write_out-flushed.ensures.quiet;
+        told = c.write_out-flushed.ensures.told;
       });
+      sound = λ done.
+          let m = c.max-2.ensures in
+          let none : code_of loaded ≡ 0 = omega (arith, first, m, done) in
+          c.load-loaded.ensures.sound (all_done loaded none);
     }

@@ -1,12 +1,14 @@
 use Rattle.std.proofs.Common.{ℕ, ◌<◌, ◌∙◌, Some, refl, ap, subst, take, length, arith}
 use Rattle.std.specs.Io.KnownBytes.{Consumes}
 use Rattle.std.proofs.lemmas.Result.{err_from_is_err_and}
+use Rattle.service.specs.declared.faults.FeedStop.TheVariants as stops
 use Rattle.service.proofs.Streams.{taken_first, taken_none, taken_more, taken_stops, taken_gives, taken_failed, taken_piece_gives}
 use Rattle.service.proofs.feeding.Feeding.take_stream.Goals as goal
 
 pub loop-init : goal.loop-init
 loop-init g c = record {
   room = refl;
+  sound = refl;
   taken = λ k limit h bytes was r. taken_first k limit h bytes _ _ _ _ _ _ r;
 }
 
@@ -14,6 +16,7 @@ pub loop-preserved : goal.loop-preserved
 loop-preserved g c =
     record {
       room = c.read.auto.piece ∙ c.loop.invariant.room;
+      sound = c.in-Some.ensures.sound ∙ c.loop.invariant.sound;
       taken = λ k limit h bytes was r.
           taken_more k limit h bytes _ _ _ _ _ _ _ _ _ _ was _ _ _ c.if-not-goes_on.false c.in-Some.ensures.read (c.loop.invariant.taken k limit h bytes was r)
           (λ seen s. c.in_ok-goes_on.ensures.read k limit h seen was s);
@@ -30,6 +33,7 @@ returns-then-count-eq0 g c = record {
       (c.loop.invariant.taken k limit h bytes was r);
   given_up = λ k limit h bytes was r. tt;
   outside = λ e. absurd cc;
+  sound = λ none. c.in-Some.ensures.sound ∙ c.loop.invariant.sound;
 }
 
 pub returns-then-not-goes_on : goal.returns-then-not-goes_on
@@ -39,6 +43,7 @@ returns-then-not-goes_on g c = record {
       (λ seen s. c.in_ok-goes_on.ensures.read k limit h seen was s);
   given_up = λ k limit h bytes was r. tt;
   outside = λ e. absurd cc;
+  sound = λ none. c.in-Some.ensures.sound ∙ c.loop.invariant.sound;
 }
 
 pub returns-then-has_failed-clause-given_up : goal.returns-then-has_failed-clause-given_up
@@ -46,10 +51,10 @@ returns-then-has_failed-clause-given_up g c = λ k limit h bytes was r.
     taken_failed k limit h bytes _ _ _ _ _ _ _ _ _ _ was _ _ _ c.in-Some.ensures.read (c.loop.invariant.taken k limit h bytes was r) (λ seen s. c.in_ok-goes_on.ensures.read k limit h seen was s)
 
 pub returns-in_default-clause-given_up : goal.returns-in_default-clause-given_up
-returns-in_default-clause-given_up g c = λ k limit h bytes was r. taken_gives k limit h bytes _ _ _ c.loop.self c.loop.archive was _ (c.loop.invariant.taken k limit h bytes was r)
+returns-in_default-clause-given_up g c = λ k limit h bytes was r. taken_gives k limit h bytes _ _ _ c.loop.self c.loop.archive was _ stops.Outside (λ made. tt) (c.loop.invariant.taken k limit h bytes was r)
 
 pub returns-clause-given_up : goal.returns-clause-given_up
-returns-clause-given_up g c = λ k limit h bytes was r. taken_gives k limit h bytes _ _ _ c.loop.self c.loop.archive was _ (c.loop.invariant.taken k limit h bytes was r)
+returns-clause-given_up g c = λ k limit h bytes was r. taken_gives k limit h bytes _ _ _ c.loop.self c.loop.archive was _ stops.OutOfMemory (λ made. tt) (c.loop.invariant.taken k limit h bytes was r)
 
 pub returns-in_err-goes_on-clause-given_up : goal.returns-in_err-goes_on-clause-given_up
 returns-in_err-goes_on-clause-given_up g c = λ k limit h bytes was r.
