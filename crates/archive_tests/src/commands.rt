@@ -1,196 +1,124 @@
 //! The command line: which words are accepted and as what, and what `clap` tells of others.
 
 use clap::error::ErrorKind;
-use route_model::Mark;
-use service::{CommandError, Invocation, Output, Refusal, command, write_error};
+use service::{CommandError, Invocation, command};
 use std::alloc::Global;
 use std::test::Fail;
 
-/// Whether the words are those of `try` with this file, mark and line.
-fn is_try(alloc: Global, words: &[&str], file: &str, mark: Option<u64>, line: &str) -> bool {
-    match command(alloc, words) {
-        Ok(Invocation::Try(attempt)) => {
-            attempt.file == file
-                && attempt.mark.map(|mark| mark.seconds()) == mark
-                && attempt.line.as_str() == line
-        }
-        Err(_) => false,
-    }
+/// Words that are those of `try` with the file a.mrt, and the mark and the line that they say.
+struct Accepted {
+    words: &'static [&'static str],
+    mark: Option<u64>,
+    line: &'static str,
 }
 
-/// Whether `clap` tells the words so, and with which exit status.
-fn is_told(
-    alloc: Global,
-    words: &[&str],
+const ACCEPTED: [Accepted; 10] = [
+    Accepted {
+        words: &[
+            "rha",
+            "try",
+            "a.mrt",
+            "at",
+            "1704067200",
+            "prefix",
+            "10.0.0.0/8",
+        ],
+        mark: None,
+        line: "at 1704067200 prefix 10.0.0.0/8",
+    },
+    Accepted {
+        words: &["rha", "try", "a.mrt", "at 1704067200", "prefix 10.0.0.0/8"],
+        mark: None,
+        line: "at 1704067200 prefix 10.0.0.0/8",
+    },
+    Accepted {
+        words: &["rha", "try", "a.mrt", "settled"],
+        mark: None,
+        line: "settled",
+    },
+    Accepted {
+        words: &["rha", "try", "a.mrt", "", ""],
+        mark: None,
+        line: " ",
+    },
+    // The mark stands before the line.
+    Accepted {
+        words: &["rha", "try", "a.mrt", "--mark", "1704067201", "at", "7"],
+        mark: Some(1_704_067_201),
+        line: "at 7",
+    },
+    Accepted {
+        words: &["rha", "try", "--mark", "4294967296", "a.mrt", "at", "7"],
+        mark: Some(4_294_967_296),
+        line: "at 7",
+    },
+    Accepted {
+        words: &["rha", "try", "--mark=0", "a.mrt", "at", "7"],
+        mark: Some(0),
+        line: "at 7",
+    },
+    Accepted {
+        words: &[
+            "rha",
+            "try",
+            "a.mrt",
+            "--mark",
+            "2024-01-01T00:00:01Z",
+            "at",
+            "7",
+        ],
+        mark: Some(1_704_067_201),
+        line: "at 7",
+    },
+    // Behind the first word all are words.
+    Accepted {
+        words: &[
+            "rha", "try", "a.mrt", "at", "--mark", "7", "-x", "--help", "--",
+        ],
+        mark: None,
+        line: "at --mark 7 -x --help --",
+    },
+    Accepted {
+        words: &["rha", "try", "a.mrt", "--", "--mark", "7"],
+        mark: None,
+        line: "--mark 7",
+    },
+];
+
+/// Texts that are no marks.
+const NO_MARKS: [&str; 6] = [
+    "",
+    "07",
+    "4294967297",
+    "2024-01-01",
+    "2024-01-01T00:00:00.5Z",
+    "now",
+];
+
+/// Words of which `clap` tells something: the kind of its error, the exit status, and the text, whose end several share.
+struct Shown {
+    words: &'static [&'static str],
     kind: ErrorKind,
     code: u8,
-    text: &str,
-) -> Result<bool, Fail> {
-    match command(alloc, words) {
-        Err(error) => {
-            let shown = format!(in alloc; "{error}")?;
-            let same = match &error {
-                CommandError::Usage(told) => told.kind() == kind,
-                CommandError::BadMark | CommandError::OutOfMemory => false,
-            };
-            Ok(same && error.code() == code && shown.as_str() == text)
-        }
-        Ok(_) => Ok(false),
-    }
+    text: &'static str,
+    end: &'static str,
 }
 
-/// Whether the words are refused as a text that isn't of its kind.
-fn is_bad_text(alloc: Global, words: &[&str]) -> bool {
-    matches!(command(alloc, words), Err(CommandError::BadMark))
-}
+/// What the help of `rha`, and of `rha try`, ends with.
+const HELP_END: &str = "The words of `rha try` are one request line:
+  at T prefix PREFIX [after COLLECTOR ADDRESS AS PREFIX]
+T is a moment: seconds since 1970, or a timestamp as 2024-01-01T00:00:00Z. It has to be below the settled
+watermark: M, or the latest time among the admitted records where no mark is set. M is such a number or
+timestamp, too; it is set where the file was read to its end. PREFIX is ADDRESS/LENGTH. `after` goes on
+behind the last row of an answer of 256 rows.
 
-#[test]
-fn the_words_behind_the_file_are_one_line(rt: HostRuntime) {
-    let alloc = rt.alloc();
-    let question = "at 1704067200 prefix 10.0.0.0/8";
-    let words = [
-        "rha",
-        "try",
-        "a.mrt",
-        "at",
-        "1704067200",
-        "prefix",
-        "10.0.0.0/8",
-    ];
-    assert!(rt; is_try(alloc, words.as_slice(), "a.mrt", None, question));
-    let words = ["rha", "try", "a.mrt", "at 1704067200", "prefix 10.0.0.0/8"];
-    assert!(rt; is_try(alloc, words.as_slice(), "a.mrt", None, question));
-    let words = ["rha", "try", "a.mrt", "settled"];
-    assert!(rt; is_try(alloc, words.as_slice(), "a.mrt", None, "settled"));
-    let words = ["rha", "try", "a.mrt", "", ""];
-    assert!(rt; is_try(alloc, words.as_slice(), "a.mrt", None, " "));
-}
+Example:
+  rha try updates.mrt --mark 2024-01-01T00:15:00Z at 2024-01-01T00:10:00Z prefix 10.0.0.0/8
 
-#[test]
-fn the_mark_stands_before_the_line(rt: HostRuntime) {
-    let alloc = rt.alloc();
-    let words = ["rha", "try", "a.mrt", "--mark", "1704067201", "at", "7"];
-    assert!(rt; is_try(alloc, words.as_slice(), "a.mrt", Some(1704067201), "at 7"));
-    let words = ["rha", "try", "--mark", "4294967296", "a.mrt", "at", "7"];
-    assert!(rt; is_try(alloc, words.as_slice(), "a.mrt", Some(4294967296), "at 7"));
-    let words = ["rha", "try", "--mark=0", "a.mrt", "at", "7"];
-    assert!(rt; is_try(alloc, words.as_slice(), "a.mrt", Some(0), "at 7"));
-    let words = [
-        "rha",
-        "try",
-        "a.mrt",
-        "--mark",
-        "2024-01-01T00:00:01Z",
-        "at",
-        "7",
-    ];
-    assert!(rt; is_try(alloc, words.as_slice(), "a.mrt", Some(1704067201), "at 7"));
-}
+Exit status: 0 where all is done, 1 where something was refused or couldn't be written (told on standard
+error as `rha: NUMBER NAME` where it has no line of its own), 2 where the command line isn't accepted.
+";
 
-#[test]
-fn behind_the_first_word_all_are_words(rt: HostRuntime) {
-    let alloc = rt.alloc();
-    let words = [
-        "rha", "try", "a.mrt", "at", "--mark", "7", "-x", "--help", "--",
-    ];
-    assert!(rt;
-        is_try(
-            alloc,
-            words.as_slice(),
-            "a.mrt",
-            None,
-            "at --mark 7 -x --help --"
-        )
-    );
-    let words = ["rha", "try", "a.mrt", "--", "--mark", "7"];
-    assert!(rt; is_try(alloc, words.as_slice(), "a.mrt", None, "--mark 7"));
-}
-
-#[test]
-fn a_mark_that_is_none_is_refused(rt: HostRuntime) {
-    let alloc = rt.alloc();
-    for mark in [
-        "",
-        "07",
-        "4294967297",
-        "2024-01-01",
-        "2024-01-01T00:00:00.5Z",
-        "now",
-    ] {
-        let words = ["rha", "try", "a.mrt", "--mark", mark, "at", "7"];
-        assert!(rt; is_bad_text(alloc, words.as_slice()));
-    }
-}
-
-#[test]
-fn a_bad_text_has_number_12_and_status_1(rt: HostRuntime) -> Result<(), Fail> {
-    let mut told: Vec<u8> = Vec::new(rt.alloc());
-    write_error(&mut Output::new(&mut told), &Refusal::BadText);
-    assert!(rt; told.as_slice() == "rha: 12 BadText\n".as_bytes());
-    assert!(rt; CommandError::BadMark.code() == 1);
-    Ok(())
-}
-
-/// Whether `clap` tells a wrong use of `try` by this text, above a usage with these words.
-fn is_wrong_use(
-    alloc: Global,
-    words: &[&str],
-    kind: ErrorKind,
-    front: &str,
-    usage: &str,
-) -> Result<bool, Fail> {
-    let text = format!(in alloc;
-        "error: {front}\n\nUsage: rha try {usage}\n\nFor more information, try '--help'.\n"
-    )?;
-    is_told(alloc, words, kind, 2, text.as_str())
-}
-
-/// What `clap` shows of the usage: what is required and what was used, or all.
-const REQUIRED: &str = "<FILE> <WORD>...";
-
-const ALL: &str = "[OPTIONS] <FILE> <WORD>...";
-
-#[test]
-fn a_wrong_use_of_try_has_status_2(rt: HostRuntime) -> Result<(), Fail> {
-    let alloc = rt.alloc();
-    let unknown =
-        "unexpected argument '--resume' found\n\n  tip: to pass '--resume' as a value, use '-- --resume'";
-    let words = ["rha", "try", "a.mrt", "--resume", "at"];
-    assert!(rt;
-        is_wrong_use(
-            alloc,
-            words.as_slice(),
-            ErrorKind::UnknownArgument,
-            unknown,
-            REQUIRED
-        )?
-    );
-    let twice = "the argument '--mark <M>' cannot be used multiple times";
-    let words = ["rha", "try", "--mark", "7", "a.mrt", "--mark", "7", "at"];
-    assert!(rt;
-        is_wrong_use(
-            alloc,
-            words.as_slice(),
-            ErrorKind::ArgumentConflict,
-            twice,
-            ALL
-        )?
-    );
-    let missing = "the following required arguments were not provided:\n  <WORD>...";
-    let words = ["rha", "try", "a.mrt"];
-    assert!(rt;
-        is_wrong_use(
-            alloc,
-            words.as_slice(),
-            ErrorKind::MissingRequiredArgument,
-            missing,
-            REQUIRED
-        )?
-    );
-    Ok(())
-}
-
-/// The help of `rha`.
 const HELP: &str = "A route history archive for BGP
 
 Usage: rha <COMMAND>
@@ -202,17 +130,8 @@ Options:
   -h, --help     Print help
   -V, --version  Print version
 
-Exit status: 0 where all is done, 1 where something was refused or couldn't be written (told on
-standard error as `rha: NUMBER NAME` where it has no line of its own), 2 where the command line isn't
-accepted.
-
-Example:
-  rha try updates.mrt --mark 2024-01-01T00:15:00Z at 2024-01-01T00:10:00Z prefix 10.0.0.0/8
-
-`rha try --help` tells what the words may be.
 ";
 
-/// The help of `rha try`.
 const TRY_HELP: &str = "Loads a file into an empty archive, and answers a request line
 
 Usage: rha try [OPTIONS] <FILE> <WORD>...
@@ -225,68 +144,136 @@ Options:
       --mark <M>  The collector's mark once the file is loaded
   -h, --help      Print help
 
-The words are one request line:
-  at T prefix PREFIX [after COLLECTOR ADDRESS AS PREFIX]
-T is a moment: seconds since 1970, or a timestamp as 2024-01-01T00:00:00Z. It has to be below the settled
-watermark, which is M, or else the time of the last record. M is such a number or timestamp, too.
-PREFIX is ADDRESS/LENGTH. `after` goes on behind the last row of an answer of 256 rows.
-
-Example:
-  rha try updates.mrt --mark 2024-01-01T00:15:00Z at 2024-01-01T00:10:00Z prefix 10.0.0.0/8
-
-Exit status: 0 where all is done, 1 where something was refused or couldn't be written, 2 where the
-command line isn't accepted.
 ";
 
-#[test]
-fn help_and_version_have_status_0(rt: HostRuntime) -> Result<(), Fail> {
-    let alloc = rt.alloc();
-    for words in [["rha", "--help"], ["rha", "-h"]] {
-        assert!(rt; is_told(alloc, words.as_slice(), ErrorKind::DisplayHelp, 0, HELP)?);
+/// What is told of a wrong use of `rha`, and of `rha try`, ends with a usage: what is required and what was used, or all.
+const USAGE_END: &str = "\n\nUsage: rha <COMMAND>\n\nFor more information, try '--help'.\n";
+
+const REQUIRED_END: &str =
+    "\n\nUsage: rha try <FILE> <WORD>...\n\nFor more information, try '--help'.\n";
+
+const ALL_END: &str =
+    "\n\nUsage: rha try [OPTIONS] <FILE> <WORD>...\n\nFor more information, try '--help'.\n";
+
+const SHOWN: [Shown; 9] = [
+    Shown {
+        words: &["rha", "try", "a.mrt", "--resume", "at"],
+        kind: ErrorKind::UnknownArgument,
+        code: 2,
+        text: "error: unexpected argument '--resume' found\n\n  tip: to pass '--resume' as a value, use '-- --resume'",
+        end: REQUIRED_END,
+    },
+    Shown {
+        words: &["rha", "try", "--mark", "7", "a.mrt", "--mark", "7", "at"],
+        kind: ErrorKind::ArgumentConflict,
+        code: 2,
+        text: "error: the argument '--mark <M>' cannot be used multiple times",
+        end: ALL_END,
+    },
+    Shown {
+        words: &["rha", "try", "a.mrt"],
+        kind: ErrorKind::MissingRequiredArgument,
+        code: 2,
+        text: "error: the following required arguments were not provided:\n  <WORD>...",
+        end: REQUIRED_END,
+    },
+    Shown {
+        words: &["rha"],
+        kind: ErrorKind::MissingSubcommand,
+        code: 2,
+        text: "error: 'rha' requires a subcommand but one was not provided\n  [subcommands: try]",
+        end: USAGE_END,
+    },
+    Shown {
+        words: &["rha", "load"],
+        kind: ErrorKind::InvalidSubcommand,
+        code: 2,
+        text: "error: unrecognized subcommand 'load'",
+        end: USAGE_END,
+    },
+    Shown {
+        words: &["rha", "--help"],
+        kind: ErrorKind::DisplayHelp,
+        code: 0,
+        text: HELP,
+        end: HELP_END,
+    },
+    Shown {
+        words: &["rha", "-h"],
+        kind: ErrorKind::DisplayHelp,
+        code: 0,
+        text: HELP,
+        end: HELP_END,
+    },
+    Shown {
+        words: &["rha", "try", "--help"],
+        kind: ErrorKind::DisplayHelp,
+        code: 0,
+        text: TRY_HELP,
+        end: HELP_END,
+    },
+    Shown {
+        words: &["rha", "--version"],
+        kind: ErrorKind::DisplayVersion,
+        code: 0,
+        text: "rha 0.2.0\n",
+        end: "",
+    },
+];
+
+/// Whether the words are accepted as this.
+fn is_accepted(alloc: Global, wanted: &Accepted) -> bool {
+    match command(alloc, wanted.words) {
+        Ok(Invocation::Try(attempt)) => {
+            attempt.file == "a.mrt"
+                && attempt.mark.map(|mark| mark.seconds()) == wanted.mark
+                && attempt.line.as_str() == wanted.line
+        }
+        Err(_) => false,
     }
-    let words = ["rha", "try", "--help"];
-    assert!(rt; is_told(alloc, words.as_slice(), ErrorKind::DisplayHelp, 0, TRY_HELP)?);
-    let words = ["rha", "--version"];
-    assert!(rt;
-        is_told(
-            alloc,
-            words.as_slice(),
-            ErrorKind::DisplayVersion,
-            0,
-            "rha 0.2.0\n"
-        )?
-    );
+}
+
+/// Whether `clap` tells this of the words.
+fn is_shown(alloc: Global, wanted: &Shown) -> Result<bool, Fail> {
+    let Err(error) = command(alloc, wanted.words) else {
+        return Ok(false);
+    };
+    let same = match &error {
+        CommandError::Usage(told) => told.kind() == wanted.kind,
+        CommandError::BadMark | CommandError::OutOfMemory => false,
+    };
+    let shown = format!(in alloc; "{error}")?;
+    let text = [wanted.text, wanted.end].join(alloc, "")?;
+    Ok(same && error.code() == wanted.code && shown.as_str() == text.as_str())
+}
+
+/// Whether the text behind `--mark` is refused, with status 1.
+fn is_no_mark(alloc: Global, mark: &str) -> bool {
+    let words = ["rha", "try", "a.mrt", "--mark", mark, "at", "7"];
+    match command(alloc, words.as_slice()) {
+        Err(CommandError::BadMark) => CommandError::BadMark.code() == 1,
+        _ => false,
+    }
+}
+
+#[test]
+fn words_are_accepted(rt: HostRuntime) {
+    for wanted in &ACCEPTED {
+        assert!(rt; is_accepted(rt.alloc(), wanted), "{}", wanted.line);
+    }
+}
+
+#[test]
+fn other_words_and_help_are_told(rt: HostRuntime) -> Result<(), Fail> {
+    for wanted in &SHOWN {
+        assert!(rt; is_shown(rt.alloc(), wanted)?, "{}", wanted.text);
+    }
     Ok(())
 }
 
 #[test]
-fn one_of_the_commands_has_to_be_there(rt: HostRuntime) -> Result<(), Fail> {
-    let alloc = rt.alloc();
-    let usage = "\n\nUsage: rha <COMMAND>\n\nFor more information, try '--help'.\n";
-    let missing =
-        "error: 'rha' requires a subcommand but one was not provided\n  [subcommands: try]";
-    let text = [missing, usage].join(alloc, "")?;
-    let words = ["rha"];
-    assert!(rt;
-        is_told(
-            alloc,
-            words.as_slice(),
-            ErrorKind::MissingSubcommand,
-            2,
-            text.as_str()
-        )?
-    );
-    let unknown = "error: unrecognized subcommand 'load'";
-    let text = [unknown, usage].join(alloc, "")?;
-    let words = ["rha", "load"];
-    assert!(rt;
-        is_told(
-            alloc,
-            words.as_slice(),
-            ErrorKind::InvalidSubcommand,
-            2,
-            text.as_str()
-        )?
-    );
-    Ok(())
+fn a_mark_that_is_none_is_refused(rt: HostRuntime) {
+    for mark in &NO_MARKS {
+        assert!(rt; is_no_mark(rt.alloc(), mark), "{mark}");
+    }
 }

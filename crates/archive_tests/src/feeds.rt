@@ -1,61 +1,19 @@
 //! Feeds and questions as lines: worked examples from outside, and what is done where a reader or a writer fails.
 
-use archive::{Admitted, Answer, Archive, Query, Receipt, Turn};
-use route_meaning::{RowsQuestion, Select, Spot};
-use route_model::{Address, Mark, Moment, Peer, Prefix};
-use sequencer::Late;
+use crate::samples::{
+    EARLIER, EMPTY, LONG_PREFIX, MANY, NOTIFICATION, PEER_TABLE, RIB, SKIPPED, TOO_LONG, UPDATE,
+    cut_stream, many_updates, stream, two_tables,
+};
+use archive::{Answer, Archive, Query, Turn};
+use route_meaning::{RowsQuestion, Select};
+use route_model::{Mark, Moment};
 use service::{
-    Attempt, End, FeedCounts, FeedStop, Input, LoadSettings, Output, Refusal, RequestError, Status,
-    ask, feed, load, read_query, reply, try_file, write_admitted, write_answer, write_counts,
-    write_error, write_refusal, write_refused_record, write_settled,
+    Attempt, End, FeedStop, Input, LoadSettings, Output, Status, ask, feed, load, reply, try_file,
+    write_answer,
 };
 use std::alloc::Global;
-use std::io::{Error, ErrorKind, Read};
+use std::io::{BufWriter, Error, ErrorKind, Read, Write};
 use std::test::Fail;
-use test_octets::octets;
-
-/// A message of 192.0.2.1, AS 65001: an UPDATE that announces 10.0.0.0/8 by 65001 65002, at 1704067200.
-const UPDATE: &str = "65920080 0010 0001 0000003D FDE9 FC00 0000 0001 C0000201 C0000202
-    FFFFFFFFFFFFFFFFFFFFFFFFFFFFFFFF 002D 02 0000 0014 40010100 4002060202FDE9FDEA 400304C0000201 080A";
-
-/// The same a second before.
-const EARLIER: &str = "6592007F 0010 0001 0000003D FDE9 FC00 0000 0001 C0000201 C0000202
-    FFFFFFFFFFFFFFFFFFFFFFFFFFFFFFFF 002D 02 0000 0014 40010100 4002060202FDE9FDEA 400304C0000201 080A";
-
-/// An UPDATE without prefixes.
-const EMPTY: &str = "65920080 0010 0001 00000027 FDE9 FC00 0000 0001 C0000201 C0000202
-    FFFFFFFFFFFFFFFFFFFFFFFFFFFFFFFF 0017 02 0000 0000";
-
-/// A prefix of 33 bits in NLRI.
-const LONG_PREFIX: &str = "65920080 0010 0001 00000041 FDE9 FC00 0000 0001 C0000201 C0000202
-    FFFFFFFFFFFFFFFFFFFFFFFFFFFFFFFF 0031 02 0000 0014 40010100 4002060202FDE9FDEA 400304C0000201 210A00000000";
-
-const NOTIFICATION: &str = "65920080 0010 0001 00000025 FDE9 FC00 0000 0001 C0000201 C0000202
-    FFFFFFFFFFFFFFFFFFFFFFFFFFFFFFFF 0015 03 0602";
-
-/// A record of another type.
-const SKIPPED: &str = "65920080 000B 0001 00000001 00";
-
-/// One peer: 192.0.2.1, AS 65001.
-const PEER_TABLE: &str =
-    "65920080 000D 0001 00000015 C0000202 0000 0001 02 C0000201 C0000201 0000FDE9";
-
-/// 10.0.0.0/8 by the first peer of the table.
-const RIB: &str = "65920080 000D 0002 00000028 00000000 08 0A 0001 0000 65920000 0018 40010100
-    40020A02020000FDE90000FDEA 400304C0000201";
-
-/// A header whose Length is 131,073.
-const TOO_LONG: &str = "65920080 0010 0001 00020001";
-
-/// An UPDATE that announces 257 prefixes, which are to follow: 10.0.0.0/24 to 10.1.0.0/24.
-const MANY: &str = "65920080 0010 0001 0000043F FDE9 FC00 0000 0001 C0000201 C0000202
-    FFFFFFFFFFFFFFFFFFFFFFFFFFFFFFFF 042F 02 0000 0014 40010100 4002060202FDE9FDEA 400304C0000201";
-
-/// A peer table of 46 peers of AS 65001, which are to follow: 8 octets and 11 for each.
-const MANY_PEERS: &str = "65920080 000D 0001 00000202 C0000202 0000 002E";
-
-/// How many peers it has.
-const PEERS: u16 = 46;
 
 const QUESTION: &str = "at 1704067200 prefix 10.0.0.0/8";
 
@@ -83,79 +41,6 @@ F|8|2|3|1|1
 S|1704067200
 ";
 
-/// Lines that ask nothing.
-const NO_REQUESTS: [&str; 14] = [
-    "",
-    "at",
-    "at 7 prefix",
-    "at 7  prefix 10.0.0.0/8",
-    " at 7 prefix 10.0.0.0/8",
-    "at 7 prefix 10.0.0.0/8 ",
-    "At 7 prefix 10.0.0.0/8",
-    "at 07 prefix 10.0.0.0/8",
-    "at 7 prefix 10.0.0.0/33",
-    "at 7 prefix 10.0.0.0/8 after",
-    "at 7 prefix 10.0.0.0/8 after 16 192.0.2.1 65001 10.0.0.0/8",
-    "at 7 prefix 10.0.0.0/8 after 0 192.0.2.1 4294967296 10.0.0.0/8",
-    "at 7 prefix 10.0.0.0/8 after 0 192.0.2.1 65001 10.0.0.0/8 more",
-    "at 4294967296 prefix 10.0.0.0/8",
-];
-
-/// Adds the octets that a text of hexadecimal digits spells.
-fn add_octets(alloc: Global, out: &mut Vec<u8>, text: &str) -> Result<(), Fail> {
-    out.extend_from_slice(&octets(alloc, text)?)?;
-    Ok(())
-}
-
-/// The octets of records.
-fn stream(alloc: Global, records: &[&str]) -> Result<Vec<u8>, Fail> {
-    let mut out = Vec::new(alloc);
-    for record in records {
-        add_octets(alloc, &mut out, record)?;
-    }
-    Ok(out)
-}
-
-/// Adds a peer table of 46 peers: 10.0.0.0 to 10.0.0.45.
-fn add_peers(alloc: Global, out: &mut Vec<u8>) -> Result<(), Fail> {
-    add_octets(alloc, out, MANY_PEERS)?;
-    for peer in 0..PEERS {
-        add_octets(alloc, out, "00 C0000201 0A00")?;
-        out.extend_from_slice(&peer.to_be_bytes())?;
-        add_octets(alloc, out, "FDE9")?;
-    }
-    Ok(())
-}
-
-/// Adds the RIB entry of a peer: an empty path by 192.0.2.1, and an attribute of type 99 with 2,802 octets and so many
-/// more, the peer's number at their front.
-fn add_entry(alloc: Global, out: &mut Vec<u8>, peer: u16, more: u8) -> Result<(), Fail> {
-    out.extend_from_slice(&peer.to_be_bytes())?;
-    add_octets(alloc, out, "65920000")?;
-    out.extend_from_slice(&(2820 + more as u16).to_be_bytes())?;
-    add_octets(alloc, out, "40010100 400200 400304C0000201 D063")?;
-    out.extend_from_slice(&(2802 + more as u16).to_be_bytes())?;
-    out.extend_from_slice(&peer.to_be_bytes())?;
-    for _ in 0..2800 + more as u16 {
-        out.push(0)?;
-    }
-    Ok(())
-}
-
-/// Adds a RIB record of 10.0.0.0/8 with an entry of each of the 46 peers, the last with so many octets more. Its
-/// admission has 14 octets and for each entry 22 for the peer, 2 and 2,817 for the route, and 8 for the change: 131,068
-/// and these.
-fn add_entries(alloc: Global, out: &mut Vec<u8>, more: u8) -> Result<(), Fail> {
-    add_octets(alloc, out, "65920080 000D 0002")?;
-    // 8 octets, and 2,828 for each entry.
-    out.extend_from_slice(&(130_096 + more as u32).to_be_bytes())?;
-    add_octets(alloc, out, "00000000 08 0A 002E")?;
-    for peer in 0..PEERS - 1 {
-        add_entry(alloc, out, peer, 0)?;
-    }
-    add_entry(alloc, out, PEERS - 1, more)
-}
-
 /// What a load or a question wrote, and its status.
 #[derive(Debug, Drop)]
 struct Told {
@@ -172,52 +57,90 @@ impl Told {
     }
 }
 
-/// Loads octets for collector 0 in batches of so many admissions.
-fn load_octets(
+/// Loads octets: what standard error was told, and the status.
+fn load_to<W: Write>(
     alloc: Global,
     archive: &mut Archive,
+    how: LoadSettings,
     octets: &[u8],
-    limit: usize,
-    mark: Option<u64>,
-) -> Result<Told, Fail> {
-    let mut out = Vec::new(alloc);
+    out: &mut Output<W>,
+) -> (Vec<u8>, Status) {
     let mut err = Vec::new(alloc);
-    let mark = match mark {
-        Some(seconds) => Some(Mark::new(seconds).ok_or("no mark")?),
-        None => None,
-    };
-    let how = LoadSettings {
-        collector: 0,
-        limit,
-        mark,
-    };
-    let status = load(
-        alloc,
-        archive,
-        how,
-        &mut Input::new(octets),
-        &mut Output::new(&mut out),
-        &mut Output::new(&mut err),
-    );
-    Ok(Told { out, err, status })
+    let mut file = Input::new(octets);
+    let mut told = Output::new(&mut err);
+    let status = load(alloc, archive, how, &mut file, out, &mut told);
+    (err, status)
 }
 
-fn ask_line(alloc: Global, archive: &Archive, line: &str) -> Result<Told, Fail> {
+fn load_octets(alloc: Global, archive: &mut Archive, how: LoadSettings, octets: &[u8]) -> Told {
     let mut out = Vec::new(alloc);
+    let (err, status) = load_to(alloc, archive, how, octets, &mut Output::new(&mut out));
+    Told { out, err, status }
+}
+
+/// Loads octets of collector 0 in batches of at most 1000 admissions, and sets the mark 1704067201.
+fn load_marked(alloc: Global, archive: &mut Archive, octets: &[u8]) -> Told {
+    let how = LoadSettings {
+        collector: 0,
+        limit: 1000,
+        mark: Mark::new(1_704_067_201),
+    };
+    load_octets(alloc, archive, how, octets)
+}
+
+/// Asks a question: what standard error was told, and the status.
+fn ask_to<W: Write>(
+    alloc: Global,
+    archive: &Archive,
+    line: &str,
+    out: &mut Output<W>,
+) -> (Vec<u8>, Status) {
     let mut err = Vec::new(alloc);
-    let status = ask(
+    let status = ask(alloc, archive, line, out, &mut Output::new(&mut err));
+    (err, status)
+}
+
+fn ask_line(alloc: Global, archive: &Archive, line: &str) -> Told {
+    let mut out = Vec::new(alloc);
+    let (err, status) = ask_to(alloc, archive, line, &mut Output::new(&mut out));
+    Told { out, err, status }
+}
+
+/// Feeds what the reader gives: how the feed ended.
+fn feed_to<R: Read, W: Write>(
+    alloc: Global,
+    archive: &mut Archive,
+    collector: u8,
+    reader: &mut Input<R>,
+    out: &mut Output<W>,
+) -> End {
+    feed(alloc, archive, collector, 2, reader, out)
+}
+
+/// What a feed wrote, and how it ended.
+fn feed_from<R: Read + Drop>(
+    alloc: Global,
+    archive: &mut Archive,
+    collector: u8,
+    reader: R,
+) -> (Vec<u8>, End) {
+    let mut out = Vec::new(alloc);
+    let mut file = Input::new(reader);
+    let end = feed_to(
         alloc,
         archive,
-        line,
+        collector,
+        &mut file,
         &mut Output::new(&mut out),
-        &mut Output::new(&mut err),
     );
-    Ok(Told { out, err, status })
+    (out, end)
 }
 
 /// Records that are loaded into an empty archive, and what is written then.
 struct Example {
     name: &'static str,
+    /// Whose records they are, of one collector.
+    collector: u8,
     records: &'static [&'static str],
     /// How many of their octets are loaded, where not all are.
     cut: Option<usize>,
@@ -225,114 +148,136 @@ struct Example {
     limit: usize,
     mark: Option<u64>,
     lines: &'static str,
+    err: &'static str,
     status: Status,
     /// The answer to the question for 10.0.0.0/8, where it is asked.
     answer: Option<&'static str>,
 }
 
-const EXAMPLES: [Example; 11] = [
+const EXAMPLES: [Example; 13] = [
     Example {
         name: "an UPDATE is loaded and answered",
+        collector: 0,
         records: &[UPDATE],
         cut: None,
         limit: 1000,
         mark: Some(1_704_067_201),
         lines: "B|0|1|1\nF|1|1|0|0|0\nS|1704067201\n",
+        err: "",
         status: Status::Done,
         answer: Some(ANSWER),
     },
     Example {
         name: "a NOTIFICATION ends the routes",
+        collector: 0,
         records: &[UPDATE, NOTIFICATION],
         cut: None,
         limit: 1000,
         mark: Some(1_704_067_201),
         lines: "B|0|2|2\nF|2|2|0|0|0\nS|1704067201\n",
+        err: "",
         status: Status::Done,
         answer: Some("E|0\n"),
     },
     Example {
         name: "an empty file gives nothing",
+        collector: 0,
         records: &[],
         cut: None,
         limit: 1000,
         mark: Some(1_704_067_201),
         lines: "F|0|0|0|0|0\nS|1704067201\n",
+        err: "",
         status: Status::Done,
         answer: Some("E|0\n"),
     },
     Example {
         name: "a table is answered",
+        collector: 0,
         records: &[PEER_TABLE, RIB],
         cut: None,
         limit: 1000,
         mark: Some(1_704_067_201),
         lines: "B|0|1|1\nF|2|1|0|0|0\nS|1704067201\n",
+        err: "",
         status: Status::Done,
         answer: Some(ANSWER),
     },
     Example {
         name: "a refused record is lost alone",
+        collector: 0,
         records: &[LONG_PREFIX, SKIPPED, RIB, UPDATE],
         cut: None,
         limit: 1000,
         mark: Some(1_704_067_201),
         lines: "X|15|Malformed|0\nX|17|NoPeerTable|2\nB|0|1|1\nF|4|1|0|2|1\nS|1704067201\n",
+        err: "",
         status: Status::Done,
         answer: Some(ANSWER),
     },
     Example {
         name: "a file that ends in a record is cut",
+        collector: 0,
         records: &[UPDATE],
         cut: Some(72),
         limit: 1000,
         mark: Some(1_704_067_201),
         lines: "X|13|Truncated|0\nF|0|0|0|0|0\nS|0\n",
+        err: "",
         status: Status::Refused,
         answer: None,
     },
     Example {
         name: "a Length above the limit ends a file",
+        collector: 0,
         records: &[UPDATE, TOO_LONG, UPDATE],
         cut: None,
         limit: 1000,
         mark: Some(1_704_067_201),
         lines: "B|0|1|1\nX|14|TooLong|1\nF|1|1|0|0|0\nS|1704067200\n",
+        err: "",
         status: Status::Refused,
         answer: None,
     },
     Example {
         name: "an empty UPDATE is admitted",
+        collector: 0,
         records: &[EMPTY],
         cut: None,
         limit: 1000,
         mark: None,
         lines: "B|0|1|1\nF|1|1|0|0|0\nS|1704067200\n",
+        err: "",
         status: Status::Done,
         answer: None,
     },
     Example {
         name: "batches are offered when they are full",
+        collector: 0,
         records: &[UPDATE, UPDATE, LONG_PREFIX, EARLIER],
         cut: None,
         limit: 2,
         mark: None,
         lines: "B|0|2|2\nX|15|Malformed|2\nB|2|2|3\nL|0|1704067199|1704067200\nF|4|2|1|1|0\nS|1704067200\n",
+        err: "",
         status: Status::Done,
         answer: None,
     },
     Example {
         name: "refused records are told before what waits",
+        collector: 0,
         records: &[UPDATE, LONG_PREFIX, UPDATE, LONG_PREFIX, UPDATE, EMPTY, RIB],
         cut: None,
         limit: 2,
         mark: None,
         lines: REFUSED_BETWEEN,
+        err: "",
         status: Status::Done,
         answer: None,
     },
     Example {
         name: "late records are counted in each batch",
+        collector: 0,
         records: &[
             UPDATE,
             EARLIER,
@@ -347,7 +292,32 @@ const EXAMPLES: [Example; 11] = [
         limit: 2,
         mark: None,
         lines: LATE_IN_EACH,
+        err: "",
         status: Status::Done,
+        answer: None,
+    },
+    Example {
+        name: "a mark below the collector's is refused",
+        collector: 0,
+        records: &[UPDATE],
+        cut: None,
+        limit: 1000,
+        mark: Some(1),
+        lines: "B|0|1|1\nF|1|1|0|0|0\n",
+        err: "rha: 21 MarkBack\n",
+        status: Status::Refused,
+        answer: None,
+    },
+    Example {
+        name: "a missing collector is refused",
+        collector: 1,
+        records: &[UPDATE],
+        cut: None,
+        limit: 1000,
+        mark: None,
+        lines: "",
+        err: "rha: 22 NoCollector\n",
+        status: Status::Refused,
         answer: None,
     },
 ];
@@ -355,14 +325,22 @@ const EXAMPLES: [Example; 11] = [
 /// Whether the example's lines are written, and its answer.
 fn is_as_wanted(alloc: Global, example: &Example) -> Result<bool, Fail> {
     let mut archive = Archive::plain(alloc, 1)?;
-    let mut octets = stream(alloc, example.records)?;
-    octets.truncate(example.cut.unwrap_or(octets.len()));
-    let loaded = load_octets(alloc, &mut archive, &octets, example.limit, example.mark)?;
+    let octets = cut_stream(alloc, example.records, example.cut)?;
+    let mark = match example.mark {
+        Some(seconds) => Some(Mark::new(seconds).ok_or("no mark")?),
+        None => None,
+    };
+    let how = LoadSettings {
+        collector: example.collector,
+        limit: example.limit,
+        mark,
+    };
+    let loaded = load_octets(alloc, &mut archive, how, &octets);
     let answered = match example.answer {
-        Some(answer) => ask_line(alloc, &archive, QUESTION)?.is(answer, "", Status::Done),
+        Some(answer) => ask_line(alloc, &archive, QUESTION).is(answer, "", Status::Done),
         None => true,
     };
-    Ok(answered && loaded.is(example.lines, "", example.status))
+    Ok(answered && loaded.is(example.lines, example.err, example.status))
 }
 
 #[test]
@@ -373,232 +351,225 @@ fn examples_are_loaded_and_answered(rt: HostRuntime) -> Result<(), Fail> {
     Ok(())
 }
 
+/// Whether a load of the octets in batches without a limit of number writes these lines.
+fn loads_as(alloc: Global, octets: &[u8], lines: &str) -> Result<bool, Fail> {
+    let mut archive = Archive::plain(alloc, 1)?;
+    let how = LoadSettings {
+        collector: 0,
+        limit: 100_000,
+        mark: None,
+    };
+    Ok(load_octets(alloc, &mut archive, how, octets).is(lines, "", Status::Done))
+}
+
 #[test]
 fn batches_are_offered_before_they_are_too_large(rt: HostRuntime) -> Result<(), Fail> {
     let alloc = rt.alloc();
-    let mut archive = Archive::plain(alloc, 1)?;
-    let one = stream(alloc, &[UPDATE])?;
-    let mut octets = Vec::new(alloc);
-    // Each admission has 67 octets, so 3,692 of them are a batch of 262,132.
-    for _ in 0..3693 {
-        octets.extend_from_slice(&one)?;
-    }
-    let told = load_octets(alloc, &mut archive, &octets, 100_000, None)?;
-    let lines = "B|0|3692|3692\nB|3692|3693|3693\nF|3693|3693|0|0|0\nS|1704067200\n";
-    assert!(rt; told.is(lines, "", Status::Done));
-    Ok(())
-}
-
-/// Loads two tables, each of one admission of 131,068 octets and so many more.
-fn two_tables(alloc: Global, first: u8, second: u8, lines: &str) -> Result<bool, Fail> {
-    let mut archive = Archive::plain(alloc, 1)?;
-    let mut octets = Vec::new(alloc);
-    add_peers(alloc, &mut octets)?;
-    add_entries(alloc, &mut octets, first)?;
-    add_entries(alloc, &mut octets, second)?;
-    let told = load_octets(alloc, &mut archive, &octets, 1000, None)?;
-    Ok(told.is(lines, "", Status::Done))
-}
-
-#[test]
-fn a_batch_has_at_most_262144_octets(rt: HostRuntime) -> Result<(), Fail> {
-    let alloc = rt.alloc();
-    // Each admission has 4 octets before it: 131,072 and 131,072.
+    let many = "B|0|3692|3692\nB|3692|3693|3693\nF|3693|3693|0|0|0\nS|1704067200\n";
+    assert!(rt; loads_as(alloc, &many_updates(alloc)?, many)?);
+    // Each admission has 4 octets before it: 131,072 and 131,072 fit, 131,072 and 131,073 don't.
     let one = "B|0|2|2\nF|3|2|0|0|0\nS|1704067200\n";
-    assert!(rt; two_tables(alloc, 0, 0, one)?);
-    // 131,072 and 131,073.
+    assert!(rt; loads_as(alloc, &two_tables(alloc, 0, 0)?, one)?);
     let two = "B|0|1|1\nB|1|2|2\nF|3|2|0|0|0\nS|1704067200\n";
-    assert!(rt; two_tables(alloc, 0, 1, two)?);
+    assert!(rt; loads_as(alloc, &two_tables(alloc, 0, 1)?, two)?);
     Ok(())
 }
 
-/// What a feed wrote, and how it ended.
-fn feed_octets(
-    alloc: Global,
-    archive: &mut Archive,
+/// Records that are fed for a collector, in batches of two, and what is written then.
+struct Fed {
     collector: u8,
-    octets: &[u8],
-) -> Result<(End, String), Fail> {
-    let mut out: Vec<u8> = Vec::new(alloc);
-    let end = feed(
-        alloc,
-        archive,
-        collector,
-        2,
-        &mut Input::new(octets),
-        &mut Output::new(&mut out),
-    );
-    Ok((end, String::from_utf8(out)?))
+    records: &'static [&'static str],
+    cut: Option<usize>,
+    lines: &'static str,
+    end: End,
+}
+
+/// Feeds of an archive of two collectors, one behind another.
+const FEEDS: [Fed; 5] = [
+    Fed {
+        collector: 1,
+        records: &[UPDATE, EARLIER],
+        cut: None,
+        lines: "B|0|1|2\nL|1|1704067199|1704067200\nF|2|1|1|0|0\n",
+        end: End::Well,
+    },
+    Fed {
+        collector: 1,
+        records: &[EMPTY, UPDATE, EARLIER],
+        cut: None,
+        lines: "B|1|3|4\nB|3|3|5\nL|0|1704067199|1704067200\nF|3|2|1|0|0\n",
+        end: End::Well,
+    },
+    // The other collector has its own numbers and its own mark.
+    Fed {
+        collector: 0,
+        records: &[EARLIER],
+        cut: None,
+        lines: "B|0|1|1\nF|1|1|0|0|0\n",
+        end: End::Well,
+    },
+    // 73 and 77 octets, and the first of the third record: what waits is offered.
+    Fed {
+        collector: 0,
+        records: &[UPDATE, LONG_PREFIX, UPDATE],
+        cut: Some(151),
+        lines: "X|15|Malformed|1\nB|1|2|2\nX|13|Truncated|2\nF|2|1|0|1|0\n",
+        end: End::Cut,
+    },
+    Fed {
+        collector: 2,
+        records: &[LONG_PREFIX, UPDATE],
+        cut: None,
+        lines: "X|15|Malformed|0\nX|22|NoCollector\n",
+        end: End::Refused(FeedStop::NoCollector),
+    },
+];
+
+/// Whether the records are fed with these lines and this end.
+fn is_fed(alloc: Global, archive: &mut Archive, fed: &Fed) -> Result<bool, Fail> {
+    let octets = cut_stream(alloc, fed.records, fed.cut)?;
+    let (out, end) = feed_from(alloc, archive, fed.collector, octets.as_slice());
+    Ok(end == fed.end && out.as_slice() == fed.lines.as_bytes())
 }
 
 #[test]
-fn a_feed_goes_on_behind_earlier_ones(rt: HostRuntime) -> Result<(), Fail> {
+fn feeds_go_on_behind_earlier_ones(rt: HostRuntime) -> Result<(), Fail> {
     let alloc = rt.alloc();
     let mut archive = Archive::plain(alloc, 2)?;
-    let first = stream(alloc, &[UPDATE, EARLIER])?;
-    let (end, lines) = feed_octets(alloc, &mut archive, 1, &first)?;
-    assert_eq!(rt; end, End::Well);
-    assert_eq!(rt;
-        lines.as_str(),
-        "B|0|1|2\nL|1|1704067199|1704067200\nF|2|1|1|0|0\n"
-    );
-    let second = stream(alloc, &[EMPTY, UPDATE, EARLIER])?;
-    let (end, lines) = feed_octets(alloc, &mut archive, 1, &second)?;
-    assert_eq!(rt; end, End::Well);
-    assert_eq!(rt;
-        lines.as_str(),
-        "B|1|3|4\nB|3|3|5\nL|0|1704067199|1704067200\nF|3|2|1|0|0\n"
-    );
-    // The other collector has its own numbers and its own mark.
-    let other = stream(alloc, &[EARLIER])?;
-    let (end, lines) = feed_octets(alloc, &mut archive, 0, &other)?;
-    assert_eq!(rt; end, End::Well);
-    assert_eq!(rt; lines.as_str(), "B|0|1|1\nF|1|1|0|0|0\n");
+    for fed in &FEEDS {
+        assert!(rt; is_fed(alloc, &mut archive, fed)?, "{}", fed.lines);
+    }
     Ok(())
 }
 
-#[test]
-fn a_cut_feed_offers_what_waits(rt: HostRuntime) -> Result<(), Fail> {
-    let alloc = rt.alloc();
-    let mut archive = Archive::plain(alloc, 1)?;
-    let mut octets = stream(alloc, &[UPDATE, LONG_PREFIX, UPDATE])?;
-    // 73 and 77 octets, and the first of the third record.
-    octets.truncate(151);
-    let (end, lines) = feed_octets(alloc, &mut archive, 0, &octets)?;
-    assert_eq!(rt; end, End::Cut);
-    assert_eq!(rt;
-        lines.as_str(),
-        "X|15|Malformed|1\nB|0|1|1\nX|13|Truncated|2\nF|2|1|0|1|0\n"
-    );
-    Ok(())
+/// A file of which a question is asked, and what is written then.
+struct Tried {
+    records: &'static [&'static str],
+    cut: Option<usize>,
+    line: &'static str,
+    lines: &'static str,
+    code: u8,
 }
 
-#[test]
-fn refusals_outside_the_feed_are_told(rt: HostRuntime) -> Result<(), Fail> {
-    let alloc = rt.alloc();
-    let mut archive = Archive::plain(alloc, 1)?;
-    let octets = stream(alloc, &[UPDATE])?;
-    let back = load_octets(alloc, &mut archive, &octets, 1000, Some(1))?;
-    assert!(rt;
-        back.is(
-            "B|0|1|1\nF|1|1|0|0|0\n",
-            "rha: 21 MarkBack\n",
-            Status::Refused
-        )
-    );
-    let how = LoadSettings {
-        collector: 1,
-        limit: 1000,
-        mark: None,
-    };
-    let mut out: Vec<u8> = Vec::new(alloc);
-    let mut err: Vec<u8> = Vec::new(alloc);
-    let status = load(
-        alloc,
-        &mut archive,
-        how,
-        &mut Input::new(octets.as_slice()),
-        &mut Output::new(&mut out),
-        &mut Output::new(&mut err),
-    );
-    let told = Told { out, err, status };
-    assert!(rt; told.is("", "rha: 22 NoCollector\n", Status::Refused));
-    assert_eq!(rt; status.code(), 1);
-    Ok(())
-}
+/// Each with the mark 1704067201, which is set where the file isn't cut.
+const TRIED: [Tried; 4] = [
+    Tried {
+        records: &[UPDATE],
+        cut: None,
+        line: QUESTION,
+        lines: "B|0|1|1\nF|1|1|0|0|0\nS|1704067201\nR|0|192.0.2.1|65001|10.0.0.0/8|65001 65002|IGP|192.0.2.1|||NAG||\nE|1\n",
+        code: 0,
+    },
+    Tried {
+        records: &[UPDATE],
+        cut: None,
+        line: "settled",
+        lines: "B|0|1|1\nF|1|1|0|0|0\nS|1704067201\nX|28|BadRequest\n",
+        code: 1,
+    },
+    Tried {
+        records: &[UPDATE],
+        cut: Some(72),
+        line: "settled",
+        lines: "X|13|Truncated|0\nF|0|0|0|0|0\nS|0\nX|28|BadRequest\n",
+        code: 1,
+    },
+    Tried {
+        records: &[UPDATE, UPDATE],
+        cut: Some(145),
+        line: "at 1704067199 prefix 10.0.0.0/8",
+        lines: "B|0|1|1\nX|13|Truncated|1\nF|1|1|0|0|0\nS|1704067200\nE|0\n",
+        code: 1,
+    },
+];
 
-/// Tries a question of a file: what is written, and the exit status.
-fn try_octets(alloc: Global, octets: &[u8], line: &str) -> Result<(Vec<u8>, u8), Fail> {
-    let mut out: Vec<u8> = Vec::new(alloc);
-    let mut err: Vec<u8> = Vec::new(alloc);
+/// Tries a question of a file: what standard error is told, and the exit status.
+fn try_to<W: Write + Drop>(
+    alloc: Global,
+    octets: &[u8],
+    line: &str,
+    out: W,
+) -> Result<(Vec<u8>, u8), Fail> {
     let asked = Attempt {
         file: "first.mrt",
         mark: Mark::new(1_704_067_201),
         line: String::from_str(alloc, line)?,
     };
-    let code = try_file(
-        alloc,
-        &asked,
-        &mut Input::new(octets),
-        &mut Output::new(&mut out),
-        &mut Output::new(&mut err),
-    );
-    Ok((out, code))
+    let mut err = Vec::new(alloc);
+    let mut file = Input::new(octets);
+    let mut told = Output::new(&mut err);
+    let code = try_file(alloc, &asked, &mut file, &mut Output::new(out), &mut told);
+    Ok((err, code))
+}
+
+fn is_tried(alloc: Global, tried: &Tried) -> Result<bool, Fail> {
+    let octets = cut_stream(alloc, tried.records, tried.cut)?;
+    let mut out: Vec<u8> = Vec::new(alloc);
+    let (err, code) = try_to(alloc, &octets, tried.line, &mut out)?;
+    Ok(code == tried.code && out.as_slice() == tried.lines.as_bytes() && err.is_empty())
+}
+
+/// Whether a writer of four octets, which shows its fault when it is flushed, gives status 1, and is told once.
+fn is_told_at_the_flush(alloc: Global) -> Result<bool, Fail> {
+    let octets = stream(alloc, &[UPDATE])?;
+    let mut small = [0u8; 4];
+    let full: &mut [u8] = &mut small;
+    let (err, code) = try_to(alloc, &octets, QUESTION, BufWriter::new(alloc, full)?)?;
+    Ok(code == 1 && err.as_slice() == "rha: 29 Outside\n".as_bytes())
 }
 
 #[test]
 fn the_greater_status_is_that_of_try(rt: HostRuntime) -> Result<(), Fail> {
-    let alloc = rt.alloc();
-    let octets = stream(alloc, &[UPDATE])?;
-    let loaded = "B|0|1|1\nF|1|1|0|0|0\nS|1704067201\n";
-    let (out, code) = try_octets(alloc, &octets, QUESTION)?;
-    assert!(rt; out.as_slice() == [loaded, ANSWER].join(alloc, "")?.as_bytes());
-    assert_eq!(rt; code, 0);
-    let (out, code) = try_octets(alloc, &octets, "settled")?;
-    assert!(rt; out.as_slice() == [loaded, "X|28|BadRequest\n"].join(alloc, "")?.as_bytes());
-    assert_eq!(rt; code, 1);
-    let cut = octets.len().min(72);
-    let (out, code) = try_octets(alloc, &octets[..cut], "settled")?;
-    assert!(rt; out.as_slice().starts_with("X|13|Truncated|0\n".as_bytes()));
-    assert_eq!(rt; code, 1);
+    for tried in &TRIED {
+        assert!(rt; is_tried(rt.alloc(), tried)?, "{}", tried.lines);
+    }
+    assert!(rt; is_told_at_the_flush(rt.alloc())?);
     Ok(())
 }
 
-#[test]
-fn questions_at_the_watermark_are_refused(rt: HostRuntime) -> Result<(), Fail> {
-    let alloc = rt.alloc();
+/// Lines that are asked, what is answered, and the status.
+const QUESTIONS: [(&str, &str, Status); 4] = [
+    (QUESTION, ANSWER, Status::Done),
+    (
+        "at 1704067201 prefix 10.0.0.0/8",
+        "X|24|AboveWatermark|1704067201\n",
+        Status::Refused,
+    ),
+    (
+        "at 1704067200 route 0 192.0.2.1 65001",
+        "X|28|BadRequest\n",
+        Status::Refused,
+    ),
+    (
+        "at 2024-01-01T00:00:00Z prefix 10.0.0.0/8 after 0 192.0.2.1 65001 10.0.0.0/8",
+        "E|0\n",
+        Status::Done,
+    ),
+];
+
+/// An archive of the one UPDATE, with the mark 1704067201.
+fn loaded(alloc: Global) -> Result<Archive, Fail> {
     let mut archive = Archive::plain(alloc, 1)?;
     let octets = stream(alloc, &[UPDATE])?;
-    load_octets(alloc, &mut archive, &octets, 1000, Some(1_704_067_201))?;
-    let above = ask_line(alloc, &archive, "at 1704067201 prefix 10.0.0.0/8")?;
-    assert!(rt; above.is("X|24|AboveWatermark|1704067201\n", "", Status::Refused));
-    let other = ask_line(alloc, &archive, "at 1704067200 route 0 192.0.2.1 65001")?;
-    assert!(rt; other.is("X|28|BadRequest\n", "", Status::Refused));
-    let after = "at 2024-01-01T00:00:00Z prefix 10.0.0.0/8 after 0 192.0.2.1 65001 10.0.0.0/8";
-    assert!(rt; ask_line(alloc, &archive, after)?.is("E|0\n", "", Status::Done));
+    match load_marked(alloc, &mut archive, &octets).status {
+        Status::Done => Ok(archive),
+        Status::Refused | Status::Failed => Err(Fail::from("not loaded")),
+    }
+}
+
+#[test]
+fn questions_are_answered_below_the_watermark(rt: HostRuntime) -> Result<(), Fail> {
+    let alloc = rt.alloc();
+    let archive = loaded(alloc)?;
+    for (line, lines, status) in &QUESTIONS {
+        assert!(rt;
+            ask_line(alloc, &archive, line).is(lines, "", *status),
+            "{line}"
+        );
+    }
     match reply(alloc, &archive, QUESTION) {
         Ok(text) => assert_eq!(rt; text.as_str(), ANSWER),
         Err(_) => return Err(Fail::from("refused")),
-    }
-    Ok(())
-}
-
-#[test]
-fn lines_are_read_word_by_word(rt: HostRuntime) -> Result<(), Fail> {
-    let alloc = rt.alloc();
-    let ten = Prefix::containing(Address::V4([10, 0, 0, 0]), 8);
-    let first = RowsQuestion {
-        moment: Moment::from(7),
-        select: Select::ByPrefix(ten),
-        after: None,
-    };
-    assert_eq!(rt;
-        read_query(alloc, "at 7 prefix 10.0.0.0/8"),
-        Ok(Query::Rows(first))
-    );
-    let spot = Spot {
-        peer: Peer {
-            collector: 15,
-            address: Address::V4([192, 0, 2, 1]),
-            as_number: 4_294_967_295,
-        },
-        prefix: ten,
-    };
-    let behind = RowsQuestion {
-        moment: Moment::from(7),
-        select: Select::ByPrefix(ten),
-        after: Some(spot),
-    };
-    let line = "at 7 prefix 10.1.2.3/8 after 15 192.0.2.1 4294967295 10.0.0.0/8";
-    assert_eq!(rt; read_query(alloc, line), Ok(Query::Rows(behind)));
-    Ok(())
-}
-
-#[test]
-fn other_lines_are_no_requests(rt: HostRuntime) -> Result<(), Fail> {
-    let alloc = rt.alloc();
-    for line in &NO_REQUESTS {
-        assert_eq!(rt; read_query(alloc, line), Err(RequestError::BadRequest));
     }
     Ok(())
 }
@@ -612,7 +583,7 @@ fn long_answers_name_their_last_row(rt: HostRuntime) -> Result<(), Fail> {
         octets.extend_from_slice(&[24, 10, 0, third])?;
     }
     octets.extend_from_slice(&[24, 10, 1, 0])?;
-    load_octets(alloc, &mut archive, &octets, 1000, Some(1_704_067_201))?;
+    load_marked(alloc, &mut archive, &octets);
     let all = RowsQuestion {
         moment: Moment::from(1_704_067_200),
         select: Select::All,
@@ -629,45 +600,6 @@ fn long_answers_name_their_last_row(rt: HostRuntime) -> Result<(), Fail> {
         text.as_str()
             .ends_with("\nM|0|192.0.2.1|65001|10.0.255.0/24\n")
     );
-    Ok(())
-}
-
-#[test]
-fn lines_are_written(rt: HostRuntime) -> Result<(), Fail> {
-    let alloc = rt.alloc();
-    let mut out: Vec<u8> = Vec::new(alloc);
-    let mut late = Vec::new(alloc);
-    late.push(Late {
-        index: 1,
-        time: Moment::from(99),
-        mark: Mark::at(Moment::from(100)),
-    })?;
-    let admitted = Admitted {
-        receipt: Receipt {
-            collector: 0,
-            from: 0,
-            to: 2,
-        },
-        offered: 3,
-        late,
-    };
-    let mut told = Output::new(&mut out);
-    write_admitted(&mut told, &admitted);
-    let counts = FeedCounts {
-        records: 5,
-        admitted: 1,
-        late: 2,
-        refused: 3,
-        skipped: 4,
-    };
-    write_counts(&mut told, &counts);
-    write_settled(&mut told, Mark::at(Moment::from(7)));
-    write_refusal(&mut told, &Refusal::BadRequest);
-    write_refused_record(&mut told, &Refusal::TooLong, 8);
-    write_error(&mut told, &Refusal::Outside);
-    let lines =
-        "B|0|2|3\nL|1|99|100\nF|5|1|2|3|4\nS|7\nX|28|BadRequest\nX|14|TooLong|8\nrha: 29 Outside\n";
-    assert!(rt; out.as_slice() == lines.as_bytes());
     Ok(())
 }
 
@@ -701,89 +633,75 @@ impl Read for Slow<'_> {
     }
 }
 
-#[test]
-fn octets_may_come_one_at_a_time(rt: HostRuntime) -> Result<(), Fail> {
-    let alloc = rt.alloc();
+/// Whether octets may come one at a time.
+fn is_fed_slowly(alloc: Global) -> Result<bool, Fail> {
     let mut archive = Archive::plain(alloc, 1)?;
     let octets = stream(alloc, &[LONG_PREFIX, UPDATE])?;
-    let mut reader = Input::new(Slow { octets: &octets });
-    let mut out: Vec<u8> = Vec::new(alloc);
-    let mut told = Output::new(&mut out);
-    let end = feed(alloc, &mut archive, 0, 1000, &mut reader, &mut told);
-    assert_eq!(rt; end, End::Well);
+    let (out, end) = feed_from(alloc, &mut archive, 0, Slow { octets: &octets });
     let lines = "X|15|Malformed|0\nB|0|1|1\nF|2|1|0|1|0\n";
-    assert!(rt; out.as_slice() == lines.as_bytes());
-    Ok(())
+    Ok(end == End::Well && out.as_slice() == lines.as_bytes())
 }
 
-#[test]
-fn failures_outside_end_a_feed(rt: HostRuntime) -> Result<(), Fail> {
-    let alloc = rt.alloc();
+/// Whether a reader that fails ends its feed, which is told, and remembers why.
+fn is_given_up(alloc: Global) -> Result<bool, Fail> {
     let mut archive = Archive::plain(alloc, 1)?;
-    let octets = stream(alloc, &[UPDATE])?;
+    let octets = stream(alloc, &[UPDATE, UPDATE])?;
     let mut reader = Input::new(Failing { octets: &octets });
     let mut out: Vec<u8> = Vec::new(alloc);
-    let mut told = Output::new(&mut out);
-    let end = feed(alloc, &mut archive, 0, 1, &mut reader, &mut told);
-    assert_eq!(rt; end, End::Refused(FeedStop::Outside));
-    assert!(rt; reader.failure().is_some());
-    assert!(rt; out.as_slice() == "B|0|1|1\nX|29|Outside\n".as_bytes());
-    let mut small = [0u8; 4];
-    let full: &mut [u8] = &mut small;
-    let mut full = Output::new(full);
-    let mut err: Vec<u8> = Vec::new(alloc);
-    let mut told = Output::new(&mut err);
-    let status = ask(alloc, &archive, QUESTION, &mut full, &mut told);
-    assert_eq!(rt; status, Status::Failed);
-    // The writer has failed, and was told: no more is said.
-    let status = ask(alloc, &archive, QUESTION, &mut full, &mut told);
-    assert_eq!(rt; status, Status::Failed);
-    assert!(rt; err.as_slice() == "rha: 29 Outside\n".as_bytes());
-    Ok(())
+    let end = feed_to(
+        alloc,
+        &mut archive,
+        0,
+        &mut reader,
+        &mut Output::new(&mut out),
+    );
+    let lines = "B|0|2|2\nX|29|Outside\n";
+    Ok(
+        end == End::Refused(FeedStop::Outside)
+            && reader.failure().is_some()
+            && out.as_slice() == lines.as_bytes(),
+    )
 }
 
-#[test]
-fn a_feed_of_a_missing_collector_is_given_up(rt: HostRuntime) -> Result<(), Fail> {
-    let alloc = rt.alloc();
-    let mut archive = Archive::plain(alloc, 1)?;
-    let octets = stream(alloc, &[LONG_PREFIX, UPDATE])?;
-    let mut reader = Input::new(octets.as_slice());
-    let mut out: Vec<u8> = Vec::new(alloc);
-    let mut told = Output::new(&mut out);
-    let end = feed(alloc, &mut archive, 1, 1000, &mut reader, &mut told);
-    assert_eq!(rt; end, End::Refused(FeedStop::NoCollector));
-    let lines = "X|15|Malformed|0\nX|22|NoCollector\n";
-    assert!(rt; out.as_slice() == lines.as_bytes());
-    Ok(())
-}
-
-#[test]
-fn a_writer_that_is_full_ends_feeds_and_loads(rt: HostRuntime) -> Result<(), Fail> {
-    let alloc = rt.alloc();
+/// Whether a writer of four octets ends a feed and fails what comes behind it. A load tells it, a question no more.
+fn is_failed(alloc: Global) -> Result<bool, Fail> {
     let mut archive = Archive::plain(alloc, 1)?;
     let octets = stream(alloc, &[UPDATE])?;
     let mut small = [0u8; 4];
     let full: &mut [u8] = &mut small;
     let mut full = Output::new(full);
     let mut reader = Input::new(octets.as_slice());
-    let end = feed(alloc, &mut archive, 0, 1000, &mut reader, &mut full);
-    assert_eq!(rt; end, End::Refused(FeedStop::Outside));
+    let end = feed_to(alloc, &mut archive, 0, &mut reader, &mut full);
     let how = LoadSettings {
         collector: 0,
         limit: 1000,
         mark: None,
     };
-    let mut err: Vec<u8> = Vec::new(alloc);
-    let none: &[u8] = &[];
-    let status = load(
-        alloc,
-        &mut archive,
-        how,
-        &mut Input::new(none),
-        &mut full,
-        &mut Output::new(&mut err),
-    );
-    assert_eq!(rt; status, Status::Failed);
-    assert!(rt; err.as_slice() == "rha: 29 Outside\n".as_bytes());
+    let (told, loaded) = load_to(alloc, &mut archive, how, &[], &mut full);
+    let (untold, asked) = ask_to(alloc, &archive, QUESTION, &mut full);
+    Ok(
+        end == End::Refused(FeedStop::Outside)
+            && loaded == Status::Failed
+            && told.as_slice() == "rha: 29 Outside\n".as_bytes()
+            && asked == Status::Failed
+            && untold.is_empty(),
+    )
+}
+
+/// Whether a question whose answer doesn't fit is told as failed.
+fn is_too_long(alloc: Global) -> Result<bool, Fail> {
+    let mut small = [0u8; 4];
+    let full: &mut [u8] = &mut small;
+    let (told, asked) = ask_to(alloc, &loaded(alloc)?, QUESTION, &mut Output::new(full));
+    Ok(asked == Status::Failed && told.as_slice() == "rha: 29 Outside\n".as_bytes())
+}
+
+#[test]
+fn failures_outside_are_told(rt: HostRuntime) -> Result<(), Fail> {
+    let alloc = rt.alloc();
+    assert!(rt; is_fed_slowly(alloc)?);
+    assert!(rt; is_given_up(alloc)?);
+    assert!(rt; is_failed(alloc)?);
+    assert!(rt; is_too_long(alloc)?);
     Ok(())
 }

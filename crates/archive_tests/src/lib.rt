@@ -6,4 +6,8 @@ mod commands;
 #[cfg(test)]
 mod feeds;
 #[cfg(test)]
+mod lines;
+#[cfg(test)]
 mod plain;
+#[cfg(test)]
+mod samples;

@@ -1,10 +1,11 @@
 //! Late records, watermarks, batches at their limits, marks that go back, and answers by what is applied.
 
 use archive::{
-    AdmitRefusal, Admitted, Answer, Archive, Flush, MarkRefusal, Query, Receipt, Resume, Step, Turn,
+    AdmitRefusal, Admitted, Answer, Archive, Flush, MarkRefusal, Query, Resume, Step, Turn,
 };
 use route_meaning::{EventsQuestion, RowsQuestion, Select};
 use route_model::{Address, Admission, Change, Mark, Moment, Peer, Prefix};
+use sequencer::Late;
 use std::alloc::Global;
 use std::test::Fail;
 
@@ -16,6 +17,128 @@ const VECTOR: [u8; 67] = [
 ];
 
 const NEW_YEAR: u32 = 1_704_067_200;
+
+/// A second before, and a second behind.
+const BEFORE: u32 = 1_704_067_199;
+
+const BEHIND: u32 = 1_704_067_201;
+
+/// What is offered of a collector.
+enum Batch {
+    /// Records without changes, at these times.
+    Times(&'static [u32]),
+    /// So many records of 67 octets.
+    Vectors(usize),
+    /// A record of two changes at the moment 7.
+    TwoChanges,
+}
+
+/// What is done with an archive or asked of it, and what has to come of it.
+enum Act {
+    /// A collector offers a batch: how many records it offered until now, and the numbers from which and to below which
+    /// they are admitted.
+    Offer(u8, Batch, Result<(u64, u64, u64), AdmitRefusal>),
+    /// The mark of a collector is set.
+    Mark(u8, u32, Result<(), MarkRefusal>),
+    /// A step of applying is made, or of flushing.
+    Apply(Step),
+    Flush(Flush),
+    /// The settled watermark.
+    Settled(u32),
+    /// Where a collector goes on: how many it offered, how many were admitted, and its mark.
+    Resume(u8, u64, u64, u32),
+    /// How many rows a question has of the moment, or none where it is refused.
+    Rows(u32, Option<usize>),
+    /// How many events a question has up to the moment.
+    Events(u32, Option<usize>),
+}
+
+/// What is done one after another with an empty archive of so many collectors.
+struct Script {
+    name: &'static str,
+    collectors: u8,
+    acts: &'static [Act],
+}
+
+const SCRIPTS: [Script; 6] = [
+    Script {
+        name: "a record waits for the mark of each collector",
+        collectors: 2,
+        acts: &[
+            Act::Mark(0, 50, Ok(())),
+            Act::Offer(1, Batch::Times(&[60]), Ok((1, 0, 1))),
+            Act::Apply(Step::Idle),
+            Act::Settled(50),
+            Act::Mark(0, 60, Ok(())),
+            Act::Apply(Step::Idle),
+            Act::Mark(0, 61, Ok(())),
+            Act::Mark(1, 61, Ok(())),
+            Act::Apply(Step::Applied),
+            Act::Apply(Step::Idle),
+            Act::Settled(61),
+            Act::Flush(Flush::Clean),
+        ],
+    },
+    Script {
+        name: "a batch has at most 262144 octets",
+        collectors: 1,
+        acts: &[
+            Act::Offer(0, Batch::Vectors(3_693), Err(AdmitRefusal::BatchTooLarge)),
+            Act::Offer(1, Batch::Vectors(3_693), Err(AdmitRefusal::NoCollector)),
+            Act::Offer(0, Batch::Vectors(3_692), Ok((3_692, 0, 3_692))),
+            Act::Offer(0, Batch::Times(&[]), Ok((3_692, 3_692, 3_692))),
+        ],
+    },
+    Script {
+        name: "a mark never goes back",
+        collectors: 1,
+        acts: &[
+            Act::Mark(0, 10, Ok(())),
+            Act::Mark(0, 9, Err(MarkRefusal::MarkBack)),
+            Act::Mark(0, 10, Ok(())),
+            Act::Mark(1, 5, Err(MarkRefusal::NoCollector)),
+        ],
+    },
+    Script {
+        name: "an answer comes below the watermark",
+        collectors: 1,
+        acts: &[
+            Act::Offer(0, Batch::Vectors(1), Ok((1, 0, 1))),
+            Act::Rows(NEW_YEAR, None),
+            Act::Rows(BEFORE, Some(0)),
+            Act::Mark(0, BEHIND, Ok(())),
+            Act::Rows(NEW_YEAR, None),
+            Act::Apply(Step::Applied),
+            Act::Rows(NEW_YEAR, Some(1)),
+            Act::Rows(BEFORE, Some(0)),
+            Act::Events(NEW_YEAR, Some(1)),
+            Act::Events(BEHIND, None),
+        ],
+    },
+    Script {
+        name: "an admission of two changes takes two steps",
+        collectors: 1,
+        acts: &[
+            Act::Offer(0, Batch::TwoChanges, Ok((1, 0, 1))),
+            Act::Mark(0, 9, Ok(())),
+            Act::Apply(Step::Applied),
+            Act::Settled(7),
+            Act::Events(7, None),
+            Act::Apply(Step::Applied),
+            Act::Settled(9),
+            Act::Events(7, Some(2)),
+            Act::Apply(Step::Idle),
+        ],
+    },
+    Script {
+        name: "a collector goes on behind what it offered",
+        collectors: 1,
+        acts: &[
+            Act::Offer(0, Batch::Times(&[100, 99, 100]), Ok((3, 0, 2))),
+            Act::Resume(0, 3, 2, 100),
+        ],
+    },
+];
 
 fn mark(seconds: u32) -> Mark {
     Mark::at(Moment::from(seconds))
@@ -58,6 +181,19 @@ fn vectors(alloc: Global, count: usize) -> Result<Vec<Admission>, Fail> {
     Ok(batch)
 }
 
+fn two_changes(alloc: Global) -> Result<Vec<Admission>, Fail> {
+    let changes = vec![in alloc; Change::Withdraw(peer(), ten()), Change::Down(peer())]?;
+    Ok(vec![in alloc; Admission::new(Moment::from(7), changes)?]?)
+}
+
+fn offered(alloc: Global, batch: &Batch) -> Result<Vec<Admission>, Fail> {
+    match batch {
+        Batch::Times(times) => empty_at(alloc, times),
+        Batch::Vectors(count) => vectors(alloc, *count),
+        Batch::TwoChanges => two_changes(alloc),
+    }
+}
+
 fn rows_at(seconds: u32) -> Query {
     Query::Rows(RowsQuestion {
         moment: Moment::from(seconds),
@@ -76,148 +212,48 @@ fn events_to(seconds: u32) -> Query {
     })
 }
 
-/// How many rows or events the question has.
-fn told(archive: &Archive, query: Query) -> Result<usize, Fail> {
+/// How many rows or events the question has, or none where it is refused.
+fn told(archive: &Archive, query: Query) -> Result<Option<usize>, Fail> {
     let mut cursor = archive.start(query);
-    let turn = archive.descend(&mut cursor)?;
+    let turn = archive.descend(&mut cursor);
     if cursor.query() != query {
         return Err(Fail::from("the question changed"));
     }
     match turn {
-        Turn::Done(Answer::Rows(answer)) => Ok(answer.rows.len()),
-        Turn::Done(Answer::Events(answer)) => Ok(answer.events.len()),
+        Ok(Turn::Done(Answer::Rows(answer))) => Ok(Some(answer.rows.len())),
+        Ok(Turn::Done(Answer::Events(answer))) => Ok(Some(answer.events.len())),
+        Err(_) => Ok(None),
     }
 }
 
-fn is_refused(archive: &Archive, query: Query) -> bool {
-    let mut cursor = archive.start(query);
-    archive.descend(&mut cursor).is_err()
+fn admit(
+    archive: &mut Archive,
+    collector: u8,
+    batch: &[Admission],
+) -> Result<Admitted, AdmitRefusal> {
+    archive.admit(collector, batch)
 }
 
-#[test]
-fn a_late_record_is_told_and_not_admitted(rt: HostRuntime) -> Result<(), Fail> {
-    let alloc = rt.alloc();
-    let mut one = plain(alloc, 1)?;
-    let batch = empty_at(alloc, &[100, 99, 100])?;
-    let Admitted {
-        receipt,
-        offered,
-        late,
-    } = one.admit(0, &batch)?;
-    assert_eq!(rt;
-        receipt,
-        Receipt {
-            collector: 0,
-            from: 0,
-            to: 2
-        }
-    );
-    assert_eq!(rt; offered, 3);
-    assert_eq!(rt; late.len(), 1);
-    assert_eq!(rt; late[0].index, 1);
-    assert_eq!(rt; late[0].time, Moment::from(99));
-    assert_eq!(rt; late[0].mark, mark(100));
-    Ok(())
+/// How many records were offered until now, and the numbers of those that are admitted.
+fn numbers(
+    archive: &mut Archive,
+    collector: u8,
+    batch: &[Admission],
+) -> Result<(u64, u64, u64), AdmitRefusal> {
+    let admitted = admit(archive, collector, batch)?;
+    Ok((admitted.offered, admitted.receipt.from, admitted.receipt.to))
 }
 
-#[test]
-fn a_record_waits_for_the_mark_of_each_collector(rt: HostRuntime) -> Result<(), Fail> {
-    let alloc = rt.alloc();
-    let mut two = plain(alloc, 2)?;
-    assert_eq!(rt; two.collectors(), 2);
-    two.mark(0, mark(50))?;
-    let admitted = two.admit(1, &empty_at(alloc, &[60])?)?;
-    assert_eq!(rt; admitted.receipt.to, 1);
-    assert_eq!(rt; two.apply_step()?, Step::Idle);
-    assert_eq!(rt; two.settled(), mark(50));
-    two.mark(0, mark(60))?;
-    assert_eq!(rt; two.apply_step()?, Step::Idle);
-    two.mark(0, mark(61))?;
-    two.mark(1, mark(61))?;
-    assert_eq!(rt; two.apply_step()?, Step::Applied);
-    assert_eq!(rt; two.apply_step()?, Step::Idle);
-    assert_eq!(rt; two.settled(), mark(61));
-    assert_eq!(rt; two.flush_step(), Flush::Clean);
-    Ok(())
+fn set_mark(archive: &mut Archive, collector: u8, seconds: u32) -> Result<(), MarkRefusal> {
+    archive.mark(collector, mark(seconds))
 }
 
-#[test]
-fn a_batch_has_at_most_262144_octets(rt: HostRuntime) -> Result<(), Fail> {
-    let alloc = rt.alloc();
-    let mut one = plain(alloc, 1)?;
-    let large = vectors(alloc, 3_693)?;
-    match one.admit(0, &large) {
-        Err(AdmitRefusal::BatchTooLarge) => {}
-        _ => return Err(Fail::from("3693 fit")),
-    }
-    match one.admit(1, &large) {
-        Err(AdmitRefusal::NoCollector) => {}
-        _ => return Err(Fail::from("a second collector")),
-    }
-    let admitted = one.admit(0, &vectors(alloc, 3_692)?)?;
-    assert_eq!(rt; admitted.receipt.from, 0);
-    assert_eq!(rt; admitted.receipt.to, 3_692);
-    let admitted = one.admit(0, &[])?;
-    assert_eq!(rt; admitted.receipt.from, 3_692);
-    assert_eq!(rt; admitted.receipt.to, 3_692);
-    Ok(())
+fn apply(archive: &mut Archive) -> Result<Step, Fail> {
+    Ok(archive.apply_step()?)
 }
 
-#[test]
-fn a_mark_never_goes_back(rt: HostRuntime) -> Result<(), Fail> {
-    let mut one = plain(rt.alloc(), 1)?;
-    assert_eq!(rt; one.mark(0, mark(10)), Ok(()));
-    assert_eq!(rt; one.mark(0, mark(9)), Err(MarkRefusal::MarkBack));
-    assert_eq!(rt; one.mark(0, mark(10)), Ok(()));
-    assert_eq!(rt; one.mark(1, mark(5)), Err(MarkRefusal::NoCollector));
-    Ok(())
-}
-
-#[test]
-fn an_answer_comes_below_the_watermark(rt: HostRuntime) -> Result<(), Fail> {
-    let alloc = rt.alloc();
-    let mut one = plain(alloc, 1)?;
-    let admitted = one.admit(0, &vectors(alloc, 1)?)?;
-    assert_eq!(rt; admitted.offered, 1);
-    assert!(rt; is_refused(&one, rows_at(NEW_YEAR)));
-    assert_eq!(rt; told(&one, rows_at(NEW_YEAR - 1))?, 0);
-    one.mark(0, mark(NEW_YEAR + 1))?;
-    assert!(rt; is_refused(&one, rows_at(NEW_YEAR)));
-    assert_eq!(rt; one.apply_step()?, Step::Applied);
-    assert_eq!(rt; told(&one, rows_at(NEW_YEAR))?, 1);
-    assert_eq!(rt; told(&one, rows_at(NEW_YEAR - 1))?, 0);
-    assert_eq!(rt; told(&one, events_to(NEW_YEAR))?, 1);
-    assert!(rt; is_refused(&one, events_to(NEW_YEAR + 1)));
-    Ok(())
-}
-
-#[test]
-fn an_admission_of_two_changes_takes_two_steps(rt: HostRuntime) -> Result<(), Fail> {
-    let alloc = rt.alloc();
-    let mut one = plain(alloc, 1)?;
-    let changes = vec![in alloc; Change::Withdraw(peer(), ten()), Change::Down(peer())]?;
-    let batch = vec![in alloc; Admission::new(Moment::from(7), changes)?]?;
-    let admitted = one.admit(0, &batch)?;
-    assert_eq!(rt; admitted.receipt.to, 1);
-    one.mark(0, mark(9))?;
-    assert_eq!(rt; one.apply_step()?, Step::Applied);
-    assert_eq!(rt; one.settled(), mark(7));
-    assert!(rt; is_refused(&one, events_to(7)));
-    assert_eq!(rt; one.apply_step()?, Step::Applied);
-    assert_eq!(rt; one.settled(), mark(9));
-    assert_eq!(rt; told(&one, events_to(7))?, 2);
-    assert_eq!(rt; one.apply_step()?, Step::Idle);
-    Ok(())
-}
-
-/// After times 100, 99, 100 of collector 0.
-fn resumes(alloc: Global) -> Result<Resume, Fail> {
-    let mut one = plain(alloc, 1)?;
-    let admitted = one.admit(0, &empty_at(alloc, &[100, 99, 100])?)?;
-    if admitted.offered != 3 {
-        return Err(Fail::from("not 3 offered"));
-    }
-    resume_of(&one, 0)
+fn settled(archive: &Archive) -> Mark {
+    archive.settled()
 }
 
 fn resume_of(archive: &Archive, collector: u8) -> Result<Resume, Fail> {
@@ -227,11 +263,59 @@ fn resume_of(archive: &Archive, collector: u8) -> Result<Resume, Fail> {
     Ok(archive.resume(collector))
 }
 
+/// Whether what is done gives what it has to.
+fn is_done(alloc: Global, archive: &mut Archive, act: &Act) -> Result<bool, Fail> {
+    Ok(match act {
+        Act::Offer(collector, batch, reply) => {
+            numbers(archive, *collector, &offered(alloc, batch)?) == *reply
+        }
+        Act::Mark(collector, seconds, reply) => set_mark(archive, *collector, *seconds) == *reply,
+        Act::Apply(step) => apply(archive)? == *step,
+        Act::Flush(step) => archive.flush_step() == *step,
+        Act::Settled(seconds) => settled(archive) == mark(*seconds),
+        Act::Resume(collector, offered, admitted, seconds) => {
+            let wanted = Resume {
+                offered: *offered,
+                admitted: *admitted,
+                mark: mark(*seconds),
+            };
+            resume_of(archive, *collector)? == wanted
+        }
+        Act::Rows(seconds, rows) => told(archive, rows_at(*seconds))? == *rows,
+        Act::Events(seconds, events) => told(archive, events_to(*seconds))? == *events,
+    })
+}
+
+/// Whether all of a script goes as it says.
+fn is_played(alloc: Global, script: &Script) -> Result<bool, Fail> {
+    let mut archive = plain(alloc, script.collectors)?;
+    for act in script.acts {
+        if !is_done(alloc, &mut archive, act)? {
+            return Ok(false);
+        }
+    }
+    Ok(true)
+}
+
 #[test]
-fn a_collector_goes_on_behind_what_it_offered(rt: HostRuntime) -> Result<(), Fail> {
-    let resume = resumes(rt.alloc())?;
-    assert_eq!(rt; resume.offered, 3);
-    assert_eq!(rt; resume.admitted, 2);
-    assert_eq!(rt; resume.mark, mark(100));
+fn scripts_are_played(rt: HostRuntime) -> Result<(), Fail> {
+    for script in &SCRIPTS {
+        assert!(rt; is_played(rt.alloc(), script)?, "{}", script.name);
+    }
+    Ok(())
+}
+
+#[test]
+fn a_late_record_is_told(rt: HostRuntime) -> Result<(), Fail> {
+    let alloc = rt.alloc();
+    let mut one = plain(alloc, 1)?;
+    let admitted = admit(&mut one, 0, &empty_at(alloc, &[100, 99, 100])?)?;
+    assert_eq!(rt; admitted.receipt.collector, 0);
+    let wanted = Late {
+        index: 1,
+        time: Moment::from(99),
+        mark: mark(100),
+    };
+    assert!(rt; admitted.late.as_slice() == [wanted].as_slice());
     Ok(())
 }

@@ -13,4 +13,5 @@ pub mod Loads
 pub mod CommandLines
 pub mod RequestLaws
 pub mod Trying
+pub mod Telling
 pub mod inner

@@ -71,29 +71,19 @@ impl CommandError {
 /// The version of the program.
 const VERSION: &str = "0.2.0";
 
-/// What the help of the program tells behind its commands.
-const HELP: &str =
-    "Exit status: 0 where all is done, 1 where something was refused or couldn't be written (told on
-standard error as `rha: NUMBER NAME` where it has no line of its own), 2 where the command line isn't
-accepted.
-
-Example:
-  rha try updates.mrt --mark 2024-01-01T00:15:00Z at 2024-01-01T00:10:00Z prefix 10.0.0.0/8
-
-`rha try --help` tells what the words may be.";
-
-/// What the help of `try` tells behind its options.
-const TRY_HELP: &str = "The words are one request line:
+/// What the help of the program, and of its command, tells behind what `clap` shows.
+const HELP: &str = "The words of `rha try` are one request line:
   at T prefix PREFIX [after COLLECTOR ADDRESS AS PREFIX]
 T is a moment: seconds since 1970, or a timestamp as 2024-01-01T00:00:00Z. It has to be below the settled
-watermark, which is M, or else the time of the last record. M is such a number or timestamp, too.
-PREFIX is ADDRESS/LENGTH. `after` goes on behind the last row of an answer of 256 rows.
+watermark: M, or the latest time among the admitted records where no mark is set. M is such a number or
+timestamp, too; it is set where the file was read to its end. PREFIX is ADDRESS/LENGTH. `after` goes on
+behind the last row of an answer of 256 rows.
 
 Example:
   rha try updates.mrt --mark 2024-01-01T00:15:00Z at 2024-01-01T00:10:00Z prefix 10.0.0.0/8
 
-Exit status: 0 where all is done, 1 where something was refused or couldn't be written, 2 where the
-command line isn't accepted.";
+Exit status: 0 where all is done, 1 where something was refused or couldn't be written (told on standard
+error as `rha: NUMBER NAME` where it has no line of its own), 2 where the command line isn't accepted.";
 
 fn file_argument<'a>(alloc: Global) -> Arg<'a>
     ensures rule { rule_of result ≡ file_rule }
@@ -135,7 +125,7 @@ fn try_command<'a>(alloc: Global) -> Result<Command<'a>, AllocError>
 {
     Command::new(alloc, "try")
         .about("Loads a file into an empty archive, and answers a request line")
-        .after_help(TRY_HELP)
+        .after_help(HELP)
         .arg(file_argument(alloc))?
         .arg(mark_argument(alloc))?
         .arg(words_argument(alloc))

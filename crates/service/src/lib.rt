@@ -15,6 +15,7 @@ mod refusal;
 mod request;
 mod request_laws;
 mod status;
+mod telling;
 mod trying;
 
 pub use answer_lines::write_answer;
@@ -30,4 +31,5 @@ pub use refusal::{Refusal, write_error, write_reason, write_refusal, write_refus
 pub use request::{RequestError, read_query};
 pub use request_laws::lines_ask_one_question;
 pub use status::Status;
+pub use telling::{tell_failures, tell_out_of_memory, tell_outside, tell_usage};
 pub use trying::try_file;

@@ -1,0 +1,136 @@
+//! Records as octets: the worked examples of feeds and loads.
+
+use std::alloc::Global;
+use std::test::Fail;
+use test_octets::octets;
+
+/// A message of 192.0.2.1, AS 65001: an UPDATE that announces 10.0.0.0/8 by 65001 65002, at 1704067200.
+pub(crate) const UPDATE: &str = "65920080 0010 0001 0000003D FDE9 FC00 0000 0001 C0000201 C0000202
+    FFFFFFFFFFFFFFFFFFFFFFFFFFFFFFFF 002D 02 0000 0014 40010100 4002060202FDE9FDEA 400304C0000201 080A";
+
+/// The same a second before.
+pub(crate) const EARLIER: &str = "6592007F 0010 0001 0000003D FDE9 FC00 0000 0001 C0000201 C0000202
+    FFFFFFFFFFFFFFFFFFFFFFFFFFFFFFFF 002D 02 0000 0014 40010100 4002060202FDE9FDEA 400304C0000201 080A";
+
+/// An UPDATE without prefixes.
+pub(crate) const EMPTY: &str = "65920080 0010 0001 00000027 FDE9 FC00 0000 0001 C0000201 C0000202
+    FFFFFFFFFFFFFFFFFFFFFFFFFFFFFFFF 0017 02 0000 0000";
+
+/// A prefix of 33 bits in NLRI.
+pub(crate) const LONG_PREFIX: &str =
+    "65920080 0010 0001 00000041 FDE9 FC00 0000 0001 C0000201 C0000202
+    FFFFFFFFFFFFFFFFFFFFFFFFFFFFFFFF 0031 02 0000 0014 40010100 4002060202FDE9FDEA 400304C0000201 210A00000000";
+
+pub(crate) const NOTIFICATION: &str =
+    "65920080 0010 0001 00000025 FDE9 FC00 0000 0001 C0000201 C0000202
+    FFFFFFFFFFFFFFFFFFFFFFFFFFFFFFFF 0015 03 0602";
+
+/// A record of another type.
+pub(crate) const SKIPPED: &str = "65920080 000B 0001 00000001 00";
+
+/// One peer: 192.0.2.1, AS 65001.
+pub(crate) const PEER_TABLE: &str =
+    "65920080 000D 0001 00000015 C0000202 0000 0001 02 C0000201 C0000201 0000FDE9";
+
+/// 10.0.0.0/8 by the first peer of the table.
+pub(crate) const RIB: &str =
+    "65920080 000D 0002 00000028 00000000 08 0A 0001 0000 65920000 0018 40010100
+    40020A02020000FDE90000FDEA 400304C0000201";
+
+/// A header whose Length is 131,073.
+pub(crate) const TOO_LONG: &str = "65920080 0010 0001 00020001";
+
+/// An UPDATE that announces 257 prefixes, which are to follow: 10.0.0.0/24 to 10.1.0.0/24.
+pub(crate) const MANY: &str = "65920080 0010 0001 0000043F FDE9 FC00 0000 0001 C0000201 C0000202
+    FFFFFFFFFFFFFFFFFFFFFFFFFFFFFFFF 042F 02 0000 0014 40010100 4002060202FDE9FDEA 400304C0000201";
+
+/// A peer table of 46 peers of AS 65001, which are to follow: 8 octets and 11 for each.
+const MANY_PEERS: &str = "65920080 000D 0001 00000202 C0000202 0000 002E";
+
+/// How many peers it has.
+const PEERS: u16 = 46;
+
+/// Adds the octets that a text of hexadecimal digits spells.
+fn add_octets(alloc: Global, out: &mut Vec<u8>, text: &str) -> Result<(), Fail> {
+    out.extend_from_slice(&octets(alloc, text)?)?;
+    Ok(())
+}
+
+/// The octets of records.
+pub(crate) fn stream(alloc: Global, records: &[&str]) -> Result<Vec<u8>, Fail> {
+    let mut out = Vec::new(alloc);
+    for record in records {
+        add_octets(alloc, &mut out, record)?;
+    }
+    Ok(out)
+}
+
+/// Adds a peer table of 46 peers: 10.0.0.0 to 10.0.0.45.
+fn add_peers(alloc: Global, out: &mut Vec<u8>) -> Result<(), Fail> {
+    add_octets(alloc, out, MANY_PEERS)?;
+    for peer in 0..PEERS {
+        add_octets(alloc, out, "00 C0000201 0A00")?;
+        out.extend_from_slice(&peer.to_be_bytes())?;
+        add_octets(alloc, out, "FDE9")?;
+    }
+    Ok(())
+}
+
+/// Adds the RIB entry of a peer: an empty path by 192.0.2.1, and an attribute of type 99 with 2,802 octets and so many
+/// more, the peer's number at their front.
+fn add_entry(alloc: Global, out: &mut Vec<u8>, peer: u16, more: u8) -> Result<(), Fail> {
+    out.extend_from_slice(&peer.to_be_bytes())?;
+    add_octets(alloc, out, "65920000")?;
+    out.extend_from_slice(&(2820 + more as u16).to_be_bytes())?;
+    add_octets(alloc, out, "40010100 400200 400304C0000201 D063")?;
+    out.extend_from_slice(&(2802 + more as u16).to_be_bytes())?;
+    out.extend_from_slice(&peer.to_be_bytes())?;
+    for _ in 0..2800 + more as u16 {
+        out.push(0)?;
+    }
+    Ok(())
+}
+
+/// Adds a RIB record of 10.0.0.0/8 with an entry of each of the 46 peers, the last with so many octets more. Its
+/// admission has 14 octets and for each entry 22 for the peer, 2 and 2,817 for the route, and 8 for the change: 131,068
+/// and these.
+fn add_entries(alloc: Global, out: &mut Vec<u8>, more: u8) -> Result<(), Fail> {
+    add_octets(alloc, out, "65920080 000D 0002")?;
+    // 8 octets, and 2,828 for each entry.
+    out.extend_from_slice(&(130_096 + more as u32).to_be_bytes())?;
+    add_octets(alloc, out, "00000000 08 0A 002E")?;
+    for peer in 0..PEERS - 1 {
+        add_entry(alloc, out, peer, 0)?;
+    }
+    add_entry(alloc, out, PEERS - 1, more)
+}
+
+/// The octets of records, of which so many are left where the stream is cut.
+pub(crate) fn cut_stream(
+    alloc: Global,
+    records: &[&str],
+    cut: Option<usize>,
+) -> Result<Vec<u8>, Fail> {
+    let mut octets = stream(alloc, records)?;
+    octets.truncate(cut.unwrap_or(octets.len()));
+    Ok(octets)
+}
+
+/// 3,693 records, of which each admission has 67 octets: 3,692 of them are a batch of 262,132.
+pub(crate) fn many_updates(alloc: Global) -> Result<Vec<u8>, Fail> {
+    let one = stream(alloc, &[UPDATE])?;
+    let mut octets = Vec::new(alloc);
+    for _ in 0..3693 {
+        octets.extend_from_slice(&one)?;
+    }
+    Ok(octets)
+}
+
+/// Two tables, each of one admission of 131,068 octets and so many more.
+pub(crate) fn two_tables(alloc: Global, first: u8, second: u8) -> Result<Vec<u8>, Fail> {
+    let mut octets = Vec::new(alloc);
+    add_peers(alloc, &mut octets)?;
+    add_entries(alloc, &mut octets, first)?;
+    add_entries(alloc, &mut octets, second)?;
+    Ok(octets)
+}
