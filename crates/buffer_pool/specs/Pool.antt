@@ -1,17 +1,29 @@
 -- What contracts say of a pool.
-use Rattle.std.specs.Prelude.{◌⊎◌, ℕ, List, IsSome, nat_eq}
+use Rattle.std.specs.Prelude.{◌-◌, ◌⊎◌, ℕ, List, Option, IsSome, length, nat_eq, slice_get}
 use Rattle.std.specs.Ordering.{nat_cmp}
 use Rattle.std.specs.BTreeMap.{get}
 use Rattle.std.specs.Map.{lookup}
 use Rattle.disk_models.specs.declared.erase.EraseDisk.{Ghosts}
 use Rattle.page_journal.specs.declared.journal.Journal.{Journal}
-use Rattle.page_journal.specs.Journal.{Keeps}
+use Rattle.page_journal.specs.Journal.{Keeps, unhomed_pages}
 use Rattle.buffer_pool.specs.Held.{HoldsPages}
 use Rattle.buffer_pool.specs.declared.pool.Pool.{Pool}
 
 -- its journal
 abbrev pub journal_of : {D : Type 0} {device : Ghosts D} → Pool D device → Journal D device
 journal_of pool = pool.journal
+
+-- the page that was dirty longest, where one is
+abbrev pub oldest_dirty : {D : Type 0} {device : Ghosts D} → Pool D device → Option ℕ
+oldest_dirty pool = slice_get (unhomed_pages pool.journal) (length (unhomed_pages pool.journal) - 1)
+
+-- how many pages it keeps in memory that aren't dirty
+abbrev pub clean_pages : {D : Type 0} {device : Ghosts D} → Pool D device → ℕ
+clean_pages pool = length pool.clean.entries
+
+-- and how many it may keep
+abbrev pub most_clean : {D : Type 0} {device : Ghosts D} → Pool D device → ℕ
+most_clean pool = pool.clean.cap
 
 -- a page of this number is in memory
 abbrev pub IsResident : {D : Type 0} {device : Ghosts D} → Pool D device → ℕ → Type 0

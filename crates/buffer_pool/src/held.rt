@@ -21,7 +21,8 @@ fn take_in(pages: &mut BTreeMap<u64, Page>, n: u64, page: Page)
 
 // Drops a page. What the cache tells of its length says that no other one has the number.
 fn drop_page(pages: &mut LruCache<u64, Page>, n: u64)
-    ensures { IsDropped n pages.old pages.new }
+    ensures dropped { IsDropped n pages.old pages.new }
+    ensures capacity { pages.new.cap ≡ pages.old.cap }
 {
     let _distinct = pages.len();
     pages.pop(&n);
@@ -31,6 +32,7 @@ fn drop_page(pages: &mut LruCache<u64, Page>, n: u64)
 pub fn keep(pages: &mut LruCache<u64, Page>, n: u64, page: Page) -> bool
     ensures kept { IsTrue result → IsSome (lookup (nat_eq n) pages.new.entries) }
     ensures shown { (map : List (List ℕ)) → AreShown pages.old map → slice_get map n ≡ Some page → AreShown pages.new map }
+    ensures capacity { pages.new.cap ≡ pages.old.cap }
 {
     pages.put(n, page).is_ok()
 }
@@ -40,13 +42,15 @@ pub fn promote(pages: &mut LruCache<u64, Page>, n: u64) -> bool
     ensures found { IsTrue result ↔ IsSome (lookup (nat_eq n) pages.old.entries) }
     ensures kept { IsTrue result → IsSome (lookup (nat_eq n) pages.new.entries) }
     ensures shown { (map : List (List ℕ)) → AreShown pages.old map → AreShown pages.new map }
+    ensures capacity { pages.new.cap ≡ pages.old.cap }
 {
     pages.promote(&n)
 }
 
 // A page of the map is replaced.
 fn take_page(dirty: &mut BTreeMap<u64, Page>, clean: &mut LruCache<u64, Page>, n: u64, page: Page)
-    ensures { (map : List (List ℕ)) → n < length map → HoldsPages dirty.old clean.old map → HoldsPages dirty.new clean.new (slice_set map n page) }
+    ensures holds { (map : List (List ℕ)) → n < length map → HoldsPages dirty.old clean.old map → HoldsPages dirty.new clean.new (slice_set map n page) }
+    ensures capacity { clean.new.cap ≡ clean.old.cap }
 {
     drop_page(clean, n);
     take_in(dirty, n, page);
@@ -58,7 +62,8 @@ pub fn take_all(
     clean: &mut LruCache<u64, Page>,
     images: Vec<(u64, Page)>,
 )
-    ensures { (map : List (List ℕ)) → AreBelow (length map) (pages_of images.items) → HoldsPages dirty.old clean.old map → HoldsPages dirty.new clean.new (laid images.items map) }
+    ensures holds { (map : List (List ℕ)) → AreBelow (length map) (pages_of images.items) → HoldsPages dirty.old clean.old map → HoldsPages dirty.new clean.new (laid images.items map) }
+    ensures capacity { clean.new.cap ≡ clean.old.cap }
 {
     for (n, page) in images {
         take_page(dirty, clean, n, page);

@@ -1,5 +1,5 @@
 //! The pool.
-ghost use Rattle.std.specs.Prelude.{◌≡◌, ◌≢◌, ◌≤◌, ◌<◌, ◌-◌, ◌↔◌, ◌⊎◌, ℕ, List, length, OnOk, OnErr, IfOk, IfErr, IsOk, IsErrOf, IfSome, IsSome, true, false, Some, slice_get};
+ghost use Rattle.std.specs.Prelude.{◌≡◌, ◌≢◌, ◌≤◌, ◌<◌, ◌-◌, ◌↔◌, ◌⊎◌, ℕ, List, length, OnOk, OnErr, IfOk, IfErr, IsOk, IsErrOf, IfSome, IsSome, ◌==◌, not, filter, true, false, Some, slice_get};
 ghost use Rattle.disk_models.specs.Erase.{Leaves, Stays};
 ghost use Rattle.disk_models.specs.Serves.{Serves};
 ghost use Rattle.page_journal.specs.Calls.{IsDown, IsIdle, SameButDisk, SameJournal, TakesSlot};
@@ -53,7 +53,8 @@ fn read_page<D: EraseDisk + Drop>(
 }
 
 impl<D: EraseDisk + Drop> Pool<D> {
-    ghost use Rattle.buffer_pool.specs.Pool.{IsResident, Maps, journal_of};
+    ghost use Rattle.buffer_pool.specs.Pool.{IsResident, Maps, clean_pages, journal_of, most_clean, oldest_dirty};
+    ghost use Rattle.std.specs.NonZero.{non_zero_usize_get};
 
     /// The pool of a journal, with room for so many pages that are home. For want of memory the journal is handed back.
     pub fn new(
@@ -63,6 +64,7 @@ impl<D: EraseDisk + Drop> Pool<D> {
     ) -> Result<Self, Journal<D>>
         ensures made { IfOk result (λ pool. (pages : List (List ℕ)) → Keeps D.EraseDisk journal pages → Maps D.EraseDisk pool pages) }
         ensures journal { IfOk result (λ pool. journal_of pool ≡ journal) }
+        ensures capacity { IfOk result (λ pool. most_clean pool ≡ non_zero_usize_get clean_capacity) }
         ensures refused { IfErr result (λ back. back ≡ journal) }
     {
         let Ok(clean) = LruCache::new(alloc, clean_capacity) else {
@@ -107,6 +109,14 @@ impl<D: EraseDisk + Drop> Pool<D> {
         self.journal.unhomed()
     }
 
+    /// How many pages are in memory that aren't dirty: at most the pool's capacity.
+    pub fn clean(&self) -> usize
+        ensures clean { result ≡ clean_pages self.now }
+        ensures few { clean_pages self.now ≤ most_clean self.now }
+    {
+        self.clean.len()
+    }
+
     /// Gives the disk up.
     pub fn into_disk(self) -> D
         ensures disk { result ≡ disk_of (journal_of self) }
@@ -128,7 +138,10 @@ impl<D: EraseDisk + Drop> Pool<D> {
 
         // Of a page that is in memory it asks for no device and no memory.
         ensures there { needs_recovery (journal_of self.old) ≡ false → IsResident self.old n → IsOk result }
+        ensures ok { OnOk result (needs_recovery (journal_of self.old) ≡ false) }
         ensures refused { IfErr result (FetchRefusal (needs_recovery (journal_of self.old))) }
+        ensures down { needs_recovery (journal_of self.old) ≡ true → self.new ≡ self.old }
+        ensures capacity { most_clean self.new ≡ most_clean self.old }
         ensures serves { Serves D.EraseDisk (disk_of (journal_of self.old)) (disk_of (journal_of self.new)) (IsErrOf result FetchError.Fault) }
     {
         if !self.journal.is_usable() {
@@ -178,6 +191,7 @@ impl<D: EraseDisk + Drop> Pool<D> {
         ensures failed { IsErrOf result PostError.Fault → IsDown D.EraseDisk (journal_of self.old) (journal_of self.new) }
         ensures empty { length images.items ≡ 0 → journal_of self.new ≡ journal_of self.old }
         ensures taken { 0 < length images.items → OnOk result (TakesSlot D.EraseDisk images.items (journal_of self.old) (journal_of self.new)) }
+        ensures capacity { most_clean self.new ≡ most_clean self.old }
         ensures journal { SameJournal D.EraseDisk (journal_of self.old) (journal_of self.new) (IsErrOf result PostError.Fault) }
     {
         self.journal.post(alloc, &images)?;
@@ -194,6 +208,7 @@ impl<D: EraseDisk + Drop> Pool<D> {
             → needs_recovery (journal_of self.new) ≡ false → Maps D.EraseDisk self.new pages }
 
         ensures wrote { IfOk result (λ more. (more ≡ false) ↔ (length (unhomed_pages (journal_of self.old)) ≡ 0)) }
+        ensures oldest { OnOk result (IfSome (oldest_dirty self.old) (λ n. unhomed_pages (journal_of self.new) ≡ filter (λ m. not (m == n)) (unhomed_pages (journal_of self.old)))) }
         ensures fewer { OnOk result (length (unhomed_pages (journal_of self.new)) ≤ length (unhomed_pages (journal_of self.old)) - 1) }
         ensures as_dirty { OnErr result (unhomed_pages (journal_of self.new) ≡ unhomed_pages (journal_of self.old)) }
         ensures opened { opened_slots (journal_of self.new) ≡ opened_slots (journal_of self.old) }
@@ -201,7 +216,11 @@ impl<D: EraseDisk + Drop> Pool<D> {
         ensures ok { OnOk result ((needs_recovery (journal_of self.old) ≡ false) × (needs_recovery (journal_of self.new) ≡ false)) }
         ensures refused { IfErr result (UseRefusal (needs_recovery (journal_of self.old))) }
         ensures unchanged { IsErrOf result UseError.NeedsRecovery → self.new ≡ self.old }
+
+        // A write that failed asks for recovery. A page that couldn't be read to be written leaves the journal as it was.
+        ensures failed { IsErrOf result UseError.Fault → IsDown D.EraseDisk (journal_of self.old) (journal_of self.new) ⊎ SameButDisk D.EraseDisk (journal_of self.old) (journal_of self.new) }
         ensures journal { SameJournal D.EraseDisk (journal_of self.old) (journal_of self.new) (IsErrOf result UseError.Fault) }
+        ensures capacity { most_clean self.new ≡ most_clean self.old }
     {
         if !self.journal.is_usable() {
             return Err(UseError::NeedsRecovery);
@@ -233,7 +252,9 @@ impl<D: EraseDisk + Drop> Pool<D> {
         ensures ok { OnOk result (needs_recovery (journal_of self.old) ≡ false) }
         ensures refused { IfErr result (UseRefusal (needs_recovery (journal_of self.old))) }
         ensures unchanged { IsErrOf result UseError.NeedsRecovery → self.new ≡ self.old }
+        ensures as_opened { OnErr result (opened_slots (journal_of self.new) ≡ opened_slots (journal_of self.old)) }
         ensures journal { SameJournal D.EraseDisk (journal_of self.old) (journal_of self.new) (IsErrOf result UseError.Fault) }
+        ensures capacity { most_clean self.new ≡ most_clean self.old }
     {
         if !self.journal.is_usable() {
             return Err(UseError::NeedsRecovery);

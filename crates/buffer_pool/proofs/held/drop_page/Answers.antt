@@ -8,8 +8,8 @@ use Rattle.lru.proofs.CallerLemmas.{Contains-remove_entry}
 use Rattle.buffer_pool.proofs.Holding.{eq_same, found, tests_alike}
 use Rattle.buffer_pool.proofs.held.drop_page.Goals as goal
 
-pub returns : goal.returns
-returns c m page there =
+pub returns-clause-dropped : goal.returns-clause-dropped
+returns-clause-dropped c m page there =
     let n = c.args.n in
     let es = c.args.pages.now.entries in
     let now = c.pop.new.self.entries in

@@ -12,21 +12,25 @@ no_images [] none = refl
 no_images (image ∷ l) none = absurd (omega (arith, none))
 
 pub loop-n-preserved : goal.loop-n-preserved
-loop-n-preserved c map below held =
-    let so_far = c.loop-n.invariant map below held in
+loop-n-preserved c =
     let step = c.in-Some.ensures.steps in
-    let now = so_far.0 in
     let rest = into_iter_items c.next.new.self in
-    let inside : AreBelow (length now) (pages_of ((c.in-Some.n, c.in-Some.page) ∷ rest)) = subst (λ (l : List Image). AreBelow (length now) (pages_of l)) step.0 so_far.3 in (
-      slice_set now c.in-Some.n c.in-Some.page,
-      c.take_page.ensures now inside.0 so_far.1,
-      ap (λ (l : List Image). laid l now) (sym step.0) ∙ so_far.2,
-      subst (λ k. AreBelow k (pages_of rest)) (sym (length-set now c.in-Some.n c.in-Some.page)) inside.1,
-    )
+    record {
+      capacity = c.take_page.ensures.capacity ∙ c.loop-n.invariant.capacity;
+      holds = λ map below held.
+          let so_far = c.loop-n.invariant.holds map below held in
+          let now = so_far.0 in
+          let inside : AreBelow (length now) (pages_of ((c.in-Some.n, c.in-Some.page) ∷ rest)) = subst (λ (l : List Image). AreBelow (length now) (pages_of l)) step.0 so_far.3 in (
+            slice_set now c.in-Some.n c.in-Some.page,
+            c.take_page.ensures.holds now inside.0 so_far.1,
+            ap (λ (l : List Image). laid l now) (sym step.0) ∙ so_far.2,
+            subst (λ k. AreBelow k (pages_of rest)) (sym (length-set now c.in-Some.n c.in-Some.page)) inside.1,
+          );
+    }
 
-pub returns : goal.returns
-returns c map below held =
-    let so_far = c.loop-n.invariant map below held in
+pub returns-clause-holds : goal.returns-clause-holds
+returns-clause-holds c map below held =
+    let so_far = c.loop-n.invariant.holds map below held in
     let step = c.in-None.ensures.steps in
     let now = so_far.0 in
     let gone : into_iter_items c.loop-n.n-iterator ≡ [] = no_images (into_iter_items c.loop-n.n-iterator) (omega (arith, c.loop-n.n-iterator.rest.ok, step.0)) in

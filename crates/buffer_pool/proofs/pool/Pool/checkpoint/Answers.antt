@@ -1,4 +1,4 @@
-use Rattle.std.proofs.Common.{⊎_elim, arith, rules, sym, subst}
+use Rattle.std.proofs.Common.{◌∙◌, ⊎_elim, arith, rules, sym, subst}
 use Rattle.page_journal.specs.Journal.{Keeps, disk_of}
 use Rattle.page_journal.proofs.api.Same.{same_then}
 use Rattle.buffer_pool.proofs.Holding.{crash_then, ended}
@@ -20,6 +20,8 @@ loop-preserved g c =
     let inv = c.loop.invariant in
     record {
       journal = same_then g.D.EraseDisk c.args.self.now.journal c.loop.self.journal c.flush_one.new.self.journal ⊥ ⊥ inv.journal (λ none. none) (search rules);
+      opened = c.flush_one.ensures.opened ∙ inv.opened;
+      capacity = c.flush_one.ensures.capacity ∙ inv.capacity;
       usable = c.in_ok-flush_one.ensures.ok.1;
       few = omega (arith, inv.few, c.in_ok-flush_one.ensures.fewer);
       maps = λ h pages m. c.flush_one.ensures.maps (inv.journal.serves.honest.0 h) pages (inv.maps h pages m) c.in_ok-flush_one.ensures.ok.1;

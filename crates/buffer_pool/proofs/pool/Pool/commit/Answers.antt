@@ -25,5 +25,5 @@ returns-clause-maps g c h pages m =
     let long : length pages ≡ home_pages old = kept_length g.D.EraseDisk old pages m.keeps in
     record {
       keeps = subst (λ (l : List Image). Keeps g.D.EraseDisk c.post.new.self (laid l pages)) c.deref.ensures.value (c.in_ok-post.ensures.posted h pages m.keeps);
-      held = c.take_all.ensures pages (subst (λ k. AreBelow k (pages_of images)) (sym long) c.requires.below) m.held;
+      held = c.take_all.ensures.holds pages (subst (λ k. AreBelow k (pages_of images)) (sym long) c.requires.below) m.held;
     }
