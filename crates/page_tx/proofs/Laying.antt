@@ -6,8 +6,8 @@ use Rattle.std.proofs.lemmas.Option.{slice_get-get_or}
 use Rattle.std.proofs.lemmas.Bool.{cases_eq, eq-eqb, ne_eqb}
 use Rattle.page_journal.specs.Layout.{Image, pages_of}
 use Rattle.page_journal.specs.Recovers.{laid, AreDistinct, AreBelow, IsListed}
-use Rattle.page_tx.specs.Images.{AreApart, with_image, with_number}
-use Rattle.page_tx.specs.Laid.{length_laid}
+use Rattle.page_tx.specs.inner.Placing.{with_image}
+use Rattle.page_tx.specs.inner.Laid.{length_laid}
 
 set_twice : {X : Type 0} (l : List X) (n : ℕ) (x y : X) → set (set l n x) n y ≡ set l n y
 set_twice [] n x y = refl
@@ -50,13 +50,6 @@ distinct_with n page (image ∷ rest) d = elim (cases_eq image.0 n) [
   | inr ne ↦ rw (ne_eqb image.0 n ne) (apart_with image.0 n page rest ne d.0, distinct_with n page rest d.1)
 ]
 
-pub numbers_with : (n : ℕ) (page : List ℕ) (images : List Image) → pages_of (with_image n page images) ≡ with_number n (pages_of images)
-numbers_with n page [] = refl
-numbers_with n page (image ∷ rest) = elim (cases_eq image.0 n) [
-  | inl e ↦ rw (eq-eqb image.0 n e) (ap (λ m. m ∷ pages_of rest) (sym e))
-  | inr ne ↦ rw (ne_eqb image.0 n ne) (ap (λ l. image.0 ∷ l) (numbers_with n page rest))
-]
-
 set_split : {X : Type 0} (l : List X) (k : ℕ) (y : X) → k < length l → set l k y ≡ take k l ++ y ∷ drop (suc k) l
 set_split [] k y lt = absurd (omega arith)
 set_split (z ∷ l) zero y lt = refl
@@ -71,27 +64,6 @@ split_at (z ∷ l) (suc k) x lt e = split_at l k x (omega arith) e
 pub image_found : (n k : ℕ) (images : List Image) (x : Image) (page : List ℕ) → k < length images → x ≡ get_or images k x → x.0 ≡ n → take k images ++ with_image n page (drop k images) ≡ with_image n page images → set images k (n, page) ≡ with_image n page images
 image_found n k images x page lt e same before =
     set_split images k (n, page) lt ∙ (ap (λ l. take k images ++ l) (sym (ap (with_image n page) (split_at images k x lt e) ∙ rw (eq-eqb x.0 n same) refl)) ∙ before)
-
--- ---- distinct numbers, said in two ways
-
-all_apart : (n : ℕ) (ns : List ℕ) → ((j : ℕ) → j < length ns → n ≡ get_or ns j 0 → ⊥) → AllByRecursion (λ other. n ≡ other → ⊥) ns
-all_apart n [] each = tt
-all_apart n (m ∷ ns) each = (each 0 (omega arith), all_apart n ns (λ j lt. each (suc j) (omega arith)))
-
-pub distinct_of : (ns : List ℕ) → AreApart ns → AreDistinct ns
-distinct_of [] a = tt
-distinct_of (n ∷ ns) a = (all_apart n ns (λ j lt. a 0 (suc j) (omega arith) (omega arith)), distinct_of ns (λ i j lt low. a (suc i) (suc j) (omega arith) (omega arith)))
-
-one_apart : (n : ℕ) (ns : List ℕ) (j : ℕ) → AllByRecursion (λ other. n ≡ other → ⊥) ns → j < length ns → n ≡ get_or ns j 0 → ⊥
-one_apart n [] j a lt = absurd (omega arith)
-one_apart n (m ∷ ns) zero a lt = a.0
-one_apart n (m ∷ ns) (suc j) a lt = one_apart n ns j a.1 (omega arith)
-
-pub apart_of : (ns : List ℕ) → AreDistinct ns → AreApart ns
-apart_of [] d i j lt low = absurd (omega arith)
-apart_of (n ∷ ns) d i zero lt low = absurd (omega arith)
-apart_of (n ∷ ns) d zero (suc j) lt low = one_apart n ns j d.0 (omega arith)
-apart_of (n ∷ ns) d (suc i) (suc j) lt low = apart_of ns d.1 i j (omega arith) (omega arith)
 
 -- ---- what is shown of a page
 
@@ -139,11 +111,11 @@ pub not_listed : (n : ℕ) (ns : List ℕ) → AllByRecursion (λ other. n ≡ o
 not_listed n [] a listed = listed
 not_listed n (m ∷ ns) a listed = ⊎_elim (λ same. a.0 same) (λ later. not_listed n ns a.1 later) listed
 
-pub below_with : (homes n : ℕ) (ns : List ℕ) → n < homes → AreBelow homes ns → AreBelow homes (with_number n ns)
-below_with homes n [] lt below = (lt, tt)
-below_with homes n (m ∷ ns) lt below = elim (cases_eq m n) [
-  | inl e ↦ rw (eq-eqb m n e) below
-  | inr ne ↦ rw (ne_eqb m n ne) (below.0, below_with homes n ns lt below.1)
+pub below_with : (homes n : ℕ) (page : List ℕ) (images : List Image) → n < homes → AreBelow homes (pages_of images) → AreBelow homes (pages_of (with_image n page images))
+below_with homes n page [] lt below = (lt, tt)
+below_with homes n page (image ∷ rest) lt below = elim (cases_eq image.0 n) [
+  | inl e ↦ rw (eq-eqb image.0 n e) (lt, below.1)
+  | inr ne ↦ rw (ne_eqb image.0 n ne) (below.0, below_with homes n page rest lt below.1)
 ]
 
 -- a page of which an image was found

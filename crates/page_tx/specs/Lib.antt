@@ -1,4 +1,6 @@
 pub mod Start
 pub mod Images
+pub mod Refusals
+pub mod Device
 pub mod Tx
-pub mod Laid
+pub mod inner

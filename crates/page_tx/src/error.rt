@@ -1,6 +1,5 @@
 //! Why a transaction doesn't read or set a page.
 ghost use Rattle.std.specs.Prelude.{◌≡◌};
-ghost use Rattle.buffer_pool.specs.declared.error.FetchError.TheVariants as fetches;
 ghost use Rattle.page_tx.specs.declared.error.PageError.TheVariants as refusals;
 
 use buffer_pool::FetchError;
@@ -36,6 +35,10 @@ impl From<AllocError> for PageError {
 }
 
 impl From<FetchError> for PageError {
+    ghost use Rattle.page_tx.specs.Refusals.{of_fetch};
+
+    ghost from_gives = { λ refusal e. e ≡ of_fetch refusal };
+
     fn from(refusal: FetchError) -> Self {
         match refusal {
             FetchError::Fault => PageError::Fault,

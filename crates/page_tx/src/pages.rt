@@ -1,7 +1,11 @@
 //! Pages that are changed together.
-ghost use Rattle.std.specs.Prelude.{◌↔◌, ◌≡◌, ◌<◌, ◌≤◌, ◌+◌, ℕ, List, length, slice_set, OnOk, OnErr, IfOk, IfSome, IsSome, IsErrOf, Some, slice_get};
+ghost use Rattle.std.specs.Prelude.{◌≡◌, ◌<◌, ◌≤◌, ◌+◌, ◌⊎◌, ◌∷◌, [], ℕ, Bool, false, List, length, slice_set, OnOk, OnErr, IfOk, IfErr, IfSome, IsOk, IsSome, IsErrOf, Some, slice_get};
+ghost use Rattle.page_journal.specs.Layout.{pages_of};
+ghost use Rattle.page_journal.specs.Recovers.{laid, AreBelow, AreDistinct, IsListed};
 ghost use Rattle.page_tx.specs.Start.{Start};
-ghost use Rattle.page_tx.specs.Images.{with_number};
+ghost use Rattle.page_tx.specs.Images.{joined};
+ghost use Rattle.page_tx.specs.Refusals.{FetchRefusal, LayRefusal, SetRefusal};
+ghost use Rattle.page_tx.specs.Device.{KeepsDevice};
 
 use crate::error::PageError;
 use disk_models::Page;
@@ -27,14 +31,31 @@ pub trait Pages {
     /// The numbers of the pages of which images are held, each once.
     ghost named: { Self → List ℕ };
 
-    /// Sees to it that a page is in memory.
+    /// An earlier write or sync failed, and the journal wasn't opened again since.
+    ghost down: { Self → Bool };
+
+    /// The device follows its model.
+    ghost honest: { Self → Type 0 };
+
+    /// How often the device has failed.
+    ghost faults: { Self → ℕ };
+
+    /// Sees to it that a page is in memory. Of one that is there it asks for no device and no memory.
     fn fetch(&mut self, n: u64) -> Result<(), PageError>
         requires { n < homes self.old }
         ensures resident { OnOk result (resident self.new n) }
         ensures same { (start : Start) (shown : List (List ℕ)) → shows self.old start shown → shows self.new start shown }
+
+        ensures there { down self.old ≡ false → resident self.old n → IsOk result }
+        ensures held { IsListed n (named self.old) → IsOk result }
+        ensures ok { OnOk result ((down self.old ≡ false) ⊎ IsListed n (named self.old)) }
+        ensures refused { IfErr result (FetchRefusal (down self.old)) }
+
         ensures homes { homes self.new ≡ homes self.old }
         ensures next { next self.new ≡ next self.old }
-        ensures named { named self.new ≡ named self.old };
+        ensures named { named self.new ≡ named self.old }
+        ensures down { down self.new ≡ down self.old }
+        ensures device { KeepsDevice (honest self.old) (honest self.new) (faults self.old) (faults self.new) (IsErrOf result PageError.Fault) };
 
     /// A page as it is shown, lent without a copy, where it is in memory.
     fn page(&self, n: u64) -> Option<&Page>
@@ -46,20 +67,48 @@ pub trait Pages {
         requires { n < homes self.old }
         ensures ok { OnOk result ((start : Start) (shown : List (List ℕ)) → shows self.old start shown → shows self.new start (slice_set shown n page)) }
         ensures err { OnErr result ((start : Start) (shown : List (List ℕ)) → shows self.old start shown → shows self.new start shown) }
-        ensures named { OnOk result (named self.new ≡ with_number n (named self.old)) }
+        ensures named { OnOk result (named self.new ≡ joined (named self.old) (n ∷ [])) }
         ensures as_named { OnErr result (named self.new ≡ named self.old) }
-        ensures too_many { IsErrOf result PageError.TooManyImages → 31 < length (with_number n (named self.old)) }
-        ensures few { OnOk result (length (with_number n (named self.old)) ≤ 31) }
+
+        // An image that replaces another is never refused.
+        ensures held { IsListed n (named self.old) → IsOk result }
+        ensures few { OnOk result (length (joined (named self.old) (n ∷ [])) ≤ 31) }
+        ensures refused { IfErr result (SetRefusal (length (joined (named self.old) (n ∷ [])))) }
+
         ensures homes { homes self.new ≡ homes self.old }
-        ensures next { next self.new ≡ next self.old };
+        ensures next { next self.new ≡ next self.old }
+        ensures down { down self.new ≡ down self.old }
+        ensures device { KeepsDevice (honest self.old) (honest self.new) (faults self.old) (faults self.new) ⊥ };
+
+    /// Lays images over pages, all of them or none, and tells the first page that was never used afterwards.
+    fn lay(&mut self, images: Vec<(u64, Page)>, unused: u64) -> Result<(), PageError>
+        requires below { AreBelow (homes self.old) (pages_of images.items) }
+        requires distinct { AreDistinct (pages_of images.items) }
+        ensures ok { OnOk result ((start : Start) (shown : List (List ℕ)) → shows self.old start shown → shows self.new start (laid images.items shown)) }
+        ensures err { OnErr result ((start : Start) (shown : List (List ℕ)) → shows self.old start shown → shows self.new start shown) }
+        ensures named { OnOk result (named self.new ≡ joined (named self.old) (pages_of images.items)) }
+        ensures as_named { OnErr result (named self.new ≡ named self.old) }
+        ensures next { OnOk result (next self.new ≡ unused) }
+        ensures as_next { OnErr result (next self.new ≡ next self.old) }
+
+        ensures room { OnOk result (unused ≤ homes self.old) }
+        ensures few { OnOk result (length (joined (named self.old) (pages_of images.items)) ≤ 31) }
+        ensures refused { IfErr result (LayRefusal (homes self.old) unused (length (joined (named self.old) (pages_of images.items)))) }
+
+        ensures homes { homes self.new ≡ homes self.old }
+        ensures down { down self.new ≡ down self.old }
+        ensures device { KeepsDevice (honest self.old) (honest self.new) (faults self.old) (faults self.new) ⊥ };
 
     /// The next page that was never used. It has to be set before it is read.
     fn fresh(&mut self) -> Result<u64, PageError>
         ensures ok { IfOk result (λ n. (n ≡ next self.old) × (n < homes self.old) × (next self.new ≡ next self.old + 1)) }
         ensures full { OnErr result ((homes self.old ≤ next self.old) × (next self.new ≡ next self.old)) }
+        ensures refused { IfErr result (λ e. e ≡ PageError.PagesFull) }
         ensures same { (start : Start) (shown : List (List ℕ)) → shows self.old start shown → shows self.new start shown }
         ensures homes { homes self.new ≡ homes self.old }
-        ensures named { named self.new ≡ named self.old };
+        ensures named { named self.new ≡ named self.old }
+        ensures down { down self.new ≡ down self.old }
+        ensures device { KeepsDevice (honest self.old) (honest self.new) (faults self.old) (faults self.new) ⊥ };
 
     /// Of how many pages it holds images: at most 31.
     fn images(&self) -> usize
@@ -71,4 +120,7 @@ pub trait Pages {
 
     /// As many pages are shown as there are.
     ghost count: { (pages : Self) (start : Start) (shown : List (List ℕ)) → shows pages start shown → length shown ≡ homes pages };
+
+    /// A page of which an image is held is in memory.
+    ghost held: { (pages : Self) (n : ℕ) → IsListed n (named pages) → resident pages n };
 }

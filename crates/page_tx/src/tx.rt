@@ -6,22 +6,19 @@ ghost use Rattle.disk_models.specs.Erase.{Leaves};
 ghost use Rattle.page_journal.specs.Calls.{IsDown, IsIdle, SameJournal};
 ghost use Rattle.page_journal.specs.Journal.{closed_slots, disk_of, home_pages, needs_recovery, note_of, unhomed_pages};
 ghost use Rattle.page_journal.specs.Layout.{pages_of};
-ghost use Rattle.page_journal.specs.Recovers.{AreBelow, Recovers, RecoversEither};
+ghost use Rattle.page_journal.specs.Recovers.{AreBelow, AreDistinct, Recovers, RecoversEither};
 ghost use Rattle.page_journal.specs.Refusals.{PostRefusal, PostsAt, UseRefusal};
 ghost use Rattle.buffer_pool.specs.Pool.{Maps, journal_of};
-ghost use Rattle.page_tx.specs.Images.{AreApart};
+ghost use Rattle.page_tx.specs.inner.Distinct.{distinct-prop};
 
 use crate::error::PageError;
-use crate::images::{place_of, put};
+use crate::images::{count_new, count_one, lay_all, lay_one, make_room, place_of};
 use crate::pages::Pages;
 use buffer_pool::Pool;
 use disk_models::{EraseDisk, Page};
 use page_journal::{PostError, UseError};
 use std::alloc::Global;
 use std::mem;
-
-// The most images of a transaction.
-const IMAGES: usize = 31;
 
 /// A pool with its one transaction: images of distinct pages, at most 31, that are laid over its pages.
 ///
@@ -34,7 +31,7 @@ pub struct Tx<D: EraseDisk + Drop> {
     images: Vec<(u64, Page)>,
     next: u64,
     ghost few: { length images.items ≤ 31 },
-    ghost distinct: { AreApart (pages_of images.items) },
+    ghost distinct: { AreDistinct (pages_of images.items) } by { distinct-prop (pages_of images.items) },
     ghost below: { AreBelow (home_pages (journal_of pool)) (pages_of images.items) } by { AllByRecursion-prop (λ n. n < home_pages (journal_of pool)) (λ n. Prim.hlevel props) (pages_of images.items) },
 }
 
@@ -147,7 +144,8 @@ impl<D: EraseDisk + Drop> Tx<D> {
 
 impl<D: EraseDisk + Drop> Pages for Tx<D> {
     ghost use Rattle.page_tx.specs.Tx.{IsThere, Shows, named_pages, next_page, pool_of};
-    ghost use Rattle.page_tx.specs.Laid.{shows_count};
+    ghost use Rattle.page_tx.specs.inner.Laid.{shows_count};
+    ghost use Rattle.std.proofs.Common.{inl};
 
     ghost shows = { λ tx start shown. Shows D.EraseDisk tx start shown };
 
@@ -159,7 +157,15 @@ impl<D: EraseDisk + Drop> Pages for Tx<D> {
 
     ghost named = { λ tx. named_pages tx };
 
+    ghost down = { λ tx. needs_recovery (journal_of (pool_of tx)) };
+
+    ghost honest = { λ tx. D.honest (disk_of (journal_of (pool_of tx))) };
+
+    ghost faults = { λ tx. D.fault_count (disk_of (journal_of (pool_of tx))) };
+
     ghost count = { λ tx start shown shows. shows_count tx start shown shows };
+
+    ghost held = { λ tx n listed. inl listed };
 
     fn fetch(&mut self, n: u64) -> Result<(), PageError> {
         if place_of(&self.images, n).is_some() {
@@ -177,19 +183,21 @@ impl<D: EraseDisk + Drop> Pages for Tx<D> {
     }
 
     fn set(&mut self, n: u64, page: Page) -> Result<(), PageError> {
-        match place_of(&self.images, n) {
-            Some(k) => {
-                self.images[k] = (n, page);
-                Ok(())
-            }
-            None => {
-                if self.images.len() >= IMAGES {
-                    return Err(PageError::TooManyImages);
-                }
-                put(&mut self.images, n, page)?;
-                Ok(())
-            }
+        let more = count_one(&self.images, n);
+        make_room(&mut self.images, more)?;
+        lay_one(&mut self.images, n, page);
+        Ok(())
+    }
+
+    fn lay(&mut self, images: Vec<(u64, Page)>, unused: u64) -> Result<(), PageError> {
+        if unused > self.pool.home_pages() {
+            return Err(PageError::PagesFull);
         }
+        let more = count_new(&self.images, &images);
+        make_room(&mut self.images, more)?;
+        lay_all(&mut self.images, images);
+        self.next = unused;
+        Ok(())
     }
 
     fn fresh(&mut self) -> Result<u64, PageError> {

@@ -1,4 +1,4 @@
-use Rattle.std.proofs.Common.{◌≡◌, ◌∙◌, ℕ, List, refl, subst}
+use Rattle.std.proofs.Common.{◌∙◌, ℕ, List, refl, subst}
 use Rattle.disk_models.specs.Erase.{Leaves}
 use Rattle.page_journal.specs.Journal.{disk_of, home_pages}
 use Rattle.page_journal.specs.Recovers.{Recovers}

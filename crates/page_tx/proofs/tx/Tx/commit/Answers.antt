@@ -5,13 +5,13 @@ use Rattle.page_journal.specs.Journal.{closed_slots, disk_of, home_pages, needs_
 use Rattle.page_journal.specs.Layout.{Image, pages_of}
 use Rattle.page_journal.specs.Recovers.{AreDistinct, RecoversEither, laid}
 use Rattle.page_journal.specs.Refusals.{PostRefusal, PostsAt}
-use Rattle.page_tx.proofs.Laying.{distinct_of, length_pages_of}
+use Rattle.page_tx.proofs.Laying.{length_pages_of}
 use Rattle.page_tx.proofs.tx.Tx.commit.Goals as goal
 
 pub commit-requires-clause-distinct : goal.commit-requires-clause-distinct
 commit-requires-clause-distinct g c =
     let same : c.args.self.now.images.items ≡ c.replace-images.result.items = ap (λ v. v.items) (sym c.replace-images.ensures.value) in
-    subst (λ (l : List Image). AreDistinct (pages_of l)) same (distinct_of (pages_of c.args.self.now.images.items) c.args.self.now.distinct)
+    subst (λ (l : List Image). AreDistinct (pages_of l)) same c.args.self.now.distinct
 
 pub returns-clause-crash : goal.returns-clause-crash
 returns-clause-crash g c start shown s =

@@ -4,9 +4,9 @@ use Rattle.std.proofs.lemmas.Option.{slice_get-get_or}
 use Rattle.page_journal.specs.Layout.{Image, pages_of}
 use Rattle.page_journal.specs.Recovers.{laid}
 use Rattle.page_journal.proofs.api.Kept.{kept_length}
-use Rattle.page_tx.specs.Images.{with_image}
-use Rattle.page_tx.specs.Laid.{length_laid}
-use Rattle.page_tx.proofs.Laying.{distinct_of, new_apart, not_listed, shown_image, shown_other}
+use Rattle.page_tx.specs.inner.Placing.{with_image}
+use Rattle.page_tx.specs.inner.Laid.{length_laid}
+use Rattle.page_tx.proofs.Laying.{new_apart, not_listed, shown_image, shown_other}
 use Rattle.page_tx.proofs.tx.TxPages.page.Goals as goal
 
 -- no image of the page is held
@@ -39,7 +39,7 @@ returns-in-Some-clause-shown g c start shown s lt =
     let all = length_laid items start.pages in
     ap (λ (l : List (List ℕ)). slice_get l c.args.n) s.over
     ∙ slice_get-get_or (laid items start.pages) c.args.n [] (omega (arith, inside, all))
-    ∙ ap (λ (p : List ℕ). Some p) (shown_image c.args.n k image.1 items start.pages (distinct_of (pages_of items) self.distinct) inside here)
+    ∙ ap (λ (p : List ℕ). Some p) (shown_image c.args.n k image.1 items start.pages self.distinct inside here)
 
 pub returns-in-None-clause-there : goal.returns-in-None-clause-there
 returns-in-None-clause-there g c there =

@@ -15,6 +15,6 @@ pub length_laid : (images : List Image) (pages : List (List ℕ)) → length (la
 length_laid [] pages = refl
 length_laid (image ∷ rest) pages = length_laid rest (set pages image.0 image.1) ∙ length-set pages image.0 image.1
 
--- (a lemma) as many pages are shown as the journal has home pages
+-- as many pages are shown as the journal has home pages
 pub shows_count : {D : Type 0} {device : Ghosts D} (tx : Tx D device) (start : Start) (shown : List (List ℕ)) → Shows device tx start shown → length shown ≡ home_pages (journal_of (pool_of tx))
 shows_count {device = device} tx start shown s = ap length s.over ∙ length_laid tx.images.items start.pages ∙ kept_length device (journal_of tx.pool) start.pages s.maps.keeps
