@@ -1,14 +1,14 @@
 //! A transaction over a pool.
-ghost use Rattle.std.specs.Prelude.{◌≡◌, ◌≢◌, ◌<◌, ◌≤◌, ◌-◌, ◌↔◌, [], ℕ, List, length, OnOk, IfOk, OnErr, IfErr, IsErrOf, false};
+ghost use Rattle.std.specs.Prelude.{◌≡◌, ◌≢◌, ◌<◌, ◌≤◌, ◌+◌, ◌-◌, ◌==◌, ◌↔◌, ◌⊎◌, [], ℕ, List, length, filter, not, OnOk, IfOk, OnErr, IfErr, IfSome, IsErrOf, false};
 ghost use Rattle.std.specs.List.{AllByRecursion-prop};
 ghost use Rattle.std.proofs.Props.{props};
 ghost use Rattle.disk_models.specs.Erase.{Leaves};
-ghost use Rattle.page_journal.specs.Calls.{IsDown, IsIdle, SameJournal};
-ghost use Rattle.page_journal.specs.Journal.{closed_slots, disk_of, home_pages, needs_recovery, note_of, unhomed_pages};
+ghost use Rattle.page_journal.specs.Calls.{IsDown, IsIdle, SameButDisk, SameJournal};
+ghost use Rattle.page_journal.specs.Journal.{closed_slots, disk_of, home_pages, needs_recovery, note_of, opened_slots, unhomed_pages};
 ghost use Rattle.page_journal.specs.Layout.{pages_of};
 ghost use Rattle.page_journal.specs.Recovers.{AreBelow, AreDistinct, Recovers, RecoversEither};
 ghost use Rattle.page_journal.specs.Refusals.{PostRefusal, PostsAt, UseRefusal};
-ghost use Rattle.buffer_pool.specs.Pool.{Maps, journal_of};
+ghost use Rattle.buffer_pool.specs.Pool.{Maps, journal_of, oldest_dirty};
 ghost use Rattle.page_tx.specs.inner.Distinct.{distinct-prop};
 
 use crate::error::PageError;
@@ -78,6 +78,10 @@ impl<D: EraseDisk + Drop> Tx<D> {
         ensures refused { IfErr result (PostRefusal (needs_recovery (journal_of (pool_of self.old))) (length (named_pages self.old)) (closed_slots (journal_of (pool_of self.old)))) }
         ensures few { IsErrOf result PostError.TooManyImages → ⊥ }
 
+        // One slot is taken where an image was held, and none elsewhere.
+        ensures empty { length (named_pages self.old) ≡ 0 → journal_of (pool_of self.new) ≡ journal_of (pool_of self.old) }
+        ensures taken { 0 < length (named_pages self.old) → OnOk result (opened_slots (journal_of (pool_of self.new)) ≡ opened_slots (journal_of (pool_of self.old)) + 1) }
+
         ensures unchanged { IfErr result (λ e. e ≢ PostError.Fault → pool_of self.new ≡ pool_of self.old) }
         ensures failed { IsErrOf result PostError.Fault → IsDown D.EraseDisk (journal_of (pool_of self.old)) (journal_of (pool_of self.new)) }
         ensures named { named_pages self.new ≡ [] }
@@ -97,6 +101,7 @@ impl<D: EraseDisk + Drop> Tx<D> {
             → Shows D.EraseDisk self.new (record { note = start.note; pages = start.pages; clock = (D.model (disk_of (journal_of (pool_of self.new)))).clock }) shown }
 
         ensures idle { OnOk result (IsIdle D.EraseDisk (journal_of (pool_of self.new))) }
+        ensures as_opened { OnErr result (opened_slots (journal_of (pool_of self.new)) ≡ opened_slots (journal_of (pool_of self.old))) }
         ensures ok { OnOk result (needs_recovery (journal_of (pool_of self.old)) ≡ false) }
         ensures refused { IfErr result (UseRefusal (needs_recovery (journal_of (pool_of self.old)))) }
         ensures unchanged { IsErrOf result UseError.NeedsRecovery → pool_of self.new ≡ pool_of self.old }
@@ -116,9 +121,13 @@ impl<D: EraseDisk + Drop> Tx<D> {
             → Shows D.EraseDisk self.new (record { note = start.note; pages = start.pages; clock = (D.model (disk_of (journal_of (pool_of self.new)))).clock }) shown }
 
         ensures wrote { IfOk result (λ more. (more ≡ false) ↔ (length (unhomed_pages (journal_of (pool_of self.old))) ≡ 0)) }
+        ensures oldest { OnOk result (IfSome (oldest_dirty (pool_of self.old)) (λ n. unhomed_pages (journal_of (pool_of self.new)) ≡ filter (λ m. not (m == n)) (unhomed_pages (journal_of (pool_of self.old))))) }
+        ensures opened { opened_slots (journal_of (pool_of self.new)) ≡ opened_slots (journal_of (pool_of self.old)) }
+        ensures as_dirty { OnErr result (unhomed_pages (journal_of (pool_of self.new)) ≡ unhomed_pages (journal_of (pool_of self.old))) }
         ensures fewer { OnOk result (length (unhomed_pages (journal_of (pool_of self.new))) ≤ length (unhomed_pages (journal_of (pool_of self.old))) - 1) }
-        ensures ok { OnOk result (needs_recovery (journal_of (pool_of self.new)) ≡ false) }
+        ensures ok { OnOk result ((needs_recovery (journal_of (pool_of self.old)) ≡ false) × (needs_recovery (journal_of (pool_of self.new)) ≡ false)) }
         ensures refused { IfErr result (UseRefusal (needs_recovery (journal_of (pool_of self.old)))) }
+        ensures failed { IsErrOf result UseError.Fault → IsDown D.EraseDisk (journal_of (pool_of self.old)) (journal_of (pool_of self.new)) ⊎ SameButDisk D.EraseDisk (journal_of (pool_of self.old)) (journal_of (pool_of self.new)) }
         ensures unchanged { IsErrOf result UseError.NeedsRecovery → pool_of self.new ≡ pool_of self.old }
         ensures named { named_pages self.new ≡ named_pages self.old }
         ensures next { next_page self.new ≡ next_page self.old }

@@ -1,4 +1,4 @@
-use Rattle.std.proofs.Common.{◌≡◌, ◌∙◌, ℕ, List, length, ap, sym, subst}
+use Rattle.std.proofs.Common.{◌≡◌, ◌∙◌, ℕ, List, length, ap, sym, subst, arith}
 use Rattle.std.specs.Result.{OnOk, IfErr}
 use Rattle.disk_models.specs.Erase.{Leaves}
 use Rattle.page_journal.specs.Journal.{closed_slots, disk_of, home_pages, needs_recovery, note_of}
@@ -34,3 +34,9 @@ returns-clause-refused g c =
     let journal = c.args.self.now.pool.journal in
     let same : c.replace-images.result.items ≡ c.args.self.now.images.items = ap (λ v. v.items) c.replace-images.ensures.value in
     subst (λ k. IfErr c.commit.result (PostRefusal (needs_recovery journal) k (closed_slots journal))) (ap length same ∙ sym (length_pages_of c.args.self.now.images.items)) c.commit.ensures.refused
+
+pub returns-clause-empty : goal.returns-clause-empty
+returns-clause-empty g c none =
+    let same = ap (λ v. length v.items) c.replace-images.ensures.value in
+    let long = length_pages_of c.args.self.now.images.items in
+    c.commit.ensures.empty (omega (arith, none, same, long))
