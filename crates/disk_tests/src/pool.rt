@@ -1,38 +1,123 @@
-// The pool over a journal on a disk in memory that fails, tears and crashes.
-use crate::journal::{KINDS, OLD, PAGE, all_torn, filled, made, scripted, torn};
-use buffer_pool::{FetchError, Pool};
+//! Steps of a transaction over a pool on a disk in memory, and what is seen after each.
+ghost use Rattle.std.specs.Prelude.{IfOk};
+ghost use Rattle.page_journal.specs.Layout.{pages_of};
+ghost use Rattle.page_journal.specs.Recovers.{AreBelow, AreDistinct};
+
+use crate::journal::{OLD, PAGE, filled, made, scripted};
+use buffer_pool::Pool;
 use disk_memory::{Call, Failure, MemErase};
+use disk_models::Page;
 use page_journal::{Journal, JournalError, PostError};
-use std::alloc::Global;
+use page_tx::{PageError, Pages, Tx};
+use std::alloc::{AllocError, Global};
 use std::num::NonZeroUsize;
 use std::test::Fail;
 
-// A pool with room for so many clean pages, over a disk that is opened.
-pub(crate) fn pooled(
+// A step.
+#[derive(Clone, Copy)]
+pub(crate) enum Step {
+    // Sets a page, filled with an octet.
+    Set(u64, u8),
+    // Lays so many of the first pages, filled with an octet, and tells the first page that was never used.
+    Lay(u64, u8, u64),
+    Fresh,
+    Begin(u64),
+    Commit,
+    Flush,
+    Checkpoint,
+}
+
+// A transaction over the pool of a journal, with room for so many clean pages. Four pages were used.
+pub(crate) fn begun(
     alloc: Global,
-    disk: MemErase,
+    journal: Journal<MemErase>,
     capacity: usize,
-) -> Result<Pool<MemErase>, Fail> {
+) -> Result<Tx<MemErase>, Fail> {
     let Some(capacity) = NonZeroUsize::new(capacity) else {
         return Err(PostError::TooManyImages.into());
     };
-    let journal = match Journal::open(alloc, disk) {
-        Ok(journal) => journal,
-        Err(refused) => return Err(refused.error.into()),
-    };
     match Pool::new(alloc, journal, capacity) {
-        Ok(pool) => Ok(pool),
+        Ok(pool) => Ok(Tx::new(alloc, pool, 4)),
         Err(_) => Err(PostError::OutOfMemory.into()),
     }
 }
 
-// An octet of each page.
-fn shown(alloc: Global, pool: &mut Pool<MemErase>) -> Result<[u8; 4], FetchError> {
+// The same, of a disk that is opened.
+pub(crate) fn opened(alloc: Global, disk: MemErase, capacity: usize) -> Result<Tx<MemErase>, Fail> {
+    match Journal::open(alloc, disk) {
+        Ok(journal) => begun(alloc, journal, capacity),
+        Err(refused) => Err(refused.error.into()),
+    }
+}
+
+// So many of the first pages, filled with an octet.
+fn numbered(
+    alloc: Global,
+    homes: u64,
+    count: u64,
+    octet: u8,
+) -> Result<Vec<(u64, Page)>, AllocError>
+    ensures below { IfOk result (λ v. AreBelow homes (pages_of v.items)) }
+    ensures distinct { IfOk result (λ v. AreDistinct (pages_of v.items)) }
+{
+    let mut images = Vec::new(alloc);
+    for n in 0..count.min(homes) {
+        images.push((n, filled(alloc, octet)?))?;
+    }
+    Ok(images)
+}
+
+// A refusal of a page, in the list of all.
+fn told(refusal: PageError) -> JournalError {
+    match refusal {
+        PageError::Fault => JournalError::Fault,
+        PageError::NeedsRecovery => JournalError::NeedsRecovery,
+        PageError::TooManyImages => JournalError::TooManyImages,
+        PageError::PagesFull => JournalError::PagesFull,
+        PageError::OutOfMemory => JournalError::OutOfMemory,
+    }
+}
+
+fn set(alloc: Global, tx: &mut Tx<MemErase>, n: u64, octet: u8) -> Result<(), JournalError> {
+    if n >= tx.pool().home_pages() {
+        return Err(JournalError::PagesFull);
+    }
+    let page = filled(alloc, octet)?;
+    tx.set(n, page).map_err(told)
+}
+
+fn lay(
+    alloc: Global,
+    tx: &mut Tx<MemErase>,
+    count: u64,
+    octet: u8,
+    unused: u64,
+) -> Result<(), JournalError> {
+    let images = numbered(alloc, tx.pool().home_pages(), count, octet)?;
+    tx.lay(images, unused).map_err(told)
+}
+
+// Takes a step. It answers a fresh page's number, or 1 where a page was flushed, else 0.
+pub(crate) fn play(alloc: Global, tx: &mut Tx<MemErase>, step: Step) -> Result<u64, JournalError> {
+    match step {
+        Step::Set(n, octet) => set(alloc, tx, n, octet)?,
+        Step::Lay(count, octet, unused) => lay(alloc, tx, count, octet, unused)?,
+        Step::Fresh => return tx.fresh().map_err(told),
+        Step::Begin(next) => tx.begin(next),
+        Step::Commit => tx.commit()?,
+        Step::Flush => return Ok(u64::from(tx.flush_one()?)),
+        Step::Checkpoint => tx.checkpoint()?,
+    }
+    Ok(0)
+}
+
+// An octet of each of the first pages, as they are shown.
+pub(crate) fn shown(tx: &mut Tx<MemErase>) -> Result<[u8; 4], PageError> {
     let mut all = [0u8; 4];
     for (n, octet) in all.iter_mut().enumerate() {
-        if (n as u64) < pool.home_pages() {
-            pool.fetch(alloc, n as u64)?;
-            if let Some(page) = pool.page(n as u64) {
+        if (n as u64) < tx.pool().home_pages() {
+            tx.fetch(n as u64)?;
+            if let Some(page) = tx.page(n as u64) {
                 *octet = page.octets()[7];
             }
         }
@@ -40,128 +125,159 @@ fn shown(alloc: Global, pool: &mut Pool<MemErase>) -> Result<[u8; 4], FetchError
     Ok(all)
 }
 
-// Commits one page, filled with an octet.
-fn commit(alloc: Global, pool: &mut Pool<MemErase>, n: u64, octet: u8) -> Result<(), PostError> {
-    if n >= pool.home_pages() {
-        return Err(PostError::TooManyImages);
+// A step, what it answers, and what is then seen: the first pages, and how many slots are closed, how many pages are
+// dirty, and of how many images are held.
+#[derive(Clone, Copy)]
+struct Row {
+    step: Step,
+    answer: Result<u64, JournalError>,
+    shown: [u8; 4],
+    counts: (usize, usize, usize),
+}
+
+fn after(
+    step: Step,
+    answer: Result<u64, JournalError>,
+    shown: [u8; 4],
+    counts: (usize, usize, usize),
+) -> Row {
+    Row {
+        step,
+        answer,
+        shown,
+        counts,
     }
-    let mut images = Vec::new(alloc);
-    match images.push((n, filled(alloc, octet)?)) {
-        Ok(()) => pool.commit(alloc, images),
-        Err(_) => Err(PostError::OutOfMemory),
+}
+
+// A transaction reads its own writes, begins again without them, and is committed, over two open slots with the same
+// page. The page that was dirty longest is flushed first.
+fn written() -> [Row; 16] {
+    [
+        after(Step::Set(1, 31), Ok(0), [10, 31, 12, 13], (8, 0, 1)),
+        after(Step::Begin(2), Ok(0), OLD, (8, 0, 0)),
+        after(Step::Fresh, Ok(2), OLD, (8, 0, 0)),
+        after(Step::Fresh, Ok(3), OLD, (8, 0, 0)),
+        after(Step::Fresh, Err(JournalError::PagesFull), OLD, (8, 0, 0)),
+        after(Step::Set(1, 31), Ok(0), [10, 31, 12, 13], (8, 0, 1)),
+        after(Step::Set(2, 41), Ok(0), [10, 31, 41, 13], (8, 0, 2)),
+        after(Step::Set(1, 32), Ok(0), [10, 32, 41, 13], (8, 0, 2)),
+        after(Step::Commit, Ok(0), [10, 32, 41, 13], (7, 2, 0)),
+        after(Step::Set(1, 33), Ok(0), [10, 33, 41, 13], (7, 2, 1)),
+        after(Step::Commit, Ok(0), [10, 33, 41, 13], (6, 2, 0)),
+        after(Step::Flush, Ok(1), [10, 33, 41, 13], (6, 1, 0)),
+        after(Step::Set(3, 51), Ok(0), [10, 33, 41, 51], (6, 1, 1)),
+        after(Step::Checkpoint, Ok(0), [10, 33, 41, 51], (8, 0, 1)),
+        after(Step::Flush, Ok(0), [10, 33, 41, 51], (8, 0, 1)),
+        after(Step::Commit, Ok(0), [10, 33, 41, 51], (7, 1, 0)),
+    ]
+}
+
+// Images laid together are all there or none, and images of at most 31 pages are held.
+fn laid() -> [Row; 8] {
+    let many = Err(JournalError::TooManyImages);
+    [
+        after(Step::Lay(31, 60, 31), Ok(0), [60; 4], (8, 0, 31)),
+        after(Step::Lay(32, 61, 32), many, [60; 4], (8, 0, 31)),
+        after(Step::Set(31, 62), many, [60; 4], (8, 0, 31)),
+        after(Step::Lay(31, 63, 40), Ok(0), [63; 4], (8, 0, 31)),
+        after(
+            Step::Lay(1, 64, 41),
+            Err(JournalError::PagesFull),
+            [63; 4],
+            (8, 0, 31),
+        ),
+        after(
+            Step::Fresh,
+            Err(JournalError::PagesFull),
+            [63; 4],
+            (8, 0, 31),
+        ),
+        after(Step::Commit, Ok(0), [63; 4], (7, 31, 0)),
+        after(Step::Lay(2, 65, 3), Ok(0), [65, 65, 63, 63], (7, 31, 2)),
+    ]
+}
+
+// The first step after which something else is seen, in a pool of this capacity. After the last one the disk is
+// opened again: what was committed is shown.
+fn first_wrong(
+    alloc: Global,
+    disk: MemErase,
+    capacity: usize,
+    rows: &[Row],
+    committed: [u8; 4],
+) -> Result<Option<usize>, Fail> {
+    let mut tx = opened(alloc, disk, capacity)?;
+    for (n, row) in rows.iter().enumerate() {
+        let answer = play(alloc, &mut tx, row.step);
+        let seen = shown(&mut tx)?;
+        let counts = (tx.pool().closed(), tx.pool().dirty(), tx.images());
+        if answer != row.answer
+            || seen != row.shown
+            || counts != row.counts
+            || tx.pool().clean() > capacity
+        {
+            return Ok(Some(n));
+        }
+    }
+    let mut again = opened(alloc, tx.into_pool().into_disk(), capacity)?;
+    if shown(&mut again)? != committed {
+        return Ok(Some(rows.len()));
+    }
+    Ok(None)
+}
+
+// A disk with 40 home pages.
+fn wide(alloc: Global) -> Result<MemErase, Fail> {
+    match Journal::create(alloc, MemErase::new(alloc, 305 * PAGE), 40) {
+        Ok(journal) => Ok(journal.into_disk()),
+        Err(refused) => Err(refused.error.into()),
     }
 }
 
 #[test]
-fn pools_of_each_capacity_answer_alike(rt: HostRuntime) -> Result<(), Fail> {
+fn pools_of_each_capacity_show_what_is_written(rt: HostRuntime) -> Result<(), Fail> {
     let alloc = rt.alloc();
     for capacity in [1, 2, 1000] {
-        let mut pool = pooled(alloc, made(alloc)?, capacity)?;
-        assert_eq!(rt; shown(alloc, &mut pool)?, OLD);
-        commit(alloc, &mut pool, 1, 31)?;
-        commit(alloc, &mut pool, 2, 41)?;
-        commit(alloc, &mut pool, 1, 32)?;
-        assert_eq!(rt; (pool.closed(), pool.dirty()), (5, 2));
-        assert_eq!(rt; shown(alloc, &mut pool)?, [10, 32, 41, 13]);
-        // Page 2 was dirty longer than the newest page 1.
-        assert_eq!(rt; pool.flush_one()?, true);
-        assert_eq!(rt; pool.dirty(), 1);
-        assert_eq!(rt; shown(alloc, &mut pool)?, [10, 32, 41, 13]);
-        commit(alloc, &mut pool, 3, 51)?;
-        pool.checkpoint()?;
-        assert_eq!(rt; (pool.closed(), pool.dirty()), (8, 0));
-        assert_eq!(rt; pool.flush_one()?, false);
-        assert_eq!(rt; shown(alloc, &mut pool)?, [10, 32, 41, 51]);
-        let mut again = pooled(alloc, pool.into_disk(), capacity)?;
-        assert_eq!(rt; shown(alloc, &mut again)?, [10, 32, 41, 51]);
+        let wrong = first_wrong(alloc, made(alloc)?, capacity, &written(), [10, 33, 41, 51])?;
+        assert_eq!(rt; wrong, None, "{capacity}");
+        let wrong = first_wrong(alloc, wide(alloc)?, capacity, &laid(), [63; 4])?;
+        assert_eq!(rt; wrong, None, "{capacity}");
     }
     Ok(())
 }
 
-#[test]
-fn eight_commits_of_a_page_are_written_home_once(rt: HostRuntime) -> Result<(), Fail> {
-    let alloc = rt.alloc();
-    let mut pool = pooled(alloc, made(alloc)?, 4)?;
-    for n in 0..8u8 {
-        commit(alloc, &mut pool, 1, 30 + n)?;
-    }
-    assert_eq!(rt; (pool.closed(), pool.dirty()), (0, 1));
-    let ninth = commit(alloc, &mut pool, 2, 40);
-    assert_eq!(rt; ninth, Err(PostError::JournalFull));
-    assert_eq!(rt; pool.flush_one()?, true);
-    assert_eq!(rt; pool.flush_one()?, false);
-    assert_eq!(rt; shown(alloc, &mut pool)?, [10, 37, 12, 13]);
-    let disk = pool.into_disk();
-    let mut home = 0;
-    for call in disk.calls() {
-        if let Call::Write(written) = call {
-            if written.at() == 266 * PAGE {
-                home = written.octets().first().copied().unwrap_or(0);
-            }
-        }
-    }
-    assert_eq!(rt; home, 37);
-    // The opening's two syncs, eight commits of three writes and two syncs, and one write home.
-    assert_eq!(rt; disk.calls().len(), 15 + 2 + 8 * 5 + 1);
-    Ok(())
-}
-
-// The pages after each of two commits.
-const COMMITTED: [[u8; 4]; 3] = [OLD, [10, 21, 12, 13], [10, 31, 12, 13]];
-
-// Two commits of page 1 with a flush between them, and a checkpoint. Counts the commits that were done.
-fn run(alloc: Global, pool: &mut Pool<MemErase>, done: &mut usize) -> Result<(), JournalError> {
-    for octet in [21, 31] {
-        commit(alloc, pool, 1, octet)?;
-        *done = done.saturating_add(1);
-        pool.flush_one()?;
-    }
-    Ok(pool.checkpoint()?)
-}
-
-// The n-th of the failures of a run: 10 writes, and then 7 syncs after the two of the opening.
-fn failure_of_a_run(alloc: Global, n: u64, kind: u8) -> Result<Failure, Fail> {
-    if n < 10 {
-        Ok(Failure::Write(n, torn(alloc, kind)?))
-    } else {
-        Ok(Failure::Sync(n - 8))
-    }
+// How many writes home a disk was given, and how many calls in all.
+fn calls_of(disk: &MemErase) -> (usize, usize) {
+    let homes = disk.calls().iter().filter(|call| match call {
+        Call::Write(written) => written.at() >= 265 * PAGE,
+        Call::Sync => false,
+    });
+    (homes.count(), disk.calls().len())
 }
 
 #[test]
-fn a_run_of_commits_that_is_stopped_leaves_each_whole(rt: HostRuntime) -> Result<(), Fail> {
+fn a_page_is_written_home_once_and_lent_from_memory(rt: HostRuntime) -> Result<(), Fail> {
     let alloc = rt.alloc();
-    for n in 0..17u64 {
-        for kind in 0..KINDS {
-            let disk = scripted(alloc, made(alloc)?, failure_of_a_run(alloc, n, kind)?)?;
-            let mut pool = pooled(alloc, disk, 2)?;
-            let mut done = 0;
-            let stopped = run(alloc, &mut pool, &mut done);
-            assert_eq!(rt; stopped, Err(JournalError::Fault), "{n}, {kind}");
-            assert_eq!(rt; shown(alloc, &mut pool), Err(FetchError::NeedsRecovery));
-            let disk = pool.into_disk();
-            for choice in 0..KINDS {
-                let left = disk.crash(&all_torn(alloc, choice, 4)?)?;
-                let left = shown(alloc, &mut pooled(alloc, left, 2)?)?;
-                let is_left = COMMITTED
-                    .iter()
-                    .skip(done)
-                    .take(2)
-                    .any(|pages| *pages == left);
-                assert!(rt; is_left, "{n}, {kind}, {choice}");
-            }
-        }
-    }
-    Ok(())
-}
-
-#[test]
-fn a_read_that_fails_leaves_the_pool(rt: HostRuntime) -> Result<(), Fail> {
-    let alloc = rt.alloc();
-    // The opening reads the identity page and eight gates: the next read is of a page.
+    // The opening reads the identity page and eight gates: the next read is of a page, and fails.
     let disk = scripted(alloc, made(alloc)?, Failure::Read(9))?;
-    let mut pool = pooled(alloc, disk, 4)?;
-    assert_eq!(rt; shown(alloc, &mut pool), Err(FetchError::Fault));
-    assert_eq!(rt; shown(alloc, &mut pool)?, OLD);
+    let mut tx = opened(alloc, disk, 4)?;
+    for n in 0..8u8 {
+        play(alloc, &mut tx, Step::Set(1, 30 + n))?;
+        play(alloc, &mut tx, Step::Commit)?;
+    }
+    if tx.pool().home_pages() == 4 {
+        assert_eq!(rt; tx.fetch(1), Ok(()));
+        assert_eq!(rt; tx.fetch(2), Err(PageError::Fault));
+    }
+    play(alloc, &mut tx, Step::Set(2, 40))?;
+    let ninth = play(alloc, &mut tx, Step::Commit);
+    assert_eq!(rt; ninth, Err(JournalError::JournalFull));
+    assert_eq!(rt; shown(&mut tx)?, [10, 37, 12, 13]);
+    assert_eq!(rt; play(alloc, &mut tx, Step::Flush), Ok(1));
+    assert_eq!(rt; play(alloc, &mut tx, Step::Flush), Ok(0));
+    // Four pages and eleven other calls of the creation, the opening's two syncs, eight commits of three pieces and
+    // two syncs, and one write home.
+    let disk = tx.into_pool().into_disk();
+    assert_eq!(rt; calls_of(&disk), (5, 15 + 2 + 8 * 5 + 1));
     Ok(())
 }

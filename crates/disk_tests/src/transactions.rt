@@ -1,115 +1,133 @@
-// Transactions over a pool on a disk in memory.
-use crate::journal::{KINDS, OLD, PAGE, all_torn, filled, made, scripted, torn};
-use crate::pool::pooled;
+//! Transactions over a pool on a disk in memory that are stopped at each call.
+use crate::journal::{KINDS, OLD, all_torn, made, scripted, torn};
+use crate::pool::{Step, begun, opened, play, shown};
 use disk_memory::{Failure, MemErase};
+use disk_models::EraseDisk;
 use page_journal::Journal;
-use page_tx::{PageError, Pages, Tx};
-use std::alloc::Global;
+use std::alloc::{AllocError, Global};
 use std::test::Fail;
 
-// Sets a page, filled with an octet.
-fn set(alloc: Global, tx: &mut Tx<MemErase>, n: u64, octet: u8) -> Result<(), PageError> {
-    if n >= tx.pool().home_pages() {
-        return Err(PageError::PagesFull);
-    }
-    let page = filled(alloc, octet)?;
-    tx.set(n, page)
+// Steps that are stopped, over a disk on which others were taken before, and the pages after each of their commits.
+#[derive(Clone, Copy)]
+struct Run<'a> {
+    before: &'a [Step],
+    steps: &'a [Step],
+    states: &'a [[u8; 4]],
+    // At how many reads, syncs and writes it can be stopped.
+    calls: (u64, u64, u64),
 }
 
-// An octet of each of the first pages, as they are shown.
-fn shown(tx: &mut Tx<MemErase>) -> Result<[u8; 4], PageError> {
-    let mut all = [0u8; 4];
-    for (n, octet) in all.iter_mut().enumerate() {
-        if (n as u64) < tx.pool().home_pages() {
-            tx.fetch(n as u64)?;
-            if let Some(page) = tx.page(n as u64) {
-                *octet = page.octets()[7];
-            }
+// Opens a disk and takes steps until one is refused. Counts the commits that were done.
+fn played(
+    alloc: Global,
+    disk: MemErase,
+    steps: &[Step],
+    done: &mut usize,
+) -> Result<MemErase, Fail> {
+    let journal = match Journal::open(alloc, disk) {
+        Ok(journal) => journal,
+        Err(refused) => return Ok(refused.disk),
+    };
+    let mut tx = begun(alloc, journal, 2)?;
+    for step in steps {
+        if play(alloc, &mut tx, *step).is_err() {
+            break;
+        }
+        if matches!(step, Step::Commit) {
+            *done = done.saturating_add(1);
         }
     }
-    Ok(all)
+    Ok(tx.into_pool().into_disk())
 }
 
-#[test]
-fn a_transaction_reads_its_own_writes(rt: HostRuntime) -> Result<(), Fail> {
-    let alloc = rt.alloc();
-    let mut tx = Tx::new(alloc, pooled(alloc, made(alloc)?, 2)?, 4);
-    assert_eq!(rt; shown(&mut tx)?, OLD);
-    set(alloc, &mut tx, 1, 31)?;
-    assert_eq!(rt; shown(&mut tx)?, [10, 31, 12, 13]);
-    tx.begin(4);
-    assert_eq!(rt; (shown(&mut tx)?, tx.images()), (OLD, 0));
-    set(alloc, &mut tx, 1, 31)?;
-    set(alloc, &mut tx, 2, 41)?;
-    set(alloc, &mut tx, 1, 32)?;
-    assert_eq!(rt; (tx.images(), tx.pool().closed()), (2, 8));
-    tx.commit()?;
-    assert_eq!(rt; (tx.images(), tx.pool().closed()), (0, 7));
-    assert_eq!(rt; shown(&mut tx)?, [10, 32, 41, 13]);
-    set(alloc, &mut tx, 3, 51)?;
-    assert_eq!(rt; tx.flush_one()?, true);
-    tx.checkpoint()?;
-    assert_eq!(rt; (tx.images(), tx.pool().closed()), (1, 8));
-    assert_eq!(rt; shown(&mut tx)?, [10, 32, 41, 51]);
-    let mut again = Tx::new(alloc, pooled(alloc, tx.into_pool().into_disk(), 2)?, 4);
-    assert_eq!(rt; shown(&mut again)?, [10, 32, 41, 13]);
-    Ok(())
+// The n-th read, sync or write fails. A write is torn in one of the ways.
+fn failure(alloc: Global, kind: u8, n: u64) -> Result<Failure, AllocError> {
+    Ok(match kind {
+        0 => Failure::Read(n),
+        1 => Failure::Sync(n),
+        _ => Failure::Write(n, torn(alloc, kind.saturating_sub(2))?),
+    })
 }
 
-#[test]
-fn fresh_pages_are_given_once(rt: HostRuntime) -> Result<(), Fail> {
-    let alloc = rt.alloc();
-    let mut tx = Tx::new(alloc, pooled(alloc, made(alloc)?, 2)?, 2);
-    assert_eq!(rt; (tx.fresh(), tx.fresh()), (Ok(2), Ok(3)));
-    assert_eq!(rt;
-        (tx.fresh(), tx.next_page()),
-        (Err(PageError::PagesFull), 4)
-    );
-    tx.begin(3);
-    assert_eq!(rt; tx.fresh(), Ok(3));
-    Ok(())
-}
-
-#[test]
-fn a_32nd_page_is_refused(rt: HostRuntime) -> Result<(), Fail> {
-    let alloc = rt.alloc();
-    let disk = match Journal::create(alloc, MemErase::new(alloc, 305 * PAGE), 40) {
-        Ok(journal) => journal.into_disk(),
-        Err(refused) => return Err(refused.error.into()),
-    };
-    let mut tx = Tx::new(alloc, pooled(alloc, disk, 2)?, 0);
-    for n in 0..31u64 {
-        set(alloc, &mut tx, n, 60)?;
+// Whether after each crash the pages are shown of so many commits, or with the next one.
+fn is_left(alloc: Global, disk: &MemErase, run: &Run<'_>, done: usize) -> Result<bool, Fail> {
+    for choice in 0..KINDS {
+        let left = disk.crash(&all_torn(alloc, choice, 8)?)?;
+        let left = shown(&mut opened(alloc, left, 2)?)?;
+        let mut states = run.states.iter().skip(done).take(2);
+        if !states.any(|pages| *pages == left) {
+            return Ok(false);
+        }
     }
-    assert_eq!(rt; set(alloc, &mut tx, 31, 61), Err(PageError::TooManyImages));
-    assert_eq!(rt; set(alloc, &mut tx, 30, 62), Ok(()));
-    assert_eq!(rt; tx.images(), 31);
-    tx.commit()?;
-    assert_eq!(rt; shown(&mut tx)?, [60; 4]);
-    Ok(())
+    Ok(true)
+}
+
+// At how many calls of a kind the run was stopped. Nothing where another page than those of the commits was left.
+fn stops(alloc: Global, disk: &MemErase, run: &Run<'_>, kind: u8) -> Result<Option<u64>, Fail> {
+    for n in 0..100u64 {
+        let disk = scripted(alloc, disk.copy()?, failure(alloc, kind, n)?)?;
+        let mut done = 0;
+        let disk = played(alloc, disk, run.steps, &mut done)?;
+        if disk.faults() == 0 {
+            return Ok(Some(n));
+        }
+        if !is_left(alloc, &disk, run, done)? {
+            return Ok(None);
+        }
+    }
+    Ok(None)
 }
 
 #[test]
-fn a_commit_that_is_stopped_is_there_or_not(rt: HostRuntime) -> Result<(), Fail> {
+fn a_run_that_is_stopped_leaves_each_commit_whole(rt: HostRuntime) -> Result<(), Fail> {
     let alloc = rt.alloc();
-    // A header, two images and a gate.
-    for n in 0..4u64 {
-        for kind in 0..KINDS {
-            let disk = scripted(alloc, made(alloc)?, Failure::Write(n, torn(alloc, kind)?))?;
-            let mut tx = Tx::new(alloc, pooled(alloc, disk, 2)?, 4);
-            set(alloc, &mut tx, 1, 21)?;
-            set(alloc, &mut tx, 2, 22)?;
-            assert!(rt; tx.commit().is_err());
-            let disk = tx.into_pool().into_disk();
-            for choice in 0..KINDS {
-                let left = disk.crash(&all_torn(alloc, choice, 4)?)?;
-                let mut again = Tx::new(alloc, pooled(alloc, left, 2)?, 4);
-                let left = shown(&mut again)?;
-                assert!(rt;
-                    left == OLD || left == [10, 21, 22, 13],
-                    "{n}, {kind}, {choice}"
-                );
-            }
+    let runs = [
+        // Commits of one page, each flushed, and a checkpoint.
+        Run {
+            before: &[],
+            steps: &[
+                Step::Set(1, 21),
+                Step::Commit,
+                Step::Flush,
+                Step::Set(1, 31),
+                Step::Commit,
+                Step::Flush,
+                Step::Checkpoint,
+            ],
+            states: &[OLD, [10, 21, 12, 13], [10, 31, 12, 13]],
+            calls: (9, 9, 10),
+        },
+        // One commit of two pages.
+        Run {
+            before: &[],
+            steps: &[Step::Set(1, 21), Step::Set(2, 22), Step::Commit],
+            states: &[OLD, [10, 21, 22, 13]],
+            calls: (9, 4, 4),
+        },
+        // An opening with three open slots, two of them with the same page.
+        Run {
+            before: &[
+                Step::Set(1, 31),
+                Step::Commit,
+                Step::Set(2, 41),
+                Step::Commit,
+                Step::Set(1, 32),
+                Step::Commit,
+            ],
+            steps: &[],
+            states: &[[10, 32, 41, 13]],
+            calls: (21, 5, 6),
+        },
+    ];
+    for run in &runs {
+        let disk = played(alloc, made(alloc)?, run.before, &mut 0)?;
+        for kind in 0..KINDS + 2 {
+            let wanted = match kind {
+                0 => run.calls.0,
+                1 => run.calls.1,
+                _ => run.calls.2,
+            };
+            assert_eq!(rt; stops(alloc, &disk, run, kind)?, Some(wanted), "{kind}");
         }
     }
     Ok(())
