@@ -3,4 +3,5 @@ pub mod Kept
 pub mod Places
 pub mod Entries
 pub mod Points
+pub mod Climbing
 pub mod api

@@ -1,7 +1,7 @@
 -- What looks for the next key, and for the versions of a key, answer.
-use Rattle.std.specs.Prelude.{◌≡◌, ℕ, ◌<◌, ◌≤◌, ◌&&◌, Bool, List, Option, Some, None, filter, nat_eq, nat_le, nat_lt}
+use Rattle.std.specs.Prelude.{◌≡◌, ℕ, suc, ◌<◌, ◌≤◌, ◌&&◌, Bool, List, Option, Some, None, filter, nat_eq, nat_le, nat_lt}
 use Rattle.version_model.specs.Versions.{Version, Found, Answers}
-use Rattle.version_model.specs.Ranges.{end_or}
+use Rattle.version_model.specs.Ranges.{key_end, end_or}
 
 -- no key from `from` on and below `to` has a value as of the stamp
 abbrev pub NoneWithin : List Version → ℕ → ℕ → ℕ → Type 0
@@ -15,6 +15,24 @@ IsLive versions s key = (found : Found) × Answers versions key s (Some found)
 abbrev pub IsLeastLive : List Version → ℕ → ℕ → Option ℕ → Type 0
 IsLeastLive versions s from None = (key : ℕ) → from ≤ key → Answers versions key s None
 IsLeastLive versions s from (Some least) = (from ≤ least) × IsLive versions s least × NoneWithin versions s from least
+
+-- what a look for the next key answers: a key and what it has; or a higher key up to which none has a value; or that none has
+pub data Reached : Type 0 where
+  At : (key : ℕ) (found : Found) → Reached
+  Past : (high : ℕ) → Reached
+  End : Reached
+
+-- from a key on, itself included, as of the stamp: the least key that has a value, with that value; or none below the higher key that is told; or none at all
+abbrev pub IsReached : List Version → ℕ → ℕ → Reached → Type 0
+IsReached versions s from (At key found) = (from ≤ key) × Answers versions key s (Some found) × NoneWithin versions s from key
+IsReached versions s from (Past high) = (from < high) × NoneWithin versions s from high
+IsReached versions s from End = NoneWithin versions s from key_end
+
+-- the keys below this one are told of
+abbrev pub reached_to : Reached → ℕ
+reached_to (At key found) = suc key
+reached_to (Past high) = high
+reached_to End = key_end
 
 -- is it of this key, from this stamp on and before that one?
 abbrev pub is_of : ℕ → ℕ → ℕ → Version → Bool

@@ -6,16 +6,17 @@ ghost use Rattle.version_model.specs.declared.part.Part.{Part};
 ghost use Rattle.version_model.specs.declared.part.PartKind.TheVariants.{LeafBlock, ColumnBlock};
 ghost use Rattle.version_model.specs.declared.child.Child.{Child};
 ghost use Rattle.version_model.specs.Versions.{Version, Has, AsOf, Found, Answers, IsRising, IsAbove, Adds, AddsLater};
-ghost use Rattle.version_model.specs.Ranges.{Range, IsKeyOf, IsPoint, until, since, below, from_key, StartsBefore};
+ghost use Rattle.version_model.specs.Ranges.{Range, IsKeyOf, IsPoint, until, since, below, from_key, StartsBefore, end_or};
 ghost use Rattle.version_model.specs.Shows.{Shows, IsBefore, IsFrom, IsBelow, IsFromKey};
-ghost use Rattle.version_model.specs.Looks.{NoneWithin, is_of};
+ghost use Rattle.version_model.specs.Looks.{NoneWithin, Reached, IsReached, reached_to, is_of, IsPart};
 ghost use Rattle.version_model.specs.Blocks.{BlockNode, OldLeaf, OldColumn, PartStands, Grows};
 ghost use Rattle.version_model.specs.Pages.{Keys, KeyNode, PageNode, PastStands, Stands, Store, StandsIn, TreeStands, all_keys, past_range, current_range};
 ghost use Rattle.version_model.specs.Inserts.{KeepsUnder, Splits, Writes};
 ghost use Rattle.version_model.specs.Sizes.{octets, octets_below, IsSplitPoint, IsSingle, AreSmall};
 ghost use Rattle.version_model.specs.Counts.{PartCounts, NodeCounts, count_in};
 
-/// A leaf answers as all versions do: a look-up at a point of its range, that no key has a value, and the versions of a key.
+/// A leaf answers as all versions do: a look-up at a point of its range, that no key has a value, the next key within its
+/// keys, and the versions of a key up to a stamp within its stamps.
 pub fn leaves_answer_as_all_do()
     ensures look_up { (all leaf : List Version) (r : Range) (key s : ℕ) (answer : Option Found) → Shows all r leaf → IsPoint r key s
         → Answers leaf key s answer → Answers all key s answer }
@@ -23,6 +24,10 @@ pub fn leaves_answer_as_all_do()
         → NoneWithin leaf s from to → NoneWithin all s from to }
     ensures part { (all leaf : List Version) (r : Range) (key from : ℕ) → Shows all r leaf → IsRising all → IsRising leaf → IsPoint r key from
         → filter (is_of key from r.end) leaf ≡ filter (is_of key from r.end) all }
+    ensures next { (all leaf : List Version) (r : Range) (s from : ℕ) (reached : Reached) → Shows all r leaf → IsPoint r from s → reached_to reached ≤ r.high
+        → IsReached leaf s from reached → IsReached all s from reached }
+    ensures told { (all leaf : List Version) (r : Range) (key from : ℕ) (told : Option ℕ) → Shows all r leaf → IsRising all → IsRising leaf → IsPoint r key from
+        → from < end_or told → end_or told ≤ r.end → IsPart all key from (filter (is_of key from (end_or told)) leaf) told }
 {}
 
 /// What a leaf shows is shown by both sides of a time split, by both sides of a key split, and of fewer keys and an
@@ -53,6 +58,9 @@ pub fn answers_stay()
     ensures look_up { (all new : List Version) (s key at : ℕ) (answer : Option Found) → AddsLater all s new → at ≤ s → Answers all key at answer → Answers new key at answer }
     ensures none { (all new : List Version) (s at from to : ℕ) → AddsLater all s new → at ≤ s → NoneWithin all at from to → NoneWithin new at from to }
     ensures one { (all new : List Version) (s : ℕ) (v : Version) → Adds all v new → s < v.stamp → AddsLater all s new }
+    ensures next { (all new : List Version) (s at from : ℕ) (reached : Reached) → AddsLater all s new → at ≤ s → IsReached all at from reached → IsReached new at from reached }
+    ensures part { (all new versions : List Version) (s key from : ℕ) (told : Option ℕ) → AddsLater all s new → IsRising all → IsRising new → end_or told ≤ s + 1
+        → IsPart all key from versions told → IsPart new key from versions told }
 {}
 
 /// Two lists whose stamps rise, and which have the same versions, are one list.

@@ -1,6 +1,6 @@
 //! Leaves in memory.
 
-ghost use Rattle.std.specs.Prelude.{◌≡◌, ◌<◌, ◌≤◌, ◌↔◌, ◌+◌, ◌^◌, length, IsTrue, List, [], ◌∷◌, ◌++◌, option_map, IfOk, OnOk, OnErr, filter};
+ghost use Rattle.std.specs.Prelude.{◌≡◌, ◌<◌, ◌≤◌, ◌↔◌, ◌+◌, ◌^◌, length, IsTrue, List, [], ◌∷◌, ◌++◌, option_map, IsSome, IfSome, IfOk, OnOk, OnErr, filter};
 ghost use Rattle.version_model.specs.Versions.{Version, Answers, IsRising, IsAbove, found_at};
 ghost use Rattle.version_model.specs.Entries.{version_of, versions_of};
 ghost use Rattle.version_model.specs.Ranges.{end_or};
@@ -11,7 +11,7 @@ ghost use Rattle.version_model.specs.Sizes.{octets, octets_below, IsSplitPoint};
 use crate::copying::{copies, copies_of};
 use crate::entry::Entry;
 use crate::finding::{least_live, place_at};
-use crate::sizing::{are_before, entries_octets, point_of};
+use crate::sizing::{are_before, are_rising, are_within, entries_octets, point_of};
 use crate::splitting::{copies_since, parted};
 use crate::stamp::Stamp;
 use route_model::Key;
@@ -40,6 +40,17 @@ impl Leaf {
         Leaf {
             entries: Vec::new(alloc),
         }
+    }
+
+    /// The leaf of entries whose stamps rise and that take at most `room` octets; none where they don't.
+    pub fn of(entries: Vec<Entry>, room: u64) -> Option<Leaf>
+        ensures leaf { IfSome result (λ leaf. leaf ≡ versions_of entries.items) }
+        ensures exactly { IsSome result ↔ (IsRising (versions_of entries.items) × (octets (versions_of entries.items) ≤ room)) }
+    {
+        if !are_rising(&entries) || !are_within(&entries, room) {
+            return None;
+        }
+        Some(Leaf { entries })
     }
 
     /// The value that the key has as of the stamp, and the stamp of its version; none where it has none, or has ended.
@@ -90,6 +101,7 @@ impl Leaf {
     /// The entries, in the order of their stamps.
     pub fn entries(&self) -> &[Entry]
         ensures entries { versions_of result.now ≡ self.now }
+        ensures rising { IsRising self.now }
     {
         &self.entries
     }

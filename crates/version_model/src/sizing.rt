@@ -1,6 +1,6 @@
 //! What entries take in a leaf, and the key at which they are split.
 
-ghost use Rattle.std.specs.Prelude.{◌≡◌, ◌<◌, ◌^◌, ◌↔◌, IsTrue};
+ghost use Rattle.std.specs.Prelude.{◌≡◌, ◌<◌, ◌≤◌, ◌^◌, ◌↔◌, IsTrue};
 ghost use Rattle.version_model.specs.Versions.{IsAbove, IsRising};
 ghost use Rattle.version_model.specs.Entries.{versions_of};
 ghost use Rattle.version_model.specs.Sizes.{octets, octets_below, IsSplitPoint};
@@ -34,6 +34,33 @@ fn entries_octets_below(entries: &[Entry], key: Key) -> u64
         }
     }
     sum
+}
+
+/// Do the entries take at most this many octets?
+pub fn are_within(entries: &[Entry], room: u64) -> bool
+    ensures { IsTrue result ↔ (octets (versions_of entries.now) ≤ room) }
+{
+    let mut left = room;
+    for entry in entries {
+        let value = value_octets(&entry.value);
+        if left < 59 || left - 59 < value {
+            return false;
+        }
+        left = left - 59 - value;
+    }
+    true
+}
+
+/// Do the stamps of the entries rise?
+pub fn are_rising(entries: &[Entry]) -> bool
+    ensures { IsTrue result ↔ IsRising (versions_of entries.now) }
+{
+    for i in 1..entries.len() {
+        if entries[i - 1].stamp >= entries[i].stamp {
+            return false;
+        }
+    }
+    true
 }
 
 /// The least key of an entry with this many octets below it.

@@ -1,7 +1,9 @@
 -- What was answered as of a stamp stays the answer when only later versions come.
-use Rattle.std.proofs.Common.{ℕ, ◌<◌, ◌≤◌, inl, inr, List, Option, Some, None, ap, arith}
-use Rattle.version_model.specs.Versions.{Version, AsOf, Found, found_version, Answers, Adds, AddsLater}
-use Rattle.version_model.specs.Looks.{NoneWithin}
+use Rattle.std.proofs.Common.{◌≡◌, ℕ, ◌+◌, ◌<◌, ◌≤◌, inl, inr, List, filter, Option, Some, None, ap, ◌∙◌, arith}
+use Rattle.version_model.specs.Versions.{Version, AsOf, Found, found_version, Answers, IsRising, Adds, AddsLater}
+use Rattle.version_model.specs.Ranges.{key_end, end_or}
+use Rattle.version_model.specs.Looks.{NoneWithin, Reached, At, Past, End, IsReached, is_of, IsPart}
+use Rattle.version_model.proofs.api.LooksShown.{rising_one, filter_has, has_filter, filter_rising, is_of_true}
 
 module _ (all new : List Version) (s : ℕ) (adds : AddsLater all s new) where
   pub AsOf-stays : (key at : ℕ) (v : Version) → at ≤ s → AsOf all key at v → AsOf new key at v
@@ -32,6 +34,26 @@ module _ (all new : List Version) (s : ℕ) (adds : AddsLater all s new) where
 
   pub none_stays : (at from to : ℕ) → at ≤ s → NoneWithin all at from to → NoneWithin new at from to
   none_stays at from to upto none = λ key above below. answers_stay key at None upto (none key above below)
+
+  pub next_stays : (at from : ℕ) (reached : Reached) → at ≤ s → IsReached all at from reached → IsReached new at from reached
+  next_stays at from (At key found) upto h = (h.0, answers_stay key at (Some found) upto h.1, none_stays at from key upto h.2)
+  next_stays at from (Past high) upto h = (h.0, none_stays at from high upto h.1)
+  next_stays at from End upto h = none_stays at from key_end upto h
+
+  -- the versions of a key before a stamp that no later version is before
+  filter_stays : (key from to : ℕ) → IsRising all → IsRising new → to ≤ s + 1 → filter (is_of key from to) all ≡ filter (is_of key from to) new
+  filter_stays key from to rising rising_new upto =
+      let p = is_of key from to in
+      rising_one (filter p all) (filter p new) (filter_rising p all rising) (filter_rising p new rising_new)
+      (λ x h. (let i = filter_has p all x h in has_filter p new x (adds.keeps x i.0) i.1))
+      (λ x h. (let i = filter_has p new x h in
+      elim (adds.later x i.0) [
+        | inl old ↦ has_filter p all x old i.1
+        | inr late ↦ absurd (omega (arith, late, upto, (is_of_true key from to x i.1).2))
+      ]))
+
+  pub part_stays : (key from : ℕ) (versions : List Version) (told : Option ℕ) → IsRising all → IsRising new → end_or told ≤ s + 1 → IsPart all key from versions told → IsPart new key from versions told
+  part_stays key from versions told rising rising_new upto h = record { above = h.above; are = h.are ∙ filter_stays key from (end_or told) rising rising_new upto }
 
 -- a version that is later than the stamp
 pub Adds-later : (all new : List Version) (v : Version) (s : ℕ) → Adds all v new → s < v.stamp → AddsLater all s new

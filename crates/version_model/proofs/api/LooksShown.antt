@@ -1,11 +1,11 @@
 -- What a leaf answers to looks is what all versions answer.
-use Rattle.std.proofs.Common.{◌≡◌, ℕ, zero, suc, ◌<◌, ◌≤◌, ◌⊎◌, inl, inr, List, [], ◌∷◌, filter, Some, None, slice_get, refl, sym, ◌∙◌, ap, arith, Bool, true, false, nat_le, nat_lt, nat_eq, ◌&&◌}
+use Rattle.std.proofs.Common.{◌≡◌, Option, ℕ, zero, suc, ◌<◌, ◌≤◌, ◌⊎◌, inl, inr, List, [], ◌∷◌, filter, Some, None, slice_get, refl, sym, ◌∙◌, ap, arith, Bool, true, false, nat_le, nat_lt, nat_eq, ◌&&◌}
 use Rattle.std.proofs.lemmas.Bool.{and_parts, and_from, eqb-true, leb-true, ltb-true, eq-eqb, le-leb, lt-ltb, cases_Bool}
 use Rattle.std.proofs.lemmas.Option.{same_Some}
 use Rattle.version_model.specs.Versions.{Version, Has, IsRising}
-use Rattle.version_model.specs.Ranges.{Range, IsKeyOf}
+use Rattle.version_model.specs.Ranges.{Range, IsKeyOf, IsPoint, key_end, until, end_or}
 use Rattle.version_model.specs.Shows.{Shows}
-use Rattle.version_model.specs.Looks.{NoneWithin, is_of}
+use Rattle.version_model.specs.Looks.{NoneWithin, Reached, At, Past, End, IsReached, reached_to, is_of, IsPart}
 use Rattle.version_model.proofs.api.Pushed.{Has-nil}
 use Rattle.version_model.proofs.api.Shown.{answers_shown}
 
@@ -25,7 +25,7 @@ Has-cases v vs x h = at_cases v vs x h.place h.is
 rising_tail : (v : Version) (vs : List Version) → IsRising (v ∷ vs) → IsRising vs
 rising_tail v vs h = record { rises = λ i j x y lt at_i at_j. h.rises (suc i) (suc j) x y (omega arith) at_i at_j }
 
-above_head : (v : Version) (vs : List Version) (x : Version) → IsRising (v ∷ vs) → Has vs x → v.stamp < x.stamp
+pub above_head : (v : Version) (vs : List Version) (x : Version) → IsRising (v ∷ vs) → Has vs x → v.stamp < x.stamp
 above_head v vs x rising h = rising.rises 0 (suc h.place) v x (omega arith) refl h.is
 
 -- the first of two rising lists with the same members are one
@@ -90,7 +90,7 @@ rises_cons v vs rising above zero (suc j) x y lt at_i at_j = (let e = same_Some 
 rises_cons v vs rising above (suc i) (suc j) x y lt at_i at_j = rising.rises i j x y (omega arith) at_i at_j
 
 -- the first of a rising list is below all that passes in the rest
-rising_cons : (v : Version) (vs : List Version) → IsRising vs → ((x : Version) → Has vs x → v.stamp < x.stamp) → IsRising (v ∷ vs)
+pub rising_cons : (v : Version) (vs : List Version) → IsRising vs → ((x : Version) → Has vs x → v.stamp < x.stamp) → IsRising (v ∷ vs)
 rising_cons v vs rising above = record { rises = λ i j x y lt at_i at_j. rises_cons v vs rising above i j x y lt at_i at_j }
 
 filter-rising_cons : (p : Version → Bool) (v : Version) (vs : List Version) (b : Bool) → p v ≡ b → IsRising (v ∷ vs) → IsRising (filter p vs) → IsRising (filter p (v ∷ vs))
@@ -131,3 +131,30 @@ module _ (all : List Version) (r : Range) (leaf : List Version) (shows : Shows a
   -- a key of the range that has no value in the leaf has none
   pub none_shown : (s from to : ℕ) → r.low ≤ from → to ≤ r.high → r.start ≤ s → s < r.end → NoneWithin leaf s from to → NoneWithin all s from to
   none_shown s from to low high start end none = λ key above below. answers_shown all r leaf shows key s None (record { low = omega arith; high = omega arith }) start end (none key above below)
+
+  -- what a look for the next key answers in the leaf within the range's keys, all versions answer
+  pub next_shown : (s from : ℕ) (reached : Reached) → IsPoint r from s → reached_to reached ≤ r.high → IsReached leaf s from reached → IsReached all s from reached
+  next_shown s from (At key found) point within h = (
+    h.0,
+    answers_shown all r leaf shows key s (Some found) (record { low = omega (arith, point.low, h.0); high = omega (arith, within) }) point.start point.end h.1,
+    none_shown s from key point.low (omega (arith, within)) point.start point.end h.2,
+  )
+  next_shown s from (Past high) point within h = (h.0, none_shown s from high point.low within point.start point.end h.1)
+  next_shown s from End point within h = none_shown s from key_end point.low within point.start point.end h
+
+-- a leaf that shows a range shows it up to an earlier end
+until_shown : (all : List Version) (r : Range) (leaf : List Version) (at : ℕ) → at ≤ r.end → Shows all r leaf → Shows all (until r at) leaf
+until_shown all r leaf at upto shows = record {
+  whole = λ v h k from below. shows.whole v h (record { low = k.low; high = k.high }) from (omega arith);
+  true_ones = λ v h k below. shows.true_ones v h (record { low = k.low; high = k.high }) (omega arith);
+  copies = λ v h k before. shows.copies v h (record { low = k.low; high = k.high }) before;
+  spanning = λ v k before h some. shows.spanning v (record { low = k.low; high = k.high }) before h some;
+}
+
+-- the versions of a key in the leaf, from a stamp of its range on up to one that it tells, are those of the key
+pub told_shown : (all : List Version) (r : Range) (leaf : List Version) (shows : Shows all r leaf) (key from : ℕ) (told : Option ℕ) → IsPoint r key from → IsRising all → IsRising leaf
+    → from < end_or told → end_or told ≤ r.end → IsPart all key from (filter (is_of key from (end_or told)) leaf) told
+told_shown all r leaf shows key from told point rising rising_leaf above within = record {
+  above = above;
+  are = part_shown all (until r (end_or told)) leaf (until_shown all r leaf (end_or told) within shows) key from (record { low = point.low; high = point.high }) point.start rising rising_leaf;
+}
