@@ -124,11 +124,24 @@ fn expect_key_split(
     Ok(())
 }
 
+// The older side of a time split: the versions before the stamp.
+fn older_side(alloc: Global, leaf: &Leaf, at: u64) -> Result<Leaf, Fail> {
+    let mut before = Vec::new(alloc);
+    for entry in leaf.entries() {
+        if entry.stamp < stamp_of(at) {
+            before.push(entry.copy()?)?;
+        }
+    }
+    Ok(Leaf::of(before, 540).ok_or("no leaf")?)
+}
+
 // Expects it of both sides of a time split, the newer one split by each key.
 fn expect_time_split(rt: &impl Abort, alloc: Global, leaf: &Leaf, at: u64) -> Result<(), Fail> {
+    let older = older_side(alloc, leaf, at)?;
     let newer = leaf.since(alloc, stamp_of(at))?;
     for key in 0..KEYS {
         expect_looks(rt, leaf, key, 0, at);
+        expect_looks(rt, &older, key, 0, at);
         expect_looks(rt, &newer, key, at, STAMPS);
         expect_key_split(rt, alloc, &newer, key, at)?;
     }
@@ -223,30 +236,54 @@ fn sizes(rt: HostRuntime) -> Result<(), Fail> {
     Ok(())
 }
 
-// How many versions go on after a time split, worked out by hand: those from the stamp on, and each value as of it.
+// How many versions stay before a time split, and how many go on after it, worked out by hand: those from the stamp on, and each
+// value as of it.
 #[test]
 fn what_goes_on_after_a_time_split(rt: HostRuntime) -> Result<(), Fail> {
     let alloc = rt.alloc();
     let leaf = leaf_of(alloc, TABLE.as_slice())?;
-    let wanted: [(u64, usize); 11] = [
-        (0, 9),
-        (1, 9),
-        (2, 9),
-        (3, 8),
-        (4, 7),
-        (5, 7),
-        (6, 6),
-        (7, 5),
-        (8, 4),
-        (9, 2),
-        (10, 2),
+    let wanted: [(u64, usize, usize); 11] = [
+        (0, 0, 9),
+        (1, 0, 9),
+        (2, 1, 9),
+        (3, 2, 8),
+        (4, 3, 7),
+        (5, 4, 7),
+        (6, 5, 6),
+        (7, 6, 5),
+        (8, 7, 4),
+        (9, 8, 2),
+        (10, 9, 2),
     ];
-    for (at, count) in wanted.as_slice() {
+    for (at, before, count) in wanted.as_slice() {
+        assert_eq!(rt; older_side(alloc, &leaf, *at)?.len(), *before, "{at}");
         let newer = leaf.since(alloc, stamp_of(*at))?;
         assert_eq!(rt; newer.len(), *count, "{at}");
         assert_eq!(rt; newer.entries().len(), *count);
     }
     assert!(rt; Leaf::new(alloc).is_empty());
     assert_eq!(rt; leaf.copy(alloc)?.len(), 9);
+    Ok(())
+}
+
+// A leaf has rising stamps, and at most so many octets: a value of one octet takes 60, an end 59.
+#[test]
+fn leaves_of_entries(rt: HostRuntime) -> Result<(), Fail> {
+    let alloc = rt.alloc();
+    let wanted: [(&[Row], u64, Option<usize>); 6] = [
+        (&[], 0, Some(0)),
+        (&[(2, 1, Some(10)), (2, 2, None)], 119, Some(2)),
+        (&[(2, 1, Some(10)), (2, 2, None)], 118, None),
+        (&[(2, 1, None), (4, 1, None)], 500, None),
+        (&[(2, 3, None), (4, 2, None)], 500, None),
+        (&[(2, 1, None), (4, 3, None), (6, 2, None)], 500, None),
+    ];
+    for (rows, room, count) in wanted.as_slice() {
+        let mut entries = Vec::new(alloc);
+        for row in *rows {
+            entries.push(entry_of(alloc, *row)?)?;
+        }
+        assert_eq!(rt; Leaf::of(entries, *room).map(|leaf| leaf.len()), *count);
+    }
     Ok(())
 }
