@@ -1,0 +1,6 @@
+pub mod api
+pub mod Filtering
+pub mod Turning
+pub mod Sound
+pub mod Running
+pub mod Keeping

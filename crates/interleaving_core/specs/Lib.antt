@@ -1,0 +1,5 @@
+pub mod Steps
+pub mod World
+pub mod Turns
+pub mod Does
+pub mod Headline

@@ -1,0 +1,65 @@
+-- The state of the pure machine: a history, the questions in progress, and whether it is down.
+use Rattle.std.specs.Prelude.{ℕ, List, [], Bool, true, false, Option, map}
+use Rattle.route_meaning.specs.declared.question.Spot.{Spot}
+use Rattle.route_meaning.specs.declared.question.Row.{Row}
+use Rattle.route_meaning.specs.declared.question.RowsQuestion.{RowsQuestion}
+use Rattle.route_meaning.specs.declared.question.Event.{Event}
+use Rattle.route_meaning.specs.declared.question.EventsQuestion.{EventsQuestion}
+use Rattle.route_meaning.specs.History.{History}
+use Rattle.interleaving_core.specs.declared.query.Query.{Query}
+use Rattle.interleaving_core.specs.declared.query.Query.TheVariants.{Rows, Events}
+use Rattle.interleaving_core.specs.Steps.{empty}
+
+-- a question of a moment in progress: the spot that it has come to, none at first where it asks from the first row on, and the rows so far
+pub record RowsSoFar : Type 0 where
+  pub question : RowsQuestion
+  pub low : Option Spot
+  pub rows : List Row
+
+-- a question of events in progress: the events so far
+pub record EventsSoFar : Type 0 where
+  pub question : EventsQuestion
+  pub events : List Event
+
+-- what became of a question that was begun: it is in progress, or it has ended
+pub data Question : Type 0 where
+  OfRows : (so_far : RowsSoFar) → Question
+  OfEvents : (so_far : EventsSoFar) → Question
+  Ended : (query : Query) → Question
+
+-- what was asked
+abbrev pub asked : Question → Query
+asked (OfRows g) = Rows g.question
+asked (OfEvents g) = Events g.question
+asked (Ended query) = query
+
+-- the question as it is when it begins
+abbrev pub started : Query → Question
+started (Rows q) = OfRows (record { question = q; low = q.after; rows = [] })
+started (Events q) = OfEvents (record { question = q; events = [] })
+
+-- the question, ended
+abbrev pub ended : Question → Question
+ended q = Ended (asked q)
+
+-- the history, the questions in the order of their numbers, from 0, and whether all is down
+pub record World : Type 0 where
+  pub history : History
+  pub questions : List Question
+  pub down : Bool
+
+-- so many collectors gave nothing, and nothing was asked
+abbrev pub created : ℕ → World
+created collectors = record { history = empty collectors; questions = []; down = false }
+
+-- the same, with another history
+abbrev pub with_history : World → History → World
+with_history w h = record { history = h; questions = w.questions; down = w.down }
+
+-- the same, with other questions
+abbrev pub with_questions : World → List Question → World
+with_questions w questions = record { history = w.history; questions = questions; down = w.down }
+
+-- all is down, and all questions are ended
+abbrev pub crashed : World → World
+crashed w = record { history = w.history; questions = map ended w.questions; down = true }

@@ -1,0 +1,12 @@
+//! The archive as a pure machine: what each step does to a history, what it answers, and what is true of every run of steps.
+#![tactic(auto)]
+
+mod laws;
+mod query;
+mod reply;
+mod step;
+
+pub use laws::headline_of_runs;
+pub use query::{Answer, Query};
+pub use reply::{Admitted, Receipt, Reply};
+pub use step::{Reach, Step};

@@ -1,0 +1,59 @@
+//! What steps answer.
+
+use crate::query::Answer;
+use route_model::Mark;
+use sequencer::Late;
+
+/// Which admissions of a collector a batch became: those from number `from` to below number `to`. The first
+/// admission of a collector has the number 0.
+#[derive(Clone, Copy, Debug, PartialEq, Eq)]
+pub struct Receipt {
+    pub collector: u8,
+    pub from: u64,
+    pub to: u64,
+}
+
+/// What became of a batch.
+#[derive(Debug, Drop)]
+pub struct Admitted {
+    pub receipt: Receipt,
+    /// How many records were offered for the collector until now, those that came late counted too.
+    pub offered: u64,
+    /// The records of the batch that came late, in their order. They aren't admitted.
+    pub late: Vec<Late>,
+}
+
+/// What a step answers.
+#[derive(Debug, Drop)]
+pub enum Reply {
+    /// The batch is taken.
+    Taken(Admitted),
+    /// The mark is set.
+    Marked,
+    /// There is no collector of this number.
+    NoCollector,
+    /// The mark is below the collector's mark.
+    MarkBack,
+    /// A change is applied at least, or an admission without changes.
+    Applied,
+    /// Nothing may be applied: each admission that waits isn't below every mark.
+    Idle,
+    /// Nothing is left to write.
+    Flushed,
+    /// The question is in progress under this number.
+    Begun(usize),
+    /// The question needs further turns.
+    Again,
+    /// The question is done: its answer.
+    Done(Answer),
+    /// The last moment of the question isn't below the settled watermark, which this is.
+    AboveWatermark(Mark),
+    /// No question of this number is in progress.
+    NoQuestion,
+    /// All is down, and all questions are ended.
+    Crashed,
+    /// All is up.
+    Recovered,
+    /// All is down, and nothing was done.
+    NeedsRecovery,
+}
