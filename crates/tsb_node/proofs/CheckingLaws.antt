@@ -10,7 +10,7 @@ use Rattle.tsb_node.specs.Numbers.{octets_of}
 use Rattle.tsb_node.specs.inner.Fields.{number_in}
 use Rattle.version_model.specs.declared.bounds.Bounds.{Bounds}
 use Rattle.version_model.specs.Versions.{Version, Has, IsRising, IsAbove}
-use Rattle.tsb_node.specs.Leaves.{tag, value_octets, entry, entries, IsVersionOf}
+use Rattle.tsb_node.specs.Leaves.{tag, value_spelled, entry, entries, IsVersionOf}
 use Rattle.tsb_node.specs.inner.Reading.{value_size, value_in, version_in, versions_in, behind_version, after}
 use Rattle.tsb_node.specs.inner.Scanning.{IsWhole}
 use Rattle.tsb_node.specs.inner.Checking.{IsSpelled, AreEntries, IsAfter}
@@ -28,7 +28,7 @@ tag-le (Some v) = omega arith
 
 -- what the value at the front is, by its tag
 pub record ValueIs (bytes : List ℕ) : Type 0 where
-  pub octets : value_octets (value_in bytes) ≡ take (value_size bytes) (drop 59 bytes)
+  pub octets : value_spelled (value_in bytes) ≡ take (value_size bytes) (drop 59 bytes)
   pub tagged : tag (value_in bytes) ≡ slice_index bytes 56
 
 take_none : (n : ℕ) (xs : List ℕ) → n ≡ 0 → take n xs ≡ []
@@ -37,10 +37,10 @@ take_none n xs e = ap (λ (m : ℕ). take m xs) e
 pub value_is : (bytes : List ℕ) → slice_index bytes 56 ≤ 1 → (slice_index bytes 56 ≡ 0 → value_size bytes ≡ 0) → ValueIs bytes
 value_is bytes le end = elim (cases_order (slice_index bytes 56) 0) [
   | inl zero_tag ↦ record {
-    octets = ap value_octets (value_none bytes zero_tag) ∙ sym (take_none (value_size bytes) (drop 59 bytes) (end zero_tag));
+    octets = ap value_spelled (value_none bytes zero_tag) ∙ sym (take_none (value_size bytes) (drop 59 bytes) (end zero_tag));
     tagged = ap tag (value_none bytes zero_tag) ∙ sym zero_tag;
   }
-  | inr other ↦ (let some = value_some bytes (λ e. omega (arith, e, other)) in record { octets = ap value_octets some; tagged = ap tag some ∙ (let e : 1 ≡ slice_index bytes 56 = omega (arith, other) in e) })
+  | inr other ↦ (let some = value_some bytes (λ e. omega (arith, e, other)) in record { octets = ap value_spelled some; tagged = ap tag some ∙ (let e : 1 ≡ slice_index bytes 56 = omega (arith, other) in e) })
 ]
 
 one_octet : (xs : List ℕ) (n : ℕ) → n < length xs → take 1 (drop n xs) ≡ slice_index xs n ∷ []
@@ -55,11 +55,11 @@ spelled_here b bytes are whole small le end low high =
     let v : ValueIs bytes = value_is bytes le end in
     let n : ℕ = value_size bytes in
     let len : length (take n (drop 59 bytes)) ≡ n = omega (arith, length-take n (drop 59 bytes), length-drop 59 bytes, whole) in
-    let size : length (value_octets (value_in bytes)) ≡ n = ap length v.octets ∙ len in
+    let size : length (value_spelled (value_in bytes)) ≡ n = ap length v.octets ∙ len in
     let k = again_in 40 0 bytes are (omega (arith, whole)) in
     let s = again_in 16 40 bytes are (omega (arith, whole)) in
     let t : take 1 (drop 56 bytes) ≡ tag (value_in bytes) ∷ [] = one_octet bytes 56 (omega (arith, whole)) ∙ ap (λ (x : ℕ). x ∷ []) (sym v.tagged) in
-    let l : octets_of 2 (length (value_octets (value_in bytes))) ≡ take 2 (drop 57 bytes) = ap (octets_of 2) size ∙ again_in 2 57 bytes are (omega (arith, whole)) in
+    let l : octets_of 2 (length (value_spelled (value_in bytes))) ≡ take 2 (drop 57 bytes) = ap (octets_of 2) size ∙ again_in 2 57 bytes are (omega (arith, whole)) in
     record {
       whole = whole;
       valid = record {
@@ -78,13 +78,13 @@ spelled_here b bytes are whole small le end low high =
 pub is_front : (b : Bounds) (bytes : List ℕ) → IsSpelled b bytes → bytes ≡ entry (version_in bytes) ++ behind_version bytes
 is_front b bytes sp = sym (take-append-drop (59 + value_size bytes) bytes) ∙ ap (λ (t : List ℕ). t ++ behind_version bytes) sp.spelled
 
-pub spelled_reads : (b : Bounds) (bytes : List ℕ) → IsSpelled b bytes → (slice_index bytes 56 ≡ tag (version_in bytes).value) × (value_size bytes ≡ length (value_octets (version_in bytes).value))
+pub spelled_reads : (b : Bounds) (bytes : List ℕ) → IsSpelled b bytes → (slice_index bytes 56 ≡ tag (version_in bytes).value) × (value_size bytes ≡ length (value_spelled (version_in bytes).value))
 spelled_reads b bytes sp =
     let r = entry_read b (version_in bytes) (behind_version bytes) sp.valid in
     let e = is_front b bytes sp in
     (ap (λ (t : List ℕ). slice_index t 56) e ∙ r.tagged, ap value_size e ∙ r.size)
 
-pub end_is_empty : (o : Option (List ℕ)) → tag o ≡ 0 → length (value_octets o) ≡ 0
+pub end_is_empty : (o : Option (List ℕ)) → tag o ≡ 0 → length (value_spelled o) ≡ 0
 end_is_empty None e = refl
 end_is_empty (Some v) e = absurd (omega (arith, e))
 

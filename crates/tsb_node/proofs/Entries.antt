@@ -7,17 +7,17 @@ use Rattle.tsb_node.specs.Numbers.{octets_of}
 use Rattle.tsb_node.specs.inner.Fields.{number_in}
 use Rattle.version_model.specs.Versions.{Version}
 use Rattle.version_model.specs.declared.bounds.Bounds.{Bounds}
-use Rattle.tsb_node.specs.Leaves.{tag, value_octets, entry, entries, IsVersionOf}
+use Rattle.tsb_node.specs.Leaves.{tag, value_spelled, entry, entries, IsVersionOf}
 use Rattle.tsb_node.specs.inner.Reading.{value_size, value_in, version_in, behind_version, versions_in, after}
 use Rattle.tsb_node.proofs.NumberLaws.{octets_of-size, octets_of-number, field_in}
 
-pub entry-size : (v : Version) → length (entry v) ≡ 59 + length (value_octets v.value)
+pub entry-size : (v : Version) → length (entry v) ≡ 59 + length (value_spelled v.value)
 unfolding entry
 entry-size v =
     let k = octets_of-size 40 v.key in
     let s = octets_of-size 16 v.stamp in
-    let n = octets_of-size 2 (length (value_octets v.value)) in
-    let o : List ℕ = value_octets v.value in
+    let n = octets_of-size 2 (length (value_spelled v.value)) in
+    let o : List ℕ = value_spelled v.value in
     let p1 : List ℕ = octets_of 40 v.key ++ octets_of 16 v.stamp in
     let p2 : List ℕ = p1 ++ (tag v.value ∷ []) in
     let p3 : List ℕ = p2 ++ octets_of 2 (length o) in
@@ -26,21 +26,21 @@ entry-size v =
     let e3 : length p3 ≡ 59 = omega (arith, e2, n, length-append p2 (octets_of 2 (length o))) in
     omega (arith, e3, length-append p3 o)
 
-tagged_value : (o : Option (List ℕ)) (n : ℕ) (bytes : List ℕ) → slice_index bytes 56 ≡ tag o → take (value_size bytes) (drop 59 bytes) ≡ value_octets o → value_in bytes ≡ o
+tagged_value : (o : Option (List ℕ)) (n : ℕ) (bytes : List ℕ) → slice_index bytes 56 ≡ tag o → take (value_size bytes) (drop 59 bytes) ≡ value_spelled o → value_in bytes ≡ o
 tagged_value None n bytes t e = rw t refl
 tagged_value (Some value) n bytes t e = rw (t, e) refl
 
 -- the version at the front is read
 pub record Reads (v : Version) (rest bytes : List ℕ) : Type 0 where
   pub is : version_in bytes ≡ v
-  pub size : value_size bytes ≡ length (value_octets v.value)
+  pub size : value_size bytes ≡ length (value_spelled v.value)
   pub behind : behind_version bytes ≡ rest
   pub tagged : slice_index bytes 56 ≡ tag v.value
 
 pub entry_read : (b : Bounds) (v : Version) (rest : List ℕ) → IsVersionOf b v → Reads v rest (entry v ++ rest)
 unfolding entry version_in
 entry_read b v rest is =
-    let o : List ℕ = value_octets v.value in
+    let o : List ℕ = value_spelled v.value in
     let k : List ℕ = octets_of 40 v.key in
     let s : List ℕ = octets_of 16 v.stamp in
     let t : List ℕ = tag v.value ∷ [] in

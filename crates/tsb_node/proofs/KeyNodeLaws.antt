@@ -10,7 +10,7 @@ use Rattle.tsb_node.specs.inner.Fields.{number_in}
 use Rattle.version_model.specs.declared.bounds.Bounds.{Bounds}
 use Rattle.version_model.specs.declared.child.Child.{Child}
 use Rattle.tsb_node.specs.Columns.{BeginsAt}
-use Rattle.tsb_node.specs.KeyNodes.{KeyNode, IsKeyNode, IsChildOf, child_octets, lows_of}
+use Rattle.tsb_node.specs.KeyNodes.{KeyNodeInPage, IsKeyNode, IsChildEntry, child_octets, lows_of}
 use Rattle.tsb_node.specs.Children.{BeginsAsKeyNode, IsKeyWithin, IsUnder, high_of}
 use Rattle.tsb_node.specs.inner.ChildReading.{child_in, children_in}
 use Rattle.tsb_node.specs.inner.Reading.{area}
@@ -22,7 +22,7 @@ pub child-size : (c : Child) → length (child_octets c) ≡ 48
 unfolding child_octets
 child-size c = omega (arith, octets_of-size 40 c.low, octets_of-size 8 c.page, length-append (octets_of 40 c.low) (octets_of 8 c.page))
 
-pub child_read : (b : Bounds) (c : Child) (rest : List ℕ) → IsChildOf b c → child_in (child_octets c ++ rest) ≡ c
+pub child_read : (b : Bounds) (c : Child) (rest : List ℕ) → IsChildEntry b c → child_in (child_octets c ++ rest) ≡ c
 unfolding child_in child_octets
 child_read b c rest is =
     let k : List ℕ = octets_of 40 c.low in
@@ -32,7 +32,7 @@ child_read b c rest is =
     let page : number_in 8 40 ((k ++ p) ++ rest) ≡ c.page = ap (number_in 8 40) e ∙ field_in 8 40 k p rest (octets_of-size 40 c.low) (octets_of-size 8 c.page) ∙ octets_of-number 8 c.page is.page in
     λ i. record { low = low i; page = page i }
 
-pub children_read : (b : Bounds) (cs : List Child) (rest : List ℕ) → AllByRecursion (IsChildOf b) cs → children_in (length cs) (flat_map child_octets cs ++ rest) ≡ cs
+pub children_read : (b : Bounds) (cs : List Child) (rest : List ℕ) → AllByRecursion (IsChildEntry b) cs → children_in (length cs) (flat_map child_octets cs ++ rest) ≡ cs
 unfolding children_in
 children_read b [] rest all = refl
 children_read b (c ∷ cs) rest all =
@@ -61,22 +61,22 @@ pub children-count : (cs : List Child) → length (flat_map child_octets cs) ≡
 children-count [] = omega arith
 children-count (c ∷ cs) = omega (arith, children-count cs, child-size c, length-append (child_octets c) (flat_map child_octets cs))
 
-few : (node : KeyNode) → IsKeyNode node → length (flat_map child_octets node.children) ≤ 16232
+few : (node : KeyNodeInPage) → IsKeyNode node → length (flat_map child_octets node.children) ≤ 16232
 few node valid = omega (arith, children-count node.children, valid.fits)
 
-pub key_node_says : (node : KeyNode) (octets : List ℕ) → BeginsAsKeyNode node octets → HeaderSays 3 0 node.level (length node.children) (length (flat_map child_octets node.children)) node.bounds octets
+pub key_node_says : (node : KeyNodeInPage) (octets : List ℕ) → BeginsAsKeyNode node octets → HeaderSays 3 0 node.level (length node.children) (length (flat_map child_octets node.children)) node.bounds octets
 key_node_says node octets is =
     subst (HeaderSays 3 0 node.level (length node.children) (length (flat_map child_octets node.children)) node.bounds) (sym is.spelled)
     (body_says 3 node.level (length node.children) node.bounds (flat_map child_octets node.children) is.last (omega (arith, is.valid.fits)) (few node is.valid) is.valid.bounds.low is.valid.bounds.start)
 
-pub children_are : (node : KeyNode) (octets : List ℕ) (count : ℕ) → BeginsAsKeyNode node octets → count ≡ number_in 2 4 octets → children_in count (area octets) ≡ node.children
+pub children_are : (node : KeyNodeInPage) (octets : List ℕ) (count : ℕ) → BeginsAsKeyNode node octets → count ≡ number_in 2 4 octets → children_in count (area octets) ≡ node.children
 children_are node octets count is e =
     let says = key_node_says node octets is in
     let here = ap area is.spelled ∙ body_area 3 node.level (length node.children) node.bounds (flat_map child_octets node.children) is.last (few node is.valid) in
     ap (λ (n : ℕ). children_in n (area octets)) (e ∙ says.count_is) ∙ ap (children_in (length node.children)) here ∙ children_read node.bounds node.children (replicate (16232 - length (flat_map child_octets node.children)) 0) is.valid.each
 
 -- a key node has a child, and at most 338
-pub some_child : (node : KeyNode) (octets : List ℕ) (count : ℕ) → BeginsAsKeyNode node octets → count ≡ number_in 2 4 octets → (0 < count) × (count ≤ 338)
+pub some_child : (node : KeyNodeInPage) (octets : List ℕ) (count : ℕ) → BeginsAsKeyNode node octets → count ≡ number_in 2 4 octets → (0 < count) × (count ≤ 338)
 some_child node octets count is e =
     let says = key_node_says node octets is in
     (omega (arith, e, says.count_is, first node.children node.bounds.low is.valid.first), omega (arith, e, says.count_is, is.valid.fits))
@@ -119,14 +119,14 @@ lowest : (cs : List Child) (low : ℕ) (c : Child) → BeginsAt low (lows_of cs)
 lowest [] low c b e = absurd b
 lowest (d ∷ cs) low c b e = ap (λ (x : Child). x.low) (sym (same_Some d c e)) ∙ b
 
-low_le : (node : KeyNode) (octets : List ℕ) (count key i low page : ℕ) → BeginsAsKeyNode node octets → IsKeyWithin node.bounds key → (at : IsAtChild count key (area octets) i low page)
+low_le : (node : KeyNodeInPage) (octets : List ℕ) (count key i low page : ℕ) → BeginsAsKeyNode node octets → IsKeyWithin node.bounds key → (at : IsAtChild count key (area octets) i low page)
     → slice_get node.children at.place ≡ Some (record { low = low; page = page }) → low ≤ key
 low_le node octets count key i low page is within at e = elim at.passed [
   | inl le ↦ le
   | inr first ↦ omega (arith, within.low, lowest node.children node.bounds.low (record { low = low; page = page }) is.valid.first (ap (slice_get node.children) (sym first) ∙ e))
 ]
 
-pub under_next : (node : KeyNode) (octets : List ℕ) (count key i low page next : ℕ) → BeginsAsKeyNode node octets → IsKeyWithin node.bounds key → count ≡ number_in 2 4 octets → i < count
+pub under_next : (node : KeyNodeInPage) (octets : List ℕ) (count key i low page next : ℕ) → BeginsAsKeyNode node octets → IsKeyWithin node.bounds key → count ≡ number_in 2 4 octets → i < count
     → IsAtChild count key (area octets) i low page → next ≡ number_in 40 (48 * i) (area octets) → key < next → IsUnder node key (record { low = low; high = Some next; page = page })
 unfolding child_in
 under_next node octets count key i low page next is within counted lt at n below =
@@ -142,7 +142,7 @@ under_next node octets count key i low page next is within counted lt at n below
       high = below;
     }
 
-pub under_last : (node : KeyNode) (octets : List ℕ) (count key i low page : ℕ) (high : Option ℕ) → BeginsAsKeyNode node octets → IsKeyWithin node.bounds key → count ≡ number_in 2 4 octets → i ≡ count
+pub under_last : (node : KeyNodeInPage) (octets : List ℕ) (count key i low page : ℕ) (high : Option ℕ) → BeginsAsKeyNode node octets → IsKeyWithin node.bounds key → count ≡ number_in 2 4 octets → i ≡ count
     → IsAtChild count key (area octets) i low page → bound_octets 40 high ≡ take 40 (drop 48 octets) → IfSome high (λ n. n + 1 < 256 ^ 40) → IsUnder node key (record { low = low; high = high; page = page })
 under_last node octets count key i low page high is within counted done at spelled apart =
     let same = children_are node octets count is counted in

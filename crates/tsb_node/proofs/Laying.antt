@@ -7,7 +7,7 @@ use Rattle.tsb_node.specs.Numbers.{octets_of, bound_octets}
 use Rattle.version_model.specs.Versions.{Version, IsAbove}
 use Rattle.tsb_node.specs.Nodes.{header, body, seconds, IsBounds}
 use Rattle.version_model.specs.declared.bounds.Bounds.{Bounds}
-use Rattle.tsb_node.specs.Leaves.{LeafNode, IsLeaf, IsLeafPage, entry, entries, tag, value_octets, IsVersionOf}
+use Rattle.tsb_node.specs.Leaves.{LeafNode, IsLeaf, IsLeafPage, entry, entries, tag, value_spelled, IsVersionOf}
 use Rattle.tsb_node.specs.inner.Laying.{laid}
 use Rattle.tsb_node.specs.Pushing.{with_version, version}
 use Rattle.tsb_node.specs.Children.{IsKeyWithin}
@@ -162,15 +162,15 @@ put_next at place a b old e le = ap (λ (n : ℕ). laid n b (laid at a old)) e �
 
 -- an entry that is laid field by field
 pub entry_laid : (at : ℕ) (v : Version) (old : List ℕ) → at + 59 ≤ length old
-    → laid (at + 59) (value_octets v.value) (laid (at + 57) (octets_of 2 (length (value_octets v.value))) (laid (at + 56) (tag v.value ∷ []) (laid (at + 40) (octets_of 16 v.stamp) (laid at (octets_of 40 v.key) old))))
+    → laid (at + 59) (value_spelled v.value) (laid (at + 57) (octets_of 2 (length (value_spelled v.value))) (laid (at + 56) (tag v.value ∷ []) (laid (at + 40) (octets_of 16 v.stamp) (laid at (octets_of 40 v.key) old))))
     ≡ laid at (entry v) old
 unfolding entry
 entry_laid at v old le =
     let k : List ℕ = octets_of 40 v.key in
     let s : List ℕ = octets_of 16 v.stamp in
     let t : List ℕ = tag v.value ∷ [] in
-    let n : List ℕ = octets_of 2 (length (value_octets v.value)) in
-    let o : List ℕ = value_octets v.value in
+    let n : List ℕ = octets_of 2 (length (value_spelled v.value)) in
+    let o : List ℕ = value_spelled v.value in
     let ksize : length k ≡ 40 = octets_of-size 40 v.key in
     let size2 : length (k ++ s) ≡ 56 = omega (arith, ksize, octets_of-size 16 v.stamp, length-append k s) in
     let size3 : length ((k ++ s) ++ t) ≡ 57 = omega (arith, size2, length-append (k ++ s) t) in
@@ -242,5 +242,5 @@ laid_all o old same = ap (λ (t : List ℕ). o ++ t) (drop_over (0 + length o) o
     drop_over (suc n) (x ∷ xs) le = drop_over n xs (omega (arith, le))
 
 -- a version of a key within the bounds, of what the types say of its parts
-pub version_valid : (b : Bounds) (key stamp : ℕ) (value : Option (List ℕ)) → IsKeyWithin b key → key < 256 ^ 40 → stamp < 256 ^ 16 → length (value_octets value) ≤ 3072 → AreOctets (value_octets value) → IsVersionOf b (version key stamp value)
+pub version_valid : (b : Bounds) (key stamp : ℕ) (value : Option (List ℕ)) → IsKeyWithin b key → key < 256 ^ 40 → stamp < 256 ^ 16 → length (value_spelled value) ≤ 3072 → AreOctets (value_spelled value) → IsVersionOf b (version key stamp value)
 version_valid b key stamp value within fits in_time short each = record { key = fits; low = within.low; high = within.high; stamp = in_time; size = short; octets = each }

@@ -3,7 +3,7 @@ use Rattle.std.proofs.Common.{◌≡◌, ℕ, ◌++◌, List, Option, Some, None
 use Rattle.std.specs.Option.{is_some}
 use Rattle.version_model.specs.Versions.{Version, AsOf, IsRising}
 use Rattle.version_model.proofs.api.AsOfs.{dead_of, live_of}
-use Rattle.tsb_node.specs.declared.leaf.Found.{Found}
+use Rattle.tsb_node.specs.declared.leaf.FoundVersion.{FoundVersion}
 use Rattle.tsb_node.specs.Leaves.{LeafNode, entry}
 use Rattle.tsb_node.specs.Finding.{version_found}
 use Rattle.tsb_node.specs.Nexts.{TellsLive}
@@ -13,7 +13,7 @@ use Rattle.tsb_node.proofs.Entries.{entry_read}
 use Rattle.tsb_node.proofs.Scanning.{key_said}
 
 -- what was found is a value, or an end
-pub live_found : (vs : List Version) (key s : ℕ) (found : Found) → IsRising vs → AsOf vs key s (version_found key found) → (b : Bool) → b ≡ is_some found.value → TellsLive vs key s b
+pub live_found : (vs : List Version) (key s : ℕ) (found : FoundVersion) → IsRising vs → AsOf vs key s (version_found key found) → (b : Bool) → b ≡ is_some found.value → TellsLive vs key s b
 live_found vs key s found rising h true e = live_of vs key s (version_found key found) found.value refl h (sym e)
 live_found vs key s found rising h false e = dead_of vs key s (version_found key found) rising h (none_of found.value (sym e))
   where

@@ -11,7 +11,7 @@ use Rattle.tsb_node.specs.inner.Reading.{value_size, value_in, version_in, versi
 use Rattle.std.specs.Ordering.{nat_cmp, is_le}
 use Rattle.std.proofs.Common.{inl, inr, true}
 use Rattle.std.proofs.lemmas.Bool.{eq-eqb, ne_eqb, cases_order, lt-ltb, le-ltb}
-use Rattle.tsb_node.specs.declared.leaf.Found.{Found}
+use Rattle.tsb_node.specs.declared.leaf.FoundVersion.{FoundVersion}
 use Rattle.tsb_node.specs.Finding.{version_found}
 use Rattle.tsb_node.specs.inner.Scanning.{Counts, NoneFrom, IsLast, IsWhole, IsBroken}
 use Rattle.tsb_node.proofs.Entries.{entry-size, entry_read, after-next, version_at, versions_in-size}
@@ -43,7 +43,7 @@ pub value_some : (bytes : List ℕ) → (slice_index bytes 56 ≡ 0 → ⊥) →
 value_some bytes never = rw (ne_eqb (slice_index bytes 56) 0 never) refl
 
 -- what is read of the entry at the front is a version of the key
-pub found_is : (vs : List Version) (key s : ℕ) (rest : List ℕ) (found : Found) (bytes : List ℕ) → bytes ≡ rest → found.stamp ≡ (version_in bytes).stamp → found.value ≡ (version_in bytes).value
+pub found_is : (vs : List Version) (key s : ℕ) (rest : List ℕ) (found : FoundVersion) (bytes : List ℕ) → bytes ≡ rest → found.stamp ≡ (version_in bytes).stamp → found.value ≡ (version_in bytes).value
     → AsOf vs key s (version_in rest) → AsOf vs key s (version_found key found)
 found_is vs key s rest found bytes e stamp value holds =
     let k : key ≡ (version_in rest).key = sym holds.of_key in

@@ -7,7 +7,7 @@ use Rattle.tsb_node.specs.Numbers.{octets_of}
 use Rattle.version_model.specs.declared.bounds.Bounds.{Bounds}
 use Rattle.version_model.specs.declared.child.Child.{Child}
 use Rattle.tsb_node.specs.Nodes.{header, body, seconds}
-use Rattle.tsb_node.specs.KeyNodes.{KeyNode, IsKeyNode, IsKeyNodePage, child_octets}
+use Rattle.tsb_node.specs.KeyNodes.{KeyNodeInPage, IsKeyNode, IsKeyNodePage, child_octets}
 use Rattle.tsb_node.specs.inner.Laying.{laid}
 use Rattle.tsb_node.proofs.Leaves.{header-size}
 use Rattle.tsb_node.proofs.NumberLaws.{octets_of-size}
@@ -94,7 +94,7 @@ written_on h cs n at c page fits lt is w =
           (filling_on h es (child_octets c) page at w.filling (omega (arith, len, w.at_is)) (omega (arith, len, child-size c)));
     }
 
-pub written_end : (node : KeyNode) (count used at n : ℕ) (page : List ℕ) → IsKeyNode node → count ≡ length node.children → used ≡ 48 * length node.children → n ≡ length node.children
+pub written_end : (node : KeyNodeInPage) (count used at n : ℕ) (page : List ℕ) → IsKeyNode node → count ≡ length node.children → used ≡ 48 * length node.children → n ≡ length node.children
     → HasWritten (header 3 seconds node.level count used node.bounds) node.children n at page → node.bounds.end ≡ None → IsKeyNodePage node page
 written_end node count used at n page valid counted sized done w current =
     let cs : List Child = node.children in

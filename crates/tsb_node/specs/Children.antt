@@ -1,12 +1,12 @@
 -- Which child of a key node a key lies under.
-use Rattle.std.specs.Prelude.{◌≡◌, ℕ, suc, ◌≤◌, ◌<◌, List, ◌++◌, slice_get, Option, Some, None, IfSome, Result, Ok, Err}
+use Rattle.std.specs.Prelude.{◌≡◌, ℕ, suc, ◌≤◌, ◌<◌, List, ◌++◌, slice_get, Option, Some, None, IfSome}
 use Rattle.version_model.specs.declared.bounds.Bounds.{Bounds}
 use Rattle.version_model.specs.declared.child.Child.{Child}
 use Rattle.tsb_node.specs.declared.key_node.Under.{Under}
-use Rattle.tsb_node.specs.KeyNodes.{KeyNode, IsKeyNode, key_node_body}
+use Rattle.tsb_node.specs.KeyNodes.{KeyNodeInPage, IsKeyNode, key_node_body}
 
 -- the octets begin as the page of the key node does
-pub record BeginsAsKeyNode (node : KeyNode) (octets : List ℕ) : Type 0 where
+pub record BeginsAsKeyNode (node : KeyNodeInPage) (octets : List ℕ) : Type 0 where
   pub valid : IsKeyNode node
   pub last : List ℕ
   pub spelled : octets ≡ key_node_body node ++ last
@@ -22,14 +22,9 @@ high_of high None = high
 high_of high (Some next) = Some next.low
 
 -- the child, with its keys, under which the key lies
-pub record IsUnder (node : KeyNode) (key : ℕ) (under : Under) : Type 0 where
+pub record IsUnder (node : KeyNodeInPage) (key : ℕ) (under : Under) : Type 0 where
   pub place : ℕ
   pub at : slice_get node.children place ≡ Some (record { low = under.low; page = under.page })
   pub to_high : under.high ≡ high_of node.bounds.high (slice_get node.children (suc place))
   pub low : under.low ≤ key
   pub high : IfSome under.high (λ n. key < n)
-
--- the same, and a refusal nowhere
-abbrev pub IsUnderOr : {E : Type 0} → KeyNode → ℕ → Result Under E → Type 0
-IsUnderOr node key (Ok under) = IsUnder node key under
-IsUnderOr node key (Err e) = ⊥

@@ -10,13 +10,13 @@ use Rattle.version_model.specs.declared.part.Part.{Part}
 use Rattle.tsb_node.specs.declared.column.Current.{Current}
 
 -- a column in a page: the parts of its past, and its current leaf
-pub record ColumnNode : Type 0 where
+pub record ColumnInPage : Type 0 where
   pub bounds : Bounds
   pub parts : List Part
   pub current : Current
 
 -- a column in a block: the parts alone
-pub record OldColumnNode : Type 0 where
+pub record ColumnInBlock : Type 0 where
   pub bounds : Bounds
   pub parts : List Part
 
@@ -53,15 +53,15 @@ starts_of [] = []
 starts_of (p ∷ rest) = p.start ∷ starts_of rest
 
 -- a stamp of 16 octets, and a block's number of eight
-pub record IsPart (p : Part) : Type 0 where
+pub record IsPartEntry (p : Part) : Type 0 where
   pub start : p.start < 256 ^ 16
   pub block : p.block < 256 ^ 8
 
 -- the parts follow one another from the start on, and the current leaf follows them
-pub record IsColumn (c : ColumnNode) : Type 0 where
+pub record IsColumn (c : ColumnInPage) : Type 0 where
   pub bounds : IsBounds c.bounds
   pub from_first : c.bounds.start ≡ 0
-  pub each : AllByRecursion IsPart c.parts
+  pub each : AllByRecursion IsPartEntry c.parts
   pub current_start : c.current.start < 256 ^ 16
   pub current_page : c.current.page < 256 ^ 8
   pub first : BeginsAt c.bounds.start (starts_of c.parts ++ c.current.start ∷ [])
@@ -69,28 +69,28 @@ pub record IsColumn (c : ColumnNode) : Type 0 where
   pub fits : 25 * (length c.parts + 1) ≤ 16232
 
 -- the parts follow one another from the start to the end
-pub record IsOldColumn (c : OldColumnNode) : Type 0 where
+pub record IsOldColumn (c : ColumnInBlock) : Type 0 where
   pub bounds : IsBounds c.bounds
-  pub each : AllByRecursion IsPart c.parts
+  pub each : AllByRecursion IsPartEntry c.parts
   pub first : BeginsAt c.bounds.start (starts_of c.parts)
   pub rising : AreAscending (starts_of c.parts)
   pub before_end : IfSome c.bounds.end (λ end. AllByRecursion (λ p. p.start < end) c.parts)
   pub fits : 25 * length c.parts ≤ 16232
 
 -- the octets of a column's page but for the last 32: a node of kind 2 and level 1, the current leaf behind the parts
-abbrev pub column_body : ColumnNode → List ℕ
+abbrev pub column_body : ColumnInPage → List ℕ
 column_body c = body 2 1 (length c.parts + 1) c.bounds (flat_map part_octets c.parts ++ current_octets c.current)
 
 -- the octets of a column's block but for the last 32
-abbrev pub old_column_body : OldColumnNode → List ℕ
+abbrev pub old_column_body : ColumnInBlock → List ℕ
 old_column_body c = body 2 1 (length c.parts) c.bounds (flat_map part_octets c.parts)
 
 -- the octets are the page of the column
-pub record IsColumnPage (column : ColumnNode) (octets : List ℕ) : Type 0 where
+pub record IsColumnPage (column : ColumnInPage) (octets : List ℕ) : Type 0 where
   pub valid : IsColumn column
   pub page : IsInPage column.bounds (column_body column) octets
 
 -- the octets are the block of the column
-pub record IsColumnBlock (column : OldColumnNode) (octets : List ℕ) : Type 0 where
+pub record IsColumnBlock (column : ColumnInBlock) (octets : List ℕ) : Type 0 where
   pub valid : IsOldColumn column
   pub block : IsInBlock column.bounds (old_column_body column) octets

@@ -8,7 +8,7 @@ use Rattle.tsb_node.specs.Columns.{BeginsAt, AreAscending}
 use Rattle.version_model.specs.declared.child.Child.{Child}
 
 -- a key node: its level, its keys, and its children
-pub record KeyNode : Type 0 where
+pub record KeyNodeInPage : Type 0 where
   pub level : ℕ
   pub bounds : Bounds
   pub children : List Child
@@ -23,27 +23,27 @@ lows_of [] = []
 lows_of (c ∷ rest) = c.low ∷ lows_of rest
 
 -- a key of 40 octets below the high one, and a page's number of eight
-pub record IsChildOf (b : Bounds) (c : Child) : Type 0 where
+pub record IsChildEntry (b : Bounds) (c : Child) : Type 0 where
   pub low : c.low < 256 ^ 40
   pub high : IfSome b.high (λ n. c.low < n)
   pub page : c.page < 256 ^ 8
 
 -- the children follow one another from the lowest key on, at all stamps
-pub record IsKeyNode (k : KeyNode) : Type 0 where
+pub record IsKeyNode (k : KeyNodeInPage) : Type 0 where
   pub lowest : 2 ≤ k.level
   pub highest : k.level ≤ 7
   pub bounds : IsBounds k.bounds
   pub from_first : k.bounds.start ≡ 0
-  pub each : AllByRecursion (IsChildOf k.bounds) k.children
+  pub each : AllByRecursion (IsChildEntry k.bounds) k.children
   pub first : BeginsAt k.bounds.low (lows_of k.children)
   pub rising : AreAscending (lows_of k.children)
   pub fits : 48 * length k.children ≤ 16232
 
 -- the octets of a key node but for the last 32: a node of kind 3
-abbrev pub key_node_body : KeyNode → List ℕ
+abbrev pub key_node_body : KeyNodeInPage → List ℕ
 key_node_body k = body 3 k.level (length k.children) k.bounds (flat_map child_octets k.children)
 
 -- the octets are the page of the key node
-pub record IsKeyNodePage (node : KeyNode) (octets : List ℕ) : Type 0 where
+pub record IsKeyNodePage (node : KeyNodeInPage) (octets : List ℕ) : Type 0 where
   pub valid : IsKeyNode node
   pub page : IsInPage node.bounds (key_node_body node) octets

@@ -18,13 +18,13 @@ tag None = 0
 tag (Some value) = 1
 
 -- the octets of a value; an end has none
-abbrev pub value_octets : Option (List ℕ) → List ℕ
-value_octets None = []
-value_octets (Some value) = value
+abbrev pub value_spelled : Option (List ℕ) → List ℕ
+value_spelled None = []
+value_spelled (Some value) = value
 
 -- a version in octets: key, stamp, tag, length, value
 unfoldable pub entry : Version → List ℕ
-entry v = octets_of 40 v.key ++ octets_of 16 v.stamp ++ (tag v.value ∷ []) ++ octets_of 2 (length (value_octets v.value)) ++ value_octets v.value
+entry v = octets_of 40 v.key ++ octets_of 16 v.stamp ++ (tag v.value ∷ []) ++ octets_of 2 (length (value_spelled v.value)) ++ value_spelled v.value
 
 -- a version of one of these keys, with a stamp of 16 octets and a value of at most 3,072
 pub record IsVersionOf (b : Bounds) (v : Version) : Type 0 where
@@ -32,8 +32,8 @@ pub record IsVersionOf (b : Bounds) (v : Version) : Type 0 where
   pub low : b.low ≤ v.key
   pub high : IfSome b.high (λ n. v.key < n)
   pub stamp : v.stamp < 256 ^ 16
-  pub size : length (value_octets v.value) ≤ 3072
-  pub octets : AreOctets (value_octets v.value)
+  pub size : length (value_spelled v.value) ≤ 3072
+  pub octets : AreOctets (value_spelled v.value)
 
 -- the octets of all entries
 unfoldable pub entries : List Version → List ℕ

@@ -1,19 +1,19 @@
 -- Where a column has its versions at a stamp.
-use Rattle.std.specs.Prelude.{◌≡◌, ℕ, suc, ◌≤◌, ◌<◌, List, ◌++◌, slice_get, Option, Some, None, Result, Ok, Err}
+use Rattle.std.specs.Prelude.{◌≡◌, ℕ, suc, ◌≤◌, ◌<◌, List, ◌++◌, slice_get, Option, Some, None}
 use Rattle.version_model.specs.declared.part.Part.{Part}
 use Rattle.tsb_node.specs.declared.column.Spot.{Spot}
 use Rattle.tsb_node.specs.declared.column.Spot.TheVariants.{InPage, InBlock}
 use Rattle.tsb_node.specs.declared.column.PartAt.{PartAt}
-use Rattle.tsb_node.specs.Columns.{ColumnNode, OldColumnNode, IsColumn, IsOldColumn, column_body, old_column_body}
+use Rattle.tsb_node.specs.Columns.{ColumnInPage, ColumnInBlock, IsColumn, IsOldColumn, column_body, old_column_body}
 
 -- the octets begin as the page of the column does
-pub record BeginsAsColumn (column : ColumnNode) (octets : List ℕ) : Type 0 where
+pub record BeginsAsColumn (column : ColumnInPage) (octets : List ℕ) : Type 0 where
   pub valid : IsColumn column
   pub last : List ℕ
   pub spelled : octets ≡ column_body column ++ last
 
 -- the octets begin as the block of the column does
-pub record BeginsAsOldColumn (column : OldColumnNode) (octets : List ℕ) : Type 0 where
+pub record BeginsAsOldColumn (column : ColumnInBlock) (octets : List ℕ) : Type 0 where
   pub valid : IsOldColumn column
   pub last : List ℕ
   pub spelled : octets ≡ old_column_body column ++ last
@@ -32,16 +32,6 @@ pub record IsPartAt (parts : List Part) (end stamp : ℕ) (found : PartAt) : Typ
   pub before : stamp < found.end
 
 -- the current leaf where the stamp isn't before its start, else the part in which it lies
-abbrev pub IsSpot : ColumnNode → ℕ → Spot → Type 0
+abbrev pub IsSpot : ColumnInPage → ℕ → Spot → Type 0
 IsSpot column stamp (InPage current) = (current ≡ column.current) × (column.current.start ≤ stamp)
 IsSpot column stamp (InBlock found) = IsPartAt column.parts column.current.start stamp found
-
--- the same, and a refusal nowhere
-abbrev pub IsSpotOr : {E : Type 0} → ColumnNode → ℕ → Result Spot E → Type 0
-IsSpotOr column stamp (Ok spot) = IsSpot column stamp spot
-IsSpotOr column stamp (Err e) = ⊥
-
--- the same of a part, and a refusal nowhere
-abbrev pub IsPartAtOr : {E : Type 0} → List Part → ℕ → ℕ → Result PartAt E → Type 0
-IsPartAtOr parts end stamp (Ok found) = IsPartAt parts end stamp found
-IsPartAtOr parts end stamp (Err e) = ⊥

@@ -4,8 +4,9 @@ ghost use Rattle.std.specs.Prelude.{◌≡◌, ◌≤◌, ◌<◌, ◌+◌, leng
 ghost use Rattle.std.specs.Prelude.{ℕ, List, slice_index, drop, ◌++◌, Ok};
 ghost use Rattle.version_model.specs.declared.part.PartKind.{PartKind as PartKindValue};
 ghost use Rattle.version_model.specs.declared.part.Part.{Part as PartValue};
-ghost use Rattle.tsb_node.specs.Columns.{ColumnNode, OldColumnNode, IsPart, part_kind, part_octets};
-ghost use Rattle.tsb_node.specs.Parts.{BeginsAsColumn, BeginsAsOldColumn, IsSpotOr, IsPartAtOr};
+ghost use Rattle.tsb_node.specs.Columns.{ColumnInPage, ColumnInBlock, IsPartEntry, part_kind, part_octets};
+ghost use Rattle.tsb_node.specs.Parts.{BeginsAsColumn, BeginsAsOldColumn, IsSpot, IsPartAt};
+ghost use Rattle.std.specs.Result.{MatchResult};
 ghost use Rattle.tsb_node.specs.inner.PartReading.{IsPlaceBefore};
 
 use crate::header::is_stamp_below;
@@ -52,7 +53,7 @@ fn kind_at(area: &[u8], at: usize) -> Result<PartKind, NotANode>
 /// The part at a place.
 fn part_in(area: &[u8], at: usize) -> Result<Part, NotANode>
     requires { at + 25 ≤ length area.now }
-    ensures part { (p : PartValue) (rest : List ℕ) → IsPart p → drop at area.now ≡ part_octets p ++ rest → result ≡ Ok p }
+    ensures part { (p : PartValue) (rest : List ℕ) → IsPartEntry p → drop at area.now ≡ part_octets p ++ rest → result ≡ Ok p }
 {
     let Ok(kind) = kind_at(area, at) else {
         return Err(NotANode);
@@ -87,7 +88,7 @@ fn place_before(area: &[u8], count: u16, stamp: Stamp) -> usize
 /// Refused only where they aren't a column, and not always there.
 pub fn spot_for(octets: &[u8], stamp: Stamp) -> Result<Spot, NotANode>
     requires size { length octets.now ≡ 16384 }
-    ensures spot { (column : ColumnNode) → BeginsAsColumn column octets.now → IsSpotOr column stamp result }
+    ensures spot { (column : ColumnInPage) → BeginsAsColumn column octets.now → MatchResult result (IsSpot column stamp) (λ e. ⊥) }
 {
     let count = number2(octets, 4);
     if count == 0 {
@@ -118,7 +119,7 @@ pub fn spot_for(octets: &[u8], stamp: Stamp) -> Result<Spot, NotANode>
 pub fn part_for(octets: &[u8], end: Stamp, stamp: Stamp) -> Result<PartAt, NotANode>
     requires size { length octets.now ≡ 16384 }
     requires before { stamp < end }
-    ensures part { (column : OldColumnNode) → BeginsAsOldColumn column octets.now → column.bounds.end ≡ Some end → column.bounds.start ≤ stamp → IsPartAtOr column.parts end stamp result }
+    ensures part { (column : ColumnInBlock) → BeginsAsOldColumn column octets.now → column.bounds.end ≡ Some end → column.bounds.start ≤ stamp → MatchResult result (IsPartAt column.parts end stamp) (λ e. ⊥) }
 {
     let count = number2(octets, 4);
     if count == 0 {

@@ -1,8 +1,9 @@
 //! Key nodes: children by their lowest keys.
 
 ghost use Rattle.std.specs.Prelude.{◌≡◌, length};
-ghost use Rattle.tsb_node.specs.KeyNodes.{KeyNode};
-ghost use Rattle.tsb_node.specs.Children.{BeginsAsKeyNode, IsKeyWithin, IsUnderOr};
+ghost use Rattle.tsb_node.specs.KeyNodes.{KeyNodeInPage};
+ghost use Rattle.tsb_node.specs.Children.{BeginsAsKeyNode, IsKeyWithin, IsUnder};
+ghost use Rattle.std.specs.Result.{MatchResult};
 
 use crate::header::{high_at, is_key_below};
 use crate::leaf::{FIRST, LAST, NotANode};
@@ -24,7 +25,7 @@ const CHILDREN: u16 = 338;
 /// Refused only where they aren't a key node, and not always there.
 pub fn child_for(octets: &[u8], key: Key) -> Result<Under, NotANode>
     requires size { length octets.now ≡ 16384 }
-    ensures under { (node : KeyNode) → BeginsAsKeyNode node octets.now → IsKeyWithin node.bounds key → IsUnderOr node key result }
+    ensures under { (node : KeyNodeInPage) → BeginsAsKeyNode node octets.now → IsKeyWithin node.bounds key → MatchResult result (IsUnder node key) (λ e. ⊥) }
 {
     let count = number2(octets, 4);
     if count == 0 {

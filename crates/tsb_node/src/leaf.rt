@@ -6,8 +6,9 @@ ghost use Rattle.tsb_node.specs.Children.{IsKeyWithin};
 ghost use Rattle.version_model.specs.Versions.{IsAbove};
 ghost use Rattle.tsb_node.specs.Pushing.{version, PushedTo, StaysUnlessPushed};
 ghost use Rattle.std.specs.Prelude.{◌≡◌, ◌≤◌, ◌+◌, length, option_map, IfSome, IfNone, IfOk, IfErr};
-ghost use Rattle.tsb_node.specs.Leaves.{LeafNode, BeginsAsLeaf, IsLeafPage, value_octets};
-ghost use Rattle.tsb_node.specs.Finding.{FindsOrRefuses};
+ghost use Rattle.tsb_node.specs.Leaves.{LeafNode, BeginsAsLeaf, IsLeafPage, value_spelled};
+ghost use Rattle.tsb_node.specs.Finding.{Finds};
+ghost use Rattle.std.specs.Result.{MatchResult};
 ghost use Rattle.tsb_node.specs.inner.Scanning.{IsLast, IsBroken, IsWhole};
 ghost use Rattle.tsb_node.specs.inner.Reading.{value_size, version_in, versions_in};
 
@@ -56,7 +57,7 @@ pub struct NotANode;
 
 /// What a key has at a stamp: the stamp from which on it has it, and the value, or none where it has ended.
 #[derive(Debug, Drop)]
-pub struct Found<'a> {
+pub struct FoundVersion<'a> {
     pub stamp: Stamp,
     pub value: Option<Value<'a>>,
 }
@@ -106,7 +107,7 @@ fn last_of<'a>(
 }
 
 /// What the entry at the front says.
-fn found_at<'a>(bytes: &'a [u8]) -> Found<'a>
+fn found_at<'a>(bytes: &'a [u8]) -> FoundVersion<'a>
     requires { IsWhole bytes.now }
     ensures stamp { result.stamp ≡ (version_in bytes.now).stamp }
     ensures value { result.value ≡ (version_in bytes.now).value }
@@ -117,7 +118,7 @@ fn found_at<'a>(bytes: &'a [u8]) -> Found<'a>
     } else {
         Some(Value::new(bytes.split_at(59).1.split_at(size).0))
     };
-    Found {
+    FoundVersion {
         stamp: stamp_at(bytes, 40),
         value,
     }
@@ -125,9 +126,9 @@ fn found_at<'a>(bytes: &'a [u8]) -> Found<'a>
 
 /// What the leaf that begins these octets, a page's or a block's, has for a key at a stamp.
 /// Refused only where they aren't a leaf, and not always there.
-pub fn find<'a>(octets: &'a [u8], key: Key, stamp: Stamp) -> Result<Option<Found<'a>>, NotANode>
+pub fn find<'a>(octets: &'a [u8], key: Key, stamp: Stamp) -> Result<Option<FoundVersion<'a>>, NotANode>
     requires size { length octets.now ≡ 16384 }
-    ensures found { (leaf : LeafNode) → BeginsAsLeaf leaf octets.now → FindsOrRefuses leaf.versions key stamp result }
+    ensures found { (leaf : LeafNode) → BeginsAsLeaf leaf octets.now → MatchResult result (Finds leaf.versions key stamp) (λ e. ⊥) }
 {
     let count = number2(octets, 4);
     let area = octets.split_at(LAST).0.split_at(FIRST).1;
@@ -144,7 +145,7 @@ pub const ROOM: usize = 16_232;
 /// there is room for it, and answers whether there was. Refused only where the page isn't a leaf, and not always
 /// there.
 pub fn push(page: &mut Page, key: Key, stamp: Stamp, value: Option<&[u8]>) -> Result<bool, NotANode>
-    requires short { length (value_octets (option_map (λ x. x.now) value)) ≤ 3072 }
+    requires short { length (value_spelled (option_map (λ x. x.now) value)) ≤ 3072 }
     ensures pushed { (leaf : LeafNode) → IsLeafPage leaf page.old → IsKeyWithin leaf.bounds key → IsAbove leaf.versions stamp
         → PushedTo leaf (version key stamp (option_map (λ x. x.now) value.entry)) page.new result }
     ensures stays { StaysUnlessPushed page.old page.new result }

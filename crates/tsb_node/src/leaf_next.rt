@@ -3,7 +3,9 @@
 ghost use Rattle.std.specs.Prelude.{◌≡◌, ◌≤◌, ◌↔◌, length, IsTrue};
 ghost use Rattle.version_model.specs.inner.Lower.{IsLower};
 ghost use Rattle.tsb_node.specs.Leaves.{LeafNode, BeginsAsLeaf};
-ghost use Rattle.tsb_node.specs.Nexts.{IsLiveOr, IsNextOr};
+ghost use Rattle.tsb_node.specs.Nexts.{TellsLive};
+ghost use Rattle.version_model.specs.Looks.{IsLeastLive};
+ghost use Rattle.std.specs.Result.{MatchResult};
 
 use crate::header::is_key_below;
 use crate::leaf::{FIRST, LAST, NotANode, entry_size, find};
@@ -14,7 +16,7 @@ use version_model::Stamp;
 // Whether the key has a value as of the stamp.
 fn is_live(octets: &[u8], key: Key, stamp: Stamp) -> Result<bool, NotANode>
     requires size { length octets.now ≡ 16384 }
-    ensures live { (leaf : LeafNode) → BeginsAsLeaf leaf octets.now → IsLiveOr leaf.versions key stamp result }
+    ensures live { (leaf : LeafNode) → BeginsAsLeaf leaf octets.now → MatchResult result (TellsLive leaf.versions key stamp) (λ e. ⊥) }
 {
     match find(octets, key, stamp) {
         Ok(Some(found)) => Ok(found.value.is_some()),
@@ -40,7 +42,7 @@ fn is_candidate(key: Key, from: Key, best: &Option<Key>) -> bool
 /// Refused only where they aren't a leaf, and not always there.
 pub fn next(octets: &[u8], from: Key, stamp: Stamp) -> Result<Option<Key>, NotANode>
     requires size { length octets.now ≡ 16384 }
-    ensures next { (leaf : LeafNode) → BeginsAsLeaf leaf octets.now → IsNextOr leaf.versions stamp from result }
+    ensures next { (leaf : LeafNode) → BeginsAsLeaf leaf octets.now → MatchResult result (IsLeastLive leaf.versions stamp from) (λ e. ⊥) }
 {
     let count = number2(octets, 4);
     let mut rest = octets.split_at(LAST).0.split_at(FIRST).1;

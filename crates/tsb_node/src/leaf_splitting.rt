@@ -2,8 +2,9 @@
 
 ghost use Rattle.std.specs.Prelude.{◌≡◌, None, length};
 ghost use Rattle.tsb_node.specs.Nodes.{IsBounds};
-ghost use Rattle.tsb_node.specs.Leaves.{LeafNode, BeginsAsLeaf};
-ghost use Rattle.tsb_node.specs.Splitting.{lies_within, IsSideOr};
+ghost use Rattle.tsb_node.specs.Leaves.{LeafNode, BeginsAsLeaf, IsLeafPage};
+ghost use Rattle.tsb_node.specs.Splitting.{lies_within, side_of};
+ghost use Rattle.std.specs.Result.{MatchResult};
 
 use crate::header::{is_below_high, is_key_below};
 use crate::leaf::{FIRST, LAST, NotANode, entry_size, start_leaf};
@@ -29,7 +30,7 @@ pub fn copy_side(octets: &[u8], bounds: &Bounds, fresh: &mut Page) -> Result<(),
     requires size { length octets.now ≡ 16384 }
     requires valid { IsBounds bounds.now }
     requires current { bounds.now.end ≡ None }
-    ensures side { (leaf : LeafNode) → BeginsAsLeaf leaf octets.now → IsSideOr leaf bounds.now fresh.new result }
+    ensures side { (leaf : LeafNode) → BeginsAsLeaf leaf octets.now → MatchResult result (λ u. IsLeafPage (side_of leaf bounds.now) fresh.new) (λ e. ⊥) }
 {
     start_leaf(fresh, bounds);
     let count = number2(octets, 4);

@@ -20,7 +20,7 @@ pub use column::{Current, PartAt, Spot, part_for, spot_for};
 pub use header::{Header, read_header};
 pub use key_node::{Under, child_for};
 pub use key_node_writing::write_key_node;
-pub use leaf::{Found, NotANode, Value, find, push, start_leaf};
+pub use leaf::{FoundVersion, NotANode, Value, find, push, start_leaf};
 pub use leaf_next::next;
 pub use leaf_part::{ReadFault, entries_in, part};
 pub use leaf_reading::{leaf_in, leaves_are_one, read_leaf, read_leaf_block};
