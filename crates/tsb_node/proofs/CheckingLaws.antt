@@ -43,7 +43,7 @@ value_is bytes le end = elim (cases_order (slice_index bytes 56) 0) [
   | inr other ↦ (let some = value_some bytes (λ e. omega (arith, e, other)) in record { octets = ap value_spelled some; tagged = ap tag some ∙ (let e : 1 ≡ slice_index bytes 56 = omega (arith, other) in e) })
 ]
 
-one_octet : (xs : List ℕ) (n : ℕ) → n < length xs → take 1 (drop n xs) ≡ slice_index xs n ∷ []
+pub one_octet : (xs : List ℕ) (n : ℕ) → n < length xs → take 1 (drop n xs) ≡ slice_index xs n ∷ []
 one_octet [] n lt = absurd (omega arith)
 one_octet (x ∷ xs) zero lt = refl
 one_octet (x ∷ xs) (suc n) lt = one_octet xs n (omega arith)

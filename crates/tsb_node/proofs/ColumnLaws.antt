@@ -168,7 +168,7 @@ first_start : (ps : List Part) (start : ℕ) (p : Part) (rest : List ℕ) → Be
 first_start [] start p rest b e = absurd (none-some p e)
 first_start (q ∷ ps) start p rest b e = ap (λ (x : Part). x.start) (sym (same_Some q p e)) ∙ b
 
-no_parts : (ps : List Part) (start current : ℕ) → BeginsAt start (starts_of ps ++ current ∷ []) → length ps ≡ 0 → current ≡ start
+pub no_parts : (ps : List Part) (start current : ℕ) → BeginsAt start (starts_of ps ++ current ∷ []) → length ps ≡ 0 → current ≡ start
 no_parts [] start current b e = b
 no_parts (q ∷ ps) start current b e = absurd (omega (arith, e))
 
@@ -228,7 +228,7 @@ spot_block c octets count stamp at end p is counted before here e =
       before = omega (arith, next, before.next (omega (arith, lt, counted, column_says c octets is)));
     }
 
-index_drop : (at i : ℕ) (xs : List ℕ) → slice_index (drop at xs) i ≡ slice_index xs (at + i)
+pub index_drop : (at i : ℕ) (xs : List ℕ) → slice_index (drop at xs) i ≡ slice_index xs (at + i)
 index_drop zero i xs = ap (slice_index xs) (let e : i ≡ 0 + i = omega arith in e)
 index_drop (suc at) i [] = refl
 index_drop (suc at) i (x ∷ xs) = index_drop at i xs ∙ ap (slice_index (x ∷ xs)) (let e : suc (at + i) ≡ suc at + i = omega arith in e)

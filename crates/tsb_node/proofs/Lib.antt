@@ -15,3 +15,8 @@ pub mod SplittingLaws
 pub mod Nexting
 pub mod Parting
 pub mod WholeLeaves
+pub mod RowLaws
+pub mod NodeLaws
+pub mod PartLaws
+pub mod Refusals
+pub mod ColumnReading

@@ -1,5 +1,5 @@
 -- A column: the parts of its past, and in a page its current leaf.
-use Rattle.std.specs.Prelude.{◌≡◌, ℕ, ◌+◌, ◌*◌, ◌<◌, ◌≤◌, ◌^◌, List, [], ◌∷◌, ◌++◌, length, IfSome}
+use Rattle.std.specs.Prelude.{◌≡◌, ℕ, ◌+◌, ◌*◌, ◌<◌, ◌≤◌, ◌^◌, List, [], ◌∷◌, ◌++◌, length, map, IfSome}
 use Rattle.std.specs.List.{flat_map, AllByRecursion}
 use Rattle.tsb_node.specs.Numbers.{octets_of}
 use Rattle.tsb_node.specs.Nodes.{IsBounds, body, IsInPage, IsInBlock}
@@ -49,8 +49,7 @@ BeginsAt start (n ∷ rest) = n ≡ start
 
 -- the stamps where parts start
 abbrev pub starts_of : List Part → List ℕ
-starts_of [] = []
-starts_of (p ∷ rest) = p.start ∷ starts_of rest
+starts_of parts = map (λ p. p.start) parts
 
 -- a stamp of 16 octets, and a block's number of eight
 pub record IsPartEntry (p : Part) : Type 0 where

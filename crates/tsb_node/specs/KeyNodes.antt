@@ -1,5 +1,5 @@
 -- A key node: the lowest keys and the pages of its children.
-use Rattle.std.specs.Prelude.{◌≡◌, ℕ, ◌*◌, ◌<◌, ◌≤◌, ◌^◌, List, [], ◌∷◌, ◌++◌, length, IfSome}
+use Rattle.std.specs.Prelude.{◌≡◌, ℕ, ◌*◌, ◌<◌, ◌≤◌, ◌^◌, List, [], ◌∷◌, ◌++◌, length, map, IfSome}
 use Rattle.std.specs.List.{flat_map, AllByRecursion}
 use Rattle.tsb_node.specs.Numbers.{octets_of}
 use Rattle.tsb_node.specs.Nodes.{IsBounds, body, IsInPage}
@@ -19,8 +19,7 @@ child_octets c = octets_of 40 c.low ++ octets_of 8 c.page
 
 -- the lowest keys of children
 abbrev pub lows_of : List Child → List ℕ
-lows_of [] = []
-lows_of (c ∷ rest) = c.low ∷ lows_of rest
+lows_of children = map (λ c. c.low) children
 
 -- a key of 40 octets below the high one, and a page's number of eight
 pub record IsChildEntry (b : Bounds) (c : Child) : Type 0 where

@@ -5,3 +5,5 @@ pub mod Checking
 pub mod ChildReading
 pub mod PartReading
 pub mod Laying
+pub mod Rows
+pub mod NodeReading

@@ -1,6 +1,6 @@
 //! Columns: the parts of a past, and in a page the current leaf.
 
-ghost use Rattle.std.specs.Prelude.{◌≡◌, ◌≤◌, ◌<◌, ◌+◌, length, IfSome, Some};
+ghost use Rattle.std.specs.Prelude.{◌≡◌, ◌≤◌, ◌<◌, ◌+◌, length, IfSome, IfOk, Some};
 ghost use Rattle.std.specs.Prelude.{ℕ, List, slice_index, drop, ◌++◌, Ok};
 ghost use Rattle.version_model.specs.declared.part.PartKind.{PartKind as PartKindValue};
 ghost use Rattle.version_model.specs.declared.part.Part.{Part as PartValue};
@@ -41,6 +41,7 @@ const PLACES: u16 = 649;
 /// The kind in the part at a place, or none where there is none of its kind.
 fn kind_at(area: &[u8], at: usize) -> Result<PartKind, NotANode>
     requires { at + 25 ≤ length area.now }
+    ensures octet { IfOk result (λ kind. slice_index area.now (at + 16) ≡ part_kind kind) }
     ensures kind { (kind : PartKindValue) → slice_index area.now (at + 16) ≡ part_kind kind → result ≡ Ok kind }
 {
     match area[at + 16] {
@@ -51,8 +52,9 @@ fn kind_at(area: &[u8], at: usize) -> Result<PartKind, NotANode>
 }
 
 /// The part at a place.
-fn part_in(area: &[u8], at: usize) -> Result<Part, NotANode>
+pub fn part_in(area: &[u8], at: usize) -> Result<Part, NotANode>
     requires { at + 25 ≤ length area.now }
+    ensures spelled { IfOk result (λ p. IsPartEntry p × (drop at area.now ≡ part_octets p ++ drop (at + 25) area.now)) }
     ensures part { (p : PartValue) (rest : List ℕ) → IsPartEntry p → drop at area.now ≡ part_octets p ++ rest → result ≡ Ok p }
 {
     let Ok(kind) = kind_at(area, at) else {

@@ -54,11 +54,11 @@ fn entry_of(alloc: Global, bytes: &[u8]) -> Result<Entry, AllocError>
     })
 }
 
-// Puts an entry behind the others.
-fn keep(kept: &mut Vec<Entry>, entry: Entry) -> Result<(), AllocError>
-    ensures { OnOk result (kept.new.items ≡ kept.old.items ++ entry ∷ []) }
+/// Puts an item behind the others.
+pub fn keep<T: Drop>(kept: &mut Vec<T>, item: T) -> Result<(), AllocError>
+    ensures { OnOk result (kept.new.items ≡ kept.old.items ++ item ∷ []) }
 {
-    kept.push(entry)?;
+    kept.push(item)?;
     Ok(())
 }
 

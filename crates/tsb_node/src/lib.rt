@@ -2,6 +2,8 @@
 #![tactic(auto)]
 
 mod column;
+mod column_reading;
+mod column_said;
 mod header;
 mod key_node;
 mod key_node_writing;
@@ -13,10 +15,12 @@ mod leaf_said;
 mod leaf_sealing;
 mod leaf_splitting;
 mod leaf_writing;
+mod node_reading;
 mod numbers;
 mod writing;
 
 pub use column::{Current, PartAt, Spot, part_for, spot_for};
+pub use column_said::{ColumnSaid, OldColumnSaid, column_of_block, column_of_page};
 pub use header::{Header, read_header};
 pub use key_node::{Under, child_for};
 pub use key_node_writing::write_key_node;

@@ -1,0 +1,97 @@
+//! What the pages and blocks of columns say, owned.
+
+ghost use Rattle.std.specs.Prelude.{◌≡◌};
+ghost use Rattle.std.specs.Result.{MatchResult};
+ghost use Rattle.tsb_node.specs.Columns.{IsColumnPage, IsColumnBlock};
+ghost use Rattle.tsb_node.specs.Saying.{column_said, old_column_said, IsRefusal};
+ghost use Rattle.tsb_node.specs.inner.NodeReading.{IsNode};
+ghost use Rattle.tsb_node.specs.inner.PartReading.{IsColumnOf, IsOldColumnOf};
+
+use crate::column::Current;
+use crate::column_reading::{current_of, is_of_kind, parts_in};
+use crate::header::Header;
+use crate::leaf_part::ReadFault;
+use crate::node_reading::{node_of_block, node_of_page};
+use disk_models::{Block, Page};
+use std::alloc::Global;
+use version_model::{Bounds, Part};
+
+/// What the page of a column says: its bounds, the parts of its past in the order of their starts, and its current leaf.
+#[derive(Debug, Drop)]
+pub struct ColumnSaid {
+    pub bounds: Bounds,
+    pub parts: Vec<Part>,
+    pub current: Current,
+}
+
+/// What the block of a column says: its bounds, and its parts in the order of their starts.
+#[derive(Debug, Drop)]
+pub struct OldColumnSaid {
+    pub bounds: Bounds,
+    pub parts: Vec<Part>,
+}
+
+/// What the column says whose header and entries in a page these are.
+fn column_in(alloc: Global, header: &Header, entries: &[u8]) -> Result<ColumnSaid, ReadFault>
+    requires node { IsNode header.now entries.now }
+    ensures column { MatchResult result (λ said. IsColumnOf header.now entries.now (column_said said)) (IsRefusal (IsColumnOf header.now entries.now)) }
+{
+    let Some((current, front)) = current_of(header, entries) else {
+        return Err(ReadFault::NotANode);
+    };
+    let bounds = header.bounds;
+    match parts_in(
+        alloc,
+        front,
+        header.count - 1,
+        bounds.start,
+        Some(current.start),
+    ) {
+        Ok(parts) => Ok(ColumnSaid {
+            bounds,
+            parts,
+            current,
+        }),
+        Err(fault) => Err(fault),
+    }
+}
+
+/// What the column says whose header and entries in a block these are.
+fn old_column_in(alloc: Global, header: &Header, entries: &[u8]) -> Result<OldColumnSaid, ReadFault>
+    requires node { IsNode header.now entries.now }
+    ensures column { MatchResult result (λ said. IsOldColumnOf header.now entries.now (old_column_said said)) (IsRefusal (IsOldColumnOf header.now entries.now)) }
+{
+    if !is_of_kind(header, 2, 1) {
+        return Err(ReadFault::NotANode);
+    }
+    if header.count == 0 {
+        return Err(ReadFault::NotANode);
+    }
+    let bounds = header.bounds;
+    match parts_in(alloc, entries, header.count, bounds.start, bounds.end) {
+        Ok(parts) => Ok(OldColumnSaid { bounds, parts }),
+        Err(fault) => Err(fault),
+    }
+}
+
+/// What the column says that a page is. Refused as no node exactly where it is no page of a column, and for want of memory only
+/// where it is one.
+pub fn column_of_page(alloc: Global, page: &Page) -> Result<ColumnSaid, ReadFault>
+    ensures column { MatchResult result (λ said. IsColumnPage (column_said said) page.now) (IsRefusal (λ column. IsColumnPage column page.now)) }
+{
+    let Some((header, entries)) = node_of_page(page) else {
+        return Err(ReadFault::NotANode);
+    };
+    column_in(alloc, &header, entries)
+}
+
+/// What the column says that a block is. Refused as no node exactly where it is no block of a column, and for want of memory only
+/// where it is one.
+pub fn column_of_block(alloc: Global, block: &Block) -> Result<OldColumnSaid, ReadFault>
+    ensures column { MatchResult result (λ said. IsColumnBlock (old_column_said said) block.now) (IsRefusal (λ column. IsColumnBlock column block.now)) }
+{
+    let Some((header, entries)) = node_of_block(block) else {
+        return Err(ReadFault::NotANode);
+    };
+    old_column_in(alloc, &header, entries)
+}

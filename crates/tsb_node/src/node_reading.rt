@@ -1,0 +1,66 @@
+//! What all nodes have in common is read: a header, the octets of its entries, zeros behind them, and what ends a page or a block.
+
+ghost use Rattle.std.specs.Prelude.{List, ℕ, ◌≡◌, length, IfSome, IfNone};
+ghost use Rattle.tsb_node.specs.inner.NodeReading.{BeginsAsNode, IsNodePage, IsNodeBlock};
+
+use crate::header::{Header, read_header};
+use crate::leaf::{FIRST, LAST, ROOM};
+use crate::leaf_reading::{are_zeros, is_digested};
+use disk_models::{Block, Page};
+
+/// The header of the node with which octets begin, and the octets of its entries. None where they begin as no node does:
+/// its bounds aren't in order, its entries have more octets than there is room for, or octets other than zero stand behind them.
+pub fn node_in(octets: &[u8]) -> Option<(Header, &[u8])>
+    requires size { length octets.now ≡ 16384 }
+    ensures found { IfSome result (λ node. BeginsAsNode node.0 node.1.now octets.now) }
+    ensures none { IfNone result ((header : Header) (entries : List ℕ) → BeginsAsNode header entries octets.now → ⊥) }
+{
+    let Some(header) = read_header(octets) else {
+        return None;
+    };
+    let used = header.used as usize;
+    if used > ROOM {
+        return None;
+    }
+    let area = octets.split_at(LAST).0.split_at(FIRST).1;
+    let (entries, rest) = area.split_at(used);
+    if !are_zeros(rest) {
+        return None;
+    }
+    Some((header, entries))
+}
+
+/// The header of the node that a page is, and the octets of its entries; none where it is no page of a node.
+pub fn node_of_page(page: &Page) -> Option<(Header, &[u8])>
+    ensures found { IfSome result (λ node. IsNodePage node.0 node.1.now page.now) }
+    ensures none { IfNone result ((header : Header) (entries : List ℕ) → IsNodePage header entries page.now → ⊥) }
+{
+    let octets = page.octets();
+    if !are_zeros(octets.split_at(LAST).1) {
+        return None;
+    }
+    let Some((header, entries)) = node_in(octets) else {
+        return None;
+    };
+    if header.bounds.end.is_some() {
+        return None;
+    }
+    Some((header, entries))
+}
+
+/// The header of the node that a block is, and the octets of its entries; none where it is no block of a node.
+pub fn node_of_block(block: &Block) -> Option<(Header, &[u8])>
+    ensures found { IfSome result (λ node. IsNodeBlock node.0 node.1.now block.now) }
+    ensures none { IfNone result ((header : Header) (entries : List ℕ) → IsNodeBlock header entries block.now → ⊥) }
+{
+    if !is_digested(block) {
+        return None;
+    }
+    let Some((header, entries)) = node_in(block.octets()) else {
+        return None;
+    };
+    if header.bounds.end.is_none() {
+        return None;
+    }
+    Some((header, entries))
+}
