@@ -20,3 +20,4 @@ pub mod NodeLaws
 pub mod PartLaws
 pub mod Refusals
 pub mod ColumnReading
+pub mod ChildLaws

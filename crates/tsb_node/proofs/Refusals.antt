@@ -25,3 +25,8 @@ refusal_along view P Q f g (Err fault) is = refusal_map P Q (λ y p. (y, f y p))
 pub if_ok_map : {X E : Type 0} (r : Result X E) (P Q : X → Type 0) → ((x : X) → P x → Q x) → IfOk r P → IfOk r Q
 if_ok_map (Ok x) P Q f p = f x p
 if_ok_map (Err e) P Q f p = p
+
+-- a refusal where there is one is for want of memory
+pub refusal_of : {Y T : Type 0} (Reads : Y → Type 0) (y : Y) → Reads y → (fault : ReadFault) → (◌≡◌ {A = Result T ReadFault} (Err fault) (Err NotANode) → ⊥) → IsRefusal Reads fault
+refusal_of Reads y is NotANode never = absurd (never refl)
+refusal_of Reads y is Memory never = (y, is)

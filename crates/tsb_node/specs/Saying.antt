@@ -6,6 +6,8 @@ use Rattle.tsb_node.specs.declared.leaf_part.ReadFault.TheVariants.{NotANode, Me
 use Rattle.tsb_node.specs.declared.leaf_said.LeafSaid.{LeafSaid}
 use Rattle.tsb_node.specs.declared.column_said.ColumnSaid.{ColumnSaid}
 use Rattle.tsb_node.specs.declared.column_said.OldColumnSaid.{OldColumnSaid}
+use Rattle.tsb_node.specs.declared.key_node_said.KeyNodeSaid.{KeyNodeSaid}
+use Rattle.tsb_node.specs.KeyNodes.{KeyNodeInPage}
 use Rattle.tsb_node.specs.Leaves.{LeafNode}
 use Rattle.tsb_node.specs.Columns.{ColumnInPage, ColumnInBlock}
 
@@ -20,6 +22,10 @@ column_said said = record { bounds = said.bounds; parts = said.parts.items; curr
 -- a column of a block in memory, as the column that it is
 abbrev pub old_column_said : OldColumnSaid → ColumnInBlock
 old_column_said said = record { bounds = said.bounds; parts = said.parts.items }
+
+-- a key node in memory, as the key node that it is
+abbrev pub key_node_said : KeyNodeSaid → KeyNodeInPage
+key_node_said said = record { level = said.level; bounds = said.bounds; children = said.children.items }
 
 -- a reader's refusal: as no node exactly where there is none, for want of memory only where there is one
 abbrev pub IsRefusal : {X : Type 0} → (X → Type 0) → ReadFault → Type 0

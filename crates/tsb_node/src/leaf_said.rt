@@ -1,8 +1,8 @@
 //! What the pages and blocks of leaves say, owned.
 
-ghost use Rattle.std.specs.Prelude.{◌≡◌, IfOk, Err};
-ghost use Rattle.tsb_node.specs.Leaves.{LeafNode, IsLeafPage, IsLeafBlock};
-ghost use Rattle.tsb_node.specs.Saying.{leaf_said};
+ghost use Rattle.std.specs.Result.{MatchResult};
+ghost use Rattle.tsb_node.specs.Leaves.{IsLeafPage, IsLeafBlock};
+ghost use Rattle.tsb_node.specs.Saying.{leaf_said, IsRefusal};
 
 use crate::leaf_part::{ReadFault, entries_in};
 use crate::leaf_reading::{read_leaf, read_leaf_block};
@@ -17,10 +17,10 @@ pub struct LeafSaid {
     pub entries: Vec<Entry>,
 }
 
-/// What the leaf says that a page is. Refused as no node exactly where it is no leaf.
+/// What the leaf says that a page is. Refused as no node exactly where it is no leaf, and for want of memory only
+/// where it is one.
 pub fn leaf_of_page(alloc: Global, page: &Page) -> Result<LeafSaid, ReadFault>
-    ensures found { IfOk result (λ said. IsLeafPage (leaf_said said) page.now) }
-    ensures refused { (leaf : LeafNode) → IsLeafPage leaf page.now → result ≡ Err ReadFault.NotANode → ⊥ }
+    ensures leaf { MatchResult result (λ said. IsLeafPage (leaf_said said) page.now) (IsRefusal (λ leaf. IsLeafPage leaf page.now)) }
 {
     let Some(bounds) = read_leaf(page) else {
         return Err(ReadFault::NotANode);
@@ -31,10 +31,10 @@ pub fn leaf_of_page(alloc: Global, page: &Page) -> Result<LeafSaid, ReadFault>
     }
 }
 
-/// What the leaf says that a block is. Refused as no node exactly where it is no leaf.
+/// What the leaf says that a block is. Refused as no node exactly where it is no leaf, and for want of memory only
+/// where it is one.
 pub fn leaf_of_block(alloc: Global, block: &Block) -> Result<LeafSaid, ReadFault>
-    ensures found { IfOk result (λ said. IsLeafBlock (leaf_said said) block.now) }
-    ensures refused { (leaf : LeafNode) → IsLeafBlock leaf block.now → result ≡ Err ReadFault.NotANode → ⊥ }
+    ensures leaf { MatchResult result (λ said. IsLeafBlock (leaf_said said) block.now) (IsRefusal (λ leaf. IsLeafBlock leaf block.now)) }
 {
     let Some(bounds) = read_leaf_block(block) else {
         return Err(ReadFault::NotANode);

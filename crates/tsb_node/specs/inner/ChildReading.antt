@@ -1,5 +1,10 @@
 -- What octets say of a key node where they are one.
-use Rattle.std.specs.Prelude.{ℕ, zero, suc, List, [], ◌∷◌, drop}
+use Rattle.std.specs.Prelude.{◌≡◌, ℕ, zero, suc, List, [], ◌∷◌, length, drop}
+use Rattle.std.specs.List.{flat_map}
+use Rattle.version_model.specs.declared.bounds.Bounds.{Bounds}
+use Rattle.tsb_node.specs.declared.header.Header.{Header}
+use Rattle.tsb_node.specs.KeyNodes.{KeyNodeInPage, IsKeyNode, IsChildEntry, child_octets}
+use Rattle.tsb_node.specs.inner.Rows.{AreRows}
 use Rattle.tsb_node.specs.inner.Fields.{number_in}
 use Rattle.version_model.specs.declared.child.Child.{Child}
 
@@ -11,3 +16,16 @@ child_in bytes = record { low = number_in 40 0 bytes; page = number_in 8 40 byte
 unfoldable pub children_in : ℕ → List ℕ → List Child
 children_in zero bytes = []
 children_in (suc n) bytes = child_in bytes ∷ children_in n (drop 48 bytes)
+
+-- the octets are just these children, so many, that follow one another from the lowest key on
+abbrev pub AreChildrenOf : Bounds → ℕ → List ℕ → List Child → Type 0
+AreChildrenOf b count bytes children = AreRows child_octets (IsChildEntry b) (λ c. c.low) b.low count bytes children
+
+-- the header and the octets of the entries are those of a key node
+pub record IsKeyNodeOf (h : Header) (entries : List ℕ) (node : KeyNodeInPage) : Type 0 where
+  pub kind : h.kind ≡ 3
+  pub level : h.level ≡ node.level
+  pub bounds : node.bounds ≡ h.bounds
+  pub count : h.count ≡ length node.children
+  pub valid : IsKeyNode node
+  pub spelled : entries ≡ flat_map child_octets node.children

@@ -1,0 +1,67 @@
+//! What the pages of key nodes say, owned.
+
+ghost use Rattle.std.specs.Prelude.{◌≡◌, ◌↔◌, ◌≤◌, IsTrue};
+ghost use Rattle.std.specs.Result.{MatchResult};
+ghost use Rattle.tsb_node.specs.KeyNodes.{IsKeyNodePage};
+ghost use Rattle.tsb_node.specs.Saying.{key_node_said, IsRefusal};
+ghost use Rattle.tsb_node.specs.inner.NodeReading.{IsNode};
+ghost use Rattle.tsb_node.specs.inner.ChildReading.{IsKeyNodeOf};
+
+use crate::header::Header;
+use crate::key_node_reading::children_in;
+use crate::leaf_part::ReadFault;
+use crate::node_reading::node_of_page;
+use disk_models::Page;
+use std::alloc::Global;
+use version_model::{Bounds, Child, Stamp};
+
+/// What a key node says: its level, its bounds, and its children in the order of their lowest keys.
+#[derive(Debug, Drop)]
+pub struct KeyNodeSaid {
+    pub level: u8,
+    pub bounds: Bounds,
+    pub children: Vec<Child>,
+}
+
+/// Whether a header is of a key node's kind, of one of its levels, 2 to 7.
+fn is_of_key_nodes(header: &Header) -> bool
+    ensures { IsTrue result ↔ ((header.now.kind ≡ 3) × (2 ≤ header.now.level) × (header.now.level ≤ 7)) }
+{
+    header.kind == 3 && header.level >= 2 && header.level <= 7
+}
+
+/// What the key node says whose header and entries these are.
+fn key_node_in(alloc: Global, header: &Header, entries: &[u8]) -> Result<KeyNodeSaid, ReadFault>
+    requires node { IsNode header.now entries.now }
+    ensures key_node { MatchResult result (λ said. IsKeyNodeOf header.now entries.now (key_node_said said)) (IsRefusal (IsKeyNodeOf header.now entries.now)) }
+{
+    if !is_of_key_nodes(header) {
+        return Err(ReadFault::NotANode);
+    }
+    if header.bounds.start != Stamp::new(0, 0) {
+        return Err(ReadFault::NotANode);
+    }
+    if header.count == 0 {
+        return Err(ReadFault::NotANode);
+    }
+    let bounds = header.bounds;
+    match children_in(alloc, entries, header.count, &bounds) {
+        Ok(children) => Ok(KeyNodeSaid {
+            level: header.level,
+            bounds,
+            children,
+        }),
+        Err(fault) => Err(fault),
+    }
+}
+
+/// What the key node says that a page is. Refused as no node exactly where it is no key node, and for want of memory only where
+/// it is one.
+pub fn key_node_of_page(alloc: Global, page: &Page) -> Result<KeyNodeSaid, ReadFault>
+    ensures key_node { MatchResult result (λ said. IsKeyNodePage (key_node_said said) page.now) (IsRefusal (λ node. IsKeyNodePage node page.now)) }
+{
+    let Some((header, entries)) = node_of_page(page) else {
+        return Err(ReadFault::NotANode);
+    };
+    key_node_in(alloc, &header, entries)
+}
