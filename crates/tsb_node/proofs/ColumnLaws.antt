@@ -13,7 +13,8 @@ use Rattle.version_model.specs.declared.part.Part.{Part}
 use Rattle.tsb_node.specs.declared.column.Current.{Current}
 use Rattle.version_model.specs.declared.part.PartKind.{PartKind}
 use Rattle.tsb_node.specs.Columns.{ColumnInPage, ColumnInBlock, IsPartEntry, BeginsAt, starts_of, part_kind, part_octets, current_octets, place_octets}
-use Rattle.tsb_node.specs.Parts.{BeginsAsColumn, BeginsAsOldColumn, IsPartAt, end_of}
+use Rattle.tsb_node.specs.Parts.{BeginsAsColumn, BeginsAsOldColumn, IsPartAt}
+use Rattle.version_model.specs.Blocks.{start_or}
 use Rattle.tsb_node.specs.inner.PartReading.{IsPlaceBefore, start_at}
 use Rattle.tsb_node.specs.inner.Reading.{area}
 use Rattle.tsb_node.proofs.NumberLaws.{octets_of-size, octets_of-number, field_in, drop_twice}
@@ -188,12 +189,12 @@ spot_page c octets count stamp at start page is counted before end s p =
     (λ i. record { start = start_is i; page = page_is i }, le)
 
 -- where a part ends
-end_is_next : (c : ColumnInPage) (octets : List ℕ) (i : ℕ) → BeginsAsColumn c octets → i ≤ length c.parts → start_at i (area octets) ≡ end_of c.current.start (slice_get c.parts i)
+end_is_next : (c : ColumnInPage) (octets : List ℕ) (i : ℕ) → BeginsAsColumn c octets → i ≤ length c.parts → start_at i (area octets) ≡ start_or c.current.start (slice_get c.parts i)
 end_is_next c octets i is le = elim (cases_order i (length c.parts)) [
-  | inl same ↦ (ap (λ (k : ℕ). start_at k (area octets)) same ∙ (current_here c octets is).start_is ∙ sym (ap (end_of c.current.start) (get_past c.parts i (omega (arith, same)))))
+  | inl same ↦ (ap (λ (k : ℕ). start_at k (area octets)) same ∙ (current_here c octets is).start_is ∙ sym (ap (start_or c.current.start) (get_past c.parts i (omega (arith, same)))))
   | inr other ↦ (let g = get_within c.parts i (omega (arith, other)) in
       let b = behind_parts c octets is in
-      start_of_part c.parts i g.0 (area octets) (current_octets c.current ++ b.0) is.valid.each g.1 b.1 ∙ sym (ap (end_of c.current.start) g.1))
+      start_of_part c.parts i g.0 (area octets) (current_octets c.current ++ b.0) is.valid.each g.1 b.1 ∙ sym (ap (start_or c.current.start) g.1))
 ]
 
 -- the part that stands at a place before the last
@@ -295,7 +296,7 @@ pub old_last : (c : ColumnInBlock) (octets : List ℕ) (count stamp at end : ℕ
 old_last c octets count stamp at end p is counted before done from upto here = record {
   place = before.place;
   at = here;
-  to_end = sym (ap (end_of end) (get_past c.parts (suc before.place) (omega (arith, done, before.at_place, counted, old_column_says c octets is))));
+  to_end = sym (ap (start_or end) (get_past c.parts (suc before.place) (omega (arith, done, before.at_place, counted, old_column_says c octets is))));
   start = old_start c octets count stamp at p is before from here;
   before = upto;
 }
@@ -314,7 +315,7 @@ old_next c octets count stamp at end next p is counted before never from e here 
     record {
       place = before.place;
       at = here;
-      to_end = next_is ∙ start_of_part c.parts (suc before.place) g.0 (area octets) b.0 is.valid.each g.1 b.1 ∙ sym (ap (end_of end) g.1);
+      to_end = next_is ∙ start_of_part c.parts (suc before.place) g.0 (area octets) b.0 is.valid.each g.1 b.1 ∙ sym (ap (start_or end) g.1);
       start = old_start c octets count stamp at p is before from here;
       before = omega (arith, next_is, before.next more);
     }

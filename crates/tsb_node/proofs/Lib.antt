@@ -21,3 +21,5 @@ pub mod PartLaws
 pub mod Refusals
 pub mod ColumnReading
 pub mod ChildLaws
+pub mod OneNode
+pub mod ViewLaws

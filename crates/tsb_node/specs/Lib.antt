@@ -12,4 +12,5 @@ pub mod Parts
 pub mod Splitting
 pub mod Nexts
 pub mod Saying
+pub mod Views
 pub mod inner

@@ -4,6 +4,7 @@ use Rattle.version_model.specs.declared.part.Part.{Part}
 use Rattle.tsb_node.specs.declared.column.Spot.{Spot}
 use Rattle.tsb_node.specs.declared.column.Spot.TheVariants.{InPage, InBlock}
 use Rattle.tsb_node.specs.declared.column.PartAt.{PartAt}
+use Rattle.version_model.specs.Blocks.{start_or}
 use Rattle.tsb_node.specs.Columns.{ColumnInPage, ColumnInBlock, IsColumn, IsOldColumn, column_body, old_column_body}
 
 -- the octets begin as the page of the column does
@@ -18,16 +19,11 @@ pub record BeginsAsOldColumn (column : ColumnInBlock) (octets : List ℕ) : Type
   pub last : List ℕ
   pub spelled : octets ≡ old_column_body column ++ last
 
--- where a part ends: where the next one starts, or at the end of all
-abbrev pub end_of : ℕ → Option Part → ℕ
-end_of end None = end
-end_of end (Some next) = next.start
-
 -- the part, with its stamps, in which the stamp lies, of parts that go on up to an end
 pub record IsPartAt (parts : List Part) (end stamp : ℕ) (found : PartAt) : Type 0 where
   pub place : ℕ
   pub at : slice_get parts place ≡ Some found.part
-  pub to_end : found.end ≡ end_of end (slice_get parts (suc place))
+  pub to_end : found.end ≡ start_or end (slice_get parts (suc place))
   pub start : found.part.start ≤ stamp
   pub before : stamp < found.end
 

@@ -9,6 +9,7 @@ mod key_node;
 mod key_node_reading;
 mod key_node_said;
 mod key_node_writing;
+mod laws;
 mod leaf;
 mod leaf_next;
 mod leaf_part;
@@ -27,6 +28,9 @@ pub use header::{Header, read_header};
 pub use key_node::{Under, child_for};
 pub use key_node_said::{KeyNodeSaid, key_node_of_page};
 pub use key_node_writing::write_key_node;
+pub use laws::{
+    entries_have_their_octets, nodes_are_one, nodes_say_what_the_tree_asks, sides_are_key_splits,
+};
 pub use leaf::{FoundVersion, NotANode, Value, find, push, start_leaf};
 pub use leaf_next::next;
 pub use leaf_part::{ReadFault, entries_in, part};

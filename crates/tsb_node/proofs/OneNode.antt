@@ -1,0 +1,110 @@
+-- Octets are one column at most, and one key node; a page says one thing at most, and so does a block.
+use Rattle.std.proofs.Common.{◌≡◌, ℕ, ◌+◌, ◌<◌, ◌≤◌, List, [], ◌∷◌, ◌++◌, length, None, refl, sym, ap, subst, ◌∙◌, arith}
+use Rattle.std.specs.List.{flat_map, AllByRecursion}
+use Rattle.version_model.specs.declared.bounds.Bounds.{Bounds}
+use Rattle.version_model.specs.declared.part.Part.{Part}
+use Rattle.version_model.specs.declared.child.Child.{Child}
+use Rattle.version_model.specs.Ranges.{range_of}
+use Rattle.version_model.specs.Pages.{PageNode, CurrentLeaf, ColumnNode, KeyNode}
+use Rattle.version_model.specs.Blocks.{BlockNode, OldLeaf, OldColumn}
+use Rattle.tsb_node.specs.declared.header.Header.{Header}
+use Rattle.tsb_node.specs.Leaves.{LeafNode, IsLeafPage, IsLeafBlock, BeginsAsLeaf, entries}
+use Rattle.tsb_node.specs.Columns.{ColumnInPage, ColumnInBlock, IsColumnPage, IsColumnBlock, IsPartEntry, part_octets, current_octets}
+use Rattle.tsb_node.specs.KeyNodes.{KeyNodeInPage, IsKeyNodePage, IsChildEntry, child_octets}
+use Rattle.tsb_node.specs.Children.{BeginsAsKeyNode}
+use Rattle.tsb_node.specs.Parts.{BeginsAsColumn, BeginsAsOldColumn}
+use Rattle.tsb_node.specs.Views.{PageSays, says_leaf, says_column, says_key_node, BlockSays, says_old_leaf, says_old_column, keys_between}
+use Rattle.tsb_node.specs.inner.NodeReading.{BeginsAsNode}
+use Rattle.tsb_node.specs.inner.PartReading.{IsColumnOf, IsOldColumnOf, IsPartBefore}
+use Rattle.tsb_node.specs.inner.ChildReading.{IsKeyNodeOf}
+use Rattle.tsb_node.proofs.Leaves.{few_versions, leaf_versions, begins_page, begins_block}
+use Rattle.tsb_node.proofs.ReadingLaws.{begun_one}
+use Rattle.tsb_node.proofs.RowLaws.{rows_one}
+use Rattle.tsb_node.proofs.PartLaws.{parts_spelled, current_back, current_one}
+use Rattle.tsb_node.proofs.ColumnReading.{column_header, column_entries, column_node, column_of_begun, column_current, current_same, old_header, old_node, old_of_begun, old_column_parts}
+use Rattle.tsb_node.proofs.ChildLaws.{children_spelled, key_node_header, key_node_node, key_node_of_begun, key_node_children}
+use Rattle.tsb_node.proofs.NodeLaws.{nodes_same}
+
+pub column_begun : (c : ColumnInPage) (octets : List ℕ) → BeginsAsColumn c octets → BeginsAsNode (column_header c) (column_entries c) octets
+column_begun c octets is = record { valid = column_node c is.valid; last = is.last; spelled = is.spelled }
+
+pub old_begun : (c : ColumnInBlock) (octets : List ℕ) → BeginsAsOldColumn c octets → BeginsAsNode (old_header c) (flat_map part_octets c.parts) octets
+old_begun c octets is = record { valid = old_node c is.valid; last = is.last; spelled = is.spelled }
+
+pub key_node_begun : (k : KeyNodeInPage) (octets : List ℕ) → BeginsAsKeyNode k octets → BeginsAsNode (key_node_header k) (flat_map child_octets k.children) octets
+key_node_begun k octets is = record { valid = key_node_node k is.valid; last = is.last; spelled = is.spelled }
+
+open_all : (ps : List Part) → AllByRecursion IsPartEntry ps → AllByRecursion (IsPartBefore None) ps
+open_all [] all = tt
+open_all (p ∷ ps) all = (record { entry = all.0; before = tt }, open_all ps all.1)
+
+parts_one : (ps qs : List Part) → AllByRecursion IsPartEntry ps → AllByRecursion IsPartEntry qs → flat_map part_octets ps ≡ flat_map part_octets qs → ps ≡ qs
+parts_one ps qs p q e = rows_one part_octets (IsPartBefore None) (λ (x : Part). x.start) 25 (parts_spelled None) ps qs (open_all ps p) (open_all qs q) e
+
+pub column_one : (a b : ColumnInPage) (octets : List ℕ) → BeginsAsColumn a octets → BeginsAsColumn b octets → a ≡ b
+column_one a b octets p q =
+    let of = column_of_begun (column_header a) (column_entries a) octets b (column_begun a octets p) q.valid (column_begun b octets q) in
+    let s = current_back (column_entries a) a.current (flat_map part_octets a.parts) refl in
+    let t = current_back (column_entries a) b.current (flat_map part_octets b.parts) of.spelled in
+    let parts = parts_one a.parts b.parts p.valid.each q.valid.each (sym s.0 ∙ t.0) in
+    let current = current_one a.current b.current (record { start = p.valid.current_start; page = p.valid.current_page }) (record { start = q.valid.current_start; page = q.valid.current_page }) (sym s.1 ∙ t.1) in
+    let bounds : a.bounds ≡ b.bounds = sym of.bounds in
+    λ i. record { bounds = bounds i; parts = parts i; current = current i }
+
+pub old_column_one : (a b : ColumnInBlock) (octets : List ℕ) → BeginsAsOldColumn a octets → BeginsAsOldColumn b octets → a ≡ b
+old_column_one a b octets p q =
+    let of = old_of_begun (old_header a) (flat_map part_octets a.parts) octets b (old_begun a octets p) q.valid (old_begun b octets q) in
+    let parts = parts_one a.parts b.parts p.valid.each q.valid.each of.spelled in
+    let bounds : a.bounds ≡ b.bounds = sym of.bounds in
+    λ i. record { bounds = bounds i; parts = parts i }
+
+pub key_node_one : (a b : KeyNodeInPage) (octets : List ℕ) → BeginsAsKeyNode a octets → BeginsAsKeyNode b octets → a ≡ b
+key_node_one a b octets p q =
+    let of = key_node_of_begun (key_node_header a) (flat_map child_octets a.children) octets b (key_node_begun a octets p) q.valid (key_node_begun b octets q) in
+    let bounds : a.bounds ≡ b.bounds = sym of.bounds in
+    let each = subst (λ (x : Bounds). AllByRecursion (IsChildEntry x) b.children) of.bounds q.valid.each in
+    let children = rows_one child_octets (IsChildEntry a.bounds) (λ (x : Child). x.low) 48 (children_spelled a.bounds) a.children b.children p.valid.each each of.spelled in
+    let level : a.level ≡ b.level = of.level in
+    λ i. record { level = level i; bounds = bounds i; children = children i }
+
+leaf_one : (a b : LeafNode) (octets : List ℕ) → BeginsAsLeaf a octets → BeginsAsLeaf b octets → a ≡ b
+leaf_one a b octets p q =
+    let bounds = begun_one a b octets p q in
+    let versions = sym (leaf_versions a octets p) ∙ leaf_versions b octets q in
+    λ i. record { bounds = bounds i; versions = versions i }
+
+leaf_begun : (leaf : LeafNode) (octets : List ℕ) → BeginsAsLeaf leaf octets → BeginsAsNode (record { kind = 1; level = 0; count = length leaf.versions; used = length (entries leaf.versions); bounds = leaf.bounds }) (entries leaf.versions) octets
+leaf_begun leaf octets is = record {
+  valid = record { bounds = is.valid.bounds; count = few_versions leaf is.valid; used = refl; fits = is.valid.fits };
+  last = is.last;
+  spelled = is.spelled;
+}
+
+column_page : (c : ColumnInPage) (octets : List ℕ) → IsColumnPage c octets → BeginsAsColumn c octets
+column_page c octets is = record { valid = is.valid; last = _; spelled = is.page.spelled }
+
+key_page : (k : KeyNodeInPage) (octets : List ℕ) → IsKeyNodePage k octets → BeginsAsKeyNode k octets
+key_page k octets is = record { valid = is.valid; last = _; spelled = is.page.spelled }
+
+old_block : (c : ColumnInBlock) (octets : List ℕ) → IsColumnBlock c octets → BeginsAsOldColumn c octets
+old_block c octets is = record { valid = is.valid; last = _; spelled = is.block.spelled }
+
+kinds : (h g : Header) (es fs octets : List ℕ) → BeginsAsNode h es octets → BeginsAsNode g fs octets → h.kind ≡ g.kind
+kinds h g es fs octets p q = (nodes_same h g es fs octets p q).kind
+
+pub page_one : (octets : List ℕ) (a b : PageNode) → PageSays octets a → PageSays octets b → a ≡ b
+page_one octets _ _ (says_leaf l p) (says_leaf m q) = ap (λ (x : LeafNode). CurrentLeaf (keys_between x.bounds) x.bounds.start x.versions) (leaf_one l m octets (begins_page l octets p) (begins_page m octets q))
+page_one octets _ _ (says_leaf l p) (says_column c q) = absurd (omega (arith, kinds _ _ _ _ octets (leaf_begun l octets (begins_page l octets p)) (column_begun c octets (column_page c octets q))))
+page_one octets _ _ (says_leaf l p) (says_key_node k q) = absurd (omega (arith, kinds _ _ _ _ octets (leaf_begun l octets (begins_page l octets p)) (key_node_begun k octets (key_page k octets q))))
+page_one octets _ _ (says_column c p) (says_leaf l q) = absurd (omega (arith, kinds _ _ _ _ octets (column_begun c octets (column_page c octets p)) (leaf_begun l octets (begins_page l octets q))))
+page_one octets _ _ (says_column c p) (says_column d q) = ap (λ (x : ColumnInPage). ColumnNode (keys_between x.bounds) x.parts x.current.start x.current.page) (column_one c d octets (column_page c octets p) (column_page d octets q))
+page_one octets _ _ (says_column c p) (says_key_node k q) = absurd (omega (arith, kinds _ _ _ _ octets (column_begun c octets (column_page c octets p)) (key_node_begun k octets (key_page k octets q))))
+page_one octets _ _ (says_key_node k p) (says_leaf l q) = absurd (omega (arith, kinds _ _ _ _ octets (key_node_begun k octets (key_page k octets p)) (leaf_begun l octets (begins_page l octets q))))
+page_one octets _ _ (says_key_node k p) (says_column c q) = absurd (omega (arith, kinds _ _ _ _ octets (key_node_begun k octets (key_page k octets p)) (column_begun c octets (column_page c octets q))))
+page_one octets _ _ (says_key_node k p) (says_key_node l q) = ap (λ (x : KeyNodeInPage). KeyNode x.level (keys_between x.bounds) x.children) (key_node_one k l octets (key_page k octets p) (key_page l octets q))
+
+pub block_one : (octets : List ℕ) (a b : BlockNode) → BlockSays octets a → BlockSays octets b → a ≡ b
+block_one octets _ _ (says_old_leaf l p) (says_old_leaf m q) = ap (λ (x : LeafNode). OldLeaf (range_of x.bounds) x.versions) (leaf_one l m octets (begins_block l octets p) (begins_block m octets q))
+block_one octets _ _ (says_old_leaf l p) (says_old_column c q) = absurd (omega (arith, kinds _ _ _ _ octets (leaf_begun l octets (begins_block l octets p)) (old_begun c octets (old_block c octets q))))
+block_one octets _ _ (says_old_column c p) (says_old_leaf l q) = absurd (omega (arith, kinds _ _ _ _ octets (old_begun c octets (old_block c octets p)) (leaf_begun l octets (begins_block l octets q))))
+block_one octets _ _ (says_old_column c p) (says_old_column d q) = ap (λ (x : ColumnInBlock). OldColumn (range_of x.bounds) x.parts) (old_column_one c d octets (old_block c octets p) (old_block d octets q))
