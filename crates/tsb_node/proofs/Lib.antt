@@ -23,3 +23,4 @@ pub mod ColumnReading
 pub mod ChildLaws
 pub mod OneNode
 pub mod ViewLaws
+pub mod ColumnWriting

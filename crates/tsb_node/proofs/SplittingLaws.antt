@@ -12,7 +12,7 @@ use Rattle.version_model.specs.Versions.{Version, Has, IsRising, IsAbove}
 use Rattle.tsb_node.specs.Nodes.{IsBounds, header, seconds, body}
 use Rattle.tsb_node.specs.Leaves.{LeafNode, IsLeaf, BeginsAsLeaf, IsLeafPage, entry, entries, IsVersionOf}
 use Rattle.tsb_node.specs.inner.Reading.{value_size, after, area}
-use Rattle.tsb_node.specs.inner.Laying.{laid}
+use Rattle.tsb_node.specs.inner.Laying.{laid, IsFilling}
 use Rattle.tsb_node.specs.Splitting.{is_below, lies_within, side_of}
 use Rattle.std.proofs.lemmas.List.Elements.{filter-append}
 use Rattle.tsb_node.proofs.Scanning.{key_said}
@@ -20,7 +20,7 @@ use Rattle.version_model.proofs.api.Pushed.{get-push, IsRising-push}
 use Rattle.tsb_node.proofs.Entries.{entry_read, entry-size, after_spelled}
 use Rattle.tsb_node.proofs.Leaves.{leaf_area, pad_of, header-size}
 use Rattle.tsb_node.proofs.Laying.{recounted, entries-push, all_push, replicate_add}
-use Rattle.tsb_node.proofs.WritingLaws.{IsFilling, filling_on, filled}
+use Rattle.tsb_node.proofs.WritingLaws.{filling_on, filled}
 
 pub bool_is : (r : Bool) (a b : ℕ) → (r ≡ true → a < b) → (a < b → r ≡ true) → r ≡ nat_lt a b
 bool_is r a b to from = elim (cases_lt a b) [

@@ -8,18 +8,13 @@ use Rattle.version_model.specs.declared.bounds.Bounds.{Bounds}
 use Rattle.version_model.specs.declared.child.Child.{Child}
 use Rattle.tsb_node.specs.Nodes.{header, body, seconds}
 use Rattle.tsb_node.specs.KeyNodes.{KeyNodeInPage, IsKeyNode, IsKeyNodePage, child_octets}
-use Rattle.tsb_node.specs.inner.Laying.{laid}
+use Rattle.tsb_node.specs.inner.Laying.{laid, IsFilling}
 use Rattle.tsb_node.proofs.Leaves.{header-size}
 use Rattle.tsb_node.proofs.NumberLaws.{octets_of-size}
 use Rattle.std.proofs.lemmas.List.{length-take}
 use Rattle.std.proofs.lemmas.Option.{same_Some, none-some}
 use Rattle.tsb_node.proofs.KeyNodeLaws.{child-size, children-count}
 use Rattle.tsb_node.proofs.Laying.{put_field, put_two, replicate_add}
-
--- a header, some entries, and zeros to the end of the page
-pub record IsFilling (h es page : List ℕ) : Type 0 where
-  pub size : length h ≡ 120
-  pub spelled : page ≡ (h ++ es) ++ replicate (16264 - length es) 0
 
 pub filling_start : (kind level count used : ℕ) (b : Bounds) (page : List ℕ) → page ≡ laid 0 (header kind seconds level count used b) (replicate 16384 0) → IsFilling (header kind seconds level count used b) [] page
 filling_start kind level count used b page is =
@@ -72,10 +67,10 @@ pub record HasWritten (h : List ℕ) (cs : List Child) (n at : ℕ) (page : List
   pub at_is : at ≡ 120 + 48 * n
   pub filling : IsFilling h (flat_map child_octets (take n cs)) page
 
-take_more : (cs : List Child) (n : ℕ) (c : Child) → slice_get cs n ≡ Some c → take (n + 1) cs ≡ take n cs ++ c ∷ []
+pub take_more : {X : Type 0} (cs : List X) (n : ℕ) (c : X) → slice_get cs n ≡ Some c → take (n + 1) cs ≡ take n cs ++ c ∷ []
 take_more [] n c e = absurd (none-some c e)
-take_more (d ∷ cs) zero c e = ap (λ (x : Child). x ∷ []) (same_Some d c e)
-take_more (d ∷ cs) (suc n) c e = ap (λ (k : ℕ). take k (d ∷ cs)) (let z : suc n + 1 ≡ suc (n + 1) = omega arith in z) ∙ ap (λ (t : List Child). d ∷ t) (take_more cs n c e)
+take_more (d ∷ cs) zero c e = ap (λ x. x ∷ []) (same_Some d c e)
+take_more (d ∷ cs) (suc n) c e = ap (λ (k : ℕ). take k (d ∷ cs)) (let z : suc n + 1 ≡ suc (n + 1) = omega arith in z) ∙ ap (λ t. d ∷ t) (take_more cs n c e)
 
 pub written_start : (h : List ℕ) (cs : List Child) (page : List ℕ) → IsFilling h [] page → HasWritten h cs 0 120 page
 written_start h cs page f = record { at_is = omega arith; filling = f }

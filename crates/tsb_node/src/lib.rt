@@ -4,6 +4,7 @@
 mod column;
 mod column_reading;
 mod column_said;
+mod column_writing;
 mod header;
 mod key_node;
 mod key_node_reading;
@@ -24,6 +25,7 @@ mod writing;
 
 pub use column::{Current, PartAt, Spot, part_for, spot_for};
 pub use column_said::{ColumnSaid, OldColumnSaid, column_of_block, column_of_page};
+pub use column_writing::{write_column, write_old_column};
 pub use header::{Header, read_header};
 pub use key_node::{Under, child_for};
 pub use key_node_said::{KeyNodeSaid, key_node_of_page};

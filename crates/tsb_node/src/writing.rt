@@ -9,7 +9,7 @@ ghost use Rattle.tsb_node.specs.Pushing.{version};
 ghost use Rattle.tsb_node.specs.Nodes.{header, seconds};
 
 use byteorder::{BigEndian, ByteOrder};
-use disk_models::Page;
+use disk_models::{Page, Sheet};
 use route_model::Key;
 use version_model::{Bounds, Stamp};
 
@@ -119,7 +119,7 @@ fn end_octets(end: Option<Stamp>) -> [u8; 16]
 }
 
 /// Writes the header of a node into a page.
-pub fn put_header(page: &mut Page, kind: u8, level: u8, count: u16, used: u16, bounds: &Bounds)
+pub fn put_header<K>(page: &mut Sheet<K>, kind: u8, level: u8, count: u16, used: u16, bounds: &Bounds)
     ensures { page.new ≡ laid 0 (header kind seconds level count used bounds.now) page.old }
 {
     let _octets = page.octets();

@@ -4,7 +4,7 @@ use Rattle.tsb_node.proofs.Laying.{laid_is, header_laid}
 use Rattle.tsb_node.proofs.writing.put_header.Goals as goal
 
 pub returns : goal.returns
-returns c =
+returns g c =
     let old = c.args.page.now in
     let e1 = laid_is 0 (c.args.kind ∷ 0 ∷ c.args.level ∷ 0 ∷ []) old c.put.new.self c.put.ensures in
     let e2 = laid_is 4 c.two_octets.result c.put.new.self c.put-2.new.self c.put-2.ensures ∙ ap (λ (t : List ℕ). laid 4 t c.put.new.self) c.two_octets.ensures in
