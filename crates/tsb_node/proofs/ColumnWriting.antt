@@ -1,6 +1,6 @@
 -- Columns that are written.
-use Rattle.std.proofs.Common.{◌≡◌, ℕ, ◌+◌, ◌-◌, ◌*◌, ◌<◌, ◌≤◌, List, [], ◌∷◌, ◌++◌, length, take, replicate, slice_get, Some, None, IsSome, refl, sym, ap, subst, ◌∙◌, arith, append_assoc}
-use Rattle.std.specs.List.{flat_map}
+use Rattle.std.proofs.Common.{◌≡◌, ℕ, ◌+◌, ◌-◌, ◌*◌, ◌^◌, ◌<◌, ◌≤◌, List, [], ◌∷◌, ◌++◌, length, take, replicate, slice_get, Some, None, IsSome, refl, sym, ap, subst, ◌∙◌, arith, append_assoc}
+use Rattle.std.specs.List.{flat_map, AllByRecursion}
 use Rattle.std.proofs.lemmas.List.{append-nil, length-append, length-take, length-replicate, take_all, take_at}
 use Rattle.std.proofs.lemmas.Grind.{flat_map-append}
 use Rattle.sha2.specs.Sha256.{sha256}
@@ -8,12 +8,12 @@ use Rattle.sha2.proofs.Facts256.{length-sha256}
 use Rattle.version_model.specs.declared.bounds.Bounds.{Bounds}
 use Rattle.version_model.specs.declared.part.Part.{Part}
 use Rattle.tsb_node.specs.Numbers.{octets_of}
-use Rattle.tsb_node.specs.Nodes.{header, body, seconds}
-use Rattle.tsb_node.specs.Columns.{ColumnInPage, ColumnInBlock, IsColumn, IsOldColumn, IsColumnPage, IsColumnBlock, part_octets, current_octets, place_octets}
+use Rattle.tsb_node.specs.Nodes.{IsBounds, header, body, seconds}
+use Rattle.tsb_node.specs.Columns.{ColumnInPage, ColumnInBlock, IsColumn, IsOldColumn, CanBeColumn, CanBeOldColumn, IsPartEntry, IsColumnPage, IsColumnBlock, part_octets, current_octets, place_octets}
 use Rattle.tsb_node.specs.inner.Laying.{laid, IsFilling}
 use Rattle.tsb_node.proofs.NumberLaws.{octets_of-size}
 use Rattle.tsb_node.proofs.Leaves.{body-size}
-use Rattle.tsb_node.proofs.Laying.{put_two, put_field}
+use Rattle.tsb_node.proofs.Laying.{put_two, put_field, all_push}
 use Rattle.tsb_node.proofs.ColumnLaws.{parts-size}
 use Rattle.tsb_node.proofs.PartLaws.{part-size, current-size}
 use Rattle.tsb_node.proofs.WritingLaws.{filling_on, filled, take_more}
@@ -33,26 +33,47 @@ place_laid at start kind number old le =
 -- the first n parts are written behind any header
 pub record HasPut (ps : List Part) (n at : ℕ) (old sheet : List ℕ) : Type 0 where
   pub at_is : at ≡ 120 + 25 * n
+  pub each : AllByRecursion IsPartEntry (take n ps)
   pub filling : (h : List ℕ) → IsFilling h [] old → IsFilling h (flat_map part_octets (take n ps)) sheet
 
 pub put_start : (ps : List Part) (old : List ℕ) → HasPut ps 0 120 old old
-put_start ps old = record { at_is = omega arith; filling = λ h f. f }
+put_start ps old = record { at_is = omega arith; each = tt; filling = λ h f. f }
 
-pub put_on : (ps : List Part) (n at : ℕ) (p : Part) (old sheet : List ℕ) → 25 * length ps ≤ 16232 → n < length ps → slice_get ps n ≡ Some p → HasPut ps n at old sheet
+pub put_on : (ps : List Part) (n at : ℕ) (p : Part) (old sheet : List ℕ) → 25 * length ps ≤ 16232 → n < length ps → slice_get ps n ≡ Some p → IsPartEntry p → HasPut ps n at old sheet
     → HasPut ps (n + 1) (at + 25) old (laid at (part_octets p) sheet)
-put_on ps n at p old sheet fits lt is w =
+put_on ps n at p old sheet fits lt is entry w =
     let es : List ℕ = flat_map part_octets (take n ps) in
     let len : length es ≡ 25 * n = omega (arith, parts-size (take n ps), length-take n ps, lt) in
     let more : flat_map part_octets (take (n + 1) ps) ≡ es ++ part_octets p =
     ap (flat_map part_octets) (take_more ps n p is) ∙ flat_map-append part_octets (take n ps) (p ∷ []) ∙ ap (λ (t : List ℕ). es ++ t) (append-nil (part_octets p)) in
     record {
       at_is = omega (arith, w.at_is);
+      each = subst (AllByRecursion IsPartEntry) (sym (take_more ps n p is)) (all_push IsPartEntry (take n ps) p w.each entry);
       filling = λ h f. subst (λ (t : List ℕ). IsFilling h t (laid at (part_octets p) sheet)) (sym more) (
         filling_on h es (part_octets p) sheet at (w.filling h f) (omega (arith, len, w.at_is)) (omega (arith, len, part-size p, lt, fits)));
     }
 
 pub put_end : (ps : List Part) (n at : ℕ) (old sheet : List ℕ) → length ps ≤ n → HasPut ps n at old sheet → (h : List ℕ) → IsFilling h [] old → IsFilling h (flat_map part_octets ps) sheet
 put_end ps n at old sheet done w h f = subst (λ (l : List Part). IsFilling h (flat_map part_octets l) sheet) (take_all n ps done) (w.filling h f)
+
+pub put_each : (ps : List Part) (n at : ℕ) (old sheet : List ℕ) → length ps ≤ n → HasPut ps n at old sheet → AllByRecursion IsPartEntry ps
+put_each ps n at old sheet done w = subst (AllByRecursion IsPartEntry) (take_all n ps done) w.each
+
+-- what writers are asked, and what types say
+pub column_valid : (c : ColumnInPage) → CanBeColumn c → IsBounds c.bounds → AllByRecursion IsPartEntry c.parts → c.current.start < 256 ^ 16 → c.current.page < 256 ^ 8 → IsColumn c
+column_valid c can bounds each start page = record {
+  bounds = bounds;
+  from_first = can.from_first;
+  each = each;
+  current_start = start;
+  current_page = page;
+  first = can.first;
+  rising = can.rising;
+  fits = can.fits;
+}
+
+pub old_column_valid : (c : ColumnInBlock) → CanBeOldColumn c → IsBounds c.bounds → AllByRecursion IsPartEntry c.parts → IsOldColumn c
+old_column_valid c can bounds each = record { bounds = bounds; each = each; first = can.first; rising = can.rising; before_end = can.before_end; fits = can.fits }
 
 -- the column of a page
 pub column_written : (c : ColumnInPage) (count used : ℕ) (sheet : List ℕ) → IsColumn c → c.bounds.end ≡ None → count ≡ length c.parts + 1 → used ≡ 25 * (length c.parts + 1)

@@ -8,7 +8,7 @@ use Rattle.std.proofs.Common.{get_or}
 use Rattle.version_model.specs.declared.entry.Entry.{Entry}
 use Rattle.version_model.specs.Versions.{Version, IsAbove}
 use Rattle.version_model.specs.Entries.{version_of, versions_of}
-use Rattle.tsb_node.specs.Leaves.{LeafNode, IsLeaf, IsVersionOf, entry, entries}
+use Rattle.tsb_node.specs.Leaves.{LeafNode, CanBeLeaf, IsShortOf, entry, entries}
 use Rattle.tsb_node.specs.Children.{IsKeyWithin}
 use Rattle.tsb_node.proofs.Laying.{entries-push}
 use Rattle.tsb_node.proofs.SplittingLaws.{take_version}
@@ -34,9 +34,9 @@ unfolding entries
 entries-append [] ws = omega arith
 entries-append (v ∷ vs) ws = omega (arith, length-append (entry v) (entries (vs ++ ws)), length-append (entry v) (entries vs), entries-append vs ws)
 
-module _ (leaf : LeafNode) (valid : IsLeaf leaf) (n : ℕ) (v : Version) (at : slice_get leaf.versions n ≡ Some v) where
-  pub whole_valid : IsVersionOf leaf.bounds v
-  whole_valid = valid_at (IsVersionOf leaf.bounds) leaf.versions n v valid.each at
+module _ (leaf : LeafNode) (valid : CanBeLeaf leaf) (n : ℕ) (v : Version) (at : slice_get leaf.versions n ≡ Some v) where
+  pub whole_valid : IsShortOf leaf.bounds v
+  whole_valid = valid_at (IsShortOf leaf.bounds) leaf.versions n v valid.each at
 
   pub whole_within : IsKeyWithin leaf.bounds v.key
   whole_within = record { low = whole_valid.low; high = whole_valid.high }

@@ -2,7 +2,7 @@
 use Rattle.std.specs.Prelude.{◌≡◌, ℕ, ◌+◌, ◌*◌, ◌<◌, ◌≤◌, ◌^◌, List, [], ◌∷◌, ◌++◌, length, map, IfSome}
 use Rattle.std.specs.List.{flat_map, AllByRecursion}
 use Rattle.tsb_node.specs.Numbers.{octets_of}
-use Rattle.tsb_node.specs.Nodes.{IsBounds, body, IsInPage, IsInBlock}
+use Rattle.tsb_node.specs.Nodes.{IsBounds, AreInOrder, body, IsInPage, IsInBlock}
 use Rattle.version_model.specs.declared.bounds.Bounds.{Bounds}
 use Rattle.version_model.specs.declared.part.PartKind.{PartKind}
 use Rattle.version_model.specs.declared.part.PartKind.TheVariants.{LeafBlock, ColumnBlock}
@@ -71,6 +71,22 @@ pub record IsColumn (c : ColumnInPage) : Type 0 where
 pub record IsOldColumn (c : ColumnInBlock) : Type 0 where
   pub bounds : IsBounds c.bounds
   pub each : AllByRecursion IsPartEntry c.parts
+  pub first : BeginsAt c.bounds.start (starts_of c.parts)
+  pub rising : AreAscending (starts_of c.parts)
+  pub before_end : IfSome c.bounds.end (λ end. AllByRecursion (λ p. p.start < end) c.parts)
+  pub fits : 25 * length c.parts ≤ 16232
+
+-- the same beside what types say: what a writer asks of a column
+pub record CanBeColumn (c : ColumnInPage) : Type 0 where
+  pub bounds : AreInOrder c.bounds
+  pub from_first : c.bounds.start ≡ 0
+  pub first : BeginsAt c.bounds.start (starts_of c.parts ++ c.current.start ∷ [])
+  pub rising : AreAscending (starts_of c.parts ++ c.current.start ∷ [])
+  pub fits : 25 * (length c.parts + 1) ≤ 16232
+
+-- the same beside what types say: what a writer asks of a column that goes into a block
+pub record CanBeOldColumn (c : ColumnInBlock) : Type 0 where
+  pub bounds : AreInOrder c.bounds
   pub first : BeginsAt c.bounds.start (starts_of c.parts)
   pub rising : AreAscending (starts_of c.parts)
   pub before_end : IfSome c.bounds.end (λ end. AllByRecursion (λ p. p.start < end) c.parts)

@@ -2,7 +2,7 @@
 use Rattle.std.specs.Prelude.{◌≡◌, ℕ, ◌*◌, ◌<◌, ◌≤◌, ◌^◌, List, [], ◌∷◌, ◌++◌, length, map, IfSome}
 use Rattle.std.specs.List.{flat_map, AllByRecursion}
 use Rattle.tsb_node.specs.Numbers.{octets_of}
-use Rattle.tsb_node.specs.Nodes.{IsBounds, body, IsInPage}
+use Rattle.tsb_node.specs.Nodes.{IsBounds, AreInOrder, body, IsInPage}
 use Rattle.version_model.specs.declared.bounds.Bounds.{Bounds}
 use Rattle.tsb_node.specs.Columns.{BeginsAt, AreAscending}
 use Rattle.version_model.specs.declared.child.Child.{Child}
@@ -34,6 +34,17 @@ pub record IsKeyNode (k : KeyNodeInPage) : Type 0 where
   pub bounds : IsBounds k.bounds
   pub from_first : k.bounds.start ≡ 0
   pub each : AllByRecursion (IsChildEntry k.bounds) k.children
+  pub first : BeginsAt k.bounds.low (lows_of k.children)
+  pub rising : AreAscending (lows_of k.children)
+  pub fits : 48 * length k.children ≤ 16232
+
+-- the same beside what types say: what a writer asks of a key node
+pub record CanBeKeyNode (k : KeyNodeInPage) : Type 0 where
+  pub lowest : 2 ≤ k.level
+  pub highest : k.level ≤ 7
+  pub bounds : AreInOrder k.bounds
+  pub from_first : k.bounds.start ≡ 0
+  pub each : AllByRecursion (λ c. IfSome k.bounds.high (λ n. c.low < n)) k.children
   pub first : BeginsAt k.bounds.low (lows_of k.children)
   pub rising : AreAscending (lows_of k.children)
   pub fits : 48 * length k.children ≤ 16232

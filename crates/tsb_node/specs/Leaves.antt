@@ -4,7 +4,7 @@ use Rattle.std.specs.List.{flat_map, AllByRecursion}
 use Rattle.route_model.specs.Octets.{AreOctets}
 use Rattle.tsb_node.specs.Numbers.{octets_of}
 use Rattle.version_model.specs.Versions.{Version, IsRising}
-use Rattle.tsb_node.specs.Nodes.{IsBounds, body, IsInPage, IsInBlock}
+use Rattle.tsb_node.specs.Nodes.{IsBounds, AreInOrder, body, IsInPage, IsInBlock}
 use Rattle.version_model.specs.declared.bounds.Bounds.{Bounds}
 
 -- a leaf: its keys and stamps, and its versions
@@ -35,6 +35,12 @@ pub record IsVersionOf (b : Bounds) (v : Version) : Type 0 where
   pub size : length (value_spelled v.value) ≤ 3072
   pub octets : AreOctets (value_spelled v.value)
 
+-- a version of one of these keys, with a value of at most 3,072 octets: what a writer asks of a version beside what its types say
+pub record IsShortOf (b : Bounds) (v : Version) : Type 0 where
+  pub low : b.low ≤ v.key
+  pub high : IfSome b.high (λ n. v.key < n)
+  pub size : length (value_spelled v.value) ≤ 3072
+
 -- the octets of all entries
 unfoldable pub entries : List Version → List ℕ
 entries versions = flat_map entry versions
@@ -43,6 +49,13 @@ entries versions = flat_map entry versions
 pub record IsLeaf (leaf : LeafNode) : Type 0 where
   pub bounds : IsBounds leaf.bounds
   pub each : AllByRecursion (IsVersionOf leaf.bounds) leaf.versions
+  pub rising : IsRising leaf.versions
+  pub fits : length (entries leaf.versions) ≤ 16232
+
+-- the same beside what types say: what a writer asks
+pub record CanBeLeaf (leaf : LeafNode) : Type 0 where
+  pub bounds : AreInOrder leaf.bounds
+  pub each : AllByRecursion (IsShortOf leaf.bounds) leaf.versions
   pub rising : IsRising leaf.versions
   pub fits : length (entries leaf.versions) ≤ 16232
 

@@ -11,6 +11,11 @@ pub record IsBounds (b : Bounds) : Type 0 where
   pub start : b.start < 256 ^ 16
   pub end : IfSome b.end (λ n. (n + 1 < 256 ^ 16) × (b.start < n))
 
+-- bounds in order, of which none is spelled as a missing bound is: what a writer asks of bounds beside what their types say
+pub record AreInOrder (b : Bounds) : Type 0 where
+  pub high : IfSome b.high (λ n. (n + 1 < 256 ^ 40) × (b.low < n))
+  pub end : IfSome b.end (λ n. (n + 1 < 256 ^ 16) × (b.start < n))
+
 -- The header: kind, unit of times, level, zero, how many entries, their octets, low key, high key, start stamp, end stamp.
 unfoldable pub header : ℕ → ℕ → ℕ → ℕ → ℕ → Bounds → List ℕ
 header kind unit level count used b =

@@ -1,13 +1,14 @@
 //! Columns are written whole: they change only where a leaf is split, or where their parts move into a block.
 
-ghost use Rattle.std.specs.Prelude.{List, ℕ, ◌≡◌, ◌≤◌, ◌+◌, ◌*◌, [], length, None, IsSome};
-ghost use Rattle.std.specs.List.{flat_map};
-ghost use Rattle.tsb_node.specs.Columns.{IsColumn, IsOldColumn, IsColumnPage, IsColumnBlock, part_kind, part_octets, place_octets};
+ghost use Rattle.std.specs.Prelude.{List, ℕ, ◌≡◌, ◌≤◌, ◌<◌, ◌+◌, ◌*◌, ◌^◌, [], length, None, IsSome};
+ghost use Rattle.std.specs.List.{flat_map, AllByRecursion};
+ghost use Rattle.tsb_node.specs.Columns.{CanBeColumn, CanBeOldColumn, IsPartEntry, IsColumnPage, IsColumnBlock, part_kind, part_octets, place_octets};
 ghost use Rattle.tsb_node.specs.inner.Laying.{laid, IsFilling};
 
 use crate::column::Current;
 use crate::leaf::{FIRST, LAST};
-use crate::writing::{eight_octets, put_header, stamp_octets};
+use crate::numbers::stamp_fits;
+use crate::writing::{bounds_fit, eight_octets, put_header, stamp_octets};
 use disk_models::{Block, Page, Sheet};
 use sha2::{Digest, Sha256};
 use version_model::{Bounds, Part, PartKind, Stamp};
@@ -15,8 +16,10 @@ use version_model::{Bounds, Part, PartKind, Stamp};
 /// Writes a place of a column into a page or a block: a start, a kind, and a number.
 fn put_place<K>(sheet: &mut Sheet<K>, at: usize, start: Stamp, kind: u8, number: u64)
     requires room { at + 25 ≤ 16384 }
-    ensures { sheet.new ≡ laid at (place_octets start kind number) sheet.old }
+    ensures laid { sheet.new ≡ laid at (place_octets start kind number) sheet.old }
+    ensures fits { (start < 256 ^ 16) × (number < 256 ^ 8) }
 {
+    stamp_fits(start);
     let _octets = sheet.octets();
     sheet.put(at, &stamp_octets(start));
     sheet.put(at + 16, &[kind]);
@@ -36,7 +39,8 @@ fn octet_of_kind(kind: PartKind) -> u8
 /// Writes a part into a page or a block.
 fn put_part<K>(sheet: &mut Sheet<K>, at: usize, part: &Part)
     requires room { at + 25 ≤ 16384 }
-    ensures { sheet.new ≡ laid at (part_octets part.now) sheet.old }
+    ensures laid { sheet.new ≡ laid at (part_octets part.now) sheet.old }
+    ensures fits { IsPartEntry part.now }
 {
     put_place(sheet, at, part.start, octet_of_kind(part.kind), part.block);
 }
@@ -44,7 +48,8 @@ fn put_part<K>(sheet: &mut Sheet<K>, at: usize, part: &Part)
 /// Writes parts one behind another, behind the header of a node without entries.
 fn put_parts<K>(sheet: &mut Sheet<K>, parts: &[Part])
     requires room { 25 * length parts.now ≤ 16232 }
-    ensures { (header : List ℕ) → IsFilling header [] sheet.old → IsFilling header (flat_map part_octets parts.now) sheet.new }
+    ensures fits { AllByRecursion IsPartEntry parts.now }
+    ensures filling { (header : List ℕ) → IsFilling header [] sheet.old → IsFilling header (flat_map part_octets parts.now) sheet.new }
 {
     let mut at = FIRST;
     for part in parts {
@@ -56,9 +61,10 @@ fn put_parts<K>(sheet: &mut Sheet<K>, parts: &[Part])
 /// Makes a page that of a column.
 pub fn write_column(page: &mut Page, bounds: &Bounds, parts: &[Part], current: Current)
     requires in_page { bounds.now.end ≡ None }
-    requires valid { IsColumn (record { bounds = bounds.now; parts = parts.now; current = current }) }
+    requires valid { CanBeColumn (record { bounds = bounds.now; parts = parts.now; current = current }) }
     ensures written { IsColumnPage (record { bounds = bounds.now; parts = parts.now; current = current }) page.new }
 {
+    bounds_fit(bounds);
     let count = parts.len();
     page.clear();
     put_header(
@@ -76,9 +82,10 @@ pub fn write_column(page: &mut Page, bounds: &Bounds, parts: &[Part], current: C
 /// Makes a block that of a column whose past is at its end.
 pub fn write_old_column(block: &mut Block, bounds: &Bounds, parts: &[Part])
     requires in_block { IsSome bounds.now.end }
-    requires valid { IsOldColumn (record { bounds = bounds.now; parts = parts.now }) }
+    requires valid { CanBeOldColumn (record { bounds = bounds.now; parts = parts.now }) }
     ensures written { IsColumnBlock (record { bounds = bounds.now; parts = parts.now }) block.new }
 {
+    bounds_fit(bounds);
     let count = parts.len();
     block.clear();
     put_header(block, 2, 1, count as u16, 25 * count as u16, bounds);

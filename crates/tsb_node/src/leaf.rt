@@ -1,7 +1,7 @@
 //! Leaves.
 
 ghost use Rattle.std.specs.Prelude.{None, []};
-ghost use Rattle.tsb_node.specs.Nodes.{IsBounds};
+ghost use Rattle.tsb_node.specs.Nodes.{AreInOrder};
 ghost use Rattle.tsb_node.specs.Children.{IsKeyWithin};
 ghost use Rattle.version_model.specs.Versions.{IsAbove};
 ghost use Rattle.tsb_node.specs.Pushing.{version, PushedTo, StaysUnlessPushed};
@@ -13,7 +13,7 @@ ghost use Rattle.tsb_node.specs.inner.Scanning.{IsLast, IsBroken, IsWhole};
 ghost use Rattle.tsb_node.specs.inner.Reading.{value_size, version_in, versions_in};
 
 use crate::numbers::{key_at, key_fits, number2, stamp_at, stamp_fits};
-use crate::writing::{octets_in, put_entry, put_header, two_octets};
+use crate::writing::{bounds_fit, octets_in, put_entry, put_header, two_octets};
 use disk_models::Page;
 use route_model::Key;
 use std::marker::Model;
@@ -169,10 +169,11 @@ pub fn push(page: &mut Page, key: Key, stamp: Stamp, value: Option<&[u8]>) -> Re
 
 /// Makes a page that of a leaf without versions.
 pub fn start_leaf(page: &mut Page, bounds: &Bounds)
-    requires valid { IsBounds bounds.now }
+    requires valid { AreInOrder bounds.now }
     requires current { bounds.now.end ≡ None }
     ensures { IsLeafPage (record { bounds = bounds.now; versions = [] }) page.new }
 {
+    bounds_fit(bounds);
     page.clear();
     put_header(page, 1, 0, 0, 0, bounds);
 }

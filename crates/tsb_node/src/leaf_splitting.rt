@@ -1,7 +1,7 @@
 //! Leaves are split straight into other pages.
 
 ghost use Rattle.std.specs.Prelude.{◌≡◌, None, length};
-ghost use Rattle.tsb_node.specs.Nodes.{IsBounds};
+ghost use Rattle.tsb_node.specs.Nodes.{AreInOrder};
 ghost use Rattle.tsb_node.specs.Leaves.{LeafNode, BeginsAsLeaf, IsLeafPage};
 ghost use Rattle.tsb_node.specs.Splitting.{lies_within, side_of};
 ghost use Rattle.std.specs.Result.{MatchResult};
@@ -9,7 +9,7 @@ ghost use Rattle.std.specs.Result.{MatchResult};
 use crate::header::{is_below_high, is_key_below};
 use crate::leaf::{FIRST, LAST, NotANode, entry_size, start_leaf};
 use crate::numbers::{key_at, number2};
-use crate::writing::two_octets;
+use crate::writing::{bounds_fit, two_octets};
 use disk_models::Page;
 use route_model::Key;
 use version_model::Bounds;
@@ -28,10 +28,11 @@ fn is_within(key: Key, bounds: &Bounds) -> bool
 /// Refused only where the octets aren't a leaf, and not always there.
 pub fn copy_side(octets: &[u8], bounds: &Bounds, fresh: &mut Page) -> Result<(), NotANode>
     requires size { length octets.now ≡ 16384 }
-    requires valid { IsBounds bounds.now }
+    requires valid { AreInOrder bounds.now }
     requires current { bounds.now.end ≡ None }
     ensures side { (leaf : LeafNode) → BeginsAsLeaf leaf octets.now → MatchResult result (λ u. IsLeafPage (side_of leaf bounds.now) fresh.new) (λ e. ⊥) }
 {
+    bounds_fit(bounds);
     start_leaf(fresh, bounds);
     let count = number2(octets, 4);
     let mut rest = octets.split_at(LAST).0.split_at(FIRST).1;

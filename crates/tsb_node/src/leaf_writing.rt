@@ -2,7 +2,7 @@
 
 ghost use Rattle.std.specs.Prelude.{◌≡◌, None, option_map};
 ghost use Rattle.version_model.specs.Entries.{versions_of};
-ghost use Rattle.tsb_node.specs.Leaves.{IsLeaf, IsLeafPage};
+ghost use Rattle.tsb_node.specs.Leaves.{CanBeLeaf, IsLeafPage};
 
 use crate::leaf::{NotANode, push, start_leaf};
 use disk_models::Page;
@@ -20,7 +20,7 @@ fn octets_of_value(value: &Option<Vec<u8>>) -> Option<&[u8]>
 
 /// Makes a page that of a leaf of these bounds, with the versions of these entries.
 pub fn write_leaf(page: &mut Page, bounds: &Bounds, entries: &[Entry])
-    requires valid { IsLeaf (record { bounds = bounds.now; versions = versions_of entries.now }) }
+    requires valid { CanBeLeaf (record { bounds = bounds.now; versions = versions_of entries.now }) }
     requires current { bounds.now.end ≡ None }
     ensures written { IsLeafPage (record { bounds = bounds.now; versions = versions_of entries.now }) page.new }
 {

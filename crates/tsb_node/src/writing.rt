@@ -1,15 +1,16 @@
 //! Numbers, stamps, keys and entries, written in octets.
 
-ghost use Rattle.std.specs.Prelude.{◌≡◌, ◌≤◌, ◌+◌, length, option_map};
+ghost use Rattle.std.specs.Prelude.{◌≡◌, ◌≤◌, ◌<◌, ◌^◌, ◌+◌, length, option_map};
 ghost use Rattle.tsb_node.specs.Numbers.{octets_of, bound_octets};
 ghost use Rattle.route_model.specs.Octets.{AreOctets};
 ghost use Rattle.tsb_node.specs.Leaves.{tag, value_spelled, entry};
 ghost use Rattle.tsb_node.specs.inner.Laying.{laid};
 ghost use Rattle.tsb_node.specs.Pushing.{version};
-ghost use Rattle.tsb_node.specs.Nodes.{header, seconds};
+ghost use Rattle.tsb_node.specs.Nodes.{header, seconds, IsBounds, AreInOrder};
 
 use byteorder::{BigEndian, ByteOrder};
 use disk_models::{Page, Sheet};
+use crate::numbers::{key_fits, stamp_fits};
 use route_model::Key;
 use version_model::{Bounds, Stamp};
 
@@ -26,7 +27,8 @@ pub fn two_octets(number: u16) -> [u8; 2]
 /// A number in eight octets.
 #[tactic(auto, unfolding(crate::specs::Numbers::octets_of))]
 pub fn eight_octets(number: u64) -> [u8; 8]
-    ensures { result ≡ octets_of 8 number }
+    ensures octets { result ≡ octets_of 8 number }
+    ensures fits { number < 256 ^ 8 }
 {
     let mut octets = [0u8; 8];
     BigEndian::write_u64(&mut octets, number);
@@ -118,7 +120,16 @@ fn end_octets(end: Option<Stamp>) -> [u8; 16]
     }
 }
 
-/// Writes the header of a node into a page.
+/// Bounds in order are those of a node: keys and stamps fit their octets.
+pub fn bounds_fit(bounds: &Bounds)
+    requires { AreInOrder bounds.now }
+    ensures fits { IsBounds bounds.now }
+{
+    key_fits(bounds.low);
+    stamp_fits(bounds.start);
+}
+
+/// Writes the header of a node into a page or a block.
 pub fn put_header<K>(page: &mut Sheet<K>, kind: u8, level: u8, count: u16, used: u16, bounds: &Bounds)
     ensures { page.new ≡ laid 0 (header kind seconds level count used bounds.now) page.old }
 {

@@ -4,7 +4,7 @@ use Rattle.tsb_node.specs.Nodes.{header, seconds}
 use Rattle.tsb_node.specs.Columns.{current_octets}
 use Rattle.tsb_node.specs.inner.Laying.{laid}
 use Rattle.tsb_node.proofs.WritingLaws.{filling_start}
-use Rattle.tsb_node.proofs.ColumnWriting.{column_written}
+use Rattle.tsb_node.proofs.ColumnWriting.{column_valid, column_written}
 use Rattle.tsb_node.proofs.column_writing.write_column.Goals as goal
 
 pub returns : goal.returns
@@ -15,6 +15,6 @@ returns c =
     let h = header 2 seconds 1 (n + 1) (25 * (n + 1)) b in
     let start = filling_start 2 1 (n + 1) (25 * (n + 1)) b c.put_header.new.page (c.put_header.ensures ∙ ap (laid 0 h) c.clear.ensures) in
     record {
-      written = rw c.put_place.ensures (column_written (record { bounds = b; parts = c.args.parts.now; current = c.args.current }) (n + 1) (25 * (n + 1)) c.put_parts.new.sheet c.requires.valid c.requires.in_page refl refl
-          (c.put_parts.ensures h start));
+      written = rw c.put_place.ensures.laid (column_written (record { bounds = b; parts = c.args.parts.now; current = c.args.current }) (n + 1) (25 * (n + 1)) c.put_parts.new.sheet (column_valid _ c.requires.valid c.bounds_fit.ensures.fits c.put_parts.ensures.fits c.put_place.ensures.fits.0 c.put_place.ensures.fits.1) c.requires.in_page refl refl
+          (c.put_parts.ensures.filling h start));
     }

@@ -5,7 +5,7 @@ use Rattle.tsb_node.specs.Nodes.{header, seconds}
 use Rattle.tsb_node.specs.inner.Laying.{laid}
 use Rattle.tsb_node.proofs.Laying.{laid_is}
 use Rattle.tsb_node.proofs.WritingLaws.{filling_start}
-use Rattle.tsb_node.proofs.ColumnWriting.{old_column_written}
+use Rattle.tsb_node.proofs.ColumnWriting.{old_column_valid, old_column_written}
 use Rattle.tsb_node.proofs.column_writing.write_old_column.Goals as goal
 
 pub returns : goal.returns
@@ -19,5 +19,5 @@ returns c =
     let d = c.digest-digest.ensures ∙ ap sha256 (c.split_at.ensures.front ∙ ap (take 16352) c.octets.ensures.value) in
     let e = laid_is 16352 c.digest-digest.result sheet c.put.new.self c.put.ensures ∙ ap (λ (t : List ℕ). laid 16352 t sheet) d in
     record {
-      written = rw e (old_column_written (record { bounds = b; parts = c.args.parts.now }) n (25 * n) sheet c.requires.valid c.requires.in_block refl refl (c.put_parts.ensures h start));
+      written = rw e (old_column_written (record { bounds = b; parts = c.args.parts.now }) n (25 * n) sheet (old_column_valid _ c.requires.valid c.bounds_fit.ensures.fits c.put_parts.ensures.fits) c.requires.in_block refl refl (c.put_parts.ensures.filling h start));
     }

@@ -22,7 +22,7 @@ pub overflow_add-at : goal.overflow_add-at
 overflow_add-at c = omega (arith, c.loop-child.invariant.at_is, c.loop-child-test.true, c.requires.valid.fits)
 
 pub put-requires-in-loop-child : goal.put-requires-in-loop-child
-put-requires-in-loop-child c = omega (arith, c.loop-child.invariant.at_is, c.loop-child-test.true, c.requires.valid.fits, ap length c.eight_octets.ensures, octets_of-size 8 c.child-item.result.page)
+put-requires-in-loop-child c = omega (arith, c.loop-child.invariant.at_is, c.loop-child-test.true, c.requires.valid.fits, ap length c.eight_octets.ensures.octets, octets_of-size 8 c.child-item.result.page)
 
 pub overflow_add-at-in-loop-child : goal.overflow_add-at-in-loop-child
 overflow_add-at-in-loop-child c = omega (arith, c.loop-child.invariant.at_is, c.loop-child-test.true, c.requires.valid.fits)
@@ -34,11 +34,11 @@ loop-child-preserved c =
     let child = c.child-item.result in
     let is : slice_get c.args.children.now c.loop-child.child-index ≡ Some child = slice_get_read c.args.children.now n c.loop-child.child-index child refl c.loop-child-test.true c.child-item.is in
     let one = laid_is c.loop-child.at c.key_octets.result c.loop-child.page c.put.new.self c.put.ensures ∙ ap (λ (t : List ℕ). laid c.loop-child.at t c.loop-child.page) c.key_octets.ensures in
-    let two = laid_is (c.loop-child.at + 40) c.eight_octets.result c.put.new.self c.put-in-loop-child.new.self c.put-in-loop-child.ensures ∙ ap (λ (t : List ℕ). laid (c.loop-child.at + 40) t c.put.new.self) c.eight_octets.ensures in
-    rw (two, one) (written_on h c.args.children.now c.loop-child.child-index c.loop-child.at child c.loop-child.page c.requires.valid.fits c.loop-child-test.true is c.loop-child.invariant)
+    let two = laid_is (c.loop-child.at + 40) c.eight_octets.result c.put.new.self c.put-in-loop-child.new.self c.put-in-loop-child.ensures ∙ ap (λ (t : List ℕ). laid (c.loop-child.at + 40) t c.put.new.self) c.eight_octets.ensures.octets in
+    rw (two, one) (written_on h c.args.children.now c.loop-child.child-index c.loop-child.at child c.loop-child.page c.requires.valid.fits c.loop-child-test.true is (c.key_fits.ensures.fits, c.eight_octets.ensures.fits) c.loop-child.invariant)
 
 pub returns : goal.returns
 returns c =
     let n = length c.args.children.now in
-    written_end (record { level = c.args.level; bounds = c.args.bounds.now; children = c.args.children.now }) n (48 * n) c.loop-child.at c.loop-child.child-index c.loop-child.page c.requires.valid refl refl
+    written_end (record { level = c.args.level; bounds = c.args.bounds.now; children = c.args.children.now }) n (48 * n) c.loop-child.at c.loop-child.child-index c.loop-child.page c.requires.valid c.bounds_fit.ensures.fits refl refl
     (omega (arith, c.loop-child-test.false, c.loop-child.auto.child-index-end)) c.loop-child.invariant c.requires.current

@@ -7,5 +7,5 @@ use Rattle.tsb_node.proofs.leaf.start_leaf.Goals as goal
 
 pub returns : goal.returns
 unfolding zeros
-returns c = leaf_started c.args.bounds.now c.put_header.new.page c.requires.valid c.requires.current
+returns c = leaf_started c.args.bounds.now c.put_header.new.page c.bounds_fit.ensures.fits c.requires.current
     (c.put_header.ensures ∙ ap (laid 0 (header 1 seconds 0 0 0 c.args.bounds.now)) c.clear.ensures)

@@ -83,5 +83,5 @@ returns c =
       side = λ leaf is.
           let says = leaf_says leaf c.args.octets.now is in
           let done : c.loop.counter ≡ length leaf.versions = omega (arith, c.loop-test.false, c.loop.auto.counter-end, c.number2-count.ensures.number, says.count_is) in
-          rw (two, one) (copied_end leaf c.args.bounds.now c.loop.counter c.loop.at c.loop.kept _ c.loop.fresh c.requires.valid c.requires.current done (omega (arith, c.loop.invariant.0)) (omega (arith, c.loop.invariant.1)) (c.loop.invariant.4 leaf is));
+          rw (two, one) (copied_end leaf c.args.bounds.now c.loop.counter c.loop.at c.loop.kept _ c.loop.fresh c.bounds_fit.ensures.fits c.requires.current done (omega (arith, c.loop.invariant.0)) (omega (arith, c.loop.invariant.1)) (c.loop.invariant.4 leaf is));
     }
