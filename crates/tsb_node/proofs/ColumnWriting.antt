@@ -3,8 +3,7 @@ use Rattle.std.proofs.Common.{◌≡◌, ℕ, ◌+◌, ◌-◌, ◌*◌, ◌^◌
 use Rattle.std.specs.List.{flat_map, AllByRecursion}
 use Rattle.std.proofs.lemmas.List.{append-nil, length-append, length-take, length-replicate, take_all, take_at}
 use Rattle.std.proofs.lemmas.Grind.{flat_map-append}
-use Rattle.sha2.specs.Sha256.{sha256}
-use Rattle.sha2.proofs.Facts256.{length-sha256}
+use Rattle.once_store.specs.Digests.{sealed}
 use Rattle.version_model.specs.declared.bounds.Bounds.{Bounds}
 use Rattle.version_model.specs.declared.part.Part.{Part}
 use Rattle.tsb_node.specs.Numbers.{octets_of}
@@ -16,6 +15,7 @@ use Rattle.tsb_node.proofs.Leaves.{body-size}
 use Rattle.tsb_node.proofs.Laying.{put_two, put_field, all_push}
 use Rattle.tsb_node.proofs.ColumnLaws.{parts-size}
 use Rattle.tsb_node.proofs.PartLaws.{part-size, current-size}
+use Rattle.tsb_node.proofs.SealingLaws.{sealed_is}
 use Rattle.tsb_node.proofs.WritingLaws.{filling_on, filled, take_more}
 
 pub place_laid : (at start kind number : ℕ) (old : List ℕ) → at + 17 ≤ length old → laid (at + 17) (octets_of 8 number) (laid (at + 16) (kind ∷ []) (laid at (octets_of 16 start) old)) ≡ laid at (place_octets start kind number) old
@@ -88,16 +88,9 @@ column_written c count used sheet valid current counted sized f =
     let whole = subst (λ (t : List ℕ). IsFilling t es (laid (120 + 25 * length c.parts) (current_octets c.current) sheet)) h g in
     record { valid = valid; page = record { current = current; spelled = filled 2 1 (length c.parts + 1) c.bounds es _ whole (omega (arith, size, valid.fits)) } }
 
--- a digest that is laid over the last zeros
-pub digest_laid : (node : List ℕ) → length node ≡ 16352 → laid 16352 (sha256 node) (node ++ replicate 32 0) ≡ node ++ sha256 node
-digest_laid node size =
-    let d : List ℕ = sha256 node in
-    let long : length (replicate {A = ℕ} 32 0) ≡ length d = length-replicate {A = ℕ} 32 0 ∙ sym (length-sha256 node) in
-    ap (λ (t : List ℕ). laid 16352 d (node ++ t)) (sym (append-nil (replicate 32 0))) ∙ put_field 16352 node (replicate 32 0) [] d size long ∙ ap (λ (t : List ℕ). node ++ t) (append-nil d)
-
 -- the column of a block
 pub old_column_written : (c : ColumnInBlock) (count used : ℕ) (sheet : List ℕ) → IsOldColumn c → IsSome c.bounds.end → count ≡ length c.parts → used ≡ 25 * length c.parts
-    → IsFilling (header 2 seconds 1 count used c.bounds) (flat_map part_octets c.parts) sheet → IsColumnBlock c (laid 16352 (sha256 (take 16352 sheet)) sheet)
+    → IsFilling (header 2 seconds 1 count used c.bounds) (flat_map part_octets c.parts) sheet → IsColumnBlock c (sealed sheet)
 old_column_written c count used sheet valid ended counted sized f =
     let es : List ℕ = flat_map part_octets c.parts in
     let size : length es ≡ 25 * length c.parts = parts-size c.parts in
@@ -107,8 +100,4 @@ old_column_written c count used sheet valid ended counted sized f =
     let whole : sheet ≡ body 2 1 (length c.parts) c.bounds es ++ replicate 32 0 = filled 2 1 (length c.parts) c.bounds es sheet (subst (λ (t : List ℕ). IsFilling t es sheet) h f) fits in
     let node : List ℕ = body 2 1 (length c.parts) c.bounds es in
     let long : length node ≡ 16352 = body-size 2 1 (length c.parts) c.bounds es fits in
-    let front : take 16352 sheet ≡ node = ap (take 16352) whole ∙ take_at node (replicate 32 0) 16352 long in
-    record {
-      valid = valid;
-      block = record { ended = ended; spelled = ap (λ (t : List ℕ). laid 16352 (sha256 t) sheet) front ∙ ap (laid 16352 (sha256 node)) whole ∙ digest_laid node long };
-    }
+    record { valid = valid; block = record { ended = ended; spelled = sealed_is node sheet long whole } }

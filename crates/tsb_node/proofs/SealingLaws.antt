@@ -3,7 +3,7 @@ use Rattle.std.proofs.Common.{◌≡◌, ℕ, ◌+◌, ◌-◌, ◌^◌, ◌<◌
 use Rattle.std.specs.List.{AllByRecursion}
 use Rattle.std.proofs.lemmas.List.{append-nil, length-append, length-replicate, take_at}
 use Rattle.sha2.specs.Sha256.{sha256}
-use Rattle.sha2.proofs.Facts256.{length-sha256}
+use Rattle.once_store.specs.Digests.{sealed}
 use Rattle.tsb_node.specs.Numbers.{octets_of, bound_octets}
 use Rattle.version_model.specs.declared.bounds.Bounds.{Bounds}
 use Rattle.version_model.specs.Versions.{Version}
@@ -17,6 +17,10 @@ use Rattle.tsb_node.proofs.Laying.{put_field}
 
 abbrev pub ending : Bounds → ℕ → Bounds
 ending b end = record { low = b.low; high = b.high; start = b.start; end = Some end }
+
+-- a node that is sealed, whatever stands behind it
+pub sealed_is : (node sheet : List ℕ) → length node ≡ 16352 → sheet ≡ node ++ replicate 32 0 → sealed sheet ≡ node ++ sha256 node
+sealed_is node sheet size is = ap (λ (t : List ℕ). t ++ sha256 t) (ap (take 16352) is ∙ take_at node (replicate 32 0) 16352 size)
 
 -- another end in a header
 header_ended : (kind unit level count used : ℕ) (b : Bounds) (end : ℕ) (rest : List ℕ) → laid 104 (octets_of 16 end) (header kind unit level count used b ++ rest) ≡ header kind unit level count used (ending b end) ++ rest
@@ -57,19 +61,13 @@ leaf_ended leaf end valid lt after = record {
 }
 
 pub block_made : (leaf : LeafNode) (page : List ℕ) (end : ℕ) → IsLeafPage leaf page → end + 1 < 256 ^ 16 → leaf.bounds.start < end
-    → IsLeafBlock (ended leaf end) (laid 16352 (sha256 (take 16352 (laid 104 (octets_of 16 end) page))) (laid 104 (octets_of 16 end) page))
+    → IsLeafBlock (ended leaf end) (sealed (laid 104 (octets_of 16 end) page))
 block_made leaf page end is lt after =
     let n : ℕ = length leaf.versions in
     let es : List ℕ = entries leaf.versions in
     let node : List ℕ = body 1 0 n (ending leaf.bounds end) es in
-    let sealed : laid 104 (octets_of 16 end) page ≡ node ++ replicate 32 0 = ap (laid 104 (octets_of 16 end)) is.page.spelled ∙ body_ended 1 0 n leaf.bounds es (replicate 32 0) end in
-    let size : length node ≡ 16352 = body-size 1 0 n (ending leaf.bounds end) es is.valid.fits in
-    let digest : sha256 (take 16352 (laid 104 (octets_of 16 end) page)) ≡ sha256 node = ap sha256 (ap (take 16352) sealed ∙ take_at node (replicate 32 0) 16352 size) in
-    let d : List ℕ = sha256 node in
-    let long : length (replicate {A = ℕ} 32 0) ≡ length d = length-replicate {A = ℕ} 32 0 ∙ sym (length-sha256 node) in
-    let put : laid 16352 d (node ++ replicate 32 0) ≡ node ++ d =
-    ap (λ (t : List ℕ). laid 16352 d (node ++ t)) (sym (append-nil (replicate 32 0))) ∙ put_field 16352 node (replicate 32 0) [] d size long ∙ ap (λ (t : List ℕ). node ++ t) (append-nil d) in
+    let whole : laid 104 (octets_of 16 end) page ≡ node ++ replicate 32 0 = ap (laid 104 (octets_of 16 end)) is.page.spelled ∙ body_ended 1 0 n leaf.bounds es (replicate 32 0) end in
     record {
       valid = leaf_ended leaf end is.valid lt after;
-      block = record { ended = refl; spelled = ap (λ (t : List ℕ). laid 16352 t (laid 104 (octets_of 16 end) page)) digest ∙ ap (laid 16352 d) sealed ∙ put };
+      block = record { ended = refl; spelled = sealed_is node (laid 104 (octets_of 16 end) page) (body-size 1 0 n (ending leaf.bounds end) es is.valid.fits) whole };
     }

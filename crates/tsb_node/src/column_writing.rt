@@ -6,11 +6,11 @@ ghost use Rattle.tsb_node.specs.Columns.{CanBeColumn, CanBeOldColumn, IsPartEntr
 ghost use Rattle.tsb_node.specs.inner.Laying.{laid, IsFilling};
 
 use crate::column::Current;
-use crate::leaf::{FIRST, LAST};
+use crate::leaf::FIRST;
 use crate::numbers::stamp_fits;
 use crate::writing::{bounds_fit, eight_octets, put_header, stamp_octets};
 use disk_models::{Block, Page, Sheet};
-use sha2::{Digest, Sha256};
+use once_store::seal;
 use version_model::{Bounds, Part, PartKind, Stamp};
 
 /// Writes a place of a column into a page or a block: a start, a kind, and a number.
@@ -90,6 +90,5 @@ pub fn write_old_column(block: &mut Block, bounds: &Bounds, parts: &[Part])
     block.clear();
     put_header(block, 2, 1, count as u16, 25 * count as u16, bounds);
     put_parts(block, parts);
-    let digest = Sha256::digest(block.octets().split_at(LAST).0);
-    block.put(LAST, &digest);
+    seal(block);
 }

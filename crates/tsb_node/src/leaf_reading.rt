@@ -2,7 +2,6 @@
 
 ghost use Rattle.std.specs.Prelude.{List, ℕ, ◌≡◌, ◌≤◌, ◌<◌, ◌+◌, ◌↔◌, length, take, drop, All, IfSome, IfNone, IsTrue, None};
 ghost use Rattle.tsb_node.specs.inner.Reading.{value_size};
-ghost use Rattle.sha2.specs.Sha256.{sha256};
 ghost use Rattle.tsb_node.specs.Leaves.{LeafNode, BeginsAsLeaf, IsLeafPage, IsLeafBlock};
 ghost use Rattle.tsb_node.specs.inner.Checking.{IsSpelled, AreEntries, IsAfter};
 
@@ -10,7 +9,7 @@ use crate::header::{is_below_high, is_key_below, is_stamp_below, read_header};
 use crate::leaf::{FIRST, LAST, ROOM, entry_size};
 use crate::numbers::{key_at, stamp_at};
 use disk_models::{Block, Page};
-use sha2::{Digest, Sha256};
+use once_store::is_whole;
 use version_model::{Bounds, Stamp};
 
 /// How many octets the entry at the front takes, where it is one of a leaf of these bounds.
@@ -130,20 +129,12 @@ pub fn read_leaf(page: &Page) -> Option<Bounds>
     Some(bounds)
 }
 
-/// Whether a block ends in the SHA-256 of what stands before.
-pub fn is_digested(block: &Block) -> bool
-    ensures { IsTrue result ↔ (drop 16352 block.now ≡ sha256 (take 16352 block.now)) }
-{
-    let (node, digest) = block.octets().split_at(LAST);
-    Sha256::digest(node).as_slice() == digest
-}
-
 /// The bounds of the leaf that a block is, or none where it is no leaf.
 pub fn read_leaf_block(block: &Block) -> Option<Bounds>
     ensures found { IfSome result (λ bounds. (leaf : LeafNode) × IsLeafBlock leaf block.now × (leaf.bounds ≡ bounds)) }
     ensures none { IfNone result ((leaf : LeafNode) → IsLeafBlock leaf block.now → ⊥) }
 {
-    if !is_digested(block) {
+    if !is_whole(block) {
         return None;
     }
     let Some(bounds) = leaf_in(block.octets()) else {

@@ -4,10 +4,9 @@ ghost use Rattle.std.specs.Prelude.{◌≡◌, ◌<◌, ◌+◌, ◌^◌};
 ghost use Rattle.tsb_node.specs.Leaves.{LeafNode, IsLeafPage, IsLeafBlock};
 ghost use Rattle.tsb_node.specs.Sealing.{ended};
 
-use crate::leaf::LAST;
 use crate::writing::stamp_octets;
 use disk_models::{Block, Page};
-use sha2::{Digest, Sha256};
+use once_store::seal;
 use version_model::Stamp;
 
 /// Makes a block that of the leaf in a page, with an end stamp.
@@ -19,6 +18,5 @@ pub fn seal_leaf(page: &Page, end: Stamp, block: &mut Block)
     prove!(old == 16_384);
     block.put(0, page.octets());
     block.put(104, &stamp_octets(end));
-    let digest = Sha256::digest(block.octets().split_at(LAST).0);
-    block.put(LAST, &digest);
+    seal(block);
 }

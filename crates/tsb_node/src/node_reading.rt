@@ -5,8 +5,9 @@ ghost use Rattle.tsb_node.specs.inner.NodeReading.{BeginsAsNode, IsNodePage, IsN
 
 use crate::header::{Header, read_header};
 use crate::leaf::{FIRST, LAST, ROOM};
-use crate::leaf_reading::{are_zeros, is_digested};
+use crate::leaf_reading::are_zeros;
 use disk_models::{Block, Page};
+use once_store::is_whole;
 
 /// The header of the node with which octets begin, and the octets of its entries. None where they begin as no node does:
 /// its bounds aren't in order, its entries have more octets than there is room for, or octets other than zero stand behind them.
@@ -53,7 +54,7 @@ pub fn node_of_block(block: &Block) -> Option<(Header, &[u8])>
     ensures found { IfSome result (λ node. IsNodeBlock node.0 node.1.now block.now) }
     ensures none { IfNone result ((header : Header) (entries : List ℕ) → IsNodeBlock header entries block.now → ⊥) }
 {
-    if !is_digested(block) {
+    if !is_whole(block) {
         return None;
     }
     let Some((header, entries)) = node_in(block.octets()) else {

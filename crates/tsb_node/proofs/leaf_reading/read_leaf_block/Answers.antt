@@ -6,9 +6,9 @@ use Rattle.tsb_node.proofs.Leaves.{begins_block}
 use Rattle.tsb_node.proofs.ReadingLaws.{some_from, some_not_none, block_is, block_last, begun_one}
 use Rattle.tsb_node.proofs.leaf_reading.read_leaf_block.Goals as goal
 
-pub returns-then-not-is_digested-clause-none : goal.returns-then-not-is_digested-clause-none
-returns-then-not-is_digested-clause-none c = λ leaf block.
-    absurd (cc (c.is_digested.ensures.1 (block_last leaf c.args.block.now block), c.if-not-is_digested.true))
+pub returns-then-not-is_whole-clause-none : goal.returns-then-not-is_whole-clause-none
+returns-then-not-is_whole-clause-none c = λ leaf block.
+    absurd (cc (c.is_whole.ensures.whole.1 (sym (block_last leaf c.args.block.now block)), c.if-not-is_whole.true))
 
 pub returns-in_default-clause-none : goal.returns-in_default-clause-none
 returns-in_default-clause-none c = λ leaf block.
@@ -27,4 +27,4 @@ returns-clause-found c =
     let found = c.in-Some.ensures.found in
     let other = subst (BeginsAsLeaf found.0) c.octets.ensures.value found.1 in
     let end : found.0.bounds.end ≡ c.in-Some.bounds.end = ap (λ (b : Bounds). b.end) found.2 in
-    (found.0, block_is found.0 c.args.block.now other (some_from found.0.bounds.end c.is_none.result (ap is_some end ∙ c.is_none.ensures) c.if-is_none.false) (c.if-not-is_digested.ensures.0 refl), found.2)
+    (found.0, block_is found.0 c.args.block.now other (some_from found.0.bounds.end c.is_none.result (ap is_some end ∙ c.is_none.ensures) c.if-is_none.false) (sym (c.is_whole.ensures.whole.0 (cc c.if-not-is_whole.false))), found.2)

@@ -6,9 +6,9 @@ use Rattle.tsb_node.proofs.ReadingLaws.{some_from, some_not_none}
 use Rattle.tsb_node.proofs.NodeLaws.{block_begins, block_made, block_digest, nodes_same}
 use Rattle.tsb_node.proofs.node_reading.node_of_block.Goals as goal
 
-pub returns-then-not-is_digested-clause-none : goal.returns-then-not-is_digested-clause-none
-returns-then-not-is_digested-clause-none c = λ h es block.
-    absurd (cc (c.is_digested.ensures.1 (block_digest h es c.args.block.now block), c.if-not-is_digested.true))
+pub returns-then-not-is_whole-clause-none : goal.returns-then-not-is_whole-clause-none
+returns-then-not-is_whole-clause-none c = λ h es block.
+    absurd (cc (c.is_whole.ensures.whole.1 (sym (block_digest h es c.args.block.now block)), c.if-not-is_whole.true))
 
 pub returns-in_default-clause-none : goal.returns-in_default-clause-none
 returns-in_default-clause-none c = λ h es block.
@@ -26,4 +26,4 @@ pub returns-clause-found : goal.returns-clause-found
 returns-clause-found c =
     let found = c.in-Some.ensures.found in
     let other = subst (BeginsAsNode c.in-Some.header c.in-Some.entries.now) c.octets.ensures.value found in
-    block_made c.in-Some.header c.in-Some.entries.now c.args.block.now other (some_from c.in-Some.header.bounds.end c.is_none.result c.is_none.ensures c.if-is_none.false) (c.if-not-is_digested.ensures.0 refl)
+    block_made c.in-Some.header c.in-Some.entries.now c.args.block.now other (some_from c.in-Some.header.bounds.end c.is_none.result c.is_none.ensures c.if-is_none.false) (sym (c.is_whole.ensures.whole.0 (cc c.if-not-is_whole.false)))
