@@ -1,6 +1,6 @@
 -- A key node is read from the header and the entries of a node exactly where these are one.
-use Rattle.std.proofs.Common.{◌≡◌, ℕ, ◌+◌, ◌*◌, ◌^◌, ◌<◌, ◌≤◌, List, [], ◌∷◌, ◌++◌, length, map, take, drop, replicate, Option, Some, None, refl, sym, ap, subst, ◌∙◌, arith}
-use Rattle.std.specs.List.{flat_map, AllByRecursion}
+use Rattle.std.proofs.Common.{◌≡◌, ℕ, ◌<◌, ◌≤◌, List, [], ◌∷◌, ◌++◌, length, drop, replicate, refl, sym, ap, subst, ◌∙◌, arith}
+use Rattle.std.specs.List.{flat_map}
 use Rattle.std.specs.Option.{IfSome}
 use Rattle.std.proofs.lemmas.List.{length-append, take-append-drop}
 use Rattle.route_model.specs.Octets.{AreOctets}
@@ -11,7 +11,7 @@ use Rattle.tsb_node.specs.Nodes.{body}
 use Rattle.tsb_node.specs.Columns.{BeginsAt}
 use Rattle.tsb_node.specs.KeyNodes.{KeyNodeInPage, IsKeyNode, IsKeyNodePage, IsChildEntry, lows_of, child_octets}
 use Rattle.tsb_node.specs.inner.Fields.{number_in}
-use Rattle.tsb_node.specs.inner.Rows.{IsSpelling, IsFront, StartsAt, AreRows}
+use Rattle.tsb_node.specs.inner.Rows.{IsSpelling, IsFront, StartsAt}
 use Rattle.tsb_node.specs.inner.ChildReading.{child_in, AreChildrenOf, IsKeyNodeOf}
 use Rattle.tsb_node.specs.inner.NodeReading.{IsNode, node_body, BeginsAsNode, IsNodePage}
 use Rattle.tsb_node.proofs.HeaderLaws.{again_in, number_in-lt, take_on}

@@ -1,5 +1,5 @@
 -- A column is read from the header and the entries of a node exactly where these are one.
-use Rattle.std.proofs.Common.{◌≡◌, ℕ, ◌+◌, ◌-◌, ◌*◌, ◌^◌, ◌<◌, ◌≤◌, List, [], ◌∷◌, ◌++◌, length, map, replicate, Option, Some, None, IsSome, refl, sym, ap, subst, ◌∙◌, arith}
+use Rattle.std.proofs.Common.{◌≡◌, ℕ, ◌+◌, ◌-◌, ◌*◌, ◌<◌, List, [], ◌∷◌, ◌++◌, length, replicate, Option, Some, None, IsSome, refl, sym, ap, subst, ◌∙◌, arith}
 use Rattle.std.specs.List.{flat_map, AllByRecursion}
 use Rattle.std.specs.Option.{IfSome}
 use Rattle.std.proofs.lemmas.List.{length-append}
@@ -9,12 +9,12 @@ use Rattle.version_model.specs.declared.part.Part.{Part}
 use Rattle.tsb_node.specs.declared.column.Current.{Current}
 use Rattle.tsb_node.specs.declared.header.Header.{Header}
 use Rattle.tsb_node.specs.Nodes.{body}
-use Rattle.tsb_node.specs.Columns.{ColumnInPage, ColumnInBlock, IsColumn, IsOldColumn, IsColumnPage, IsColumnBlock, IsPartEntry, BeginsAt, AreAscending, starts_of, part_octets, current_octets}
-use Rattle.tsb_node.specs.inner.Rows.{StartsAt, AreRows}
+use Rattle.tsb_node.specs.Columns.{ColumnInPage, ColumnInBlock, IsColumn, IsOldColumn, IsColumnPage, IsColumnBlock, IsPartEntry, BeginsAt, starts_of, part_octets, current_octets}
+use Rattle.tsb_node.specs.inner.Rows.{StartsAt}
 use Rattle.tsb_node.specs.inner.NodeReading.{IsNode, node_body, BeginsAsNode, IsNodePage, IsNodeBlock}
-use Rattle.tsb_node.specs.inner.PartReading.{IsPartBefore, AreParts, IsCurrentEntry, IsCurrentOf, IsColumnOf, IsOldColumnOf}
-use Rattle.tsb_node.proofs.RowLaws.{rows-size, rows_one, ascending_push, ascending_front}
-use Rattle.tsb_node.proofs.PartLaws.{parts_spelled, current-size, current_back, current_one}
+use Rattle.tsb_node.specs.inner.PartReading.{IsPartBefore, AreParts, IsCurrentOf, IsColumnOf, IsOldColumnOf}
+use Rattle.tsb_node.proofs.RowLaws.{ascending_push, ascending_front}
+use Rattle.tsb_node.proofs.PartLaws.{current-size, current_back, current_one}
 use Rattle.tsb_node.proofs.ColumnLaws.{parts-size, no_parts}
 use Rattle.tsb_node.proofs.NodeLaws.{nodes_same, entries_same, page_begins, block_begins}
 
@@ -161,9 +161,11 @@ old_column_from h es ps node kind level some are = record {
     begun : (qs : List Part) → StartsAt h.bounds.start (starts_of qs) → length qs ≡ h.count → BeginsAt h.bounds.start (starts_of qs)
     begun [] first e = absurd (some (sym e))
     begun (q ∷ qs) first e = first
+
     before : (at : ℕ) (qs : List Part) → AllByRecursion (IsPartBefore (Some at)) qs → AllByRecursion (λ p. p.start < at) qs
     before at [] all = tt
     before at (q ∷ qs) all = (all.0.before, before at qs all.1)
+
     ends : (end : Option ℕ) (qs : List Part) → AllByRecursion (IsPartBefore end) qs → IfSome end (λ at. AllByRecursion (λ p. p.start < at) qs)
     ends None qs all = tt
     ends (Some at) qs all = before at qs all
@@ -182,6 +184,7 @@ old_column_parts h es c of =
     begun : (qs : List Part) → BeginsAt c.bounds.start (starts_of qs) → StartsAt c.bounds.start (starts_of qs)
     begun [] first = tt
     begun (q ∷ qs) first = first
+
     within : (end : Option ℕ) (qs : List Part) → AllByRecursion IsPartEntry qs → IfSome end (λ at. AllByRecursion (λ p. p.start < at) qs) → AllByRecursion (IsPartBefore end) qs
     within end [] all ends = tt
     within None (q ∷ qs) all ends = (record { entry = all.0; before = tt }, within None qs all.1 tt)

@@ -1,10 +1,9 @@
 -- Columns that are written.
-use Rattle.std.proofs.Common.{◌≡◌, ℕ, ◌+◌, ◌-◌, ◌*◌, ◌^◌, ◌<◌, ◌≤◌, List, [], ◌∷◌, ◌++◌, length, take, replicate, slice_get, Some, None, IsSome, refl, sym, ap, subst, ◌∙◌, arith, append_assoc}
+use Rattle.std.proofs.Common.{◌≡◌, ℕ, ◌+◌, ◌*◌, ◌^◌, ◌<◌, ◌≤◌, List, [], ◌∷◌, ◌++◌, length, take, replicate, slice_get, Some, None, IsSome, sym, ap, subst, ◌∙◌, arith}
 use Rattle.std.specs.List.{flat_map, AllByRecursion}
-use Rattle.std.proofs.lemmas.List.{append-nil, length-append, length-take, length-replicate, take_all, take_at}
+use Rattle.std.proofs.lemmas.List.{append-nil, length-append, length-take, take_all}
 use Rattle.std.proofs.lemmas.Grind.{flat_map-append}
 use Rattle.once_store.specs.Digests.{sealed}
-use Rattle.version_model.specs.declared.bounds.Bounds.{Bounds}
 use Rattle.version_model.specs.declared.part.Part.{Part}
 use Rattle.tsb_node.specs.Numbers.{octets_of}
 use Rattle.tsb_node.specs.Nodes.{IsBounds, header, body, seconds}
@@ -12,7 +11,7 @@ use Rattle.tsb_node.specs.Columns.{ColumnInPage, ColumnInBlock, IsColumn, IsOldC
 use Rattle.tsb_node.specs.inner.Laying.{laid, IsFilling}
 use Rattle.tsb_node.proofs.NumberLaws.{octets_of-size}
 use Rattle.tsb_node.proofs.Leaves.{body-size}
-use Rattle.tsb_node.proofs.Laying.{put_two, put_field, all_push}
+use Rattle.tsb_node.proofs.Laying.{put_two, all_push}
 use Rattle.tsb_node.proofs.ColumnLaws.{parts-size}
 use Rattle.tsb_node.proofs.PartLaws.{part-size, current-size}
 use Rattle.tsb_node.proofs.SealingLaws.{sealed_is}
@@ -50,7 +49,7 @@ put_on ps n at p old sheet fits lt is entry w =
       at_is = omega (arith, w.at_is);
       each = subst (AllByRecursion IsPartEntry) (sym (take_more ps n p is)) (all_push IsPartEntry (take n ps) p w.each entry);
       filling = λ h f. subst (λ (t : List ℕ). IsFilling h t (laid at (part_octets p) sheet)) (sym more) (
-        filling_on h es (part_octets p) sheet at (w.filling h f) (omega (arith, len, w.at_is)) (omega (arith, len, part-size p, lt, fits)));
+          filling_on h es (part_octets p) sheet at (w.filling h f) (omega (arith, len, w.at_is)) (omega (arith, len, part-size p, lt, fits)));
     }
 
 pub put_end : (ps : List Part) (n at : ℕ) (old sheet : List ℕ) → length ps ≤ n → HasPut ps n at old sheet → (h : List ℕ) → IsFilling h [] old → IsFilling h (flat_map part_octets ps) sheet

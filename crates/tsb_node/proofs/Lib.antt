@@ -17,6 +17,7 @@ pub mod Parting
 pub mod WholeLeaves
 pub mod RowLaws
 pub mod NodeLaws
+pub mod LeafReading
 pub mod PartLaws
 pub mod Refusals
 pub mod ColumnReading

@@ -1,15 +1,14 @@
 -- Octets are one node at most, whatever its entries say.
-use Rattle.std.proofs.Common.{◌≡◌, ℕ, ◌^◌, ◌<◌, ◌≤◌, List, ◌++◌, length, take, drop, replicate, None, IsSome, refl, sym, ap, subst, ◌∙◌, arith}
+use Rattle.std.proofs.Common.{◌≡◌, ℕ, ◌≤◌, List, ◌++◌, length, take, drop, replicate, None, IsSome, refl, sym, ap, subst, ◌∙◌, arith}
 use Rattle.std.specs.List.{All}
 use Rattle.std.proofs.lemmas.List.{length-take, length-drop}
 use Rattle.std.proofs.lemmas.List.Elements.{All-replicate}
 use Rattle.sha2.specs.Sha256.{sha256}
-use Rattle.version_model.specs.declared.bounds.Bounds.{Bounds}
 use Rattle.tsb_node.specs.declared.header.Header.{Header}
 use Rattle.tsb_node.specs.Nodes.{header, seconds}
 use Rattle.tsb_node.specs.Headers.{HasHeader}
 use Rattle.tsb_node.specs.inner.Reading.{area}
-use Rattle.tsb_node.specs.inner.NodeReading.{IsNode, node_body, BeginsAsNode, IsNodePage, IsNodeBlock}
+use Rattle.tsb_node.specs.inner.NodeReading.{node_body, BeginsAsNode, IsNodePage, IsNodeBlock}
 use Rattle.tsb_node.proofs.ReadingLaws.{SameHeader, header_one, Parts, node_parts, parts_node, node_last, all_zeros}
 
 pub begun_parts : (h : Header) (es octets : List ℕ) → BeginsAsNode h es octets → Parts h.kind h.level h.count h.bounds es octets

@@ -1,5 +1,5 @@
 -- Octets are one column at most, and one key node; a page says one thing at most, and so does a block.
-use Rattle.std.proofs.Common.{◌≡◌, ℕ, ◌+◌, ◌<◌, ◌≤◌, List, [], ◌∷◌, ◌++◌, length, None, refl, sym, ap, subst, ◌∙◌, arith}
+use Rattle.std.proofs.Common.{◌≡◌, ℕ, List, [], ◌∷◌, None, refl, sym, ap, subst, ◌∙◌, arith}
 use Rattle.std.specs.List.{flat_map, AllByRecursion}
 use Rattle.version_model.specs.declared.bounds.Bounds.{Bounds}
 use Rattle.version_model.specs.declared.part.Part.{Part}
@@ -8,21 +8,20 @@ use Rattle.version_model.specs.Ranges.{range_of}
 use Rattle.version_model.specs.Pages.{PageNode, CurrentLeaf, ColumnNode, KeyNode}
 use Rattle.version_model.specs.Blocks.{BlockNode, OldLeaf, OldColumn}
 use Rattle.tsb_node.specs.declared.header.Header.{Header}
-use Rattle.tsb_node.specs.Leaves.{LeafNode, IsLeafPage, IsLeafBlock, BeginsAsLeaf, entries}
-use Rattle.tsb_node.specs.Columns.{ColumnInPage, ColumnInBlock, IsColumnPage, IsColumnBlock, IsPartEntry, part_octets, current_octets}
+use Rattle.tsb_node.specs.Leaves.{LeafNode, BeginsAsLeaf}
+use Rattle.tsb_node.specs.Columns.{ColumnInPage, ColumnInBlock, IsColumnPage, IsColumnBlock, IsPartEntry, part_octets}
 use Rattle.tsb_node.specs.KeyNodes.{KeyNodeInPage, IsKeyNodePage, IsChildEntry, child_octets}
 use Rattle.tsb_node.specs.Children.{BeginsAsKeyNode}
 use Rattle.tsb_node.specs.Parts.{BeginsAsColumn, BeginsAsOldColumn}
 use Rattle.tsb_node.specs.Views.{PageSays, says_leaf, says_column, says_key_node, BlockSays, says_old_leaf, says_old_column, keys_between}
 use Rattle.tsb_node.specs.inner.NodeReading.{BeginsAsNode}
-use Rattle.tsb_node.specs.inner.PartReading.{IsColumnOf, IsOldColumnOf, IsPartBefore}
-use Rattle.tsb_node.specs.inner.ChildReading.{IsKeyNodeOf}
-use Rattle.tsb_node.proofs.Leaves.{few_versions, leaf_versions, begins_page, begins_block}
-use Rattle.tsb_node.proofs.ReadingLaws.{begun_one}
+use Rattle.tsb_node.specs.inner.PartReading.{IsPartBefore}
+use Rattle.tsb_node.proofs.Leaves.{leaf_versions, begins_page, begins_block}
+use Rattle.tsb_node.proofs.LeafReading.{begun_one, leaf_begun}
 use Rattle.tsb_node.proofs.RowLaws.{rows_one}
 use Rattle.tsb_node.proofs.PartLaws.{parts_spelled, current_back, current_one}
-use Rattle.tsb_node.proofs.ColumnReading.{column_header, column_entries, column_node, column_of_begun, column_current, current_same, old_header, old_node, old_of_begun, old_column_parts}
-use Rattle.tsb_node.proofs.ChildLaws.{children_spelled, key_node_header, key_node_node, key_node_of_begun, key_node_children}
+use Rattle.tsb_node.proofs.ColumnReading.{column_header, column_entries, column_node, column_of_begun, old_header, old_node, old_of_begun}
+use Rattle.tsb_node.proofs.ChildLaws.{children_spelled, key_node_header, key_node_node, key_node_of_begun}
 use Rattle.tsb_node.proofs.NodeLaws.{nodes_same}
 
 pub column_begun : (c : ColumnInPage) (octets : List ℕ) → BeginsAsColumn c octets → BeginsAsNode (column_header c) (column_entries c) octets
@@ -72,13 +71,6 @@ leaf_one a b octets p q =
     let bounds = begun_one a b octets p q in
     let versions = sym (leaf_versions a octets p) ∙ leaf_versions b octets q in
     λ i. record { bounds = bounds i; versions = versions i }
-
-leaf_begun : (leaf : LeafNode) (octets : List ℕ) → BeginsAsLeaf leaf octets → BeginsAsNode (record { kind = 1; level = 0; count = length leaf.versions; used = length (entries leaf.versions); bounds = leaf.bounds }) (entries leaf.versions) octets
-leaf_begun leaf octets is = record {
-  valid = record { bounds = is.valid.bounds; count = few_versions leaf is.valid; used = refl; fits = is.valid.fits };
-  last = is.last;
-  spelled = is.spelled;
-}
 
 column_page : (c : ColumnInPage) (octets : List ℕ) → IsColumnPage c octets → BeginsAsColumn c octets
 column_page c octets is = record { valid = is.valid; last = _; spelled = is.page.spelled }

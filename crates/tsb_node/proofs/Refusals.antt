@@ -1,5 +1,5 @@
 -- Readers that answer a node or a refusal.
-use Rattle.std.proofs.Common.{◌≡◌, List, refl, sym, subst}
+use Rattle.std.proofs.Common.{◌≡◌, refl, sym, subst}
 use Rattle.std.specs.declared.result.Result.{Result}
 use Rattle.std.specs.declared.result.Result.TheVariants.{Ok, Err}
 use Rattle.std.specs.Result.{MatchResult, IfOk}

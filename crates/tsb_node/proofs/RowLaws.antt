@@ -1,5 +1,5 @@
 -- Entries of one size: they are read from the first on, and spelled in one way.
-use Rattle.std.proofs.Common.{◌≡◌, ℕ, zero, suc, ◌+◌, ◌*◌, ◌<◌, ◌≤◌, List, [], ◌∷◌, ◌++◌, length, take, drop, map, Option, Some, None, refl, sym, ap, subst, ◌∙◌, append_assoc, arith}
+use Rattle.std.proofs.Common.{◌≡◌, ℕ, zero, suc, ◌+◌, ◌*◌, ◌<◌, ◌≤◌, List, [], ◌∷◌, ◌++◌, length, drop, map, Option, Some, None, refl, sym, ap, subst, ◌∙◌, append_assoc, arith}
 use Rattle.std.specs.List.{flat_map, AllByRecursion}
 use Rattle.std.proofs.lemmas.List.{append-nil, length-append, drop_at}
 use Rattle.std.proofs.lemmas.Grind.{flat_map-append}
@@ -42,6 +42,7 @@ next_up first ns (Some last) n is starts up next =
   where
     longer : {m : List ℕ} → m ≡ is.0 ++ last ∷ [] → 0 < length m
     longer e = omega (arith, ap length e, length-append is.0 (last ∷ []))
+
     starts_on : (ms : List ℕ) → StartsAt first ms → 0 < length ms → StartsAt first (ms ++ n ∷ [])
     starts_on [] s lt = absurd (omega (arith, lt))
     starts_on (m ∷ ms) s lt = s
@@ -62,7 +63,6 @@ map-append f [] ys = refl
 map-append f (x ∷ xs) ys = ap (λ (t : List ℕ). f x ∷ t) (map-append f xs ys)
 
 module _ {X : Type 0} (spell : X → List ℕ) (valid : X → Type 0) (number : X → ℕ) (size : ℕ) (is : IsSpelling spell valid size) where
-
   pub rows-size : (xs : List X) → length (flat_map spell xs) ≡ length xs * size
   rows-size [] = omega arith
   rows-size (x ∷ xs) = omega (arith, rows-size xs, is.size_is x, length-append (spell x) (flat_map spell xs))
@@ -101,7 +101,6 @@ pub record HasRead {X : Type 0} (spell : X → List ℕ) (valid : X → Type 0) 
   pub newest : IsLastNumber (map number rows) last
 
 module _ {X : Type 0} (spell : X → List ℕ) (valid : X → Type 0) (number : X → ℕ) (size : ℕ) (is : IsSpelling spell valid size) (first : ℕ) where
-
   pub read_start : (bytes : List ℕ) → HasRead spell valid number first 0 None bytes bytes
   read_start bytes = record { rows = []; each = tt; from_first = tt; rising = tt; counted = refl; whole = refl; newest = refl }
 
@@ -143,6 +142,7 @@ module _ {X : Type 0} (spell : X → List ℕ) (valid : X → Type 0) (number : 
     where
       valid_head : (rows : List X) (x : X) (more : List X) → AllByRecursion valid (rows ++ x ∷ more) → valid x
       valid_head rows x more all = (all_append valid rows (x ∷ more) all).0
+
       head : (more : List X) → xs ≡ r.rows ++ more → rest ≡ flat_map spell more → (x : X) × IsFront spell valid size rest x × IsNextNumber first last (number x)
       head [] e f = absurd (omega (arith, lt, are.counted, r.counted, ap length e, length-append r.rows []))
       head (x ∷ more) e f =
@@ -171,7 +171,6 @@ pub record HasKept {X : Type 0} (spell : X → List ℕ) (xs kept : List X) (n :
   pub there : rest ≡ flat_map spell (drop n xs)
 
 module _ {X : Type 0} (spell : X → List ℕ) (valid : X → Type 0) (number : X → ℕ) (size : ℕ) (is : IsSpelling spell valid size) (first count : ℕ) (bytes : List ℕ) (xs : List X) (are : AreRows spell valid number first count bytes xs) where
-
   drop_more : (n : ℕ) (ys : List X) → n < length ys → (x : X) × (drop n ys ≡ x ∷ drop (n + 1) ys)
   drop_more n [] lt = absurd (omega (arith, lt))
   drop_more zero (y ∷ ys) lt = (y, refl)

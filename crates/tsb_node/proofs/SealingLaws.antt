@@ -1,7 +1,7 @@
 -- A block of a leaf is its page, with an end and a digest.
 use Rattle.std.proofs.Common.{◌≡◌, ℕ, ◌+◌, ◌-◌, ◌^◌, ◌<◌, List, [], ◌∷◌, ◌++◌, length, take, replicate, Some, refl, sym, ap, ◌∙◌, append_assoc, arith}
 use Rattle.std.specs.List.{AllByRecursion}
-use Rattle.std.proofs.lemmas.List.{append-nil, length-append, length-replicate, take_at}
+use Rattle.std.proofs.lemmas.List.{length-append, take_at}
 use Rattle.sha2.specs.Sha256.{sha256}
 use Rattle.once_store.specs.Digests.{sealed}
 use Rattle.tsb_node.specs.Numbers.{octets_of, bound_octets}

@@ -1,5 +1,5 @@
 -- What nodes say is what the tree asks of them.
-use Rattle.std.proofs.Common.{◌≡◌, ℕ, zero, suc, ◌+◌, ◌^◌, ◌<◌, ◌≤◌, ◌⊎◌, inl, inr, List, [], ◌∷◌, ◌++◌, length, map, filter, slice_get, Option, Some, None, Bool, true, false, not, nat_lt, ◌&&◌, refl, sym, ap, subst, ◌∙◌, arith}
+use Rattle.std.proofs.Common.{◌≡◌, ℕ, zero, suc, ◌^◌, ◌<◌, ◌≤◌, ◌⊎◌, inl, inr, List, [], ◌∷◌, ◌++◌, length, map, slice_get, Option, Some, None, Bool, true, not, nat_lt, refl, sym, ap, subst, ◌∙◌, arith}
 use Rattle.std.specs.List.{AllByRecursion}
 use Rattle.std.specs.Option.{IfSome}
 use Rattle.std.proofs.lemmas.List.{length-append}
@@ -9,18 +9,18 @@ use Rattle.version_model.specs.declared.bounds.Bounds.{Bounds}
 use Rattle.version_model.specs.declared.part.Part.{Part}
 use Rattle.version_model.specs.declared.child.Child.{Child}
 use Rattle.version_model.specs.Versions.{Version, Has}
-use Rattle.version_model.specs.Ranges.{Range, high_or, end_or, key_end, range_of}
+use Rattle.version_model.specs.Ranges.{Range, high_or, end_or, range_of}
 use Rattle.version_model.specs.Sizes.{octets, value_octets}
 use Rattle.version_model.specs.Shows.{IsBelow, IsFromKey}
-use Rattle.version_model.specs.Blocks.{AreParts, IsPartOf, range_at, start_or}
-use Rattle.version_model.specs.Pages.{Keys, AreChildren, IsChildOf, child_keys, low_or, past_range}
+use Rattle.version_model.specs.Blocks.{AreParts, IsPartOf, start_or}
+use Rattle.version_model.specs.Pages.{Keys, AreChildren, IsChildOf, low_or, past_range}
 use Rattle.version_model.proofs.api.LooksShown.{filter_has, has_filter}
 use Rattle.tsb_node.specs.declared.key_node.Under.{Under}
 use Rattle.tsb_node.specs.declared.column.PartAt.{PartAt}
 use Rattle.tsb_node.specs.declared.column.Spot.TheVariants.{InBlock}
 use Rattle.tsb_node.specs.Leaves.{LeafNode, IsLeaf, IsVersionOf, value_spelled, entry, entries}
 use Rattle.tsb_node.specs.Columns.{ColumnInPage, ColumnInBlock, IsColumn, IsOldColumn, BeginsAt, AreAscending, starts_of}
-use Rattle.tsb_node.specs.KeyNodes.{KeyNodeInPage, IsKeyNode, IsChildEntry, lows_of}
+use Rattle.tsb_node.specs.KeyNodes.{KeyNodeInPage, IsKeyNode, IsChildEntry}
 use Rattle.tsb_node.specs.Children.{IsUnder, high_of}
 use Rattle.tsb_node.specs.Parts.{IsSpot, IsPartAt}
 use Rattle.tsb_node.specs.Splitting.{is_below, lies_within, side_of}
@@ -80,9 +80,11 @@ children_are k valid =
   where
     below : (i : ℕ) (c : Child) → slice_get k.children i ≡ Some c → c.low < high_or k.bounds.high
     below i c at = (let v = each_get (IsChildEntry k.bounds) k.children i c valid.each at in high_above k.bounds.high c.low v.low v.high)
+
     upper : (i : ℕ) (c : Child) → slice_get k.children i ≡ Some c → (slice_get k.children (suc i) ≡ None) ⊎ ((d : Child) × (slice_get k.children (suc i) ≡ Some d)) → c.low < low_or (high_or k.bounds.high) (slice_get k.children (suc i))
     upper i c at (inl e) = rw e (below i c at)
     upper i c at (inr d) = rw d.1 (rises_next (λ (x : Child). x.low) k.children i c d.0 valid.rising at d.1)
+
     within : (i : ℕ) → (slice_get k.children (suc i) ≡ None) ⊎ ((d : Child) × (slice_get k.children (suc i) ≡ Some d)) → low_or (high_or k.bounds.high) (slice_get k.children (suc i)) ≤ high_or k.bounds.high
     within i (inl e) = rw e (omega arith)
     within i (inr d) = rw d.1 (omega (arith, below (suc i) d.0 d.1))
@@ -115,9 +117,11 @@ parts_are r ps block first up ends lower =
   where
     below : (i : ℕ) (p : Part) → slice_get ps i ≡ Some p → p.start < r.end
     below i p at = all_get (λ (x : Part). x.start) (λ n. n < r.end) ps i p ends at
+
     upper : (i : ℕ) (p : Part) → slice_get ps i ≡ Some p → (slice_get ps (suc i) ≡ None) ⊎ ((q : Part) × (slice_get ps (suc i) ≡ Some q)) → p.start < start_or r.end (slice_get ps (suc i))
     upper i p at (inl e) = rw e (below i p at)
     upper i p at (inr q) = rw q.1 (rises_next (λ (x : Part). x.start) ps i p q.0 up at q.1)
+
     within : (i : ℕ) → (slice_get ps (suc i) ≡ None) ⊎ ((q : Part) × (slice_get ps (suc i) ≡ Some q)) → start_or r.end (slice_get ps (suc i)) ≤ r.end
     within i (inl e) = rw e (omega arith)
     within i (inr q) = rw q.1 (omega (arith, below (suc i) q.0 q.1))

@@ -1,5 +1,5 @@
 -- A key node: the lowest keys and the pages of its children.
-use Rattle.std.specs.Prelude.{◌≡◌, ℕ, ◌*◌, ◌<◌, ◌≤◌, ◌^◌, List, [], ◌∷◌, ◌++◌, length, map, IfSome}
+use Rattle.std.specs.Prelude.{◌≡◌, ℕ, ◌*◌, ◌<◌, ◌≤◌, ◌^◌, List, ◌++◌, length, map, IfSome}
 use Rattle.std.specs.List.{flat_map, AllByRecursion}
 use Rattle.tsb_node.specs.Numbers.{octets_of}
 use Rattle.tsb_node.specs.Nodes.{IsBounds, AreInOrder, body, IsInPage}

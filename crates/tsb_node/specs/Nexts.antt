@@ -1,5 +1,5 @@
 -- What a look for a key that has a value tells.
-use Rattle.std.specs.Prelude.{ℕ, Bool, true, false, List, Option, None}
+use Rattle.std.specs.Prelude.{ℕ, Bool, true, false, List, None}
 use Rattle.version_model.specs.Versions.{Version, Answers}
 use Rattle.version_model.specs.Looks.{IsLive}
 

@@ -1,5 +1,5 @@
 -- Where a column has its versions at a stamp.
-use Rattle.std.specs.Prelude.{◌≡◌, ℕ, suc, ◌≤◌, ◌<◌, List, ◌++◌, slice_get, Option, Some, None}
+use Rattle.std.specs.Prelude.{◌≡◌, ℕ, suc, ◌≤◌, ◌<◌, List, ◌++◌, slice_get, Some}
 use Rattle.version_model.specs.declared.part.Part.{Part}
 use Rattle.tsb_node.specs.declared.column.Spot.{Spot}
 use Rattle.tsb_node.specs.declared.column.Spot.TheVariants.{InPage, InBlock}

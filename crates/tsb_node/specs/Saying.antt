@@ -1,5 +1,4 @@
 -- What nodes say, as they are held in memory.
-use Rattle.std.specs.Prelude.{List}
 use Rattle.version_model.specs.Entries.{versions_of}
 use Rattle.tsb_node.specs.declared.leaf_part.ReadFault.{ReadFault}
 use Rattle.tsb_node.specs.declared.leaf_part.ReadFault.TheVariants.{NotANode, Memory}

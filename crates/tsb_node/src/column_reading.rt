@@ -9,7 +9,7 @@ ghost use Rattle.tsb_node.specs.inner.Rows.{IsFront, IsNextNumber};
 ghost use Rattle.tsb_node.specs.inner.PartReading.{IsPartBefore, AreParts, IsCurrentEntry, IsCurrentOf};
 
 use crate::column::{Current, part_in};
-use crate::header::{Header, is_before_end, is_stamp_below};
+use crate::header::{Header, is_before_end, is_of_kind, is_stamp_below};
 use crate::leaf_part::{ReadFault, keep};
 use crate::numbers::{number8, stamp_at};
 use std::alloc::Global;
@@ -108,13 +108,6 @@ fn current_in(bytes: &[u8]) -> Option<Current>
         start: stamp_at(bytes, 0),
         page: number8(bytes, 17),
     })
-}
-
-/// Whether a header is of a kind and a level.
-pub fn is_of_kind(header: &Header, kind: u8, level: u8) -> bool
-    ensures { IsTrue result ↔ ((header.now.kind ≡ kind) × (header.now.level ≡ level)) }
-{
-    header.kind == kind && header.level == level
 }
 
 /// Whether a current leaf may stand behind the octets of parts: without parts it starts where the column does.

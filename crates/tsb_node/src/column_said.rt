@@ -8,8 +8,8 @@ ghost use Rattle.tsb_node.specs.inner.NodeReading.{IsNode};
 ghost use Rattle.tsb_node.specs.inner.PartReading.{IsColumnOf, IsOldColumnOf};
 
 use crate::column::Current;
-use crate::column_reading::{current_of, is_of_kind, parts_in};
-use crate::header::Header;
+use crate::column_reading::{current_of, parts_in};
+use crate::header::{Header, is_of_kind};
 use crate::leaf_part::ReadFault;
 use crate::node_reading::{node_of_block, node_of_page};
 use disk_models::{Block, Page};

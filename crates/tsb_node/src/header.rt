@@ -19,6 +19,13 @@ pub struct Header {
     pub bounds: Bounds,
 }
 
+/// Whether a header is of a kind and a level.
+pub fn is_of_kind(header: &Header, kind: u8, level: u8) -> bool
+    ensures { IsTrue result ↔ ((header.now.kind ≡ kind) × (header.now.level ≡ level)) }
+{
+    header.kind == kind && header.level == level
+}
+
 /// Whether a key is another one.
 pub fn is_same_key(key: Key, other: Key) -> bool
     ensures { IsTrue result ↔ (key ≡ other) }

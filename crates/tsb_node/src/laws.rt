@@ -50,10 +50,10 @@ pub fn nodes_say_what_the_tree_asks()
         → ((column.parts ≡ []) × (column.current.start ≡ 0)) ⊎ AreParts (past_range (keys_between column.bounds) column.current.start) column.parts next }
     ensures part { (column : ColumnInPage) (stamp : ℕ) (found : PartAt) → IsSpot column stamp (InBlock found)
         → IsPartOf (past_range (keys_between column.bounds) column.current.start) column.parts
-            (record { low = column.bounds.low; high = high_or column.bounds.high; start = found.part.start; end = found.end }) found.part }
+        (record { low = column.bounds.low; high = high_or column.bounds.high; start = found.part.start; end = found.end }) found.part }
     ensures old_parts { (column : ColumnInBlock) (end block : ℕ) → IsOldColumn column → column.bounds.end ≡ Some end
         → ((i : ℕ) (part : Part) → slice_get column.parts i ≡ Some part → part.block < block) → AreParts (range_of column.bounds) column.parts block }
     ensures old_part { (column : ColumnInBlock) (end stamp : ℕ) (found : PartAt) → column.bounds.end ≡ Some end → IsPartAt column.parts end stamp found
         → IsPartOf (range_of column.bounds) column.parts
-            (record { low = column.bounds.low; high = high_or column.bounds.high; start = found.part.start; end = found.end }) found.part }
+        (record { low = column.bounds.low; high = high_or column.bounds.high; start = found.part.start; end = found.end }) found.part }
 {}

@@ -126,7 +126,11 @@ fn found_at<'a>(bytes: &'a [u8]) -> FoundVersion<'a>
 
 /// What the leaf that begins these octets, a page's or a block's, has for a key at a stamp.
 /// Refused only where they aren't a leaf, and not always there.
-pub fn find<'a>(octets: &'a [u8], key: Key, stamp: Stamp) -> Result<Option<FoundVersion<'a>>, NotANode>
+pub fn find<'a>(
+    octets: &'a [u8],
+    key: Key,
+    stamp: Stamp,
+) -> Result<Option<FoundVersion<'a>>, NotANode>
     requires size { length octets.now ≡ 16384 }
     ensures found { (leaf : LeafNode) → BeginsAsLeaf leaf octets.now → MatchResult result (Finds leaf.versions key stamp) (λ e. ⊥) }
 {

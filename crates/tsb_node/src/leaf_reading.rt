@@ -3,13 +3,14 @@
 ghost use Rattle.std.specs.Prelude.{List, ℕ, ◌≡◌, ◌≤◌, ◌<◌, ◌+◌, ◌↔◌, length, take, drop, All, IfSome, IfNone, IsTrue, None};
 ghost use Rattle.tsb_node.specs.inner.Reading.{value_size};
 ghost use Rattle.tsb_node.specs.Leaves.{LeafNode, BeginsAsLeaf, IsLeafPage, IsLeafBlock};
-ghost use Rattle.tsb_node.specs.inner.Checking.{IsSpelled, AreEntries, IsAfter};
+ghost use Rattle.tsb_node.specs.inner.Checking.{IsSpelled, AreEntries, IsAfter, IsLeafOf};
+ghost use Rattle.tsb_node.specs.inner.NodeReading.{IsNode};
 
-use crate::header::{is_below_high, is_key_below, is_stamp_below, read_header};
-use crate::leaf::{FIRST, LAST, ROOM, entry_size};
+use crate::header::{Header, is_below_high, is_key_below, is_of_kind, is_stamp_below};
+use crate::leaf::entry_size;
+use crate::node_reading::{node_in, node_of_block, node_of_page};
 use crate::numbers::{key_at, stamp_at};
 use disk_models::{Block, Page};
-use once_store::is_whole;
 use version_model::{Bounds, Stamp};
 
 /// How many octets the entry at the front takes, where it is one of a leaf of these bounds.
@@ -74,35 +75,13 @@ fn are_entries(bytes: &[u8], count: u16, bounds: &Bounds) -> bool
     rest.is_empty()
 }
 
-/// Whether all octets are zero.
-pub fn are_zeros(octets: &[u8]) -> bool
-    ensures { IsTrue result ↔ All (λ octet. octet ≡ 0) octets.now }
+/// The bounds of the leaf whose header and entries these are; none where they are no leaf.
+fn leaf_bounds(header: &Header, entries: &[u8]) -> Option<Bounds>
+    requires node { IsNode header.now entries.now }
+    ensures found { IfSome result (λ bounds. (leaf : LeafNode) × IsLeafOf header.now entries.now leaf × (leaf.bounds ≡ bounds)) }
+    ensures none { IfNone result ((leaf : LeafNode) → IsLeafOf header.now entries.now leaf → ⊥) }
 {
-    octets.iter().all(|octet| *octet == 0)
-}
-
-/// The bounds of the leaf with which octets begin, or none where they begin with no leaf.
-pub fn leaf_in(octets: &[u8]) -> Option<Bounds>
-    requires size { length octets.now ≡ 16384 }
-    ensures found { IfSome result (λ bounds. (leaf : LeafNode) × BeginsAsLeaf leaf octets.now × (leaf.bounds ≡ bounds)) }
-    ensures none { IfNone result ((leaf : LeafNode) → BeginsAsLeaf leaf octets.now → ⊥) }
-{
-    let Some(header) = read_header(octets) else {
-        return None;
-    };
-    if header.kind != 1 {
-        return None;
-    }
-    if header.level != 0 {
-        return None;
-    }
-    let used = header.used as usize;
-    if used > ROOM {
-        return None;
-    }
-    let area = octets.split_at(LAST).0.split_at(FIRST).1;
-    let (entries, rest) = area.split_at(used);
-    if !are_zeros(rest) {
+    if !is_of_kind(header, 1, 0) {
         return None;
     }
     if !are_entries(entries, header.count, &header.bounds) {
@@ -111,22 +90,27 @@ pub fn leaf_in(octets: &[u8]) -> Option<Bounds>
     Some(header.bounds)
 }
 
+/// The bounds of the leaf with which octets begin, or none where they begin with no leaf.
+pub fn leaf_in(octets: &[u8]) -> Option<Bounds>
+    requires size { length octets.now ≡ 16384 }
+    ensures found { IfSome result (λ bounds. (leaf : LeafNode) × BeginsAsLeaf leaf octets.now × (leaf.bounds ≡ bounds)) }
+    ensures none { IfNone result ((leaf : LeafNode) → BeginsAsLeaf leaf octets.now → ⊥) }
+{
+    let Some((header, entries)) = node_in(octets) else {
+        return None;
+    };
+    leaf_bounds(&header, entries)
+}
+
 /// The bounds of the leaf that a page is, or none where it is no leaf.
 pub fn read_leaf(page: &Page) -> Option<Bounds>
     ensures found { IfSome result (λ bounds. (leaf : LeafNode) × IsLeafPage leaf page.now × (leaf.bounds ≡ bounds)) }
     ensures none { IfNone result ((leaf : LeafNode) → IsLeafPage leaf page.now → ⊥) }
 {
-    let octets = page.octets();
-    if !are_zeros(octets.split_at(LAST).1) {
-        return None;
-    }
-    let Some(bounds) = leaf_in(octets) else {
+    let Some((header, entries)) = node_of_page(page) else {
         return None;
     };
-    if bounds.end.is_some() {
-        return None;
-    }
-    Some(bounds)
+    leaf_bounds(&header, entries)
 }
 
 /// The bounds of the leaf that a block is, or none where it is no leaf.
@@ -134,16 +118,10 @@ pub fn read_leaf_block(block: &Block) -> Option<Bounds>
     ensures found { IfSome result (λ bounds. (leaf : LeafNode) × IsLeafBlock leaf block.now × (leaf.bounds ≡ bounds)) }
     ensures none { IfNone result ((leaf : LeafNode) → IsLeafBlock leaf block.now → ⊥) }
 {
-    if !is_whole(block) {
-        return None;
-    }
-    let Some(bounds) = leaf_in(block.octets()) else {
+    let Some((header, entries)) = node_of_block(block) else {
         return None;
     };
-    if bounds.end.is_none() {
-        return None;
-    }
-    Some(bounds)
+    leaf_bounds(&header, entries)
 }
 
 /// Octets are the page, or the block, of one leaf at most.

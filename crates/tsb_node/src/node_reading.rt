@@ -1,13 +1,19 @@
 //! What all nodes have in common is read: a header, the octets of its entries, zeros behind them, and what ends a page or a block.
 
-ghost use Rattle.std.specs.Prelude.{List, ℕ, ◌≡◌, length, IfSome, IfNone};
+ghost use Rattle.std.specs.Prelude.{List, ℕ, ◌≡◌, ◌↔◌, length, All, IfSome, IfNone, IsTrue};
 ghost use Rattle.tsb_node.specs.inner.NodeReading.{BeginsAsNode, IsNodePage, IsNodeBlock};
 
 use crate::header::{Header, read_header};
 use crate::leaf::{FIRST, LAST, ROOM};
-use crate::leaf_reading::are_zeros;
 use disk_models::{Block, Page};
 use once_store::is_whole;
+
+/// Whether all octets are zero.
+pub fn are_zeros(octets: &[u8]) -> bool
+    ensures { IsTrue result ↔ All (λ octet. octet ≡ 0) octets.now }
+{
+    octets.iter().all(|octet| *octet == 0)
+}
 
 /// The header of the node with which octets begin, and the octets of its entries. None where they begin as no node does:
 /// its bounds aren't in order, its entries have more octets than there is room for, or octets other than zero stand behind them.

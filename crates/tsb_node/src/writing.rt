@@ -8,9 +8,9 @@ ghost use Rattle.tsb_node.specs.inner.Laying.{laid};
 ghost use Rattle.tsb_node.specs.Pushing.{version};
 ghost use Rattle.tsb_node.specs.Nodes.{header, seconds, IsBounds, AreInOrder};
 
+use crate::numbers::{key_fits, stamp_fits};
 use byteorder::{BigEndian, ByteOrder};
 use disk_models::{Page, Sheet};
-use crate::numbers::{key_fits, stamp_fits};
 use route_model::Key;
 use version_model::{Bounds, Stamp};
 
@@ -130,7 +130,14 @@ pub fn bounds_fit(bounds: &Bounds)
 }
 
 /// Writes the header of a node into a page or a block.
-pub fn put_header<K>(page: &mut Sheet<K>, kind: u8, level: u8, count: u16, used: u16, bounds: &Bounds)
+pub fn put_header<K>(
+    page: &mut Sheet<K>,
+    kind: u8,
+    level: u8,
+    count: u16,
+    used: u16,
+    bounds: &Bounds,
+)
     ensures { page.new ≡ laid 0 (header kind seconds level count used bounds.now) page.old }
 {
     let _octets = page.octets();

@@ -3,7 +3,8 @@ use Rattle.std.specs.Prelude.{◌≡◌, ℕ, ◌+◌, ◌<◌, List, length, ta
 use Rattle.std.specs.List.{AllByRecursion}
 use Rattle.version_model.specs.declared.bounds.Bounds.{Bounds}
 use Rattle.version_model.specs.Versions.{Version, IsRising}
-use Rattle.tsb_node.specs.Leaves.{entry, entries, IsVersionOf}
+use Rattle.tsb_node.specs.declared.header.Header.{Header}
+use Rattle.tsb_node.specs.Leaves.{LeafNode, IsLeaf, entry, entries, IsVersionOf}
 use Rattle.tsb_node.specs.inner.Reading.{value_size, version_in}
 use Rattle.tsb_node.specs.inner.Scanning.{IsWhole}
 
@@ -25,3 +26,12 @@ pub record AreEntries (b : Bounds) (count : ℕ) (bytes : List ℕ) : Type 0 whe
 abbrev pub IsAfter : ℕ → Option ℕ → Type 0
 IsAfter stamp None = Unit {0}
 IsAfter stamp (Some last) = last < stamp
+
+-- the header and the octets of the entries are those of a leaf
+pub record IsLeafOf (h : Header) (bytes : List ℕ) (leaf : LeafNode) : Type 0 where
+  pub kind : h.kind ≡ 1
+  pub level : h.level ≡ 0
+  pub bounds : leaf.bounds ≡ h.bounds
+  pub count : h.count ≡ length leaf.versions
+  pub valid : IsLeaf leaf
+  pub spelled : bytes ≡ entries leaf.versions

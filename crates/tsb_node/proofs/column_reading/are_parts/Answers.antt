@@ -2,7 +2,7 @@ use Rattle.std.proofs.Common.{arith, ◌≡◌, ◌∙◌, ℕ, length, sym, sub
 use Rattle.std.proofs.lemmas.Bool.{eqb-true, eq-eqb}
 use Rattle.version_model.specs.declared.part.Part.{Part}
 use Rattle.tsb_node.specs.Columns.{part_octets}
-use Rattle.tsb_node.specs.inner.Rows.{IsFront, IsNextNumber}
+use Rattle.tsb_node.specs.inner.Rows.{IsNextNumber}
 use Rattle.tsb_node.specs.inner.PartReading.{IsPartBefore}
 use Rattle.tsb_node.proofs.PartLaws.{parts_spelled, front-size}
 use Rattle.tsb_node.proofs.RowLaws.{HasRead, read_start, read_on, read_end, row_stands, nothing_behind, front_one}

@@ -1,4 +1,4 @@
-use Rattle.std.proofs.Common.{arith, ◌≡◌, ◌∙◌, ◌++◌, ◌-◌, ℕ, List, length, take, drop, ap, sym, subst, refl}
+use Rattle.std.proofs.Common.{arith, ◌≡◌, ◌∙◌, length, ap, sym}
 use Rattle.std.proofs.lemmas.List.{length-append}
 use Rattle.tsb_node.specs.Columns.{current_octets}
 use Rattle.tsb_node.proofs.PartLaws.{current-size, current_back, current_one}

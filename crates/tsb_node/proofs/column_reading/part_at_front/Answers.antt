@@ -1,4 +1,4 @@
-use Rattle.std.proofs.Common.{arith, ap, length, ◌++◌, drop}
+use Rattle.std.proofs.Common.{arith, ap, length, drop}
 use Rattle.std.proofs.lemmas.List.{length-append}
 use Rattle.tsb_node.specs.Columns.{part_octets}
 use Rattle.tsb_node.proofs.PartLaws.{part-size}

@@ -1,4 +1,3 @@
-use Rattle.std.proofs.Common.{◌≡◌, refl}
 use Rattle.tsb_node.specs.inner.PartReading.{AreParts}
 use Rattle.tsb_node.proofs.Refusals.{refusal_match, if_ok_map}
 use Rattle.tsb_node.proofs.column_reading.parts_in.Goals as goal

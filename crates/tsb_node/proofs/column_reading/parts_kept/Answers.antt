@@ -1,10 +1,9 @@
-use Rattle.std.proofs.Common.{arith, ◌≡◌, ◌∙◌, ◌++◌, ◌∷◌, [], ℕ, List, Option, None, sym, subst, refl}
+use Rattle.std.proofs.Common.{arith, ℕ, None}
 use Rattle.version_model.specs.declared.part.Part.{Part}
 use Rattle.tsb_node.specs.Columns.{part_octets}
-use Rattle.tsb_node.specs.inner.Rows.{IsFront}
-use Rattle.tsb_node.specs.inner.PartReading.{IsPartBefore, AreParts}
+use Rattle.tsb_node.specs.inner.PartReading.{IsPartBefore}
 use Rattle.tsb_node.proofs.PartLaws.{parts_spelled, front-size, open_front, same_front}
-use Rattle.tsb_node.proofs.RowLaws.{HasKept, kept_start, kept_front, kept_on, kept_all}
+use Rattle.tsb_node.proofs.RowLaws.{kept_start, kept_front, kept_on, kept_all}
 use Rattle.tsb_node.proofs.column_reading.parts_kept.Goals as goal
 
 abbrev begun : Part → ℕ

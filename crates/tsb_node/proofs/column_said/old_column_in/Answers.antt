@@ -1,4 +1,3 @@
-use Rattle.std.proofs.Common.{Some, refl}
 use Rattle.tsb_node.specs.inner.PartReading.{AreParts, IsOldColumnOf}
 use Rattle.tsb_node.proofs.Refusals.{refusal_map}
 use Rattle.tsb_node.proofs.ColumnReading.{old_column_from, old_column_parts, old_column_some}

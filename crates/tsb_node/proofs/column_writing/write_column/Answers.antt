@@ -1,4 +1,4 @@
-use Rattle.std.proofs.Common.{arith, ◌≡◌, ◌∙◌, ◌*◌, ◌+◌, ℕ, List, length, ap, refl}
+use Rattle.std.proofs.Common.{◌∙◌, ◌*◌, ◌+◌, length, ap, refl}
 use Rattle.disk_models.specs.Octets.{zeros}
 use Rattle.tsb_node.specs.Nodes.{header, seconds}
 use Rattle.tsb_node.specs.Columns.{current_octets}

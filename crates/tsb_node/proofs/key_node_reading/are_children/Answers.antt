@@ -2,7 +2,7 @@ use Rattle.std.proofs.Common.{arith, ◌≡◌, ◌∙◌, ℕ, length, sym, sub
 use Rattle.std.proofs.lemmas.Bool.{eqb-true, eq-eqb}
 use Rattle.version_model.specs.declared.child.Child.{Child}
 use Rattle.tsb_node.specs.KeyNodes.{child_octets, IsChildEntry}
-use Rattle.tsb_node.specs.inner.Rows.{IsFront, IsNextNumber}
+use Rattle.tsb_node.specs.inner.Rows.{IsNextNumber}
 use Rattle.tsb_node.proofs.ChildLaws.{children_spelled, child_front-size}
 use Rattle.tsb_node.proofs.RowLaws.{HasRead, read_start, read_on, read_end, row_stands, nothing_behind, front_one}
 use Rattle.tsb_node.proofs.key_node_reading.are_children.Goals as goal

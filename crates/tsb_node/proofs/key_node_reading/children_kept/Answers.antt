@@ -1,4 +1,4 @@
-use Rattle.std.proofs.Common.{arith, ◌≡◌, ◌∙◌, ◌++◌, ◌∷◌, [], ℕ, List, sym, subst, refl}
+use Rattle.std.proofs.Common.{arith, ℕ}
 use Rattle.version_model.specs.declared.child.Child.{Child}
 use Rattle.tsb_node.specs.KeyNodes.{child_octets, IsChildEntry}
 use Rattle.tsb_node.proofs.ChildLaws.{children_spelled, child_front-size}

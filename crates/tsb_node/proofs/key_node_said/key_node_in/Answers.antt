@@ -1,7 +1,7 @@
-use Rattle.std.proofs.Common.{arith, rules, ◌∙◌}
+use Rattle.std.proofs.Common.{rules}
 use Rattle.tsb_node.specs.inner.ChildReading.{AreChildrenOf, IsKeyNodeOf}
 use Rattle.tsb_node.proofs.Refusals.{refusal_map}
-use Rattle.tsb_node.proofs.ChildLaws.{key_node_from, key_node_children, key_node_some, key_node_start, key_node_kind}
+use Rattle.tsb_node.proofs.ChildLaws.{key_node_from, key_node_children, key_node_some, key_node_kind}
 use Rattle.tsb_node.proofs.key_node_said.key_node_in.Goals as goal
 
 pub returns-then-not-is_of_key_nodes : goal.returns-then-not-is_of_key_nodes

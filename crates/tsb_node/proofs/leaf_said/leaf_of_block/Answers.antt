@@ -1,4 +1,4 @@
-use Rattle.std.proofs.Common.{◌≡◌, sym, subst, ap}
+use Rattle.std.proofs.Common.{sym, subst}
 use Rattle.tsb_node.specs.Leaves.{LeafNode, IsLeafBlock, BeginsAsLeaf}
 use Rattle.tsb_node.proofs.Leaves.{begins_block}
 use Rattle.tsb_node.proofs.Parting.{said_is}

@@ -1,4 +1,4 @@
-use Rattle.std.proofs.Common.{◌≡◌, sym, subst, ap}
+use Rattle.std.proofs.Common.{sym, subst}
 use Rattle.tsb_node.specs.Leaves.{LeafNode, IsLeafPage, BeginsAsLeaf}
 use Rattle.tsb_node.proofs.Leaves.{begins_page}
 use Rattle.tsb_node.proofs.Parting.{said_is}

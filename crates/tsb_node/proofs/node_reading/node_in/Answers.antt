@@ -1,7 +1,6 @@
 use Rattle.std.proofs.Common.{arith, ◌≡◌, ◌∙◌, take, drop, ap, sym, subst, refl}
 use Rattle.std.specs.List.{All}
 use Rattle.tsb_node.specs.inner.Reading.{area}
-use Rattle.tsb_node.specs.inner.NodeReading.{BeginsAsNode}
 use Rattle.tsb_node.proofs.NodeLaws.{begun_header, begun_used, begun_rest, begun_is}
 use Rattle.tsb_node.proofs.node_reading.node_in.Goals as goal
 
