@@ -1,8 +1,5 @@
 //! The journal over a disk in memory that fails, tears and crashes.
-ghost use Rattle.std.specs.Prelude.{IfOk};
-ghost use Rattle.page_journal.specs.Layout.{pages_of};
-ghost use Rattle.page_journal.specs.Recovers.{AreBelow, AreDistinct};
-
+use crate::pool::numbered;
 use disk_memory::{Call, Failure, MemErase, Torn};
 use disk_models::{EraseDisk, Page};
 use page_journal::{CreateError, Journal, JournalError, OpenError, PostError, UseError};
@@ -301,18 +298,6 @@ fn an_opening_that_is_stopped_loses_nothing(rt: HostRuntime) -> Result<(), Fail>
     Ok(())
 }
 
-// Thirty-two pages: one more than a post takes.
-fn too_many(alloc: Global) -> Result<Vec<(u64, Page)>, AllocError>
-    ensures below { IfOk result (λ v. AreBelow 32 (pages_of v.items)) }
-    ensures distinct { IfOk result (λ v. AreDistinct (pages_of v.items)) }
-{
-    let mut images = Vec::new(alloc);
-    for n in 0..32u64 {
-        images.push((n, filled(alloc, 9)?))?;
-    }
-    Ok(images)
-}
-
 #[test]
 fn a_post_of_32_pages_is_refused(rt: HostRuntime) -> Result<(), Fail> {
     let alloc = rt.alloc();
@@ -320,8 +305,7 @@ fn a_post_of_32_pages_is_refused(rt: HostRuntime) -> Result<(), Fail> {
         Ok(journal) => journal,
         Err(refused) => return Err(refused.error.into()),
     };
-    let images = too_many(alloc)?;
-    assert_eq!(rt; images.len(), 32);
+    let images = numbered(alloc, 32, 32, 9)?;
     if journal.home_pages() == 32 {
         let refused = journal.post(alloc, &images);
         assert_eq!(rt; refused, Err(PostError::TooManyImages));

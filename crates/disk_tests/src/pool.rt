@@ -51,7 +51,7 @@ pub(crate) fn opened(alloc: Global, disk: MemErase, capacity: usize) -> Result<T
 }
 
 // So many of the first pages, filled with an octet.
-fn numbered(
+pub(crate) fn numbered(
     alloc: Global,
     homes: u64,
     count: u64,
