@@ -1,10 +1,7 @@
-use Rattle.std.proofs.Common.{◌≡◌, ◌∙◌, ℕ, List, string_bytes, inl, refl, sym, subst}
+use Rattle.std.proofs.Common.{◌≡◌, ◌∙◌, ℕ, List, string_bytes, sym, subst}
 use Rattle.service.specs.Outputs.{Tells}
 use Rattle.service.proofs.Replying.{answered, refused}
 use Rattle.service.proofs.asking.ask.Goals as goal
-
-pub returns-then-has_failed : goal.returns-then-has_failed
-returns-then-has_failed g c = record { ended = λ h carried. let failed = sym c.has_failed.ensures.failed ∙ c.if-has_failed.true in (inl failed, inl (failed, refl, refl)) }
 
 pub returns-in-Ok : goal.returns-in-Ok
 returns-in-Ok g c = record {
