@@ -6,7 +6,8 @@ use Rattle.page_journal.specs.Recovers.{laid}
 use Rattle.page_journal.proofs.api.Kept.{kept_length}
 use Rattle.page_tx.specs.inner.Placing.{with_image}
 use Rattle.page_tx.specs.inner.Laid.{length_laid}
-use Rattle.page_tx.proofs.Laying.{new_apart, not_listed, shown_image, shown_other}
+use Rattle.page_tx.proofs.Laying.{new_apart, not_listed}
+use Rattle.page_tx.proofs.api.Laid.{shown_image, shown_other}
 use Rattle.page_tx.proofs.tx.TxPages.page.Goals as goal
 
 -- no image of the page is held
