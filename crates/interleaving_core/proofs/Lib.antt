@@ -4,3 +4,5 @@ pub mod Turning
 pub mod Sound
 pub mod Running
 pub mod Keeping
+pub mod Batches
+pub mod Machines

@@ -15,7 +15,8 @@ use Rattle.interleaving_core.specs.declared.reply.Reply.TheVariants.{Begun, Done
 use Rattle.interleaving_core.specs.declared.step.Reach.{Reach}
 use Rattle.interleaving_core.specs.declared.step.Step.{Step}
 use Rattle.interleaving_core.specs.declared.step.Step.TheVariants.{Begin, Turn}
-use Rattle.interleaving_core.specs.World.{Question, World, asked, started, created, with_questions}
+use Rattle.interleaving_core.specs.declared.question.Question.{Question}
+use Rattle.interleaving_core.specs.World.{World, asked, started, created, with_questions}
 use Rattle.interleaving_core.specs.Does.{last_moment, Turns, Does, Runs, IsStep}
 use Rattle.interleaving_core.specs.Headline.{IsAnswered}
 use Rattle.interleaving_core.proofs.Turning.{IsSoFar, asked_started, turn_done}

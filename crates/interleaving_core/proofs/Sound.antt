@@ -15,7 +15,8 @@ use Rattle.interleaving_core.specs.declared.step.Reach.{Reach}
 use Rattle.interleaving_core.specs.declared.step.Step.{Step}
 use Rattle.interleaving_core.specs.declared.step.Step.TheVariants.{Admit, Mark, Apply, Flush, Begin, Turn, Crash, Recover}
 use Rattle.interleaving_core.specs.Steps.{given, marked, IsMarkAbove}
-use Rattle.interleaving_core.specs.World.{Question, World, asked, started, ended, created, with_history, with_questions, crashed}
+use Rattle.interleaving_core.specs.declared.question.Question.{Question}
+use Rattle.interleaving_core.specs.World.{World, asked, started, ended, created, with_history, with_questions, crashed}
 use Rattle.interleaving_core.specs.Does.{WhenUp, DoesAdmit, DoesMark, DoesApply, DoesTurn, Turns, Does, Runs, IsStep}
 use Rattle.interleaving_core.proofs.api.GoingOn.{begins_marked, begins_applied}
 use Rattle.interleaving_core.proofs.api.Right.{begins_given, right_given, right_marked, right_applied, right_empty, Goes, goes_more}

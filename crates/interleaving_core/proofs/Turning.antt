@@ -23,7 +23,10 @@ use Rattle.interleaving_core.specs.declared.step.Reach.{Reach}
 use Rattle.interleaving_core.specs.declared.step.Reach.TheVariants.{UpTo, Further, End}
 use Rattle.interleaving_core.specs.declared.reply.Reply.{Reply}
 use Rattle.interleaving_core.specs.declared.reply.Reply.TheVariants.{Again, Done}
-use Rattle.interleaving_core.specs.World.{RowsSoFar, EventsSoFar, Question, OfRows, OfEvents, Ended, asked, started}
+use Rattle.interleaving_core.specs.declared.question.Question.{Question}
+use Rattle.interleaving_core.specs.declared.question.Question.TheVariants.{OfRows, OfEvents, Ended}
+use Rattle.interleaving_core.specs.SoFar.{RowsSoFar, EventsSoFar}
+use Rattle.interleaving_core.specs.World.{asked, started}
 use Rattle.interleaving_core.specs.Turns.{is_further, rows_up_to, added_rows, come_to, added_events, IsDone, RowsTurn, EventsTurn, AreLeft, TakesTurn}
 use Rattle.interleaving_core.specs.Does.{last_moment}
 use Rattle.interleaving_core.specs.Headline.{IsAnswered}

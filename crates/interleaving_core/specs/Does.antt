@@ -14,7 +14,9 @@ use Rattle.interleaving_core.specs.declared.step.Reach.{Reach}
 use Rattle.interleaving_core.specs.declared.step.Step.{Step}
 use Rattle.interleaving_core.specs.declared.step.Step.TheVariants.{Admit, Mark, Apply, Flush, Begin, Turn, Crash, Recover}
 use Rattle.interleaving_core.specs.Steps.{IsCollector, marked, IsMarkAbove, given, Applies, AppliesMore, NothingToApply}
-use Rattle.interleaving_core.specs.World.{Question, OfRows, OfEvents, Ended, World, asked, started, with_history, with_questions, crashed}
+use Rattle.interleaving_core.specs.declared.question.Question.{Question}
+use Rattle.interleaving_core.specs.declared.question.Question.TheVariants.{OfRows, OfEvents, Ended}
+use Rattle.interleaving_core.specs.World.{World, asked, started, with_history, with_questions, crashed}
 use Rattle.interleaving_core.specs.Turns.{TakesTurn}
 
 -- all is up, and this; or all is down, which is told, and nothing is done

@@ -1,4 +1,5 @@
 pub mod Steps
+pub mod SoFar
 pub mod World
 pub mod Turns
 pub mod Does

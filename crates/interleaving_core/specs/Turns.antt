@@ -13,7 +13,9 @@ use Rattle.interleaving_core.specs.declared.step.Reach.{Reach}
 use Rattle.interleaving_core.specs.declared.step.Reach.TheVariants.{UpTo, Further, End}
 use Rattle.interleaving_core.specs.declared.reply.Reply.{Reply}
 use Rattle.interleaving_core.specs.declared.reply.Reply.TheVariants.{Again, Done}
-use Rattle.interleaving_core.specs.World.{RowsSoFar, EventsSoFar, Question, OfRows, OfEvents, Ended}
+use Rattle.interleaving_core.specs.declared.question.Question.{Question}
+use Rattle.interleaving_core.specs.declared.question.Question.TheVariants.{OfRows, OfEvents, Ended}
+use Rattle.interleaving_core.specs.SoFar.{RowsSoFar, EventsSoFar}
 
 -- does the spot lie beyond the one that was come to?
 abbrev pub is_further : Option Spot → Spot → Bool

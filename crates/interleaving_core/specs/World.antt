@@ -1,31 +1,11 @@
 -- The state of the pure machine: a history, the questions in progress, and whether it is down.
-use Rattle.std.specs.Prelude.{ℕ, List, [], Bool, true, false, Option, map}
-use Rattle.route_meaning.specs.declared.question.Spot.{Spot}
-use Rattle.route_meaning.specs.declared.question.Row.{Row}
-use Rattle.route_meaning.specs.declared.question.RowsQuestion.{RowsQuestion}
-use Rattle.route_meaning.specs.declared.question.Event.{Event}
-use Rattle.route_meaning.specs.declared.question.EventsQuestion.{EventsQuestion}
+use Rattle.std.specs.Prelude.{ℕ, List, [], Bool, true, false, map}
 use Rattle.route_meaning.specs.History.{History}
 use Rattle.interleaving_core.specs.declared.query.Query.{Query}
 use Rattle.interleaving_core.specs.declared.query.Query.TheVariants.{Rows, Events}
+use Rattle.interleaving_core.specs.declared.question.Question.{Question}
+use Rattle.interleaving_core.specs.declared.question.Question.TheVariants.{OfRows, OfEvents, Ended}
 use Rattle.interleaving_core.specs.Steps.{empty}
-
--- a question of a moment in progress: the spot that it has come to, none at first where it asks from the first row on, and the rows so far
-pub record RowsSoFar : Type 0 where
-  pub question : RowsQuestion
-  pub low : Option Spot
-  pub rows : List Row
-
--- a question of events in progress: the events so far
-pub record EventsSoFar : Type 0 where
-  pub question : EventsQuestion
-  pub events : List Event
-
--- what became of a question that was begun: it is in progress, or it has ended
-pub data Question : Type 0 where
-  OfRows : (so_far : RowsSoFar) → Question
-  OfEvents : (so_far : EventsSoFar) → Question
-  Ended : (query : Query) → Question
 
 -- what was asked
 abbrev pub asked : Question → Query

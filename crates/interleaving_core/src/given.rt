@@ -1,0 +1,123 @@
+//! What one collector gave.
+
+ghost use Rattle.std.specs.Prelude.{◌≡◌, ◌≤◌, ◌<◌, ◌+◌, [], map, length, true, false, IfOk};
+ghost use Rattle.route_meaning.specs.Holds.{admitted_time};
+ghost use Rattle.sequencer.specs.Late.{timely};
+ghost use Rattle.interleaving_core.specs.Steps.{with_batch, with_mark};
+ghost use Rattle.interleaving_core.specs.Does.{IsReply};
+
+use crate::reply::{Admitted, Receipt};
+use route_model::{Admission, Mark, Moment};
+use sequencer::sieve;
+use std::alloc::{AllocError, Global};
+use std::marker::Model;
+
+/// What one collector gave: its admissions in their order, its mark, and how many records were offered for it.
+#[derive(Drop)]
+pub(crate) struct Given {
+    admitted: Vec<Admission>,
+    mark: Mark,
+    offered: u64,
+}
+
+impl Model for Given {
+    ghost use Rattle.route_meaning.specs.History.{Intake};
+
+    ghost Value = { Intake };
+
+    ghost view = { λ g. record { admitted = g.admitted.items; mark = g.mark; offered = g.offered } };
+}
+
+/// The times of the batch.
+fn times_of(alloc: Global, batch: &[Admission]) -> Result<Vec<Moment>, AllocError>
+    ensures { IfOk result (λ times. times.items ≡ map admitted_time batch.now) }
+{
+    let mut times = Vec::with_capacity(alloc, batch.len())?;
+    for admission in batch {
+        times.push(admission.time())?;
+    }
+    Ok(times)
+}
+
+/// The admissions of the batch that aren't late, where the collector has this mark.
+fn timely_of(alloc: Global, mark: Mark, batch: &[Admission]) -> Result<Vec<Admission>, AllocError>
+    ensures { IfOk result (λ kept. kept.items ≡ timely admitted_time mark [] batch.now) }
+{
+    let mut kept = Vec::new(alloc);
+    let mut reached = mark;
+    for admission in batch {
+        if reached.seconds() <= admission.time().seconds() {
+            kept.push(admission.share(alloc)?)?;
+            reached = Mark::at(admission.time());
+        }
+    }
+    Ok(kept)
+}
+
+impl Given {
+    /// Nothing yet.
+    pub(crate) fn new(alloc: Global) -> Given
+        ensures { result ≡ record { admitted = []; mark = 0; offered = 0 } }
+    {
+        Given {
+            admitted: Vec::new(alloc),
+            mark: Mark::at(Moment::from(0u32)),
+            offered: 0,
+        }
+    }
+
+    pub(crate) fn mark(&self) -> Mark
+        ensures { result ≡ self.now.mark }
+    {
+        self.mark
+    }
+
+    pub(crate) fn admitted(&self) -> &[Admission]
+        ensures { result.now ≡ self.now.admitted }
+    {
+        self.admitted.as_slice()
+    }
+
+    /// Sets the mark, where it isn't above it; tells whether it did.
+    pub(crate) fn raise(&mut self, mark: Mark) -> bool
+        ensures raised { result ≡ true → (self.old.mark ≤ mark) × (self.new ≡ with_mark mark self.old) }
+        ensures back { result ≡ false → (mark < self.old.mark) × (self.new ≡ self.old) }
+    {
+        if mark.seconds() < self.mark.seconds() {
+            return false;
+        }
+        self.mark = mark;
+        true
+    }
+
+    /// Takes the batch in, but for its late records. Refused only memory, or a count of offered records that is full.
+    pub(crate) fn take_in(
+        &mut self,
+        alloc: Global,
+        collector: u8,
+        batch: &[Admission],
+    ) -> Result<Admitted, AllocError>
+        ensures taken { IfOk result (λ told. self.new ≡ with_batch batch.now self.old) }
+        ensures reply { IfOk result (IsReply self.old collector batch.now) }
+    {
+        let times = times_of(alloc, batch)?;
+        let sieved = sieve(alloc, self.mark, &times)?;
+        let mut kept = timely_of(alloc, self.mark, batch)?;
+        let Some(offered) = self.offered.checked_add(batch.len() as u64) else {
+            return Err(AllocError);
+        };
+        let from = self.admitted.len() as u64;
+        self.admitted.append(&mut kept)?;
+        self.mark = sieved.mark;
+        self.offered = offered;
+        Ok(Admitted {
+            receipt: Receipt {
+                collector,
+                from,
+                to: self.admitted.len() as u64,
+            },
+            offered,
+            late: sieved.late,
+        })
+    }
+}

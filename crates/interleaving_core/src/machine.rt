@@ -1,0 +1,125 @@
+//! The pure machine.
+
+ghost use Rattle.std.specs.Prelude.{◌≡◌, ◌<◌, ◌≤◌, length, IfOk};
+ghost use Rattle.interleaving_core.specs.World.{created};
+ghost use Rattle.interleaving_core.specs.declared.step.Step.TheVariants.{Admit, Mark as SetMark, Flush, Begin, Crash, Recover};
+ghost use Rattle.interleaving_core.specs.Does.{Does};
+
+use crate::given::Given;
+use crate::query::Query;
+use crate::question::Question;
+use crate::reply::Reply;
+use route_model::{Admission, Mark};
+use std::alloc::{AllocError, Global};
+use std::marker::Model;
+
+/// A history, the questions that were begun, and whether all is down. All is in memory.
+#[derive(Drop)]
+pub struct Machine {
+    alloc: Global,
+    given: Vec<Given>,
+    whole: usize,
+    some: usize,
+    questions: Vec<Question>,
+    down: bool,
+}
+
+impl Model for Machine {
+    ghost use Rattle.interleaving_core.specs.World.{World};
+
+    ghost Value = { World };
+
+    ghost view = { λ m. record { history = record { intakes = m.given.items; whole = m.whole; some = m.some }; questions = m.questions.items; down = m.down } };
+}
+
+impl Machine {
+    /// So many collectors gave nothing, and nothing was asked.
+    pub fn created(alloc: Global, collectors: u8) -> Result<Machine, AllocError>
+        ensures created { IfOk result (λ m. m ≡ created collectors) }
+    {
+        let mut given = Vec::new(alloc);
+        for _ in 0..collectors {
+            given.push(Given::new(alloc))?;
+        }
+        Ok(Machine {
+            alloc,
+            given,
+            whole: 0,
+            some: 0,
+            questions: Vec::new(alloc),
+            down: false,
+        })
+    }
+
+    /// The collector of this number gives a batch.
+    pub fn admit(&mut self, collector: u8, batch: &Vec<Admission>) -> Result<Reply, AllocError>
+        ensures does { IfOk result (λ reply. Does self.old (Admit collector batch.now) reply self.new) }
+    {
+        if self.down {
+            return Ok(Reply::NeedsRecovery);
+        }
+        let number = collector as usize;
+        if number >= self.given.len() {
+            return Ok(Reply::NoCollector);
+        }
+        let given = &mut self.given[number];
+        let told = given.take_in(self.alloc, collector, batch)?;
+        Ok(Reply::Taken(told))
+    }
+
+    /// The collector of this number gives a mark.
+    pub fn mark(&mut self, collector: u8, mark: Mark) -> Reply
+        ensures does { Does self.old (SetMark collector mark) result self.new }
+    {
+        if self.down {
+            return Reply::NeedsRecovery;
+        }
+        let number = collector as usize;
+        if number >= self.given.len() {
+            return Reply::NoCollector;
+        }
+        let given = &mut self.given[number];
+        if !given.raise(mark) {
+            return Reply::MarkBack;
+        }
+        Reply::Marked
+    }
+
+    /// Writes what isn't written, which is nothing here.
+    pub fn flush(&mut self) -> Reply
+        ensures does { Does self.old Flush result self.new }
+    {
+        if self.down {
+            return Reply::NeedsRecovery;
+        }
+        Reply::Flushed
+    }
+
+    /// Puts a question in progress under the next number.
+    pub fn begin(&mut self, query: Query) -> Result<Reply, AllocError>
+        ensures does { IfOk result (λ reply. Does self.old (Begin query) reply self.new) }
+    {
+        let number = self.questions.len();
+        self.questions.push(Question::start(self.alloc, query))?;
+        Ok(Reply::Begun(number))
+    }
+
+    /// All goes down, and all questions are ended.
+    pub fn crash(&mut self) -> Reply
+        ensures does { Does self.old Crash result self.new }
+    {
+        for question in self.questions.iter_mut() {
+            *question = Question::Ended(question.query());
+        }
+        self.down = true;
+        Reply::Crashed
+    }
+
+    /// All comes up again.
+    pub fn recover(&mut self) -> Reply
+        ensures does { Does self.old Recover result self.new }
+    {
+        self.down = false;
+        Reply::Recovered
+    }
+}
