@@ -6,3 +6,4 @@ pub mod Running
 pub mod Keeping
 pub mod Batches
 pub mod Machines
+pub mod NextChanges

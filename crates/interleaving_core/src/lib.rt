@@ -1,6 +1,7 @@
 //! The archive as a pure machine: what each step does to a history, what it answers, and what is true of every run of steps.
 #![tactic(auto)]
 
+mod applying;
 mod given;
 mod laws;
 mod machine;

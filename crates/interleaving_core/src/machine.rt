@@ -1,10 +1,13 @@
 //! The pure machine.
 
-ghost use Rattle.std.specs.Prelude.{◌≡◌, ◌<◌, ◌≤◌, length, IfOk};
-ghost use Rattle.interleaving_core.specs.World.{created};
-ghost use Rattle.interleaving_core.specs.declared.step.Step.TheVariants.{Admit, Mark as SetMark, Flush, Begin, Crash, Recover};
+ghost use Rattle.std.specs.Prelude.{◌≡◌, true, false, IfOk, OnOk};
+ghost use Rattle.route_meaning.specs.History.{History};
+ghost use Rattle.interleaving_core.specs.Steps.{Applies, AppliesMore, NothingToApply};
+ghost use Rattle.interleaving_core.specs.World.{created, with_history};
+ghost use Rattle.interleaving_core.specs.declared.step.Step.TheVariants.{Admit, Mark as SetMark, Apply, Flush, Begin, Crash, Recover};
 ghost use Rattle.interleaving_core.specs.Does.{Does};
 
+use crate::applying::{is_below_marks, order};
 use crate::given::Given;
 use crate::query::Query;
 use crate::question::Question;
@@ -28,6 +31,10 @@ impl Model for Machine {
     ghost use Rattle.interleaving_core.specs.World.{World};
 
     ghost Value = { World };
+
+    ghost use Rattle.std.specs.Prelude.{◌≤◌, length};
+
+    ghost invariant = { λ m. length m.given.items ≤ 256 };
 
     ghost view = { λ m. record { history = record { intakes = m.given.items; whole = m.whole; some = m.some }; questions = m.questions.items; down = m.down } };
 }
@@ -83,6 +90,54 @@ impl Machine {
             return Reply::MarkBack;
         }
         Reply::Marked
+    }
+
+    /// Applies the next change, where its admission is below every mark; tells whether it did.
+    fn apply_one(&mut self) -> Result<bool, AllocError>
+        ensures applied { IfOk result (λ did. did ≡ true → (g : History) × Applies self.old.history g × (self.new ≡ with_history self.old g)) }
+        ensures idle { IfOk result (λ did. did ≡ false → NothingToApply self.old.history × (self.new ≡ self.old)) }
+    {
+        let all = order(self.alloc, &self.given)?;
+        if self.whole >= all.len() {
+            return Ok(false);
+        }
+        let next = &all[self.whole];
+        if !is_below_marks(&self.given, next.time()) {
+            return Ok(false);
+        }
+        if next.admission().changes().len().saturating_sub(self.some) > 1 {
+            self.some += 1;
+            return Ok(true);
+        }
+        self.whole += 1;
+        self.some = 0;
+        Ok(true)
+    }
+
+    /// Applies up to so many changes more.
+    fn apply_more(&mut self, more: u64) -> Result<(), AllocError>
+        ensures { OnOk result ((g : History) × AppliesMore more self.old.history g × (self.new ≡ with_history self.old g)) }
+    {
+        'more: for _ in 0..more {
+            if !self.apply_one()? {
+                return Ok(());
+            }
+        }
+        Ok(())
+    }
+
+    /// The next change is applied, and up to so many more.
+    pub fn apply(&mut self, more: u64) -> Result<Reply, AllocError>
+        ensures does { IfOk result (λ reply. Does self.old (Apply more) reply self.new) }
+    {
+        if self.down {
+            return Ok(Reply::NeedsRecovery);
+        }
+        if !self.apply_one()? {
+            return Ok(Reply::Idle);
+        }
+        self.apply_more(more)?;
+        Ok(Reply::Applied)
     }
 
     /// Writes what isn't written, which is nothing here.
