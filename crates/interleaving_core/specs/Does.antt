@@ -89,7 +89,7 @@ pub record Turns (w : World) (i : ℕ) (reach : Reach) (reply : Reply) (v : Worl
 pub record IsAboveWatermark (w : World) (i told : ℕ) : Type 0 where
   pub question : Question
   pub here : slice_get w.questions i ≡ Some question
-  pub open_ : IsInProgress question
+  pub in_progress : IsInProgress question
   pub told_is : told ≡ settled w.history
   pub above : settled w.history ≤ last_moment (asked question)
 
