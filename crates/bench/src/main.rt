@@ -6,6 +6,7 @@ mod blocks;
 mod codec;
 mod framing;
 mod messages;
+mod pool;
 mod reading;
 
 use admissions::Admissions;
@@ -33,12 +34,18 @@ fn number<'a>(alloc: Global, name: &'a str, help: &'a str) -> Arg<'a> {
         .action(ArgAction::Set)
 }
 
+/// The words of measures that read no file.
+const WORDS: [(&str, &str); 3] = [
+    ("codec", "Times encoding and decoding of admissions"),
+    (
+        "blocks",
+        "Times blocks with digests, over the write-once disk in memory",
+    ),
+    ("pool", "Times pages that a pool has in memory"),
+];
+
 /// The command line: a word for each measure, and `counts` for all that is counted.
 fn program<'a>(alloc: Global) -> Result<Command<'a>, AllocError> {
-    let codec = Command::new(alloc, "codec").about("Times encoding and decoding of admissions");
-    let blocks = Command::new(alloc, "blocks").about(
-        "Times blocks with digests, over the write-once disk in memory",
-    );
     let framing = Command::new(alloc, "framing")
         .about("Frames a file, and counts its items by kind")
         .arg(file(alloc))?
@@ -53,16 +60,18 @@ fn program<'a>(alloc: Global) -> Result<Command<'a>, AllocError> {
     let counts = Command::new(alloc, "counts")
         .about("Prints what the three words above count, of each file")
         .arg(file(alloc).num_args(1..))?;
-    Command::new(alloc, "bench")
+    let mut program = Command::new(alloc, "bench")
         .about("Measures the crates of rha")
         .subcommand_required(true)
         .disable_help_subcommand(true)
-        .subcommand(codec)?
-        .subcommand(blocks)?
         .subcommand(framing)?
         .subcommand(messages)?
         .subcommand(admissions)?
-        .subcommand(counts)
+        .subcommand(counts)?;
+    for (word, about) in WORDS {
+        program = program.subcommand(Command::new(alloc, word).about(about))?;
+    }
+    Ok(program)
 }
 
 /// The number of an option, or another one where the option isn't there.
@@ -117,6 +126,7 @@ fn measure(rt: &HostRuntime, word: &str, matches: &ArgMatches<'_>) -> Result<()>
         "messages" => print_messages(rt, path, number_or(matches, "times", 1)?),
         "admissions" => print_admissions(rt, path),
         "blocks" => Ok(blocks::measure_all(rt)?),
+        "pool" => Ok(pool::measure_all(rt)?),
         "counts" => print_counts(rt, matches.get_strs("FILE").unwrap_or(&[])),
         _ => Ok(codec::measure_all(rt)?),
     }
