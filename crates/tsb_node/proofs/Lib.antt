@@ -25,3 +25,4 @@ pub mod ChildLaws
 pub mod OneNode
 pub mod ViewLaws
 pub mod ColumnWriting
+pub mod api
