@@ -60,6 +60,7 @@ admit_kept w m h c batch told a b =
     record {
       intake = l.intake;
       here = l.here;
+      collector = a.reply.collector;
       mark = a.intake.mark;
       late = a.reply.late;
       before = a.intake.admitted;

@@ -28,10 +28,11 @@ IsAnswered ps (Rows q) (EventsTold a) = ⊥
 IsAnswered ps (Events q) (RowsTold a) = ⊥
 IsAnswered ps (Events q) (EventsTold a) = IsEventsAnswer ps q a.events.items a.more
 
--- the collector's list has at the receipt's numbers just the records of the batch that weren't late, as they were told when it was given
+-- the receipt names the collector, whose list has at its numbers just the records of the batch that weren't late, as they were told when it was given
 pub record Stands (h : History) (c : ℕ) (batch : List Admitted) (told : Told) : Type 0 where
   pub intake : Intake
   pub here : slice_get h.intakes c ≡ Some intake
+  pub collector : told.receipt.collector ≡ c
   pub mark : ℕ
   pub late : told.late.items ≡ lates admitted_time mark [] 0 batch
   pub before : List Admitted
