@@ -47,3 +47,15 @@ pub record Spends (from to : ℕ) (old new : OnceState) : Type 0 where
   pub passed : (i : ℕ) → from ≤ i → suc i < to → old.tried i ≡ true
   pub tried : (i : ℕ) → (i < from) ⊎ (suc i ≢ to) → new.tried i ≡ old.tried i
   pub burnt : (i : ℕ) → (i < from) ⊎ (suc i ≢ to) → new.burnt i ≡ old.burnt i
+
+-- The next number has moved over tried blocks alone, and the disk is as it was.
+pub record HasPassed (from to : ℕ) (old new : OnceState) : Type 0 where
+  pub same : new ≡ old
+  pub tried : AllTried old from to
+
+-- the number is that just behind the first blank block from another number on, on a disk of so many blocks
+pub record IsBehindBlank (o : OnceState) (count from to : ℕ) : Type 0 where
+  pub block : ℕ
+  pub blank : IsFirstBlank o count from block
+  pub inside : block < count
+  pub behind : to ≡ suc block

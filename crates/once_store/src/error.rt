@@ -9,7 +9,7 @@ use thiserror::Error;
 /// Why a block isn't appended.
 #[derive(Clone, Copy, Debug, PartialEq, Eq, Error)]
 pub enum AppendError {
-    /// The device failed. A block whose burn or settle failed is spent: the next one gets a higher number.
+    /// The device failed. A block that was tried then is spent: the next one gets a higher number.
     #[error("the device failed")]
     Fault,
     /// No blank block is left at the next number or above it.

@@ -1,5 +1,5 @@
 //! The shelf.
-ghost use Rattle.std.specs.Prelude.{◌≡◌, ◌<◌, ◌≤◌, ◌+◌, ◌↔◌, ℕ, List, IfOk, OnOk, IfErr, IsErr, IsErrOf, max, min, true};
+ghost use Rattle.std.specs.Prelude.{◌≡◌, ◌<◌, ◌≤◌, ◌+◌, ◌↔◌, ◌⊎◌, ℕ, List, IfOk, OnOk, IfErr, IsErr, IsErrOf, max, min, true};
 ghost use Rattle.disk_models.specs.Erase.{Counts};
 ghost use Rattle.disk_models.specs.Once.{Grows, settled_in};
 ghost use Rattle.disk_models.specs.Left.{HasSettled, Left};
@@ -41,7 +41,7 @@ fn skip_tried<O: OnceDisk>(disk: &O, pen: &mut O::Pen, next: &mut u64) -> Result
 }
 
 impl<O: OnceDisk + Drop> Shelf<O> {
-    ghost use Rattle.once_store.specs.Shelves.{Spends, disk_after, disk_of, next_of, pen_after, pen_of};
+    ghost use Rattle.once_store.specs.Shelves.{HasPassed, IsBehindBlank, Spends, disk_after, disk_of, next_of, pen_after, pen_of};
     ghost use Rattle.once_store.specs.Readers.{IsKept, capacity_of, reader_disk};
 
     /// A shelf over a disk and its pen, which looks for the first blank block from `next` on.
@@ -58,6 +58,9 @@ impl<O: OnceDisk + Drop> Shelf<O> {
         ensures disk { disk_after result ≡ disk.value }
         ensures honest { O.honest disk.value pen ↔ O.honest disk.value (pen_after result) }
         ensures same { O.honest disk.value pen → O.model (pen_after result) ≡ O.model pen }
+
+        // Done or refused: whatever a crash leaves of the disk then, it leaves all that was settled before.
+        ensures earlier { O.honest disk.value pen → (left : Left) → HasSettled (O.model (pen_after result)) left → HasSettled (O.model pen) left }
         ensures counts { Counts (O.pen_fault_count pen) (O.pen_fault_count (pen_after result)) result }
     {
         match skip_tried(&*disk, &mut pen, &mut next) {
@@ -68,7 +71,8 @@ impl<O: OnceDisk + Drop> Shelf<O> {
 
     /// Burns a block at the first blank one from the next number on, settles it, and then tells its number.
     ///
-    /// A block whose burn or settle failed is spent: the next one gets a higher number.
+    /// A block that a failed call tried is spent: the next one gets a higher number. A call that failed and tried none has
+    /// passed over tried blocks alone, or it has given up one blank block, whose burn left no trace.
     pub fn append(&mut self, block: &Block) -> Result<u64, AppendError>
         ensures settled { O.honest (disk_of self.old) (pen_of self.old) → IfOk result (λ n. settled_in (O.model (pen_of self.new)) n block.now) }
         ensures blank { O.honest (disk_of self.old) (pen_of self.old) → IfOk result (IsFirstBlank (O.model (pen_of self.old)) (O.block_count (disk_of self.old)) (next_of self.old)) }
@@ -83,7 +87,14 @@ impl<O: OnceDisk + Drop> Shelf<O> {
         ensures none_left { O.honest (disk_of self.old) (pen_of self.old) → AllTried (O.model (pen_of self.old)) (next_of self.old) (O.block_count (disk_of self.old)) → IsErr result }
         ensures same { O.honest (disk_of self.old) (pen_of self.old) → IsErrOf result AppendError.OnceFull → O.model (pen_of self.new) ≡ O.model (pen_of self.old) }
 
-        // Whatever a crash leaves of the disk after Ok, it leaves this block.
+        // A disk doesn't tell a burn that failed without a trace from a look that failed. So where a call gives up a block,
+        // that is said to be the first blank one, and not which call failed.
+        ensures failed { O.honest (disk_of self.old) (pen_of self.old) → IsErrOf result AppendError.Fault → HasPassed (next_of self.old) (next_of self.new) (O.model (pen_of self.old)) (O.model (pen_of self.new)) ⊎ IsBehindBlank (O.model (pen_of self.old)) (O.block_count (disk_of self.old)) (next_of self.old) (next_of self.new) }
+
+        // In every outcome: whatever a crash leaves of the disk then, it leaves all that was settled before.
+        ensures earlier { O.honest (disk_of self.old) (pen_of self.old) → (left : Left) → HasSettled (O.model (pen_of self.new)) left → HasSettled (O.model (pen_of self.old)) left }
+
+        // And after Ok it leaves this block.
         ensures lasts { O.honest (disk_of self.old) (pen_of self.old) → IfOk result (λ n. (left : Left) → HasSettled (O.model (pen_of self.new)) left → settled_in left.once n block.now) }
 
         ensures disk { disk_of self.new ≡ disk_of self.old }
@@ -138,7 +149,7 @@ impl<O: OnceDisk + Drop> Shelf<O> {
         self.next
     }
 
-    /// How often the calls of its device have failed.
+    /// How often the calls of its device that take the pen have failed.
     pub fn faults(&self) -> u64
         ensures count { result ≡ O.pen_fault_count (pen_of self.now) }
     {
