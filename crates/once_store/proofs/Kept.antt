@@ -1,11 +1,11 @@
 -- What a cache keeps after its calls.
-use Rattle.std.proofs.Common.{◌≡◌, ◌<◌, ◌-◌, ℕ, length, take, arith, true, false, ◌⊎◌, List, [], ◌∷◌, Option, Some, None, nat_eq, is_some, IsSome, IfSome, OnOk, OnErr, Result, Ok, Err, IfNone, Bor, refl, sym, ap, ◌∙◌, subst, inl, inr}
+use Rattle.std.proofs.Common.{◌≡◌, ◌<◌, ◌≤◌, ◌+◌, ◌-◌, ℕ, length, take, arith, true, false, ◌⊎◌, List, [], ◌∷◌, Option, Some, None, nat_eq, is_some, IsSome, IfSome, OnOk, OnErr, Result, Ok, Err, IfNone, Bor, refl, sym, ap, ◌∙◌, subst, inl, inr, ⊎_elim}
 use Rattle.std.specs.List.{AllByRecursion, Contains}
-use Rattle.std.proofs.lemmas.List.{take_all}
+use Rattle.std.proofs.lemmas.List.{take_all, take-take, length-take}
 use Rattle.std.specs.Option.{option_map_or, option_copied}
 use Rattle.std.specs.Map.{lookup, lookup_entry, remove_entry}
 use Rattle.std.specs.Cmp.{nat_eq_equiv}
-use Rattle.std.proofs.lemmas.Bool.{eqb-true, eq-eqb, false≢true}
+use Rattle.std.proofs.lemmas.Bool.{cases_lt, eqb-true, eq-eqb, false≢true}
 use Rattle.lru.specs.LruCache.{LruCache, lru_cache, promoted, put_entries}
 use Rattle.lru.proofs.Splits.{Contains-head, Contains-tail, Contains-cons, Contains-nil}
 use Rattle.lru.proofs.CallerLemmas.{Contains-lookup, Contains-lookup_entry, Contains-promoted, Contains-put_entries, lookup-put_entries}
@@ -18,7 +18,7 @@ pub in_all : {X : Type 0} (P : X → Type 0) (xs : List X) (x : X) → AllByRecu
 in_all P [] x a c = absurd (Contains-nil x c)
 in_all P (y ∷ xs) x a c = elim (Contains-cons y xs x c) [ inl e ↦ subst P e a.0 | inr d ↦ in_all P xs x a.1 d ]
 
-abbrev Pairs : Type 0
+abbrev pub Pairs : Type 0
 Pairs = List (ℕ × List ℕ)
 
 none_found : (n : ℕ) (es : Pairs) → lookup_entry (nat_eq n) es ≡ None → is_some (lookup (nat_eq n) es) ≡ false
@@ -151,3 +151,58 @@ put_all P (Err r) old new n block ok err all one = rw err all
 -- what a cache keeps once an entry was promoted it kept before
 pub promoted_was : (n : ℕ) (old new : LruCache ℕ (List ℕ)) → new ≡ lru_cache (promoted (nat_eq n) old.entries) old.cap → (e : ℕ × List ℕ) → Contains new.entries e → Contains old.entries e
 promoted_was n old new same e k = Contains-promoted (nat_eq n) old.entries e (subst (λ (l : LruCache ℕ (List ℕ)). Contains l.entries e) same k)
+
+-- what is found is first once it was promoted, and the others are as they were
+pub moved : (n : ℕ) (es : Pairs) → is_some (lookup (nat_eq n) es) ≡ true → (block : List ℕ) × (promoted (nat_eq n) es ≡ (n, block) ∷ remove_entry (nat_eq n) es)
+moved n es found = by (lookup_entry (nat_eq n) es) refl
+  where
+    by : (o : Option (ℕ × List ℕ)) → lookup_entry (nat_eq n) es ≡ o → (block : List ℕ) × (option_map_or (λ f. f ∷ remove_entry (nat_eq n) es) o es ≡ (n, block) ∷ remove_entry (nat_eq n) es)
+    by None e = absurd (false≢true (sym (none_found n es e) ∙ found))
+    by (Some f) e =
+        let same : n ≡ f.0 = eqb-true n f.0 (Contains-lookup_entry (nat_eq n) es f e).1 in
+        (f.1, ap (λ (k : ℕ). (k, f.1) ∷ remove_entry (nat_eq n) es) (sym same))
+
+-- without one that is there, there is one fewer
+fewer_by_one : (n : ℕ) (es : Pairs) (f : ℕ × List ℕ) → lookup_entry (nat_eq n) es ≡ Some f → length (remove_entry (nat_eq n) es) + 1 ≡ length es
+fewer_by_one n [] f h = cc
+fewer_by_one n (g ∷ es) f h = (elim (nat_eq n g.0) as (λ y. nat_eq n g.0 ≡ y → length (remove_entry (nat_eq n) (g ∷ es)) + 1 ≡ length (g ∷ es)) [
+  | true ↦ λ t. rw t (omega arith)
+  | false ↦ λ t. rw t (omega (arith, fewer_by_one n es f (rw t at h)))
+]) refl
+
+-- as many are kept once one was promoted
+pub as_many : (n : ℕ) (es : Pairs) → length (promoted (nat_eq n) es) ≡ length es
+as_many n es = by (lookup_entry (nat_eq n) es) refl
+  where
+    by : (o : Option (ℕ × List ℕ)) → lookup_entry (nat_eq n) es ≡ o → length (option_map_or (λ f. f ∷ remove_entry (nat_eq n) es) o es) ≡ length es
+    by None e = refl
+    by (Some f) e = omega (arith, fewer_by_one n es f e)
+
+-- a put of a number that isn't kept puts the block before the others, of which the last one goes where they are too many
+pub put_first : (c : LruCache ℕ (List ℕ)) (n : ℕ) (block : List ℕ) → ((other : List ℕ) → Contains c.entries (n, other) → ⊥) → put_entries nat_eq c n block ≡ (n, block) ∷ take (c.cap - 1) c.entries
+put_first c n block none = by (lookup_entry (nat_eq n) c.entries) refl
+  where
+    by : (o : Option (ℕ × List ℕ)) → lookup_entry (nat_eq n) c.entries ≡ o → option_map_or (λ e. (e.0, block) ∷ remove_entry (nat_eq n) c.entries) o ((n, block) ∷ take (c.cap - 1) c.entries) ≡ (n, block) ∷ take (c.cap - 1) c.entries
+    by None h = refl
+    by (Some f) h =
+        let there = Contains-lookup_entry (nat_eq n) c.entries f h in
+        let same : n ≡ f.0 = eqb-true n f.0 there.1 in
+        absurd (none f.1 (subst (λ (x : ℕ). Contains c.entries (x, f.1)) (sym same) there.0))
+
+-- what is left once a block may have made room
+abbrev pub LeftOf : ℕ → Pairs → Pairs → Type 0
+LeftOf cap es left = (left ≡ es) ⊎ (left ≡ take (cap - 1) es)
+
+pub left_of : (cap : ℕ) (es left : Pairs) → (length es < cap → left ≡ es) → (cap ≤ length es → left ≡ take (cap - 1) es) → LeftOf cap es left
+left_of cap es left stays last = ⊎_elim (λ (below : length es < cap). inl (stays below)) (λ (full : cap ≤ length es). inr (last full)) (cases_lt (length es) cap)
+
+pub left_cut : (cap : ℕ) (es left : Pairs) → LeftOf cap es left → take (cap - 1) left ≡ take (cap - 1) es
+left_cut cap es left (inl e) = ap (take (cap - 1)) e
+left_cut cap es left (inr e) = ap (take (cap - 1)) e ∙ take-take (cap - 1) (cap - 1) es (omega arith)
+
+pub cut_by_one : (cap : ℕ) (es : Pairs) → length es ≤ cap → length es ≤ length (take (cap - 1) es) + 1
+cut_by_one cap es few = omega (arith, length-take (cap - 1) es)
+
+pub left_by_one : (cap : ℕ) (es left : Pairs) → length es ≤ cap → LeftOf cap es left → length es ≤ length left + 1
+left_by_one cap es left few (inl e) = omega (arith, ap length e)
+left_by_one cap es left few (inr e) = omega (arith, ap length e, cut_by_one cap es few)

@@ -1,5 +1,6 @@
 -- What contracts say of a reader of blocks.
-use Rattle.std.specs.Prelude.{ℕ, List, Some, Contains, ◌≡◌, length}
+use Rattle.std.specs.Prelude.{ℕ, List, Some, Contains, ◌≡◌, length, nat_eq}
+use Rattle.std.specs.Map.{remove_entry}
 use Rattle.disk_models.specs.declared.once.OnceDisk.{Ghosts}
 use Rattle.once_store.specs.declared.reader.ShelfReader.{ShelfReader}
 
@@ -10,6 +11,14 @@ reader_disk reader = reader.disk.value
 -- how many blocks it keeps at most
 abbrev pub capacity_of : {O Pen Seen : Type 0} {device : Ghosts O Pen Seen} → ShelfReader O Pen Seen device → ℕ
 capacity_of reader = reader.kept.cap
+
+-- the blocks that it keeps with their numbers, the one that was asked for last before the others
+abbrev pub kept_blocks : {O Pen Seen : Type 0} {device : Ghosts O Pen Seen} → ShelfReader O Pen Seen device → List (ℕ × List ℕ)
+kept_blocks reader = reader.kept.entries
+
+-- blocks with their numbers, without that of this number
+abbrev pub without : ℕ → List (ℕ × List ℕ) → List (ℕ × List ℕ)
+without n blocks = remove_entry (nat_eq n) blocks
 
 -- how many it keeps now
 abbrev pub kept_count : {O Pen Seen : Type 0} {device : Ghosts O Pen Seen} → ShelfReader O Pen Seen device → ℕ

@@ -1,5 +1,5 @@
 //! What reads blocks.
-ghost use Rattle.std.specs.Prelude.{◌≡◌, ◌<◌, ◌≤◌, ◌+◌, ◌↔◌, ◌⊎◌, IsTrue, ℕ, List, Some, None, Err, true, false, IfOk, IsOk, OnOk, OnErr, IsErrOf, IfSome, IfNone, IsSome, min};
+ghost use Rattle.std.specs.Prelude.{◌≡◌, ◌<◌, ◌≤◌, ◌+◌, ◌-◌, ◌∷◌, ◌↔◌, ◌⊎◌, IsTrue, ℕ, List, Some, None, Err, true, false, IfOk, IsOk, OnOk, OnErr, IsErrOf, IfSome, IfNone, IsSome, min, take};
 ghost use Rattle.std.specs.List.{AllByRecursion, AllByRecursion-prop};
 ghost use Rattle.std.proofs.Props.{props};
 ghost use Rattle.std.specs.NonZero.{non_zero_usize_get};
@@ -37,7 +37,7 @@ pub struct ShelfReader<O: OnceDisk + Drop> {
 }
 
 impl<O: OnceDisk + Drop> ShelfReader<O> {
-    ghost use Rattle.once_store.specs.Readers.{IsKept, KnowsKept, capacity_of, kept_count, reader_disk};
+    ghost use Rattle.once_store.specs.Readers.{IsKept, KnowsKept, capacity_of, kept_blocks, kept_count, reader_disk, without};
 
     /// A reader of a disk that keeps at most so many blocks. It has read none.
     pub(crate) fn new(
@@ -65,6 +65,12 @@ impl<O: OnceDisk + Drop> ShelfReader<O> {
         ensures hit { (block : List ℕ) → IsKept self.old n block → IsOk result }
         ensures unread { (block : List ℕ) → IsKept self.old n block → seen.new ≡ seen.old }
         ensures all { (block : List ℕ) → IsKept self.old n block → (m : ℕ) (other : List ℕ) → IsKept self.old m other → IsKept self.new m other }
+
+        // The order of use: what is asked for comes first, and what was asked for longest ago makes room, one block at most.
+        ensures first { (other : List ℕ) → IsKept self.old n other → (block : List ℕ) × (kept_blocks self.new ≡ (n, block) ∷ without n (kept_blocks self.old)) }
+        ensures added { ((block : List ℕ) → IsKept self.old n block → ⊥) → OnOk result ((block : List ℕ) × (kept_blocks self.new ≡ (n, block) ∷ take (capacity_of self.old - 1) (kept_blocks self.old))) }
+        ensures left { OnErr result ((kept_blocks self.new ≡ kept_blocks self.old) ⊎ (kept_blocks self.new ≡ take (capacity_of self.old - 1) (kept_blocks self.old))) }
+        ensures one { kept_count self.old ≤ kept_count self.new + 1 }
 
         // None makes room before as many are kept as may be, and a refusal adds none.
         ensures stays { kept_count self.old < capacity_of self.old → (m : ℕ) (other : List ℕ) → IsKept self.old m other → IsKept self.new m other }
@@ -115,6 +121,8 @@ impl<O: OnceDisk + Drop> ShelfReader<O> {
         ensures kept { IsTrue result → (block : List ℕ) × IsKept self.new n block × IsWhole block }
         ensures found { (block : List ℕ) → IsKept self.old n block → result ≡ true }
         ensures missed { result ≡ false → self.new.kept ≡ self.old.kept }
+        ensures first { IsTrue result → (block : List ℕ) × (kept_blocks self.new ≡ (n, block) ∷ without n (kept_blocks self.old)) }
+        ensures count { kept_count self.new ≡ kept_count self.old }
         ensures fewer { (m : ℕ) (block : List ℕ) → IsKept self.new m block → IsKept self.old m block }
         ensures all { (m : ℕ) (block : List ℕ) → IsKept self.old m block → IsKept self.new m block }
         ensures disk { reader_disk self.new ≡ reader_disk self.old }
@@ -127,6 +135,8 @@ impl<O: OnceDisk + Drop> ShelfReader<O> {
     fn room(&mut self) -> Result<Block, AllocError>
         ensures fewer { (m : ℕ) (block : List ℕ) → IsKept self.new m block → IsKept self.old m block }
         ensures stays { kept_count self.old < capacity_of self.old → self.new.kept ≡ self.old.kept }
+        ensures last { capacity_of self.old ≤ kept_count self.old → kept_blocks self.new ≡ take (capacity_of self.old - 1) (kept_blocks self.old) }
+        ensures few { kept_count self.old ≤ capacity_of self.old }
         ensures disk { reader_disk self.new ≡ reader_disk self.old }
         ensures capacity { capacity_of self.new ≡ capacity_of self.old }
     {
@@ -143,6 +153,7 @@ impl<O: OnceDisk + Drop> ShelfReader<O> {
     fn keep(&mut self, n: u64, block: Block) -> Result<(), AllocFailed<(u64, Block)>>
         requires { IsWhole block }
         ensures kept { OnOk result (IsKept self.new n block) }
+        ensures added { ((other : List ℕ) → IsKept self.old n other → ⊥) → OnOk result (kept_blocks self.new ≡ (n, block) ∷ take (capacity_of self.old - 1) (kept_blocks self.old)) }
         ensures stays { kept_count self.old < capacity_of self.old → ((other : List ℕ) → IsKept self.old n other → ⊥) → (m : ℕ) (other : List ℕ) → IsKept self.old m other → IsKept self.new m other }
         ensures refused { OnErr result (self.new.kept ≡ self.old.kept) }
         ensures only { (m : ℕ) (other : List ℕ) → IsKept self.new m other → IsKept self.old m other ⊎ ((m ≡ n) × (other ≡ block)) }

@@ -1,10 +1,11 @@
-use Rattle.std.proofs.Common.{◌≡◌, ℕ, List, Some, sym, ap, ◌∙◌, subst, inl, inr, true, false}
+use Rattle.std.proofs.Common.{◌≡◌, ◌∷◌, ◌-◌, ℕ, List, Result, Ok, Err, OnErr, length, take, Some, sym, ap, ◌∙◌, subst, inl, inr, arith}
 use Rattle.std.proofs.lemmas.Bool.{false≢true}
 use Rattle.std.specs.List.{Contains}
+use Rattle.std.proofs.lemmas.List.{length-take}
 use Rattle.lru.specs.LruCache.{LruCache}
 use Rattle.once_store.specs.Digests.{IsWhole}
 use Rattle.once_store.specs.Readers.{IsKept}
-use Rattle.once_store.proofs.Kept.{read_known}
+use Rattle.once_store.proofs.Kept.{Pairs, LeftOf, read_known, left_of, left_cut, left_by_one}
 use Rattle.once_store.proofs.reader.ShelfReader.fetch.Goals as goal
 
 pub returns-then-touch-clause-octets : goal.returns-then-touch-clause-octets
@@ -108,3 +109,66 @@ returns-clause-stays g c = λ room m other k.
     let same : c.room.new.self.kept ≡ c.args.self.now.kept = c.room.ensures.stays (rw missed room) ∙ missed in
     let none : (b : List ℕ) → Contains c.room.new.self.kept.entries (c.args.n, b) → ⊥ = λ b there. false≢true (sym c.if-touch.false ∙ c.touch.ensures.found b (subst (λ (l : LruCache ℕ (List ℕ)). Contains l.entries (c.args.n, b)) same there)) in
     c.in_ok-keep.ensures.stays (rw same room) none m other (subst (λ (l : LruCache ℕ (List ℕ)). Contains l.entries (m, other)) (sym same) k)
+
+pub returns-then-n-blocks-clause-first : goal.returns-then-n-blocks-clause-first
+returns-then-n-blocks-clause-first g c = λ block k. absurd (false≢true (sym c.if-touch.false ∙ c.touch.ensures.found block k))
+
+pub returns-in_err-block-clause-first : goal.returns-in_err-block-clause-first
+returns-in_err-block-clause-first g c = λ block k. absurd (false≢true (sym c.if-touch.false ∙ c.touch.ensures.found block k))
+
+pub returns-in_err-read-clause-first : goal.returns-in_err-read-clause-first
+returns-in_err-read-clause-first g c = λ block k. absurd (false≢true (sym c.if-touch.false ∙ c.touch.ensures.found block k))
+
+pub returns-in_err-checked-clause-first : goal.returns-in_err-checked-clause-first
+returns-in_err-checked-clause-first g c = λ block k. absurd (false≢true (sym c.if-touch.false ∙ c.touch.ensures.found block k))
+
+pub returns-in_err-keep-clause-first : goal.returns-in_err-keep-clause-first
+returns-in_err-keep-clause-first g c = λ block k. absurd (false≢true (sym c.if-touch.false ∙ c.touch.ensures.found block k))
+
+pub returns-clause-first : goal.returns-clause-first
+returns-clause-first g c = λ block k. absurd (false≢true (sym c.if-touch.false ∙ c.touch.ensures.found block k))
+
+pub returns-then-touch-clause-added : goal.returns-then-touch-clause-added
+returns-then-touch-clause-added g c = λ none.
+    let t = c.touch.ensures.kept c.if-touch.true in
+    absurd (none t.0 (c.touch.ensures.fewer c.args.n t.0 t.1))
+
+on_each_err : {T E : Type 0} {P : Type 0} (r : Result T E) → P → OnErr r P
+on_each_err (Ok _) p = tt
+on_each_err (Err _) p = p
+
+pub returns-in_err-keep-clause-refused : goal.returns-in_err-keep-clause-refused
+returns-in_err-keep-clause-refused g c = on_each_err c.from_residual-in_err-keep.result (λ m other k.
+    c.touch.ensures.fewer m other (c.room.ensures.fewer m other (subst (λ (l : LruCache ℕ (List ℕ)). Contains l.entries (m, other)) c.in_err-keep.ensures.refused k)))
+
+pub returns-in_err-keep-clause-left : goal.returns-in_err-keep-clause-left
+returns-in_err-keep-clause-left g c =
+    let missed = ap (λ (l : LruCache ℕ (List ℕ)). l.entries) (c.touch.ensures.missed c.if-touch.false) in
+    let room = left_of c.touch.new.self.kept.cap c.touch.new.self.kept.entries c.room.new.self.kept.entries (λ below. ap (λ (l : LruCache ℕ (List ℕ)). l.entries) (c.room.ensures.stays below)) c.room.ensures.last in
+    let same = ap (λ (l : LruCache ℕ (List ℕ)). l.entries) c.in_err-keep.ensures.refused in
+    on_each_err c.from_residual-in_err-keep.result (subst (λ (cap : ℕ). LeftOf cap c.args.self.now.kept.entries c.keep.new.self.kept.entries) c.touch.ensures.capacity (subst (λ (left : Pairs). LeftOf c.touch.new.self.kept.cap c.args.self.now.kept.entries left) (sym same) (subst (λ (es : Pairs). LeftOf c.touch.new.self.kept.cap es c.room.new.self.kept.entries) missed room)))
+
+pub returns-in_err-keep-clause-one : goal.returns-in_err-keep-clause-one
+returns-in_err-keep-clause-one g c =
+    let room = left_of c.touch.new.self.kept.cap c.touch.new.self.kept.entries c.room.new.self.kept.entries (λ below. ap (λ (l : LruCache ℕ (List ℕ)). l.entries) (c.room.ensures.stays below)) c.room.ensures.last in
+    let same = ap (λ (l : LruCache ℕ (List ℕ)). length l.entries) c.in_err-keep.ensures.refused in
+    let one = left_by_one c.touch.new.self.kept.cap c.touch.new.self.kept.entries c.room.new.self.kept.entries c.room.ensures.few room in
+    omega (arith, one, same, c.touch.ensures.count)
+
+-- the block that was read stands before those that are left
+pub returns-clause-added : goal.returns-clause-added
+returns-clause-added g c = λ none.
+    let missed = ap (λ (l : LruCache ℕ (List ℕ)). l.entries) (c.touch.ensures.missed c.if-touch.false) in
+    let room = left_of c.touch.new.self.kept.cap c.touch.new.self.kept.entries c.room.new.self.kept.entries (λ below. ap (λ (l : LruCache ℕ (List ℕ)). l.entries) (c.room.ensures.stays below)) c.room.ensures.last in
+    let put = c.in_ok-keep.ensures.added (λ other k. none other (c.touch.ensures.fewer c.args.n other (c.room.ensures.fewer c.args.n other k))) in
+    let cut = left_cut c.touch.new.self.kept.cap c.touch.new.self.kept.entries c.room.new.self.kept.entries room in
+    let same = ap (λ (k : ℕ). take (k - 1) c.room.new.self.kept.entries) c.room.ensures.capacity ∙ (cut ∙ (ap (λ (k : ℕ). take (k - 1) c.touch.new.self.kept.entries) c.touch.ensures.capacity ∙ ap (λ (es : Pairs). take (c.args.self.now.kept.cap - 1) es) missed)) in
+    (c.read.new.into, put ∙ ap (λ (es : Pairs). (c.args.n, c.read.new.into) ∷ es) same)
+
+pub returns-clause-one : goal.returns-clause-one
+returns-clause-one g c =
+    let room = left_of c.touch.new.self.kept.cap c.touch.new.self.kept.entries c.room.new.self.kept.entries (λ below. ap (λ (l : LruCache ℕ (List ℕ)). l.entries) (c.room.ensures.stays below)) c.room.ensures.last in
+    let one = left_by_one c.touch.new.self.kept.cap c.touch.new.self.kept.entries c.room.new.self.kept.entries c.room.ensures.few room in
+    let gone : (other : List ℕ) → IsKept c.args.self.now c.args.n other → ⊥ = λ other k. false≢true (sym c.if-touch.false ∙ c.touch.ensures.found other k) in
+    let put = c.in_ok-keep.ensures.added (λ other k. gone other (c.touch.ensures.fewer c.args.n other (c.room.ensures.fewer c.args.n other k))) in
+    omega (arith, one, ap (λ (es : Pairs). length es) put, length-take (c.room.new.self.kept.cap - 1) c.room.new.self.kept.entries, c.touch.ensures.count, c.room.ensures.few, c.room.ensures.capacity)

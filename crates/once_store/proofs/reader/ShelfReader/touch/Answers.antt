@@ -1,8 +1,8 @@
-use Rattle.std.proofs.Common.{ℕ, List, subst, sym, ap, ◌∙◌}
+use Rattle.std.proofs.Common.{ℕ, List, length, subst, sym, ap, ◌∙◌}
 use Rattle.std.specs.List.{Contains}
 use Rattle.lru.specs.LruCache.{LruCache, lru_cache}
 use Rattle.once_store.specs.Digests.{IsWhole}
-use Rattle.once_store.proofs.Kept.{all_of, in_all, touched, promoted_was, promoted_all, promoted_none, is_found}
+use Rattle.once_store.proofs.Kept.{all_of, in_all, touched, promoted_was, promoted_all, promoted_none, is_found, moved, as_many}
 use Rattle.once_store.proofs.reader.ShelfReader.touch.Goals as goal
 
 pub invariant_of-self : goal.invariant_of-self
@@ -27,3 +27,11 @@ returns-clause-missed g c = λ e. c.promote.ensures.entries ∙ ap (λ es. lru_c
 
 pub returns-clause-all : goal.returns-clause-all
 returns-clause-all g c = λ m block k. subst (λ (l : LruCache ℕ (List ℕ)). Contains l.entries (m, block)) (sym c.promote.ensures.entries) (promoted_all c.args.n c.args.self.now.kept.entries (m, block) k)
+
+pub returns-clause-first : goal.returns-clause-first
+returns-clause-first g c = λ e.
+    let m = moved c.args.n c.args.self.now.kept.entries (sym c.promote.ensures.value ∙ e) in
+    (m.0, ap (λ (l : LruCache ℕ (List ℕ)). l.entries) c.promote.ensures.entries ∙ m.1)
+
+pub returns-clause-count : goal.returns-clause-count
+returns-clause-count g c = ap (λ (l : LruCache ℕ (List ℕ)). length l.entries) c.promote.ensures.entries ∙ as_many c.args.n c.args.self.now.kept.entries
