@@ -10,5 +10,5 @@ AreShown read pages = (n : ℕ) (page : List ℕ) → Contains read.entries (n, 
 
 -- The pages that are kept are the map's.
 pub record HoldsPages (changed : BTreeMap ℕ (List ℕ)) (read : LruCache ℕ (List ℕ)) (pages : List (List ℕ)) : Type 0 where
-  pub dirty : (n : ℕ) → IfSome (get nat_cmp changed n) (λ page. slice_get pages n ≡ Some page)
-  pub clean : AreShown read pages
+  pub committed : (n : ℕ) → IfSome (get nat_cmp changed n) (λ page. slice_get pages n ≡ Some page)
+  pub cached : AreShown read pages

@@ -1,5 +1,5 @@
 -- What contracts say of a pool.
-use Rattle.std.specs.Prelude.{◌-◌, ◌⊎◌, ℕ, List, Option, IsSome, length, nat_eq, slice_get}
+use Rattle.std.specs.Prelude.{◌⊎◌, ℕ, List, Option, IsSome, length, nat_eq, slice_get}
 use Rattle.std.specs.Ordering.{nat_cmp}
 use Rattle.std.specs.BTreeMap.{get}
 use Rattle.std.specs.Map.{lookup}
@@ -15,21 +15,25 @@ journal_of pool = pool.journal
 
 -- the page that was dirty longest, where one is
 abbrev pub oldest_dirty : {D : Type 0} {device : Ghosts D} → Pool D device → Option ℕ
-oldest_dirty pool = slice_get (unhomed_pages pool.journal) (length (unhomed_pages pool.journal) - 1)
+oldest_dirty pool = slice_get (unhomed_pages pool.journal) 0
 
--- how many pages it keeps in memory that aren't dirty
+-- how many pages its cache keeps: those that were read or written home
 abbrev pub clean_pages : {D : Type 0} {device : Ghosts D} → Pool D device → ℕ
-clean_pages pool = length pool.clean.entries
+clean_pages pool = length pool.cached.entries
 
 -- and how many it may keep
 abbrev pub most_clean : {D : Type 0} {device : Ghosts D} → Pool D device → ℕ
-most_clean pool = pool.clean.cap
+most_clean pool = pool.cached.cap
+
+-- a page of this number was committed, and waits in memory to be written home
+abbrev pub IsWaiting : {D : Type 0} {device : Ghosts D} → Pool D device → ℕ → Type 0
+IsWaiting pool n = IsSome (get nat_cmp pool.committed n)
 
 -- a page of this number is in memory
 abbrev pub IsResident : {D : Type 0} {device : Ghosts D} → Pool D device → ℕ → Type 0
-IsResident pool n = IsSome (get nat_cmp pool.dirty n) ⊎ IsSome (lookup (nat_eq n) pool.clean.entries)
+IsResident pool n = IsWaiting pool n ⊎ IsSome (lookup (nat_eq n) pool.cached.entries)
 
 -- The pool maps these pages: its journal keeps them, and each page in memory is one of them.
 pub record Maps {D : Type 0} (device : Ghosts D) (pool : Pool D device) (pages : List (List ℕ)) : Type 0 where
   pub keeps : Keeps device pool.journal pages
-  pub held : HoldsPages pool.dirty pool.clean pages
+  pub held : HoldsPages pool.committed pool.cached pages

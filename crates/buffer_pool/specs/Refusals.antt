@@ -4,7 +4,7 @@ use Rattle.buffer_pool.specs.declared.error.FetchError.{FetchError}
 use Rattle.buffer_pool.specs.declared.error.FetchError.TheVariants.{Fault, NeedsRecovery, OutOfMemory}
 
 -- the reasons for which a page isn't fetched
-abbrev pub FetchRefusal : Bool → FetchError → Type 0
-FetchRefusal recovery NeedsRecovery = recovery ≡ true
-FetchRefusal recovery Fault = recovery ≡ false
-FetchRefusal recovery OutOfMemory = recovery ≡ false
+abbrev pub ReadRefusal : Bool → FetchError → Type 0
+ReadRefusal recovery NeedsRecovery = recovery ≡ true
+ReadRefusal recovery Fault = recovery ≡ false
+ReadRefusal recovery OutOfMemory = recovery ≡ false

@@ -14,7 +14,8 @@ use std::collections::BTreeMap;
 
 // Takes a page in under its number, in the place of an older one. Where no memory is left, there is none afterwards.
 fn take_in(pages: &mut BTreeMap<u64, Page>, n: u64, page: Page)
-    ensures { (m : ℕ) → IfSome (get nat_cmp pages.new m) (Has pages.old n page m) }
+    ensures has { (m : ℕ) → IfSome (get nat_cmp pages.new m) (Has pages.old n page m) }
+    ensures waits { (m : ℕ) → IsSome (get nat_cmp pages.old m) → IsSome (get nat_cmp pages.new m) }
 {
     pages.insert(n, page).ok();
 }
@@ -48,24 +49,31 @@ pub fn promote(pages: &mut LruCache<u64, Page>, n: u64) -> bool
 }
 
 // A page of the map is replaced.
-fn take_page(dirty: &mut BTreeMap<u64, Page>, clean: &mut LruCache<u64, Page>, n: u64, page: Page)
-    ensures holds { (map : List (List ℕ)) → n < length map → HoldsPages dirty.old clean.old map → HoldsPages dirty.new clean.new (slice_set map n page) }
-    ensures capacity { clean.new.cap ≡ clean.old.cap }
+fn take_page(
+    committed: &mut BTreeMap<u64, Page>,
+    cached: &mut LruCache<u64, Page>,
+    n: u64,
+    page: Page,
+)
+    ensures holds { (map : List (List ℕ)) → n < length map → HoldsPages committed.old cached.old map → HoldsPages committed.new cached.new (slice_set map n page) }
+    ensures waits { (m : ℕ) → IsSome (get nat_cmp committed.old m) → IsSome (get nat_cmp committed.new m) }
+    ensures capacity { cached.new.cap ≡ cached.old.cap }
 {
-    drop_page(clean, n);
-    take_in(dirty, n, page);
+    drop_page(cached, n);
+    take_in(committed, n, page);
 }
 
 // Pages of the map are replaced.
 pub fn take_all(
-    dirty: &mut BTreeMap<u64, Page>,
-    clean: &mut LruCache<u64, Page>,
+    committed: &mut BTreeMap<u64, Page>,
+    cached: &mut LruCache<u64, Page>,
     images: Vec<(u64, Page)>,
 )
-    ensures holds { (map : List (List ℕ)) → AreBelow (length map) (pages_of images.items) → HoldsPages dirty.old clean.old map → HoldsPages dirty.new clean.new (laid images.items map) }
-    ensures capacity { clean.new.cap ≡ clean.old.cap }
+    ensures holds { (map : List (List ℕ)) → AreBelow (length map) (pages_of images.items) → HoldsPages committed.old cached.old map → HoldsPages committed.new cached.new (laid images.items map) }
+    ensures waits { (m : ℕ) → IsSome (get nat_cmp committed.old m) → IsSome (get nat_cmp committed.new m) }
+    ensures capacity { cached.new.cap ≡ cached.old.cap }
 {
     for (n, page) in images {
-        take_page(dirty, clean, n, page);
+        take_page(committed, cached, n, page);
     }
 }

@@ -7,7 +7,7 @@ ghost use Rattle.page_journal.specs.Journal.{Keeps, closed_slots, disk_of, home_
 ghost use Rattle.page_journal.specs.Layout.{pages_of};
 ghost use Rattle.page_journal.specs.Recovers.{laid, AreBelow, AreDistinct, Recovers, RecoversEither};
 ghost use Rattle.page_journal.specs.Refusals.{PostRefusal, PostsAt, UseRefusal};
-ghost use Rattle.buffer_pool.specs.Refusals.{FetchRefusal};
+ghost use Rattle.buffer_pool.specs.Refusals.{ReadRefusal};
 
 use crate::error::FetchError;
 use crate::held;
@@ -25,8 +25,8 @@ use std::num::NonZeroUsize;
 #[derive(Drop)]
 pub struct Pool<D: EraseDisk + Drop> {
     journal: Journal<D>,
-    dirty: BTreeMap<u64, Page>,
-    clean: LruCache<u64, Page>,
+    committed: BTreeMap<u64, Page>,
+    cached: LruCache<u64, Page>,
     spare: Page,
 }
 
@@ -41,7 +41,7 @@ fn read_page<D: EraseDisk + Drop>(
     ensures keeps { D.honest (disk_of journal.old) → (pages : List (List ℕ)) → Keeps D.EraseDisk journal.old pages → Keeps D.EraseDisk journal.new pages }
     ensures stays { D.honest (disk_of journal.old) → Stays (D.model (disk_of journal.old)) (D.model (disk_of journal.new)) }
     ensures same { SameButDisk D.EraseDisk journal.old journal.new }
-    ensures refused { IfErr result (FetchRefusal (needs_recovery journal.old)) }
+    ensures refused { IfErr result (ReadRefusal (needs_recovery journal.old)) }
     ensures serves { Serves D.EraseDisk (disk_of journal.old) (disk_of journal.new) (IsErrOf result FetchError.Fault) }
 {
     if !journal.is_usable() {
@@ -53,7 +53,7 @@ fn read_page<D: EraseDisk + Drop>(
 }
 
 impl<D: EraseDisk + Drop> Pool<D> {
-    ghost use Rattle.buffer_pool.specs.Pool.{IsResident, Maps, clean_pages, journal_of, most_clean, oldest_dirty};
+    ghost use Rattle.buffer_pool.specs.Pool.{IsResident, IsWaiting, Maps, clean_pages, journal_of, most_clean, oldest_dirty};
     ghost use Rattle.std.specs.NonZero.{non_zero_usize_get};
 
     /// The pool of a journal, with room for so many pages that are home. For want of memory the journal is handed back.
@@ -67,7 +67,7 @@ impl<D: EraseDisk + Drop> Pool<D> {
         ensures capacity { IfOk result (λ pool. most_clean pool ≡ non_zero_usize_get clean_capacity) }
         ensures refused { IfErr result (λ back. back ≡ journal) }
     {
-        let Ok(clean) = LruCache::new(alloc, clean_capacity) else {
+        let Ok(cached) = LruCache::new(alloc, clean_capacity) else {
             return Err(journal);
         };
         let Ok(spare) = Page::new(alloc) else {
@@ -75,8 +75,8 @@ impl<D: EraseDisk + Drop> Pool<D> {
         };
         Ok(Pool {
             journal,
-            dirty: BTreeMap::new(alloc),
-            clean,
+            committed: BTreeMap::new(alloc),
+            cached,
             spare,
         })
     }
@@ -109,12 +109,12 @@ impl<D: EraseDisk + Drop> Pool<D> {
         self.journal.unhomed()
     }
 
-    /// How many pages are in memory that aren't dirty: at most the pool's capacity.
+    /// How many pages the cache keeps: those that were read or written home, at most the pool's capacity.
     pub fn clean(&self) -> usize
         ensures clean { result ≡ clean_pages self.now }
         ensures few { clean_pages self.now ≤ most_clean self.now }
     {
-        self.clean.len()
+        self.cached.len()
     }
 
     /// Gives the disk up.
@@ -138,8 +138,10 @@ impl<D: EraseDisk + Drop> Pool<D> {
 
         // Of a page that is in memory it asks for no device and no memory.
         ensures there { needs_recovery (journal_of self.old) ≡ false → IsResident self.old n → IsOk result }
+        ensures untouched { IsResident self.old n → journal_of self.new ≡ journal_of self.old }
+        ensures waiting { (m : ℕ) → IsWaiting self.old m → IsWaiting self.new m }
         ensures ok { OnOk result (needs_recovery (journal_of self.old) ≡ false) }
-        ensures refused { IfErr result (FetchRefusal (needs_recovery (journal_of self.old))) }
+        ensures refused { IfErr result (ReadRefusal (needs_recovery (journal_of self.old))) }
         ensures down { needs_recovery (journal_of self.old) ≡ true → self.new ≡ self.old }
         ensures capacity { most_clean self.new ≡ most_clean self.old }
         ensures serves { Serves D.EraseDisk (disk_of (journal_of self.old)) (disk_of (journal_of self.new)) (IsErrOf result FetchError.Fault) }
@@ -147,14 +149,14 @@ impl<D: EraseDisk + Drop> Pool<D> {
         if !self.journal.is_usable() {
             return Err(FetchError::NeedsRecovery);
         }
-        if self.dirty.contains_key(&n) {
+        if self.committed.contains_key(&n) {
             return Ok(());
         }
-        if held::promote(&mut self.clean, n) {
+        if held::promote(&mut self.cached, n) {
             return Ok(());
         }
         let page = read_page(alloc, &mut self.journal, n)?;
-        if !held::keep(&mut self.clean, n, page) {
+        if !held::keep(&mut self.cached, n, page) {
             return Err(FetchError::OutOfMemory);
         }
         Ok(())
@@ -165,9 +167,9 @@ impl<D: EraseDisk + Drop> Pool<D> {
         ensures there { IsResident self.now n → IsSome result }
         ensures shown { (pages : List (List ℕ)) → Maps D.EraseDisk self.now pages → IfSome result (λ page. slice_get pages n ≡ Some page.now) }
     {
-        match self.dirty.get(&n) {
+        match self.committed.get(&n) {
             Some(page) => Some(page),
-            None => self.clean.peek(&n),
+            None => self.cached.peek(&n),
         }
     }
 
@@ -191,11 +193,14 @@ impl<D: EraseDisk + Drop> Pool<D> {
         ensures failed { IsErrOf result PostError.Fault → IsDown D.EraseDisk (journal_of self.old) (journal_of self.new) }
         ensures empty { length images.items ≡ 0 → journal_of self.new ≡ journal_of self.old }
         ensures taken { 0 < length images.items → OnOk result (TakesSlot D.EraseDisk images.items (journal_of self.old) (journal_of self.new)) }
+
+        // What waits in memory to be written home goes on waiting there.
+        ensures waiting { (m : ℕ) → IsWaiting self.old m → IsWaiting self.new m }
         ensures capacity { most_clean self.new ≡ most_clean self.old }
         ensures journal { SameJournal D.EraseDisk (journal_of self.old) (journal_of self.new) (IsErrOf result PostError.Fault) }
     {
         self.journal.post(alloc, &images)?;
-        held::take_all(&mut self.dirty, &mut self.clean, images);
+        held::take_all(&mut self.committed, &mut self.cached, images);
         Ok(())
     }
 
@@ -212,6 +217,7 @@ impl<D: EraseDisk + Drop> Pool<D> {
         ensures fewer { OnOk result (length (unhomed_pages (journal_of self.new)) ≤ length (unhomed_pages (journal_of self.old)) - 1) }
         ensures as_dirty { OnErr result (unhomed_pages (journal_of self.new) ≡ unhomed_pages (journal_of self.old)) }
         ensures opened { opened_slots (journal_of self.new) ≡ opened_slots (journal_of self.old) }
+        ensures waiting { (m : ℕ) → oldest_dirty self.old ≢ Some m → IsWaiting self.old m → IsWaiting self.new m }
 
         ensures ok { OnOk result ((needs_recovery (journal_of self.old) ≡ false) × (needs_recovery (journal_of self.new) ≡ false)) }
         ensures refused { IfErr result (UseRefusal (needs_recovery (journal_of self.old))) }
@@ -228,10 +234,10 @@ impl<D: EraseDisk + Drop> Pool<D> {
         let Some(n) = self.journal.oldest_unhomed() else {
             return Ok(false);
         };
-        match self.dirty.remove(&n) {
+        match self.committed.remove(&n) {
             Some(page) => {
                 self.journal.home(n, &page)?;
-                held::keep(&mut self.clean, n, page);
+                held::keep(&mut self.cached, n, page);
             }
             None => {
                 self.journal.read(n, &mut self.spare)?;

@@ -9,12 +9,14 @@ use Rattle.disk_models.proofs.api.OctetLemmas.{octets_agree}
 use Rattle.disk_models.proofs.api.Moments.{leaves_then, leaves_weaker, may_leave_now, synced_leave}
 use Rattle.page_journal.specs.Layout.{Image, pages_of, gate_place, home_place, images, homes_from}
 use Rattle.page_journal.specs.inner.Writing.{ImagesStand}
-use Rattle.page_journal.specs.Recovers.{laid, AreDistinct, IsListed, RecoversBy, Recovers, CarriesPages}
-use Rattle.page_journal.specs.Bookkeeping.{AreNumbered, IsImage, place_of, unhomed_numbers, unhomed_after, open_slots}
+use Rattle.page_journal.specs.Recovers.{laid, IsListed, RecoversBy, Recovers, CarriesPages}
+use Rattle.page_journal.specs.Bookkeeping.{AreNumbered, IsImage, place_of, unhomed_numbers, open_slots}
+use Rattle.page_journal.specs.inner.Entering.{unhomed_after}
 use Rattle.page_journal.specs.inner.Laying.{StandsHome}
 use Rattle.page_journal.specs.declared.unhomed.Unhomed.{Unhomed}
 use Rattle.page_journal.proofs.Covering.{length-laid, length-homes_from, get_or-homes_from, are_homes, torn_home}
-use Rattle.page_journal.proofs.Placing.{others, place_cases, place_forgotten, place_kept, listed_before, none_unhomed, kept, kept_place, posted_shown, listed_after, listed_left, listed_right}
+use Rattle.page_journal.proofs.Placing.{others, place_cases, place_forgotten, place_kept, listed_before, none_unhomed, listed_left, listed_right}
+use Rattle.page_journal.proofs.Entries.{posted_shown, listed_after}
 use Rattle.page_journal.proofs.Posting.{number_same}
 use Rattle.page_journal.proofs.Frame.{InSlot}
 use Rattle.disk_models.proofs.api.Overlay.{overlay, overlay_out, before_crash}
@@ -105,14 +107,12 @@ place_stays opened n unhomed s0 s2 room all outside =
 -- each page is shown after it
 pub post_shown : (homes : ℕ) (note : List ℕ) (opened : ℕ) → opened < 8 → (s0 s2 : DiskState) (pages : List (List ℕ)) → CarriesPages homes note (open_slots opened) s0 pages
     → (unhomed : List Unhomed) → AllByRecursion (IsImage opened) unhomed → ShownAt homes unhomed s0.octet pages
-    → (named : List Image) → AreDistinct (pages_of named) → ((i : ℕ) → ¬ InSlot opened i → s2.octet i ≡ s0.octet i) → ImagesStand s2.octet opened 0 named
-    → ShownAt homes (unhomed_after opened named unhomed) s2.octet (laid named pages)
-post_shown homes note opened room s0 s2 pages carries unhomed all shown named distinct outside stand n lt =
-    posted_shown s2.octet opened named 0 (kept (pages_of named) unhomed) pages n distinct stand
+    → (named : List Image) → ((i : ℕ) → ¬ InSlot opened i → s2.octet i ≡ s0.octet i) → ImagesStand s2.octet opened 0 named
+    → ShownAt homes (unhomed_after opened 0 named unhomed) s2.octet (laid named pages)
+post_shown homes note opened room s0 s2 pages carries unhomed all shown named outside stand n lt =
+    posted_shown s2.octet opened named 0 unhomed pages n stand
     (omega (arith, lt, length_meant homes note (open_slots opened) s0.octet pages (now_means homes note (open_slots opened) s0 pages carries)))
-    (λ out. shown n lt
-    ∙ ap (λ (p : List ℕ). Some p) (sym (place_stays opened n unhomed s0 s2 room all outside))
-    ∙ ap (λ at. Some (octets s2.octet at 16384)) (sym (kept_place (pages_of named) unhomed n out)))
+    (shown n lt ∙ ap (λ (p : List ℕ). Some p) (sym (place_stays opened n unhomed s0 s2 room all outside)))
 
 pages-append : (first then : List Image) → pages_of (first ++ then) ≡ pages_of first ++ pages_of then
 pages-append [] then = refl
@@ -120,7 +120,7 @@ pages-append (image ∷ first) then = ap (λ (l : List ℕ). image.0 ∷ l) (pag
 
 -- what isn't home is an image of an open slot
 pub post_covered : (opened : ℕ) (s0 s2 : DiskState) (unhomed : List Unhomed) → CoveredIn (open_slots opened) unhomed s0 → (named : List Image) → ((i : ℕ) → ¬ s2.unsynced i)
-    → flat_map (images s2.octet) (open_slots (opened + 1)) ≡ flat_map (images s0.octet) (open_slots opened) ++ named → CoveredIn (open_slots (opened + 1)) (unhomed_after opened named unhomed) s2
+    → flat_map (images s2.octet) (open_slots (opened + 1)) ≡ flat_map (images s0.octet) (open_slots opened) ++ named → CoveredIn (open_slots (opened + 1)) (unhomed_after opened 0 named unhomed) s2
 post_covered opened s0 s2 unhomed covered named settled are n listed c may =
     let before = flat_map (images s0.octet) (open_slots opened) in
     let now : pages_of (flat_map (images c) (open_slots (opened + 1))) ≡ pages_of before ++ pages_of named =
@@ -128,7 +128,7 @@ post_covered opened s0 s2 unhomed covered named settled are n listed c may =
     subst (IsListed n) (sym now) (⊎_elim
     (λ new. listed_right (pages_of before) (pages_of named) n new)
     (λ old. listed_left (pages_of before) (pages_of named) n (covered n old s0.octet (λ i settled. refl)))
-    (listed_after opened named unhomed n listed))
+    (listed_after opened 0 named unhomed n listed))
 
 pub whole_page : (at m : ℕ) (s0 s1 : DiskState) → m ≡ 16384 → WritesWithin at m s0 s1 → WritesWithin at 16384 s0 s1
 whole_page at m s0 s1 is w = subst (λ k. WritesWithin at k s0 s1) is w

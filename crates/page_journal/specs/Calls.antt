@@ -33,9 +33,10 @@ pub record IsDown {D : Type 0} (device : Ghosts D) (old new : Journal D device) 
   pub opened : opened_slots new ≡ opened_slots old
   pub unhomed : unhomed_pages new ≡ unhomed_pages old
 
--- A transaction took the first closed slot. Its number is the slot's, counted from 1, and none of its pages is home.
+-- A transaction took the first closed slot. Its number is the slot's, counted from 1. None of its pages is home: one that
+-- wasn't before keeps its place in the list, and the others follow.
 pub record TakesSlot {D : Type 0} (device : Ghosts D) (posted : List Image) (old new : Journal D device) : Type 0 where
   pub usable : needs_recovery new ≡ false
   pub opened : opened_slots new ≡ opened_slots old + 1
-  pub unhomed : unhomed_pages new ≡ pages_of posted ++ without (pages_of posted) (unhomed_pages old)
+  pub unhomed : unhomed_pages new ≡ unhomed_pages old ++ without (unhomed_pages old) (pages_of posted)
   pub numbered : device.honest (disk_of old) → transaction (device.model (disk_of new)).octet (opened_slots old) ≡ opened_slots old + 1

@@ -1,3 +1,4 @@
 pub mod Writing
 pub mod Laying
 pub mod Survey
+pub mod Entering

@@ -170,9 +170,9 @@ impl<D: EraseDisk + Drop> Journal<D> {
         !self.needs_recovery
     }
 
-    /// The page that was posted first of those that aren't written home, by their last posts.
+    /// The page that was posted and isn't written home for longest, however often it was posted again since.
     pub fn oldest_unhomed(&self) -> Option<u64>
-        ensures oldest { result ≡ slice_get (unhomed_pages self.now) (length (unhomed_pages self.now) - 1) }
+        ensures oldest { result ≡ slice_get (unhomed_pages self.now) 0 }
         ensures listed { IfSome result (λ n. IsListed n (unhomed_pages self.now)) }
         ensures below { IfSome result (λ n. n < home_pages self.now) }
         ensures none { IsNone result ↔ (length (unhomed_pages self.now) ≡ 0) }

@@ -17,6 +17,7 @@ loop-n-preserved c =
     let rest = into_iter_items c.next.new.self in
     record {
       capacity = c.take_page.ensures.capacity ∙ c.loop-n.invariant.capacity;
+      waits = λ m there. c.take_page.ensures.waits m (c.loop-n.invariant.waits m there);
       holds = λ map below held.
           let so_far = c.loop-n.invariant.holds map below held in
           let now = so_far.0 in
@@ -34,4 +35,4 @@ returns-clause-holds c map below held =
     let step = c.in-None.ensures.steps in
     let now = so_far.0 in
     let gone : into_iter_items c.loop-n.n-iterator ≡ [] = no_images (into_iter_items c.loop-n.n-iterator) (omega (arith, c.loop-n.n-iterator.rest.ok, step.0)) in
-    subst (HoldsPages c.loop-n.dirty c.loop-n.clean) (ap (λ (l : List Image). laid l now) (sym gone) ∙ so_far.2) so_far.1
+    subst (HoldsPages c.loop-n.committed c.loop-n.cached) (ap (λ (l : List Image). laid l now) (sym gone) ∙ so_far.2) so_far.1

@@ -16,12 +16,12 @@ returns-in_ok-home-in-Some-remove-clause-crash g c h pages m = c.home.ensures.cr
 pub returns-in_ok-home-in-Some-remove-clause-maps : goal.returns-in_ok-home-in-Some-remove-clause-maps
 returns-in_ok-home-in-Some-remove-clause-maps g c h pages m up =
     let self = c.args.self.now in
-    let is : slice_get pages c.in-Some.n ≡ Some c.in-Some-remove.page = subst (λ (o : Option (List ℕ)). IfSome o (λ q. slice_get pages c.in-Some.n ≡ Some q)) (sym c.in-Some-remove.ensures.value) (m.held.dirty c.in-Some.n) in
+    let is : slice_get pages c.in-Some.n ≡ Some c.in-Some-remove.page = subst (λ (o : Option (List ℕ)). IfSome o (λ q. slice_get pages c.in-Some.n ≡ Some q)) (sym c.in-Some-remove.ensures.value) (m.held.committed c.in-Some.n) in
     record {
       keeps = c.in_ok-home-in-Some-remove.ensures.keeps h pages m.keeps is;
       held = record {
-        dirty = removed_shown self.dirty c.remove.new.self _ pages c.remove.ensures.updates.0 m.held.dirty;
-        clean = c.keep.ensures.shown pages m.held.clean is;
+        committed = removed_shown self.committed c.remove.new.self _ pages c.remove.ensures.updates.0 m.held.committed;
+        cached = c.keep.ensures.shown pages m.held.cached is;
       };
     }
 
@@ -53,8 +53,8 @@ returns-in_ok-home-in-None-clause-maps g c h pages m up =
     record {
       keeps = c.in_ok-home-in-None.ensures.keeps (c.read.ensures.serves.honest.0 h) pages (c.read.ensures.keeps h pages m.keeps) (c.in_ok-read-in-None.ensures.page h pages m.keeps);
       held = record {
-        dirty = removed_shown self.dirty c.remove.new.self _ pages c.remove.ensures.updates.0 m.held.dirty;
-        clean = m.held.clean;
+        committed = removed_shown self.committed c.remove.new.self _ pages c.remove.ensures.updates.0 m.held.committed;
+        cached = m.held.cached;
       };
     }
 
@@ -74,7 +74,7 @@ pub returns-in_err-read-in-None-clause-maps : goal.returns-in_err-read-in-None-c
 returns-in_err-read-in-None-clause-maps g c h pages m up = record {
   keeps = c.read.ensures.keeps h pages m.keeps;
   held = record {
-    dirty = removed_shown c.args.self.now.dirty c.remove.new.self _ pages c.remove.ensures.updates.0 m.held.dirty;
-    clean = m.held.clean;
+    committed = removed_shown c.args.self.now.committed c.remove.new.self _ pages c.remove.ensures.updates.0 m.held.committed;
+    cached = m.held.cached;
   };
 }

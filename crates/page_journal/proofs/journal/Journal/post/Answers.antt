@@ -2,11 +2,13 @@ use Rattle.std.proofs.Common.{◌≡◌, ◌<◌, ◌≤◌, ◌∙◌, ◌+◌,
 use Rattle.std.specs.List.{AllByRecursion}
 use Rattle.page_journal.specs.Recovers.{laid, AreBelow}
 use Rattle.page_journal.specs.Layout.{pages_of}
-use Rattle.page_journal.specs.Bookkeeping.{IsImage, open_slots, unhomed_after, unhomed_numbers}
+use Rattle.page_journal.specs.Bookkeeping.{IsImage, open_slots, unhomed_numbers}
+use Rattle.page_journal.specs.inner.Entering.{unhomed_after}
 use Rattle.page_journal.specs.declared.unhomed.Unhomed.{Unhomed}
 use Rattle.page_journal.proofs.Staging.{length-header_octets}
 use Rattle.page_journal.proofs.Posting.{fill_crash, gate_crash, post_carries, post_stand, post_outside, post_numbered, post_all_images, posted_number}
-use Rattle.page_journal.proofs.Placing.{below_each, images_after, listed_after, listed_below, numbers_after}
+use Rattle.page_journal.proofs.Placing.{below_each, listed_below}
+use Rattle.page_journal.proofs.Entries.{images_after, listed_after, numbers_after}
 use Rattle.page_journal.proofs.Keeping.{ShownAt, CoveredIn, post_shown, post_covered}
 use Rattle.page_journal.proofs.journal.Journal.post.Goals as goal
 
@@ -51,14 +53,14 @@ returns-clause-posted g c h pages keeps =
     let is_header = c.deref-2.ensures.value ∙ c.in_ok-header.ensures in
     let fills = c.in_ok-fill.ensures.filled h in
     let opens = c.in_ok-open_gate.ensures.opened (c.fill.ensures.serves.honest.0 h) in
-    let entries = c.in_ok-after.ensures ∙ ap (unhomed_after self.opened named) c.deref.ensures.value in
+    let entries = c.in_ok-after.ensures ∙ ap (unhomed_after self.opened 0 named) c.deref.ensures.value in
     let outside = post_outside self.homes self.note self.opened room s0 s1 pages keeps.carries keeps.numbered named header s2 some few self.small c.requires.below c.requires.distinct is_header fills opens in
     record {
       usable = refl;
       carries = post_carries self.homes self.note self.opened room s0 s1 pages keeps.carries keeps.numbered named header s2 some few self.small c.requires.below c.requires.distinct is_header fills opens;
       numbered = post_numbered self.homes self.note self.opened room s0 s1 pages keeps.carries keeps.numbered named header s2 some few self.small c.requires.below c.requires.distinct is_header fills opens;
       shown = subst (λ (l : List Unhomed). ShownAt self.homes l s2.octet (laid named pages)) (sym entries)
-          (post_shown self.homes self.note self.opened room s0 s2 pages keeps.carries self.unhomed.items self.images keeps.shown named c.requires.distinct outside
+          (post_shown self.homes self.note self.opened room s0 s2 pages keeps.carries self.unhomed.items self.images keeps.shown named outside
           (post_stand self.homes self.note self.opened room s0 s1 pages keeps.carries keeps.numbered named header s2 some few self.small c.requires.below c.requires.distinct is_header fills opens));
       covered = subst (λ (l : List Unhomed). CoveredIn (open_slots (self.opened + 1)) l s2) (sym entries)
           (post_covered self.opened s0 s2 self.unhomed.items keeps.covered named opens.settled
@@ -71,8 +73,8 @@ returns-clause-taken g c some =
     record {
       usable = refl;
       opened = refl;
-      unhomed = ap unhomed_numbers (c.in_ok-after.ensures ∙ ap (unhomed_after self.opened c.args.images.now) c.deref.ensures.value)
-          ∙ numbers_after self.opened c.args.images.now self.unhomed.items;
+      unhomed = ap unhomed_numbers (c.in_ok-after.ensures ∙ ap (unhomed_after self.opened 0 c.args.images.now) c.deref.ensures.value)
+          ∙ numbers_after self.opened 0 c.args.images.now self.unhomed.items c.requires.distinct;
       numbered = λ h. posted_number self.homes self.opened (self.opened + 1) c.args.images.now c.deref-2.result.now (g.D.EraseDisk.model self.disk) (g.D.EraseDisk.model c.fill.new.disk) (g.D.EraseDisk.model c.open_gate.new.disk)
           (omega arith) (omega arith) self.small c.requires.below (c.deref-2.ensures.value ∙ c.in_ok-header.ensures) (c.in_ok-fill.ensures.filled h) (c.in_ok-open_gate.ensures.opened (c.fill.ensures.serves.honest.0 h));
     }
@@ -82,15 +84,15 @@ invariant_of-self-2-clause-images g c =
     let self = c.args.self.now in
     let named = c.args.images.now in
     let few : length named ≤ 31 = omega arith in
-    subst (AllByRecursion (IsImage (self.opened + 1))) (sym (c.in_ok-after.ensures ∙ ap (unhomed_after self.opened named) c.deref.ensures.value))
+    subst (AllByRecursion (IsImage (self.opened + 1))) (sym (c.in_ok-after.ensures ∙ ap (unhomed_after self.opened 0 named) c.deref.ensures.value))
     (images_after self.opened named self.unhomed.items few self.images)
 
 pub invariant_of-self-2-clause-below : goal.invariant_of-self-2-clause-below
 invariant_of-self-2-clause-below g c =
     let self = c.args.self.now in
     let named = c.args.images.now in
-    subst (λ (l : List Unhomed). AreBelow self.homes (unhomed_numbers l)) (sym (c.in_ok-after.ensures ∙ ap (unhomed_after self.opened named) c.deref.ensures.value))
-    (below_each self.homes (unhomed_numbers (unhomed_after self.opened named self.unhomed.items)) (λ n listed. ⊎_elim
+    subst (λ (l : List Unhomed). AreBelow self.homes (unhomed_numbers l)) (sym (c.in_ok-after.ensures ∙ ap (unhomed_after self.opened 0 named) c.deref.ensures.value))
+    (below_each self.homes (unhomed_numbers (unhomed_after self.opened 0 named self.unhomed.items)) (λ n listed. ⊎_elim
     (λ new. listed_below self.homes (pages_of named) n c.requires.below new)
     (λ old. listed_below self.homes (unhomed_numbers self.unhomed.items) n self.below old)
-    (listed_after self.opened named self.unhomed.items n listed)))
+    (listed_after self.opened 0 named self.unhomed.items n listed)))
