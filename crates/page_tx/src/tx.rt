@@ -36,6 +36,7 @@ pub struct Tx<D: EraseDisk + Drop> {
 }
 
 impl<D: EraseDisk + Drop> Tx<D> {
+    ghost use Rattle.page_tx.specs.Images.{joined};
     ghost use Rattle.page_tx.specs.Start.{Start};
     ghost use Rattle.page_tx.specs.Tx.{Shows, named_pages, next_page, pool_of};
 
@@ -81,6 +82,10 @@ impl<D: EraseDisk + Drop> Tx<D> {
         // One slot is taken where an image was held, and none elsewhere.
         ensures empty { length (named_pages self.old) ≡ 0 → journal_of (pool_of self.new) ≡ journal_of (pool_of self.old) }
         ensures taken { 0 < length (named_pages self.old) → OnOk result (opened_slots (journal_of (pool_of self.new)) ≡ opened_slots (journal_of (pool_of self.old)) + 1) }
+
+        // The pages of the images are dirty then, after those that were.
+        ensures dirty { 0 < length (named_pages self.old) → OnOk result (unhomed_pages (journal_of (pool_of self.new)) ≡ joined (unhomed_pages (journal_of (pool_of self.old))) (named_pages self.old)) }
+        ensures usable { 0 < length (named_pages self.old) → OnOk result (needs_recovery (journal_of (pool_of self.new)) ≡ false) }
 
         ensures unchanged { IfErr result (λ e. e ≢ PostError.Fault → pool_of self.new ≡ pool_of self.old) }
         ensures failed { IsErrOf result PostError.Fault → IsDown D.EraseDisk (journal_of (pool_of self.old)) (journal_of (pool_of self.new)) }
