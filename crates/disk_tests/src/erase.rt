@@ -4,7 +4,7 @@ ghost use Rattle.disk_memory.specs.Memory.{size_of};
 
 use disk_memory::{Call, Failure, MemErase, Torn};
 use disk_models::{EraseDisk, Fault, Page};
-use std::alloc::Global;
+use std::alloc::{AllocError, Global};
 use std::test::Fail;
 
 // A disk of 32 octets: "settled!" is synced at 8, and "unsynced" is written over its second half.
@@ -39,21 +39,21 @@ fn left_at_8(disk: &MemErase, choice: &[Torn]) -> Result<[u8; 12], Fail>
 #[test]
 fn each_call(rt: HostRuntime) -> Result<(), Fail> {
     let mut disk = MemErase::new(rt.alloc(), 32);
-    assert_eq!(rt; disk.size(), 32);
+    assert!(rt; disk.size() == 32);
     let mut octets = [9u8; 4];
     disk.read(28, &mut octets)?;
-    assert_eq!(rt; octets, [0, 0, 0, 0]);
+    assert!(rt; octets == [0, 0, 0, 0]);
     disk.write_at(26, b"abcd")?;
     disk.read(28, &mut octets)?;
-    assert_eq!(rt; octets, [b'c', b'd', 0, 0]);
+    assert!(rt; octets == [b'c', b'd', 0, 0]);
     disk.sync()?;
-    assert_eq!(rt; disk.faults(), 0);
-    assert_eq!(rt; disk.calls().len(), 2);
+    assert!(rt; disk.faults() == 0);
+    assert!(rt; disk.calls().len() == 2);
     match disk.calls() {
         [Call::Write(write), Call::Sync] => {
-            assert_eq!(rt; write.at(), 26);
-            assert_eq!(rt; write.length(), 4);
-            assert_eq!(rt; write.octets(), b"abcd".as_slice());
+            assert!(rt; write.at() == 26);
+            assert!(rt; write.length() == 4);
+            assert!(rt; write.octets() == b"abcd".as_slice());
         }
         _ => assert!(rt; false),
     }
@@ -67,37 +67,55 @@ fn later_writes_stand_over_earlier_ones(rt: HostRuntime) -> Result<(), Fail> {
     disk.write_at(10, b"bbbb")?;
     disk.write_at(0, b"cccccccccc")?;
     disk.write_at(18, b"dddddddddddddd")?;
-    assert_eq!(rt; octets_at_8(&mut disk)?, *b"ccbbbbaaaadd");
+    assert!(rt; octets_at_8(&mut disk)? == *b"ccbbbbaaaadd");
     disk.write_at(8, b"eeeeeeeeeeee")?;
     disk.write_at(9, b"f")?;
-    assert_eq!(rt; octets_at_8(&mut disk)?, *b"efeeeeeeeeee");
+    assert!(rt; octets_at_8(&mut disk)? == *b"efeeeeeeeeee");
     Ok(())
+}
+
+// What a crash may make of one unsynced write: the first one leaves it out.
+fn torn(alloc: Global, n: usize) -> Result<Option<Torn>, AllocError> {
+    Ok(match n {
+        0 => None,
+        1 => Some(Torn::Old),
+        2 => Some(Torn::New),
+        3 => Some(Torn::Half),
+        4 => Some(Torn::Octets(vec![in alloc; 0xa5; 2]?)),
+        _ => Some(Torn::Octets(vec![in alloc; 0x5a; 20]?)),
+    })
+}
+
+// What each of them leaves.
+const LEFT: [[u8; 12]; 6] = [
+    *b"settled!\0\0\0\0",
+    *b"settled!\0\0\0\0",
+    *b"settunsynced",
+    *b"settunsy\xff\xff\xff\xff",
+    *b"sett\xa5\xa5d!\0\0\0\0",
+    *b"sett\x5a\x5a\x5a\x5a\x5a\x5a\x5a\x5a",
+];
+
+// What is left where the n-th is chosen.
+fn left_by(alloc: Global, disk: &MemErase, n: usize) -> Result<[u8; 12], Fail>
+    requires { size_of disk.now ≡ 32 }
+{
+    let mut choice = Vec::new(alloc);
+    if let Some(torn) = torn(alloc, n)? {
+        choice.push(torn)?;
+    }
+    left_at_8(disk, &choice)
 }
 
 #[test]
 fn a_crash_tears_what_is_unsynced(rt: HostRuntime) -> Result<(), Fail> {
-    let alloc = rt.alloc();
-    let mut disk = torn_disk(alloc)?;
-    assert_eq!(rt; octets_at_8(&mut disk)?, *b"settunsynced");
-    assert_eq!(rt; left_at_8(&disk, &[])?, *b"settled!\0\0\0\0");
-    assert_eq!(rt; left_at_8(&disk, &[Torn::Old])?, *b"settled!\0\0\0\0");
-    assert_eq!(rt; left_at_8(&disk, &[Torn::New])?, *b"settunsynced");
-    assert_eq!(rt;
-        left_at_8(&disk, &[Torn::Half])?,
-        *b"settunsy\xff\xff\xff\xff"
-    );
-    let gate = vec![in alloc; 0xa5; 2]?;
-    assert_eq!(rt;
-        left_at_8(&disk, &[Torn::Octets(gate)])?,
-        *b"sett\xa5\xa5d!\0\0\0\0"
-    );
-    let long = vec![in alloc; 0x5a; 20]?;
-    assert_eq!(rt;
-        left_at_8(&disk, &[Torn::Octets(long)])?,
-        *b"sett\x5a\x5a\x5a\x5a\x5a\x5a\x5a\x5a"
-    );
+    let mut disk = torn_disk(rt.alloc())?;
+    assert!(rt; octets_at_8(&mut disk)? == *b"settunsynced");
+    for (n, wanted) in LEFT.iter().enumerate() {
+        assert!(rt; left_by(rt.alloc(), &disk, n)? == *wanted, "{n}");
+    }
     disk.sync()?;
-    assert_eq!(rt; left_at_8(&disk, &[Torn::Half])?, *b"settunsynced");
+    assert!(rt; left_at_8(&disk, &[Torn::Half])? == *b"settunsynced");
     Ok(())
 }
 
@@ -106,14 +124,8 @@ fn each_unsynced_write_has_a_choice_of_its_own(rt: HostRuntime) -> Result<(), Fa
     let mut disk = torn_disk(rt.alloc())?;
     disk.write_at(8, b"XXXX")?;
     disk.write_at(16, b"YY")?;
-    assert_eq!(rt;
-        left_at_8(&disk, &[Torn::Old, Torn::New, Torn::Old])?,
-        *b"XXXXled!\0\0\0\0"
-    );
-    assert_eq!(rt;
-        left_at_8(&disk, &[Torn::Half, Torn::Old, Torn::New])?,
-        *b"settunsyYY\xff\xff"
-    );
+    assert!(rt; left_at_8(&disk, &[Torn::Old, Torn::New, Torn::Old])? == *b"XXXXled!\0\0\0\0");
+    assert!(rt; left_at_8(&disk, &[Torn::Half, Torn::Old, Torn::New])? == *b"settunsyYY\xff\xff");
     Ok(())
 }
 
@@ -121,12 +133,9 @@ fn each_unsynced_write_has_a_choice_of_its_own(rt: HostRuntime) -> Result<(), Fa
 fn a_disk_that_begins_again_settles_what_a_crash_left(rt: HostRuntime) -> Result<(), Fail> {
     let disk = torn_disk(rt.alloc())?;
     let first = disk.crash(&[Torn::Half])?;
-    assert_eq!(rt;
-        left_at_8(&first, &[Torn::New])?,
-        *b"settunsy\xff\xff\xff\xff"
-    );
-    assert_eq!(rt; first.size(), 32);
-    assert_eq!(rt; first.faults(), 0);
+    assert!(rt; left_at_8(&first, &[Torn::New])? == *b"settunsy\xff\xff\xff\xff");
+    assert!(rt; first.size() == 32);
+    assert!(rt; first.faults() == 0);
     Ok(())
 }
 
@@ -136,9 +145,9 @@ fn a_copy_goes_its_own_way(rt: HostRuntime) -> Result<(), Fail> {
     let mut other = disk.copy()?;
     other.write_at(8, b"other")?;
     other.sync()?;
-    assert_eq!(rt; octets_at_8(&mut disk)?, *b"settunsynced");
-    assert_eq!(rt; octets_at_8(&mut other)?, *b"othernsynced");
-    assert_eq!(rt; left_at_8(&disk, &[])?, *b"settled!\0\0\0\0");
+    assert!(rt; octets_at_8(&mut disk)? == *b"settunsynced");
+    assert!(rt; octets_at_8(&mut other)? == *b"othernsynced");
+    assert!(rt; left_at_8(&disk, &[])? == *b"settled!\0\0\0\0");
     Ok(())
 }
 
@@ -203,7 +212,7 @@ fn each_call_fails_once(rt: HostRuntime) -> Result<(), Fail> {
             *failed = true;
         }
         let wanted = (failed, u64::from(n > 0), *read, *left);
-        assert_eq!(rt; run_with(rt.alloc(), failure(n))?, wanted, "{n}");
+        assert!(rt; run_with(rt.alloc(), failure(n))? == wanted, "{n}");
     }
     Ok(())
 }
@@ -244,6 +253,6 @@ fn pages_with_reads_between(rt: HostRuntime) -> Result<(), Fail> {
             disk.sync()?;
         }
     }
-    assert_eq!(rt; disk.calls().len(), 10_100);
+    assert!(rt; disk.calls().len() == 10_100);
     Ok(())
 }

@@ -1,7 +1,7 @@
 // The write-once disk in memory: each call once, each failure once, and each kind of torn block after a crash.
 use disk_memory::{MemOnce, MemPen, OnceFailure, Torn};
 use disk_models::{Block, Fault, OnceDisk};
-use std::alloc::Global;
+use std::alloc::{AllocError, Global};
 use std::test::Fail;
 
 // A block whose octets are all one number.
@@ -65,21 +65,21 @@ fn burnt_disk(alloc: Global) -> Result<(MemOnce, MemPen), Fail> {
 fn each_call(rt: HostRuntime) -> Result<(), Fail> {
     let alloc = rt.alloc();
     let (disk, mut pen) = burnt_disk(alloc)?;
-    assert_eq!(rt; disk.blocks(), 4);
+    assert!(rt; disk.blocks() == 4);
     assert!(rt; !burn_blank(&disk, &mut pen, 0, &block_of(alloc, 9)?)?);
     assert!(rt; !burn_blank(&disk, &mut pen, 1, &block_of(alloc, 9)?)?);
-    assert_eq!(rt; ends(alloc, &disk, &mut pen, 0)?, Some((7, 7)));
-    assert_eq!(rt; ends(alloc, &disk, &mut pen, 1)?, Some((0, 0)));
-    assert_eq!(rt; pen.settled().len(), 1);
-    assert_eq!(rt; pen.waiting().len(), 1);
+    assert!(rt; ends(alloc, &disk, &mut pen, 0)? == Some((7, 7)));
+    assert!(rt; ends(alloc, &disk, &mut pen, 1)? == Some((0, 0)));
+    assert!(rt; pen.settled().len() == 1);
+    assert!(rt; pen.waiting().len() == 1);
     disk.settle(&mut pen)?;
-    assert_eq!(rt; ends(alloc, &disk, &mut pen, 1)?, Some((8, 8)));
-    assert_eq!(rt; MemOnce::pen_faults(&pen), 0);
+    assert!(rt; ends(alloc, &disk, &mut pen, 1)? == Some((8, 8)));
+    assert!(rt; MemOnce::pen_faults(&pen) == 0);
     match pen.settled() {
         [first, second] => {
-            assert_eq!(rt; (first.number(), second.number()), (0, 1));
+            assert!(rt; (first.number(), second.number()) == (0, 1));
             assert!(rt; first.is_whole() && second.is_whole());
-            assert_eq!(rt; second.block().octets().first(), Some(&8));
+            assert!(rt; second.block().octets().first() == Some(&8));
         }
         _ => assert!(rt; false),
     }
@@ -92,9 +92,9 @@ fn a_reader_knows_what_was_settled_when_it_looked(rt: HostRuntime) -> Result<(),
     let (disk, mut pen) = burnt_disk(alloc)?;
     let mut seen = disk.look(&mut pen)?;
     disk.settle(&mut pen)?;
-    assert_eq!(rt; seen_ends(alloc, &disk, &mut seen, 0)?, Some((7, 7)));
-    assert_eq!(rt; seen_ends(alloc, &disk, &mut seen, 1)?, Some((0, 0)));
-    assert_eq!(rt; MemOnce::seen_faults(&seen), 0);
+    assert!(rt; seen_ends(alloc, &disk, &mut seen, 0)? == Some((7, 7)));
+    assert!(rt; seen_ends(alloc, &disk, &mut seen, 1)? == Some((0, 0)));
+    assert!(rt; MemOnce::seen_faults(&seen) == 0);
     Ok(())
 }
 
@@ -111,27 +111,36 @@ fn left(
     Ok((torn, blank, settled))
 }
 
+// What a crash may make of a block that isn't settled: the first one leaves it out.
+fn torn(alloc: Global, n: usize) -> Result<Option<Torn>, AllocError> {
+    Ok(match n {
+        0 => None,
+        1 => Some(Torn::Old),
+        2 => Some(Torn::New),
+        3 => Some(Torn::Half),
+        4 => Some(Torn::Octets(vec![in alloc; 0xa5; 3]?)),
+        _ => Some(Torn::Octets(vec![in alloc; 0xa5; 20_000]?)),
+    })
+}
+
+// The first and the last octet of what each of them leaves.
+const LEFT: [(u8, u8); 6] = [(0, 0), (0, 0), (8, 8), (8, 255), (0xa5, 0), (0xa5, 0xa5)];
+
+// What is left where the n-th is chosen.
+fn left_by(alloc: Global, n: usize) -> Result<(Option<(u8, u8)>, bool, Option<(u8, u8)>), Fail> {
+    let mut choice = Vec::new(alloc);
+    if let Some(torn) = torn(alloc, n)? {
+        choice.push(torn)?;
+    }
+    left(alloc, &choice)
+}
+
 #[test]
 fn a_crash_tears_what_is_not_settled(rt: HostRuntime) -> Result<(), Fail> {
-    let alloc = rt.alloc();
-    let settled = Some((7, 7));
-    assert_eq!(rt; left(alloc, &[])?, (Some((0, 0)), false, settled));
-    assert_eq!(rt; left(alloc, &[Torn::Old])?, (Some((0, 0)), false, settled));
-    assert_eq!(rt; left(alloc, &[Torn::New])?, (Some((8, 8)), false, settled));
-    assert_eq!(rt;
-        left(alloc, &[Torn::Half])?,
-        (Some((8, 255)), false, settled)
-    );
-    let octets = vec![in alloc; 0xa5; 3]?;
-    assert_eq!(rt;
-        left(alloc, &[Torn::Octets(octets)])?,
-        (Some((0xa5, 0)), false, settled)
-    );
-    let long = vec![in alloc; 0xa5; 20_000]?;
-    assert_eq!(rt;
-        left(alloc, &[Torn::Octets(long)])?,
-        (Some((0xa5, 0xa5)), false, settled)
-    );
+    for (n, wanted) in LEFT.iter().enumerate() {
+        let wanted = (Some(*wanted), false, Some((7, 7)));
+        assert!(rt; left_by(rt.alloc(), n)? == wanted, "{n}");
+    }
     Ok(())
 }
 
@@ -142,9 +151,9 @@ fn a_copy_goes_its_own_way(rt: HostRuntime) -> Result<(), Fail> {
     let (other, mut other_pen) = disk.copy(&pen)?;
     other.settle(&mut other_pen)?;
     assert!(rt; burn_blank(&other, &mut other_pen, 2, &block_of(alloc, 9)?)?);
-    assert_eq!(rt; ends(alloc, &other, &mut other_pen, 1)?, Some((8, 8)));
-    assert_eq!(rt; ends(alloc, &disk, &mut pen, 1)?, Some((0, 0)));
-    assert_eq!(rt; pen.waiting().len(), 1);
+    assert!(rt; ends(alloc, &other, &mut other_pen, 1)? == Some((8, 8)));
+    assert!(rt; ends(alloc, &disk, &mut pen, 1)? == Some((0, 0)));
+    assert!(rt; pen.waiting().len() == 1);
     Ok(())
 }
 
@@ -209,7 +218,7 @@ fn each_call_fails_once(rt: HostRuntime) -> Result<(), Fail> {
             *failed = true;
         }
         let wanted = (failed, *faults, Some(*settled));
-        assert_eq!(rt; run_with(rt.alloc(), failure(n))?, wanted, "{n}");
+        assert!(rt; run_with(rt.alloc(), failure(n))? == wanted, "{n}");
     }
     Ok(())
 }
