@@ -14,7 +14,7 @@ use Rattle.route_meaning.specs.Events.{events, IsEventsAnswer}
 use Rattle.route_meaning.specs.History.{History, IsHistory, Begins, applied, settled}
 use Rattle.route_meaning.proofs.api.Agreeing.{AreRows-until, events-until, until-later}
 use Rattle.route_meaning.proofs.api.Beginning.{Begins-refl, Begins-trans}
-use Rattle.route_meaning.proofs.Ranges.{AreRows-joined}
+use Rattle.route_meaning.proofs.api.Ranges.{AreRows-joined}
 use Rattle.interleaving_core.specs.declared.query.Query.{Query}
 use Rattle.interleaving_core.specs.declared.query.Query.TheVariants.{Rows, Events}
 use Rattle.interleaving_core.specs.declared.query.Answer.{Answer}

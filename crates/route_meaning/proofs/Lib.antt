@@ -1,5 +1,4 @@
 pub mod Merging
-pub mod Ranges
 pub mod Holding
 pub mod Stable
 pub mod Placing

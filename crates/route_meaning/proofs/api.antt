@@ -4,3 +4,4 @@ pub mod Settling
 pub mod Agreeing
 pub mod Beginning
 pub mod Front
+pub mod Ranges

@@ -15,4 +15,4 @@ pub use question::{
     Select, Spot,
 };
 pub use replay::{answer_rows, rows_in};
-pub use telling::answer_events;
+pub use telling::{answer_events, events_of};

@@ -3,7 +3,7 @@
 ghost use Rattle.std.specs.Prelude.{◌≡◌, ◌++◌, ◌&&◌, nat_le, map, filter, drop, IfOk, OnOk};
 ghost use Rattle.route_meaning.specs.declared.question.Event.{Event};
 ghost use Rattle.route_meaning.specs.Holds.{concerns, time_of};
-ghost use Rattle.route_meaning.specs.Events.{all_events, between, IsEventsAnswer};
+ghost use Rattle.route_meaning.specs.Events.{all_events, between, events, IsEventsAnswer};
 
 use crate::placed::PlacedAdmission;
 use crate::question::{Event, EventsAnswer, EventsQuestion, MAX_ROWS};
@@ -79,8 +79,22 @@ fn skip(events: &mut Vec<Event>, count: u64)
     events.drain(..count);
 }
 
-/// The answer to the question: its events in the order of the history, at most [`MAX_ROWS`], and
-/// whether more follow. The list is in the one order of the collectors, as [`crate::merge`] gives it.
+/// The events of the question in the order of the history: all of its span, without the first that it skips. The list is in
+/// the one order of the collectors, as [`crate::merge`] gives it.
+pub fn events_of(
+    alloc: Global,
+    list: &[PlacedAdmission],
+    question: &EventsQuestion,
+) -> Result<Vec<Event>, AllocError>
+    ensures events { IfOk result (λ told. told.items ≡ events list.now question.now) }
+{
+    let mut told = all_told(alloc, list, question)?;
+    skip(&mut told, question.skip);
+    Ok(told)
+}
+
+/// The answer to the question: the first of its events, at most [`MAX_ROWS`], and whether more follow. The list is in the one
+/// order of the collectors, as [`crate::merge`] gives it.
 pub fn answer_events(
     alloc: Global,
     list: &[PlacedAdmission],
@@ -88,9 +102,8 @@ pub fn answer_events(
 ) -> Result<EventsAnswer, AllocError>
     ensures answer { IfOk result (λ answer. IsEventsAnswer list.now question.now answer.events.items answer.more) }
 {
-    let mut events = all_told(alloc, list, question)?;
-    skip(&mut events, question.skip);
-    let more = events.len() > MAX_ROWS;
-    events.truncate(MAX_ROWS);
-    Ok(EventsAnswer { events, more })
+    let mut told = events_of(alloc, list, question)?;
+    let more = told.len() > MAX_ROWS;
+    told.truncate(MAX_ROWS);
+    Ok(EventsAnswer { events: told, more })
 }

@@ -1,5 +1,5 @@
 use Rattle.route_meaning.proofs.Holding.{Holds-one}
-use Rattle.route_meaning.proofs.Ranges.{AreRows-one, rows-one, events-one}
+use Rattle.route_meaning.proofs.api.Ranges.{AreRows-one, rows-one, events-one}
 use Rattle.route_meaning.proofs.laws.answers_are_one.Goals as goal
 
 pub returns : goal.returns
