@@ -1,5 +1,7 @@
 -- What holds on either outcome.
-use Rattle.std.proofs.Common.{◌≡◌, ◌⊎◌, inl, inr, ◌<◌, ◌≤◌, ℕ, List, length, get_or, Result, Ok, Err, OnOk, OnErr, Option, None, Some, Bor, slice_get, option_copied, ltb, sym, ◌∙◌, ap}
+use Rattle.std.proofs.Common.{◌≡◌, ◌⊎◌, inl, inr, ◌<◌, ◌≤◌, ℕ, List, length, get_or, Result, Ok, Err, OnOk, OnErr, Option, None, Some, Bor, Bool, false, slice_get, option_copied, ltb, refl, sym, ◌∙◌, ap}
+use Rattle.disk_memory.specs.declared.torn.Torn.{Torn}
+use Rattle.disk_memory.specs.inner.Failing.{octets_kept}
 use Rattle.std.specs.Option.{IfSome, MatchOption, is_some}
 use Rattle.std.proofs.lemmas.Bool.{ltb-true, ltb-false}
 use Rattle.std.proofs.lemmas.Option.{slice_get_past, slice_get-get_or}
@@ -24,3 +26,8 @@ on_ok_both (Err e) P Q p q = tt
 pub on_err_weaker_to : {T E : Type 0} (r : Result T E) (P Q : Type 0) → (P → Q) → OnErr r P → OnErr r Q
 on_err_weaker_to (Ok x) P Q so p = tt
 on_err_weaker_to (Err e) P Q so p = so p
+
+-- a write that the script doesn't have fail leaves all its octets
+pub whole : (failure : Option (Bor Torn)) (fails : Bool) (from : List ℕ) → fails ≡ is_some failure → fails ≡ false → octets_kept (option_copied failure) from ≡ from
+whole None fails from is none = refl
+whole (Some torn) fails from is none = absurd cc

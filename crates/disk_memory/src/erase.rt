@@ -211,66 +211,6 @@ impl MemErase {
         }
     }
 
-    // Reads, unless the script has this read fail.
-    fn read_call(&mut self, at: u64, into: &mut [u8]) -> Result<(), Fault>
-        requires { at + length into.old ≤ size_of self.old }
-        ensures octets { OnOk result (into.new ≡ octets (octet_of (calls_of self.old)) at (length into.old)) }
-        ensures scripted { IsErr result ↔ IsTrue (list_any (λ failure. is_read_failure self.old.reads failure) (script_of self.old)) }
-        ensures calls { calls_of self.new ≡ calls_of self.old }
-        ensures size { size_of self.new ≡ size_of self.old }
-        ensures counts { Counts (faults_of self.old) (faults_of self.new) result }
-        ensures script { script_of self.new ≡ script_of self.old }
-        ensures next { IsAtCall self.new (min (self.old.reads + 1) 18446744073709551615) self.old.writes self.old.syncs }
-    {
-        if self.read_fails() {
-            return Err(self.fault());
-        }
-        prove!(into.len() as u64 <= self.size - at);
-        replay(&self.calls, at, into);
-        Ok(())
-    }
-
-    // Syncs, unless the script has this sync fail or memory is refused. A failed one leaves all as it is.
-    fn sync_call(&mut self) -> Result<(), Fault>
-        ensures ok { OnOk result (calls_of self.new ≡ calls_of self.old ++ Call.Sync ∷ []) }
-        ensures err { OnErr result (calls_of self.new ≡ calls_of self.old) }
-        ensures scripted { IsTrue (list_any (λ failure. is_sync_failure self.old.syncs failure) (script_of self.old)) → IsErr result }
-        ensures size { size_of self.new ≡ size_of self.old }
-        ensures counts { Counts (faults_of self.old) (faults_of self.new) result }
-        ensures script { script_of self.new ≡ script_of self.old }
-        ensures next { IsAtCall self.new self.old.reads self.old.writes (min (self.old.syncs + 1) 18446744073709551615) }
-    {
-        if self.sync_fails() {
-            return Err(self.fault());
-        }
-        self.record(Call::Sync)
-    }
-
-    // Writes, or leaves what the script has for this write. Nothing is recorded for want of memory.
-    fn write_call(&mut self, at: u64, from: &[u8]) -> Result<(), Fault>
-        ensures ok { OnOk result (calls_of self.new ≡ calls_of self.old ++ Call.Write (record { at = at; length = length from.now; octets = from.now }) ∷ []) }
-        ensures err { OnErr result (LeavesTorn at from.now (write_failure_at self.old.writes (script_of self.old)) (calls_of self.old) (calls_of self.new)) }
-        ensures scripted { IsSome (write_failure_at self.old.writes (script_of self.old)) → IsErr result }
-        ensures script { script_of self.new ≡ script_of self.old }
-        ensures next { IsAtCall self.new self.old.reads (min (self.old.writes + 1) 18446744073709551615) self.old.syncs }
-        ensures size { size_of self.new ≡ size_of self.old }
-        ensures counts { Counts (faults_of self.old) (faults_of self.new) result }
-    {
-        let number = self.writes;
-        self.writes = number.saturating_add(1);
-        let failure = write_failure(&self.script, number);
-        let fails = failure.is_some();
-        let write = match Written::new(self.alloc, at, from, failure) {
-            Ok(write) => write,
-            Err(_) => return Err(self.fault()),
-        };
-        self.record(Call::Write(write))?;
-        if fails {
-            return Err(self.fault());
-        }
-        Ok(())
-    }
-
     /// The same disk once more: what it holds, and what crashes may have left of it. No failure is to come, and the
     /// count of failures is kept. The copies share the octets.
     pub fn copy(&self) -> Result<MemErase, AllocError>
@@ -337,10 +277,16 @@ impl EraseDisk for MemErase {
         ensures calls { calls_of self.new ≡ calls_of self.old }
         ensures next { CalledRead self.old self.new }
     {
-        self.read_call(at, into)
+        if self.read_fails() {
+            return Err(self.fault());
+        }
+        prove!(into.len() as u64 <= self.size - at);
+        replay(&self.calls, at, into);
+        Ok(())
     }
 
-    /// Beside the trait's clauses: which call is remembered, and that it fails where the script says.
+    /// Beside the trait's clauses: which call is remembered, and that it fails where the script says. Nothing is
+    /// remembered for want of memory.
     fn write_at(&mut self, at: u64, from: &[u8]) -> Result<(), Fault>
         requires { at + length from.now ≤ size_of self.old }
         ensures size { size_of self.new ≡ size_of self.old }
@@ -352,7 +298,19 @@ impl EraseDisk for MemErase {
         ensures scripted { IsSome (write_to_fail self.old) → IsErr result }
         ensures next { CalledWrite self.old self.new }
     {
-        self.write_call(at, from)
+        let number = self.writes;
+        self.writes = number.saturating_add(1);
+        let failure = write_failure(&self.script, number);
+        let fails = failure.is_some();
+        let write = match Written::new(self.alloc, at, from, failure) {
+            Ok(write) => write,
+            Err(_) => return Err(self.fault()),
+        };
+        self.record(Call::Write(write))?;
+        if fails {
+            return Err(self.fault());
+        }
+        Ok(())
     }
 
     /// Beside the trait's clauses: a sync that succeeds is remembered, and it fails where the script says.
@@ -366,6 +324,9 @@ impl EraseDisk for MemErase {
         ensures scripted { IsSyncToFail self.old → IsErr result }
         ensures next { CalledSync self.old self.new }
     {
-        self.sync_call()
+        if self.sync_fails() {
+            return Err(self.fault());
+        }
+        self.record(Call::Sync)
     }
 }

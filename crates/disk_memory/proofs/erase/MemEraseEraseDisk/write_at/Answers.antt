@@ -1,21 +1,28 @@
-use Rattle.std.proofs.Common.{length, refl, ⊎_elim}
-use Rattle.std.proofs.lemmas.Result.{on_ok_weaker}
-use Rattle.disk_memory.specs.Failure.{write_failure_at}
+use Rattle.std.proofs.Common.{◌≡◌, ◌++◌, ◌∷◌, [], List, length, refl, ap, ◌∙◌}
+use Rattle.disk_memory.specs.Memory.{calls_of}
 use Rattle.disk_memory.specs.Writing.{Writing}
-use Rattle.disk_memory.proofs.Replaying.{more_within, more_done}
-use Rattle.disk_memory.proofs.Tearing.{torn_within}
-use Rattle.disk_memory.proofs.Results.{ok_or_err}
+use Rattle.disk_memory.specs.declared.call.Call.{Call}
+use Rattle.disk_memory.specs.declared.call.Call.TheVariants.{Write}
+use Rattle.disk_memory.proofs.Replaying.{same_within, more_within, more_done}
+use Rattle.disk_memory.proofs.Results.{whole}
 use Rattle.disk_memory.proofs.erase.MemEraseEraseDisk.write_at.Goals as goal
+
+pub returns-in_err-record-clause-within : goal.returns-in_err-record-clause-within
+returns-in_err-record-clause-within c = same_within c.args.at (length c.args.from.now) _ _ c.in_err-record.ensures.err
+
+pub returns-then-fails-clause-within : goal.returns-then-fails-clause-within
+returns-then-fails-clause-within c =
+    more_within (record { at = c.args.at; length = length c.args.from.now; octets = _ }) (calls_of c.args.self.now) _
+    (ap calls_of c.fault-then-fails.ensures ∙ c.in_ok-record.ensures.ok ∙ ap (λ (w : Writing). calls_of c.args.self.now ++ Write w ∷ []) c.in-Ok.ensures)
 
 pub returns-clause-octets : goal.returns-clause-octets
 returns-clause-octets c =
     let w : Writing = record { at = c.args.at; length = length c.args.from.now; octets = c.args.from.now } in
-    on_ok_weaker c.write_call.result (λ is. more_done w _ _ refl is) c.write_call.ensures.ok
+    let octets = whole c.write_failure-failure.result c.is_some-fails.result c.args.from.now c.is_some-fails.ensures c.if-fails.false in
+    more_done w (calls_of c.args.self.now) _ refl
+    (c.in_ok-record.ensures.ok ∙ ap (λ (w : Writing). calls_of c.args.self.now ++ Write w ∷ []) (c.in-Ok.ensures ∙ ap (λ (o : List _). record w { octets = o }) octets))
 
 pub returns-clause-within : goal.returns-clause-within
 returns-clause-within c =
-    let w : Writing = record { at = c.args.at; length = length c.args.from.now; octets = c.args.from.now } in
-    ⊎_elim
-    (λ is. more_within w _ _ is)
-    (λ is. torn_within c.args.at c.args.from.now (write_failure_at c.args.self.now.writes c.args.self.now.script.items) _ _ is)
-    (ok_or_err c.write_call.result _ _ c.write_call.ensures.ok c.write_call.ensures.err)
+    more_within (record { at = c.args.at; length = length c.args.from.now; octets = _ }) (calls_of c.args.self.now) _
+    (c.in_ok-record.ensures.ok ∙ ap (λ (w : Writing). calls_of c.args.self.now ++ Write w ∷ []) c.in-Ok.ensures)
