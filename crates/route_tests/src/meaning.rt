@@ -4,15 +4,14 @@ ghost use Rattle.std.specs.Prelude.{◌≡◌, [], ◌∷◌};
 ghost use Rattle.route_meaning.specs.History.{settled, applied};
 
 use route_meaning::{
-    Event, EventsQuestion, Row, RowsQuestion, RowsRange, Select, Spot, answer_events, answer_rows,
-    merge, rows_in,
+    Event, EventsQuestion, PlacedAdmission, Row, RowsQuestion, RowsRange, Select, Spot,
+    answer_events, answer_rows, merge, rows_in,
 };
 use route_model::{
     Address, Admission, AsNumbers, Attributes, Change, Moment, NextHop, Origin, Path, Peer, Prefix,
     Route, Segment, SharedRoute,
 };
 use std::alloc::Global;
-use std::process::Abort;
 use std::test::Fail;
 
 // 2024-01-01T00:00:00Z.
@@ -26,13 +25,195 @@ const PEER: Peer = Peer {
 
 // What the peer says at a time: of the prefix 10.SECOND.0.0/16, and with the last AS number of the
 // path. `Both` withdraws and announces in one admission.
-#[derive(Clone, Copy, Debug, PartialEq, Eq)]
+#[derive(Clone, Copy, PartialEq)]
 enum Said {
     Announces(u8, u32),
     Withdraws(u8),
     Ends,
     Both(u8, u32),
 }
+
+// Which rows are asked for.
+#[derive(Clone, Copy)]
+enum Which {
+    All,
+    // Those of 10.0.0.0/16.
+    ByPrefix,
+    // That of 10.0.0.0/16 of the peer.
+    Route,
+    // Those of the peer.
+    PeerTable,
+    // Those whose prefixes contain this address.
+    Covering([u8; 4]),
+}
+
+// Which rows are asked for at which moment, above 10.SECOND.0.0/16 or from the first one on, and what has to be answered
+// without more to follow: the second octet of each row's prefix, and the last AS number of its path.
+struct RowsAsked(u64, Which, Option<u8>, &'static [(u8, u32)]);
+
+// What the peer told of 10.0.0.0/16 from one moment to another, without more to follow.
+struct EventsAsked(u64, u64, &'static [(u64, Said)]);
+
+// What two collectors gave, and what is asked of it.
+struct Example {
+    name: &'static str,
+    first: &'static [(u64, Said)],
+    second: &'static [(u64, Said)],
+    rows: &'static [RowsAsked],
+    events: &'static [EventsAsked],
+}
+
+const LAST: u64 = Moment::LAST_SECOND;
+
+const EXAMPLES: [Example; 14] = [
+    Example {
+        name: "a state change ends the route, and the history tells it",
+        first: &[
+            (NEW_YEAR, Said::Announces(0, 65002)),
+            (NEW_YEAR, Said::Ends),
+            (NEW_YEAR, Said::Announces(0, 65003)),
+        ],
+        second: &[],
+        rows: &[RowsAsked(NEW_YEAR, Which::ByPrefix, None, &[(0, 65003)])],
+        events: &[EventsAsked(
+            NEW_YEAR,
+            NEW_YEAR,
+            &[
+                (NEW_YEAR, Said::Announces(0, 65002)),
+                (NEW_YEAR, Said::Ends),
+                (NEW_YEAR, Said::Announces(0, 65003)),
+            ],
+        )],
+    },
+    Example {
+        name: "a state change ends the route",
+        first: &[
+            (NEW_YEAR, Said::Announces(0, 65002)),
+            (NEW_YEAR, Said::Ends),
+        ],
+        second: &[],
+        rows: &[RowsAsked(NEW_YEAR, Which::ByPrefix, None, &[])],
+        events: &[],
+    },
+    // A message that withdraws and announces a prefix gives no withdrawal of it; and one before it would change nothing.
+    Example {
+        name: "a prefix that is announced stands",
+        first: &[(NEW_YEAR, Said::Announces(0, 65002))],
+        second: &[],
+        rows: &[RowsAsked(NEW_YEAR, Which::ByPrefix, None, &[(0, 65002)])],
+        events: &[],
+    },
+    Example {
+        name: "a prefix that is withdrawn and announced in one message stands",
+        first: &[(NEW_YEAR, Said::Both(0, 65002))],
+        second: &[],
+        rows: &[RowsAsked(NEW_YEAR, Which::ByPrefix, None, &[(0, 65002)])],
+        events: &[],
+    },
+    Example {
+        name: "the last moment is answered",
+        first: &[(LAST, Said::Announces(0, 65002))],
+        second: &[],
+        rows: &[
+            RowsAsked(LAST, Which::All, None, &[(0, 65002)]),
+            RowsAsked(LAST - 1, Which::All, None, &[]),
+        ],
+        events: &[],
+    },
+    Example {
+        name: "rows stand in order above the spot",
+        first: &[
+            (7, Said::Announces(128, 3)),
+            (7, Said::Announces(0, 2)),
+            (8, Said::Withdraws(0)),
+        ],
+        second: &[],
+        rows: &[
+            RowsAsked(7, Which::PeerTable, None, &[(0, 2), (128, 3)]),
+            RowsAsked(7, Which::PeerTable, Some(0), &[(128, 3)]),
+            RowsAsked(8, Which::All, None, &[(128, 3)]),
+        ],
+        events: &[],
+    },
+    Example {
+        name: "a prefix covers its addresses",
+        first: &[(7, Said::Announces(1, 2)), (7, Said::Announces(2, 3))],
+        second: &[],
+        rows: &[
+            RowsAsked(7, Which::Covering([10, 2, 255, 255]), None, &[(2, 3)]),
+            RowsAsked(7, Which::Covering([10, 3, 0, 0]), None, &[]),
+        ],
+        events: &[],
+    },
+    Example {
+        name: "the second of two collectors alone",
+        first: &[],
+        second: &[(60, Said::Announces(0, 65002))],
+        rows: &[
+            RowsAsked(59, Which::All, None, &[]),
+            RowsAsked(60, Which::All, None, &[(0, 65002)]),
+        ],
+        events: &[],
+    },
+    Example {
+        name: "a tie goes to the later collector",
+        first: &[(5, Said::Announces(0, 1))],
+        second: &[(5, Said::Announces(0, 2))],
+        rows: &[RowsAsked(5, Which::Route, None, &[(0, 2)])],
+        events: &[EventsAsked(
+            0,
+            9,
+            &[(5, Said::Announces(0, 1)), (5, Said::Announces(0, 2))],
+        )],
+    },
+    Example {
+        name: "a tie turned round",
+        first: &[(5, Said::Announces(0, 2))],
+        second: &[(5, Said::Announces(0, 1))],
+        rows: &[RowsAsked(5, Which::Route, None, &[(0, 1)])],
+        events: &[EventsAsked(
+            0,
+            9,
+            &[(5, Said::Announces(0, 2)), (5, Said::Announces(0, 1))],
+        )],
+    },
+    Example {
+        name: "an end before an announcement of the same time",
+        first: &[(5, Said::Ends)],
+        second: &[(5, Said::Announces(0, 1))],
+        rows: &[RowsAsked(5, Which::Route, None, &[(0, 1)])],
+        events: &[EventsAsked(0, 9, &[(5, Said::Ends), (5, Said::Announces(0, 1))])],
+    },
+    Example {
+        name: "an end behind an announcement of the same time",
+        first: &[(5, Said::Announces(0, 1))],
+        second: &[(5, Said::Ends)],
+        rows: &[RowsAsked(5, Which::Route, None, &[])],
+        events: &[EventsAsked(0, 9, &[(5, Said::Announces(0, 1)), (5, Said::Ends)])],
+    },
+    Example {
+        name: "times go before collectors",
+        first: &[(6, Said::Announces(0, 1))],
+        second: &[(4, Said::Announces(0, 2)), (6, Said::Withdraws(0))],
+        rows: &[RowsAsked(5, Which::Route, None, &[(0, 2)])],
+        events: &[EventsAsked(
+            0,
+            9,
+            &[
+                (4, Said::Announces(0, 2)),
+                (6, Said::Announces(0, 1)),
+                (6, Said::Withdraws(0)),
+            ],
+        )],
+    },
+    Example {
+        name: "two collectors that gave nothing",
+        first: &[],
+        second: &[],
+        rows: &[RowsAsked(5, Which::All, None, &[])],
+        events: &[EventsAsked(0, 9, &[])],
+    },
+];
 
 fn prefix_of(second: u8) -> Prefix {
     Prefix::containing(Address::V4([10, second, 0, 0]), 16)
@@ -51,16 +232,20 @@ fn second_octet(prefix: &Prefix) -> u8 {
 }
 
 // The path 65001 LAST.
-fn route_of(alloc: Global, last: u32) -> Result<SharedRoute, Fail> {
+fn path_of(alloc: Global, last: u32) -> Result<Path, Fail> {
     let mut numbers = Vec::new(alloc);
     numbers.push(65001u32)?;
     numbers.push(last)?;
     let mut segments = Vec::new(alloc);
     segments.push(Segment::Sequence(AsNumbers::new(numbers)))?;
+    Ok(Path::new(segments))
+}
+
+fn route_of(alloc: Global, last: u32) -> Result<SharedRoute, Fail> {
     let others = Attributes::try_new(Vec::new(alloc)).ok_or("attributes out of order")?;
     let route = Route {
         origin: Origin::Igp,
-        path: Path::new(segments),
+        path: path_of(alloc, last)?,
         next_hop: NextHop::One(Address::V4([192, 0, 2, 1])),
         med: None,
         local_pref: None,
@@ -78,19 +263,23 @@ fn last_number(route: &SharedRoute) -> u32 {
     }
 }
 
+// The change that is told, of `Both` the last one.
+fn change_of(alloc: Global, said: Said) -> Result<Change, Fail> {
+    Ok(match said {
+        Said::Announces(second, last) | Said::Both(second, last) => {
+            Change::Announce(PEER, prefix_of(second), route_of(alloc, last)?)
+        }
+        Said::Withdraws(second) => Change::Withdraw(PEER, prefix_of(second)),
+        Said::Ends => Change::Down(PEER),
+    })
+}
+
 fn changes_of(alloc: Global, said: Said) -> Result<Vec<Change>, Fail> {
     let mut changes = Vec::new(alloc);
-    match said {
-        Said::Announces(second, last) => {
-            changes.push(Change::Announce(PEER, prefix_of(second), route_of(alloc, last)?))?;
-        }
-        Said::Withdraws(second) => changes.push(Change::Withdraw(PEER, prefix_of(second)))?,
-        Said::Ends => changes.push(Change::Down(PEER))?,
-        Said::Both(second, last) => {
-            changes.push(Change::Withdraw(PEER, prefix_of(second)))?;
-            changes.push(Change::Announce(PEER, prefix_of(second), route_of(alloc, last)?))?;
-        }
+    if let Said::Both(second, _) = said {
+        changes.push(Change::Withdraw(PEER, prefix_of(second)))?;
     }
+    changes.push(change_of(alloc, said)?)?;
     Ok(changes)
 }
 
@@ -113,56 +302,33 @@ fn seen(alloc: Global, rows: &[Row]) -> Result<Vec<(u8, u32)>, Fail> {
     Ok(seen)
 }
 
+fn said_by(change: &Change) -> Said {
+    match change {
+        Change::Announce(_, prefix, route) => {
+            Said::Announces(second_octet(prefix), last_number(route))
+        }
+        Change::Withdraw(_, prefix) => Said::Withdraws(second_octet(prefix)),
+        Change::Down(_) => Said::Ends,
+    }
+}
+
 // What each event said.
 fn heard(alloc: Global, events: &[Event]) -> Result<Vec<(u64, Said)>, Fail> {
     let mut heard = Vec::new(alloc);
     for event in events {
-        let said = match &event.change {
-            Change::Announce(_, prefix, route) => {
-                Said::Announces(second_octet(prefix), last_number(route))
-            }
-            Change::Withdraw(_, prefix) => Said::Withdraws(second_octet(prefix)),
-            Change::Down(_) => Said::Ends,
-        };
-        heard.push((event.time.seconds(), said))?;
+        heard.push((event.time.seconds(), said_by(&event.change)))?;
     }
     Ok(heard)
 }
 
-// Expects these rows, as `seen` tells them, of what two collectors gave, and whether more follow.
-fn expect_rows(
-    rt: &impl Abort,
-    alloc: Global,
-    given: (&[(u64, Said)], &[(u64, Said)]),
-    question: &RowsQuestion,
-    wanted: (&[(u8, u32)], bool),
-) -> Result<(), Fail> {
-    let first = list_of(alloc, given.0)?;
-    let second = list_of(alloc, given.1)?;
-    let list = merge(alloc, &[first.as_slice(), second.as_slice()])?;
-    let answer = answer_rows(alloc, &list, question)?;
-    let rows = seen(alloc, &answer.rows)?;
-    assert_eq!(rt; rows.as_slice(), wanted.0);
-    assert_eq!(rt; answer.more, wanted.1);
-    Ok(())
-}
-
-// Expects these events, as `heard` tells them, and whether more follow.
-fn expect_events(
-    rt: &impl Abort,
-    alloc: Global,
-    given: (&[(u64, Said)], &[(u64, Said)]),
-    question: &EventsQuestion,
-    wanted: (&[(u64, Said)], bool),
-) -> Result<(), Fail> {
-    let first = list_of(alloc, given.0)?;
-    let second = list_of(alloc, given.1)?;
-    let list = merge(alloc, &[first.as_slice(), second.as_slice()])?;
-    let answer = answer_events(alloc, &list, question)?;
-    let events = heard(alloc, &answer.events)?;
-    assert_eq!(rt; events.as_slice(), wanted.0);
-    assert_eq!(rt; answer.more, wanted.1);
-    Ok(())
+fn selected(which: Which) -> Select {
+    match which {
+        Which::All => Select::All,
+        Which::ByPrefix => Select::ByPrefix(prefix_of(0)),
+        Which::Route => Select::Route(PEER, prefix_of(0)),
+        Which::PeerTable => Select::PeerTable(PEER),
+        Which::Covering(octets) => Select::Covering(Address::V4(octets)),
+    }
 }
 
 fn rows_at(moment: u64, select: Select, after: Option<Spot>) -> Result<RowsQuestion, Fail> {
@@ -186,111 +352,95 @@ fn history(from: u64, to: u64, skip: u64) -> Result<EventsQuestion, Fail> {
     })
 }
 
-#[test]
-fn a_state_change_ends_the_route_and_the_history_tells_it(rt: HostRuntime) -> Result<(), Fail> {
-    let told = [
-        (NEW_YEAR, Said::Announces(0, 65002)),
-        (NEW_YEAR, Said::Ends),
-        (NEW_YEAR, Said::Announces(0, 65003)),
-    ];
-    let told = told.as_slice();
-    let question = rows_at(NEW_YEAR, Select::ByPrefix(prefix_of(0)), None)?;
-    expect_rows(
-        &rt,
-        rt.alloc(),
-        (told, &[]),
-        &question,
-        (&[(0, 65003)], false),
-    )?;
-    expect_rows(&rt, rt.alloc(), (&told[..2], &[]), &question, (&[], false))?;
-    let question = history(NEW_YEAR, NEW_YEAR, 0)?;
-    expect_events(&rt, rt.alloc(), (told, &[]), &question, (told, false))
+// Whether the rows are these, as `seen` tells them, and more follow or don't.
+fn are_rows(
+    alloc: Global,
+    list: &[PlacedAdmission<'_>],
+    question: &RowsQuestion,
+    wanted: &[(u8, u32)],
+    more: bool,
+) -> Result<bool, Fail> {
+    let answer = answer_rows(alloc, list, question)?;
+    Ok(answer.more == more && seen(alloc, &answer.rows)?.as_slice() == wanted)
+}
+
+// Whether the events are these, as `heard` tells them, and more follow or don't.
+fn are_events(
+    alloc: Global,
+    list: &[PlacedAdmission<'_>],
+    question: &EventsQuestion,
+    wanted: &[(u64, Said)],
+    more: bool,
+) -> Result<bool, Fail> {
+    let answer = answer_events(alloc, list, question)?;
+    Ok(answer.more == more && heard(alloc, &answer.events)?.as_slice() == wanted)
+}
+
+fn are_all_rows(
+    alloc: Global,
+    list: &[PlacedAdmission<'_>],
+    asked: &[RowsAsked],
+) -> Result<bool, Fail> {
+    for one in asked {
+        let question = rows_at(one.0, selected(one.1), one.2.map(spot_of))?;
+        if !are_rows(alloc, list, &question, one.3, false)? {
+            return Ok(false);
+        }
+    }
+    Ok(true)
+}
+
+fn are_all_events(
+    alloc: Global,
+    list: &[PlacedAdmission<'_>],
+    asked: &[EventsAsked],
+) -> Result<bool, Fail> {
+    for one in asked {
+        let question = history(one.0, one.1, 0)?;
+        if !are_events(alloc, list, &question, one.2, false)? {
+            return Ok(false);
+        }
+    }
+    Ok(true)
+}
+
+// Whether all that is asked of an example is answered as it has to be.
+fn is_as_wanted(alloc: Global, example: &Example) -> Result<bool, Fail> {
+    let first = list_of(alloc, example.first)?;
+    let second = list_of(alloc, example.second)?;
+    let list = merge(alloc, &[first.as_slice(), second.as_slice()])?;
+    let rows = are_all_rows(alloc, &list, example.rows)?;
+    Ok(rows && are_all_events(alloc, &list, example.events)?)
 }
 
 #[test]
-fn a_prefix_withdrawn_and_announced_in_one_message_stands(rt: HostRuntime) -> Result<(), Fail> {
-    // Such a message gives no withdrawal of the prefix; and one before it would change nothing.
-    let question = rows_at(NEW_YEAR, Select::ByPrefix(prefix_of(0)), None)?;
-    let alone = [(NEW_YEAR, Said::Announces(0, 65002))];
-    expect_rows(
-        &rt,
-        rt.alloc(),
-        (&alone, &[]),
-        &question,
-        (&[(0, 65002)], false),
-    )?;
-    let both = [(NEW_YEAR, Said::Both(0, 65002))];
-    expect_rows(
-        &rt,
-        rt.alloc(),
-        (&both, &[]),
-        &question,
-        (&[(0, 65002)], false),
-    )
+fn examples_are_answered(rt: HostRuntime) -> Result<(), Fail> {
+    for example in &EXAMPLES {
+        assert!(rt; is_as_wanted(rt.alloc(), example)?, "{}", example.name);
+    }
+    Ok(())
 }
 
-#[test]
-fn the_last_moment_is_answered(rt: HostRuntime) -> Result<(), Fail> {
-    let told = [(Moment::LAST_SECOND, Said::Announces(0, 65002))];
-    let last = rows_at(Moment::LAST_SECOND, Select::All, None)?;
-    expect_rows(&rt, rt.alloc(), (&told, &[]), &last, (&[(0, 65002)], false))?;
-    let before = rows_at(Moment::LAST_SECOND - 1, Select::All, None)?;
-    expect_rows(&rt, rt.alloc(), (&told, &[]), &before, (&[], false))
-}
-
-#[test]
-fn rows_stand_in_order_above_the_spot(rt: HostRuntime) -> Result<(), Fail> {
-    let told = [
-        (7, Said::Announces(128, 3)),
-        (7, Said::Announces(0, 2)),
-        (8, Said::Withdraws(0)),
-    ];
-    let all = rows_at(7, Select::PeerTable(PEER), None)?;
-    expect_rows(
-        &rt,
-        rt.alloc(),
-        (&told, &[]),
-        &all,
-        (&[(0, 2), (128, 3)], false),
-    )?;
-    let above = rows_at(7, Select::PeerTable(PEER), Some(spot_of(0)))?;
-    expect_rows(&rt, rt.alloc(), (&told, &[]), &above, (&[(128, 3)], false))?;
-    let withdrawn = rows_at(8, Select::All, None)?;
-    expect_rows(
-        &rt,
-        rt.alloc(),
-        (&told, &[]),
-        &withdrawn,
-        (&[(128, 3)], false),
-    )
-}
-
-#[test]
-fn rows_of_a_range_end_at_its_high_spot(rt: HostRuntime) -> Result<(), Fail> {
-    let alloc = rt.alloc();
+// The rows up to 10.0.0.0/16 of a history with one more.
+fn ranged(alloc: Global) -> Result<Vec<(u8, u32)>, Fail> {
     let told = list_of(
         alloc,
         &[(7, Said::Announces(128, 3)), (7, Said::Announces(0, 2))],
     )?;
     let list = merge(alloc, &[told.as_slice()])?;
-    let moment = Moment::new(7).ok_or("no moment")?;
     let range = RowsRange {
         select: Select::All,
         low: None,
         high: Some(spot_of(0)),
     };
-    let rows = rows_in(alloc, &list, moment, &range)?;
-    assert_eq!(rt; seen(alloc, &rows)?.as_slice(), [(0, 2)].as_slice());
-    Ok(())
+    let moment = Moment::new(7).ok_or("no moment")?;
+    seen(alloc, &rows_in(alloc, &list, moment, &range)?)
 }
 
 #[test]
-fn a_prefix_covers_its_addresses(rt: HostRuntime) -> Result<(), Fail> {
-    let told = [(7, Said::Announces(1, 2)), (7, Said::Announces(2, 3))];
-    let inside = rows_at(7, Select::Covering(Address::V4([10, 2, 255, 255])), None)?;
-    expect_rows(&rt, rt.alloc(), (&told, &[]), &inside, (&[(2, 3)], false))?;
-    let outside = rows_at(7, Select::Covering(Address::V4([10, 3, 0, 0])), None)?;
-    expect_rows(&rt, rt.alloc(), (&told, &[]), &outside, (&[], false))
+fn rows_of_a_range_end_at_its_high_spot(rt: HostRuntime) -> Result<(), Fail> {
+    assert!(rt; ranged(rt.alloc())?.as_slice() == [(0, 2)].as_slice());
+    Ok(())
 }
 
 // Two collectors: the first has the mark 50 and gave nothing, the second gave a record at 60. It
@@ -303,94 +453,28 @@ fn a_mark_holds_back_the_record_of_another_collector()
     ensures after { settled (record { intakes = record { admitted = []; mark = 61; offered = 0 } ∷ record { admitted = record { time = 60; changes = [] } ∷ []; mark = 62; offered = 1 } ∷ []; whole = 1; some = 0 }) ≡ 61 }
 {}
 
-#[test]
-fn two_collectors_with_a_mark(rt: HostRuntime) -> Result<(), Fail> {
-    a_mark_holds_back_the_record_of_another_collector();
-    let told = [(60, Said::Announces(0, 65002))];
-    let before = rows_at(59, Select::All, None)?;
-    expect_rows(&rt, rt.alloc(), (&[], &told), &before, (&[], false))?;
-    let at = rows_at(60, Select::All, None)?;
-    expect_rows(&rt, rt.alloc(), (&[], &told), &at, (&[(0, 65002)], false))
-}
-
-// Expects of a small history of two collectors what holds at the moment 5 and all events of 0 to 9.
-fn expect_small(
-    rt: &impl Abort,
-    alloc: Global,
-    given: (&[(u64, Said)], &[(u64, Said)]),
-    held: &[(u8, u32)],
-    events: &[(u64, Said)],
-) -> Result<(), Fail> {
-    let at_five = rows_at(5, Select::Route(PEER, prefix_of(0)), None)?;
-    expect_rows(rt, alloc, given, &at_five, (held, false))?;
-    let question = history(0, 9, 0)?;
-    expect_events(rt, alloc, given, &question, (events, false))
-}
-
-#[test]
-fn a_tie_goes_to_the_later_collector(rt: HostRuntime) -> Result<(), Fail> {
-    let one = [(5, Said::Announces(0, 1))];
-    let two = [(5, Said::Announces(0, 2))];
-    let both = [(5, Said::Announces(0, 1)), (5, Said::Announces(0, 2))];
-    expect_small(&rt, rt.alloc(), (&one, &two), &[(0, 2)], &both)?;
-    let turned = [(5, Said::Announces(0, 2)), (5, Said::Announces(0, 1))];
-    expect_small(&rt, rt.alloc(), (&two, &one), &[(0, 1)], &turned)
-}
-
-#[test]
-fn placed_admissions_tell_whose_they_are(rt: HostRuntime) -> Result<(), Fail> {
-    let alloc = rt.alloc();
-    let first = list_of(alloc, &[(5, Said::Ends), (6, Said::Withdraws(0))])?;
-    let second = list_of(alloc, &[(5, Said::Announces(0, 1))])?;
-    let list = merge(alloc, &[first.as_slice(), second.as_slice()])?;
+// Of which collector each placed admission is, its time, and how many changes it has.
+fn placed_of(alloc: Global, list: &[PlacedAdmission<'_>]) -> Result<Vec<(u8, u64, usize)>, Fail> {
     let mut told = Vec::new(alloc);
-    for placed in &list {
+    for placed in list {
         told.push((
             placed.collector(),
             placed.time().seconds(),
             placed.admission().changes().len(),
         ))?;
     }
-    assert_eq!(rt;
-        told.as_slice(),
-        [(0, 5, 1), (1, 5, 1), (0, 6, 1)].as_slice()
-    );
-    Ok(())
+    Ok(told)
 }
 
 #[test]
-fn an_end_and_an_announcement_tie(rt: HostRuntime) -> Result<(), Fail> {
-    let one = [(5, Said::Announces(0, 1))];
-    let end = [(5, Said::Ends)];
-    let end_first = [(5, Said::Ends), (5, Said::Announces(0, 1))];
-    expect_small(&rt, rt.alloc(), (&end, &one), &[(0, 1)], &end_first)?;
-    let end_last = [(5, Said::Announces(0, 1)), (5, Said::Ends)];
-    expect_small(&rt, rt.alloc(), (&one, &end), &[], &end_last)
-}
-
-#[test]
-fn times_go_before_collectors(rt: HostRuntime) -> Result<(), Fail> {
-    let first = [(6, Said::Announces(0, 1))];
-    let second = [(4, Said::Announces(0, 2)), (6, Said::Withdraws(0))];
-    let all = [
-        (4, Said::Announces(0, 2)),
-        (6, Said::Announces(0, 1)),
-        (6, Said::Withdraws(0)),
-    ];
-    expect_small(&rt, rt.alloc(), (&first, &second), &[(0, 2)], &all)
-}
-
-#[test]
-fn rows_are_cut_at_256_and_go_on_after_the_last(rt: HostRuntime) -> Result<(), Fail> {
+fn placed_admissions_tell_whose_they_are(rt: HostRuntime) -> Result<(), Fail> {
+    a_mark_holds_back_the_record_of_another_collector();
     let alloc = rt.alloc();
-    let mut told = Vec::new(alloc);
-    for second in 0..=255u8 {
-        told.push((7u64, Said::Announces(second, 1)))?;
-    }
-    let last = rows_at(7, Select::All, Some(spot_of(254)))?;
-    expect_rows(&rt, alloc, (&told, &[]), &last, (&[(255, 1)], false))?;
-    assert!(rt; is_cut(alloc, &told, false)?);
-    assert!(rt; is_cut(alloc, &told, true)?);
+    let first = list_of(alloc, &[(5, Said::Ends), (6, Said::Withdraws(0))])?;
+    let second = list_of(alloc, &[(5, Said::Announces(0, 1))])?;
+    let list = merge(alloc, &[first.as_slice(), second.as_slice()])?;
+    let told = placed_of(alloc, &list)?;
+    assert!(rt; told.as_slice() == [(0, 5, 1), (1, 5, 1), (0, 6, 1)].as_slice());
     Ok(())
 }
 
@@ -403,53 +487,76 @@ fn one_more(alloc: Global) -> Result<Admission, Fail> {
     Ok(Admission::new(time, changes)?)
 }
 
-// Are 256 rows answered, and more told only where there is one more?
-fn is_cut(alloc: Global, told: &[(u64, Said)], more: bool) -> Result<bool, Fail> {
-    let mut told = list_of(alloc, told)?;
+// The peer announces 256 prefixes at 7, and one more where that is wanted.
+fn many(alloc: Global, more: bool) -> Result<Vec<Admission>, Fail> {
+    let mut told = Vec::new(alloc);
+    for second in 0..=255u8 {
+        told.push((7u64, Said::Announces(second, 1)))?;
+    }
+    let mut told = list_of(alloc, &told)?;
     if more {
         told.push(one_more(alloc)?)?;
     }
+    Ok(told)
+}
+
+// Are 256 rows answered, and more told only where there is one more?
+fn is_cut(alloc: Global, more: bool) -> Result<bool, Fail> {
+    let told = many(alloc, more)?;
     let list = merge(alloc, &[told.as_slice()])?;
-    let question = rows_at(7, Select::All, None)?;
-    let answer = answer_rows(alloc, &list, &question)?;
+    let answer = answer_rows(alloc, &list, &rows_at(7, Select::All, None)?)?;
     Ok(answer.rows.len() == 256 && answer.more == more)
+}
+
+// Does the last of 256 rows stand alone above the one before it?
+fn is_last(alloc: Global) -> Result<bool, Fail> {
+    let told = many(alloc, false)?;
+    let list = merge(alloc, &[told.as_slice()])?;
+    are_rows(
+        alloc,
+        &list,
+        &rows_at(7, Select::All, Some(spot_of(254)))?,
+        &[(255, 1)],
+        false,
+    )
+}
+
+#[test]
+fn rows_are_cut_at_256_and_go_on_after_the_last(rt: HostRuntime) -> Result<(), Fail> {
+    assert!(rt; is_last(rt.alloc())?);
+    assert!(rt; is_cut(rt.alloc(), false)?);
+    assert!(rt; is_cut(rt.alloc(), true)?);
+    Ok(())
+}
+
+// So many withdrawals, one in each second from 0 on.
+fn withdrawals(alloc: Global, count: u64) -> Result<Vec<(u64, Said)>, Fail> {
+    let mut told = Vec::new(alloc);
+    for time in 0..count {
+        told.push((time, Said::Withdraws(0)))?;
+    }
+    Ok(told)
+}
+
+// Whether of so many withdrawals, but for so many first ones, these are told, and more or not.
+fn are_told(
+    alloc: Global,
+    (count, skip): (u64, u64),
+    wanted: &[(u64, Said)],
+    more: bool,
+) -> Result<bool, Fail> {
+    let told = list_of(alloc, &withdrawals(alloc, count)?)?;
+    let list = merge(alloc, &[told.as_slice()])?;
+    are_events(alloc, &list, &history(0, 300, skip)?, wanted, more)
 }
 
 #[test]
 fn events_are_cut_at_256_and_go_on_where_they_are_skipped(rt: HostRuntime) -> Result<(), Fail> {
     let alloc = rt.alloc();
-    let mut told = Vec::new(alloc);
-    for time in 0..257u64 {
-        told.push((time, Said::Withdraws(0)))?;
-    }
-    let first = told.as_slice().split_at(told.len().min(256)).0;
-    expect_events(
-        &rt,
-        alloc,
-        (&told, &[]),
-        &history(0, 300, 0)?,
-        (first, true),
-    )?;
-    let last = [(256, Said::Withdraws(0))];
-    expect_events(
-        &rt,
-        alloc,
-        (&told, &[]),
-        &history(0, 300, 256)?,
-        (&last, false),
-    )?;
-    expect_events(
-        &rt,
-        alloc,
-        (first, &[]),
-        &history(0, 300, 0)?,
-        (first, false),
-    )?;
-    expect_events(
-        &rt,
-        alloc,
-        (&told, &[]),
-        &history(0, 300, 1000)?,
-        (&[], false),
-    )
+    let first = withdrawals(alloc, 256)?;
+    assert!(rt; are_told(alloc, (257, 0), &first, true)?);
+    assert!(rt; are_told(alloc, (256, 0), &first, false)?);
+    assert!(rt; are_told(alloc, (257, 256), &[(256, Said::Withdraws(0))], false)?);
+    assert!(rt; are_told(alloc, (257, 1000), &[], false)?);
+    Ok(())
 }

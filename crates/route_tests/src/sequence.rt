@@ -57,15 +57,12 @@ fn a_time_below_an_earlier_one_is_late(rt: HostRuntime) -> Result<(), Fail> {
     let alloc = rt.alloc();
     let times = moments(alloc, &[100, 99, 100])?;
     let sieved = sieve(alloc, mark(0), &times)?;
-    assert_eq!(rt;
-        sieved.timely.as_slice(),
-        moments(alloc, &[100, 100])?.as_slice()
-    );
-    assert_eq!(rt; sieved.late.len(), 1);
-    assert_eq!(rt; sieved.late[0].index, 1);
-    assert_eq!(rt; sieved.late[0].time, moment(99));
-    assert_eq!(rt; sieved.late[0].mark, mark(100));
-    assert_eq!(rt; sieved.mark, mark(100));
+    assert!(rt; sieved.timely.as_slice() == moments(alloc, &[100, 100])?.as_slice());
+    assert!(rt; sieved.late.len() == 1);
+    assert!(rt; sieved.late[0].index == 1);
+    assert!(rt; sieved.late[0].time == moment(99));
+    assert!(rt; sieved.late[0].mark == mark(100));
+    assert!(rt; sieved.mark == mark(100));
     Ok(())
 }
 
@@ -73,22 +70,22 @@ fn a_time_below_an_earlier_one_is_late(rt: HostRuntime) -> Result<(), Fail> {
 fn a_record_waits_for_the_mark_of_each_collector(rt: HostRuntime) -> Result<(), Fail> {
     let alloc = rt.alloc();
     let mut two = Sequencer::new(alloc, 2)?;
-    assert_eq!(rt; two.collectors(), 2);
+    assert!(rt; two.collectors() == 2);
     raise(&mut two, 0, 50)?;
     offer(alloc, &mut two, 1, &[60])?;
-    assert_eq!(rt; two.release(), None);
-    assert_eq!(rt; settled(&two)?, mark(50));
+    assert!(rt; two.release() == None);
+    assert!(rt; settled(&two)? == mark(50));
     raise(&mut two, 0, 60)?;
-    assert_eq!(rt; two.release(), None);
+    assert!(rt; two.release() == None);
     raise(&mut two, 0, 61)?;
-    assert_eq!(rt; two.release(), None);
-    assert_eq!(rt; two.next(), None);
+    assert!(rt; two.release() == None);
+    assert!(rt; two.next() == None);
     raise(&mut two, 1, 61)?;
-    assert_eq!(rt; two.next(), Some(1));
-    assert_eq!(rt; two.release(), Some(1));
-    assert_eq!(rt; two.next(), None);
-    assert_eq!(rt; two.release(), None);
-    assert_eq!(rt; settled(&two)?, mark(61));
+    assert!(rt; two.next() == Some(1));
+    assert!(rt; two.release() == Some(1));
+    assert!(rt; two.next() == None);
+    assert!(rt; two.release() == None);
+    assert!(rt; settled(&two)? == mark(61));
     Ok(())
 }
 
@@ -98,15 +95,15 @@ fn of_equal_times_the_lower_collector_goes_first(rt: HostRuntime) -> Result<(), 
     let mut two = Sequencer::new(alloc, 2)?;
     offer(alloc, &mut two, 1, &[5, 7])?;
     let sieved = offer(alloc, &mut two, 0, &[7, 6, 8])?;
-    assert_eq!(rt; sieved.late.len(), 1);
+    assert!(rt; sieved.late.len() == 1);
     raise(&mut two, 0, 9)?;
     raise(&mut two, 1, 9)?;
-    assert_eq!(rt; settled(&two)?, mark(5));
-    assert_eq!(rt; two.release(), Some(1));
-    assert_eq!(rt; two.release(), Some(0));
-    assert_eq!(rt; two.release(), Some(1));
-    assert_eq!(rt; two.release(), Some(0));
-    assert_eq!(rt; two.release(), None);
+    assert!(rt; settled(&two)? == mark(5));
+    assert!(rt; two.release() == Some(1));
+    assert!(rt; two.release() == Some(0));
+    assert!(rt; two.release() == Some(1));
+    assert!(rt; two.release() == Some(0));
+    assert!(rt; two.release() == None);
     Ok(())
 }
 
@@ -116,11 +113,11 @@ fn a_mark_never_goes_back(rt: HostRuntime) -> Result<(), Fail> {
     let mut one = Sequencer::new(alloc, 1)?;
     raise(&mut one, 0, 10)?;
     if 0 < one.collectors() {
-        assert_eq!(rt; one.raise(0, mark(9)), Err(MarkBack));
-        assert_eq!(rt; one.raise(0, mark(10)), Ok(()));
+        assert!(rt; one.raise(0, mark(9)) == Err(MarkBack));
+        assert!(rt; one.raise(0, mark(10)) == Ok(()));
     }
     if 0 < one.collectors() {
-        assert_eq!(rt; one.mark(0), mark(10));
+        assert!(rt; one.mark(0) == mark(10));
     }
     Ok(())
 }

@@ -32,14 +32,11 @@ fn route_text(alloc: Global, route: &Route) -> Result<String, AllocError> {
 
 #[test]
 fn numbers_are_written_and_read(rt: HostRuntime) -> Result<(), Fail> {
-    assert_eq!(rt; number_text(rt.alloc(), 0)?.as_str(), "0");
-    assert_eq!(rt;
-        number_text(rt.alloc(), 18446744073709551615)?.as_str(),
-        "18446744073709551615"
-    );
-    assert_eq!(rt; read_number("0", 9)?, 0);
-    assert_eq!(rt; read_number("18446744073709551615", u64::MAX)?, u64::MAX);
-    assert_eq!(rt; read_number("10", 10)?, 10);
+    assert!(rt; number_text(rt.alloc(), 0)?.as_str() == "0");
+    assert!(rt; number_text(rt.alloc(), 18446744073709551615)?.as_str() == "18446744073709551615");
+    assert!(rt; read_number("0", 9)? == 0);
+    assert!(rt; read_number("18446744073709551615", u64::MAX)? == u64::MAX);
+    assert!(rt; read_number("10", 10)? == 10);
     Ok(())
 }
 
@@ -51,7 +48,7 @@ fn other_numbers_are_refused(rt: HostRuntime) {
     for text in &NO_NUMBERS {
         assert!(rt; read_number(text, 10).is_err(), "{text}");
     }
-    assert_eq!(rt; read_number("18446744073709551616", u64::MAX), Err(BadText));
+    assert!(rt; read_number("18446744073709551616", u64::MAX) == Err(BadText));
 }
 
 /// The address of these eight groups.
@@ -132,9 +129,9 @@ fn addresses_are_read_from_other_texts(rt: HostRuntime) -> Result<(), Fail> {
     ]);
     let read = read_address("ABCD:EF01:2345:6789:ABCD:EF01:2345:6789")?;
     assert!(rt; read == unicast);
-    assert_eq!(rt; read_ipv4("10.0.0.255")?, [10, 0, 0, 255]);
+    assert!(rt; read_ipv4("10.0.0.255")? == [10, 0, 0, 255]);
     let [.., last] = read_ipv6("::1")?;
-    assert_eq!(rt; last, 1);
+    assert!(rt; last == 1);
     Ok(())
 }
 
@@ -159,8 +156,8 @@ fn other_addresses_are_refused(rt: HostRuntime) {
     for text in &NO_ADDRESSES {
         assert!(rt; read_address(text).is_err(), "{text}");
     }
-    assert_eq!(rt; read_ipv4("::"), Err(BadText));
-    assert_eq!(rt; read_ipv6("192.0.2.1"), Err(BadText));
+    assert!(rt; read_ipv4("::") == Err(BadText));
+    assert!(rt; read_ipv6("192.0.2.1") == Err(BadText));
 }
 
 /// Texts of prefixes, and those that are written: RFC 4291 section 2.3 first.
@@ -187,7 +184,7 @@ fn prefixes_are_read_and_written(rt: HostRuntime) -> Result<(), Fail> {
         write_prefix(&mut out, &read_prefix(text)?)?;
         assert!(rt; out.as_str() == *written, "{text}");
     }
-    assert_eq!(rt; read_prefix("10.255.3.4/9")?.length(), 9);
+    assert!(rt; read_prefix("10.255.3.4/9")?.length() == 9);
     Ok(())
 }
 
@@ -225,8 +222,8 @@ fn moments_and_marks_are_read(rt: HostRuntime) -> Result<(), Fail> {
         assert!(rt; read_moment(text)?.seconds() == *seconds, "{text}");
         assert!(rt; read_mark(text)?.seconds() == *seconds, "{text}");
     }
-    assert_eq!(rt; read_mark("2106-02-07T06:28:16Z")?.seconds(), 4294967296);
-    assert_eq!(rt; read_mark("4294967296")?.seconds(), 4294967296);
+    assert!(rt; read_mark("2106-02-07T06:28:16Z")?.seconds() == 4294967296);
+    assert!(rt; read_mark("4294967296")?.seconds() == 4294967296);
     Ok(())
 }
 
@@ -236,7 +233,7 @@ fn moments_and_marks_are_written(rt: HostRuntime) -> Result<(), Fail> {
     write_moment(&mut out, read_moment("2024-01-01T00:00:00Z")?)?;
     out.push('|')?;
     write_mark(&mut out, read_mark("4294967296")?)?;
-    assert_eq!(rt; out.as_str(), "1704067200|4294967296");
+    assert!(rt; out.as_str() == "1704067200|4294967296");
     Ok(())
 }
 
@@ -256,8 +253,8 @@ fn other_moments_are_refused(rt: HostRuntime) {
     for text in &NO_MOMENTS {
         assert!(rt; read_moment(text).is_err(), "{text}");
     }
-    assert_eq!(rt; read_mark("4294967297"), Err(BadText));
-    assert_eq!(rt; read_mark("2106-02-07T06:28:17Z"), Err(BadText));
+    assert!(rt; read_mark("4294967297") == Err(BadText));
+    assert!(rt; read_mark("2106-02-07T06:28:17Z") == Err(BadText));
 }
 
 const ROW: &str = "65001 65002|IGP|192.0.2.1|||NAG||";
@@ -283,12 +280,9 @@ fn row_route(alloc: Global) -> Result<Route, Fail> {
 #[test]
 fn a_row_is_written_and_read(rt: HostRuntime) -> Result<(), Fail> {
     let route = row_route(rt.alloc())?;
-    assert_eq!(rt; route_text(rt.alloc(), &route)?.as_str(), ROW);
+    assert!(rt; route_text(rt.alloc(), &route)?.as_str() == ROW);
     let read = read_route(rt.alloc(), ROW)?;
-    assert_eq!(rt;
-        read.encode(rt.alloc())?.as_slice(),
-        route.encode(rt.alloc())?.as_slice()
-    );
+    assert!(rt; read.encode(rt.alloc())?.as_slice() == route.encode(rt.alloc())?.as_slice());
     Ok(())
 }
 
@@ -300,23 +294,23 @@ const FULL: &str =
 fn a_route_with_every_field_is_read_and_written(rt: HostRuntime) -> Result<(), Fail> {
     let alloc = rt.alloc();
     let route = read_route(alloc, FULL)?;
-    assert_eq!(rt; route_text(alloc, &route)?.as_str(), FULL);
-    assert_eq!(rt; route.origin, Origin::Incomplete);
-    assert_eq!(rt; route.med, Some(10));
-    assert_eq!(rt; route.local_pref, Some(4294967295));
-    assert_eq!(rt; route.atomic_aggregate, true);
-    assert_eq!(rt;
-        route.aggregator,
-        Some(Aggregator {
-            as_number: 64512,
-            address: [192, 0, 2, 9]
-        })
+    assert!(rt; route_text(alloc, &route)?.as_str() == FULL);
+    assert!(rt; route.origin == Origin::Incomplete);
+    assert!(rt; route.med == Some(10));
+    assert!(rt; route.local_pref == Some(4294967295));
+    assert!(rt; route.atomic_aggregate);
+    assert!(rt;
+        route.aggregator
+            == Some(Aggregator {
+                as_number: 64512,
+                address: [192, 0, 2, 9]
+            })
     );
-    assert_eq!(rt; route.path.as_slice().len(), 3);
-    assert_eq!(rt; route.others.as_slice().len(), 2);
+    assert!(rt; route.path.as_slice().len() == 3);
+    assert!(rt; route.others.as_slice().len() == 2);
     let empty = read_route(alloc, "-|EGP|::|||NAG||")?;
-    assert_eq!(rt; empty.path.as_slice().len(), 0);
-    assert_eq!(rt; route_text(alloc, &empty)?.as_str(), "-|EGP|::|||NAG||");
+    assert!(rt; empty.path.as_slice().len() == 0);
+    assert!(rt; route_text(alloc, &empty)?.as_str() == "-|EGP|::|||NAG||");
     Ok(())
 }
 
@@ -331,10 +325,10 @@ fn a_long_path_is_read(rt: HostRuntime) -> Result<(), Fail> {
     text.push_str("|IGP|192.0.2.1|||NAG||")?;
     let route = read_route(alloc, text.as_str())?;
     let segments = route.path.as_slice();
-    assert_eq!(rt; segments.len(), 2);
-    assert_eq!(rt; numbers_in(segments.first()), 255);
-    assert_eq!(rt; numbers_in(segments.last()), 45);
-    assert_eq!(rt; route_text(alloc, &route)?.as_str(), text.as_str());
+    assert!(rt; segments.len() == 2);
+    assert!(rt; numbers_in(segments.first()) == 255);
+    assert!(rt; numbers_in(segments.last()) == 45);
+    assert!(rt; route_text(alloc, &route)?.as_str() == text.as_str());
     Ok(())
 }
 
@@ -400,7 +394,7 @@ fn a_set_that_is_too_long_is_refused(rt: HostRuntime) -> Result<(), Fail> {
     text.push_str("}|IGP|192.0.2.1|||NAG||")?;
     long.push_str(",1}|IGP|192.0.2.1|||NAG||")?;
     let route = read_route(alloc, text.as_str())?;
-    assert_eq!(rt; route_text(alloc, &route)?.as_str(), text.as_str());
+    assert!(rt; route_text(alloc, &route)?.as_str() == text.as_str());
     assert!(rt; is_refused(alloc, long.as_str()));
     Ok(())
 }

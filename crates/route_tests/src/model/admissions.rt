@@ -29,77 +29,110 @@ fn moment() -> Moment {
     Moment::from(1_704_067_200u32)
 }
 
+/// The admission that the vector spells.
+fn vector(alloc: Global) -> Result<Admission, Fail> {
+    let admission = Admission::decode(alloc, &VECTOR)?.ok_or("no admission")?;
+    Ok(admission)
+}
+
+/// Whether there is one change, which announces the route for 10.0.0.0/8.
+fn is_the_announcement(changes: &[Change]) -> bool {
+    match changes {
+        [Change::Announce(from, prefix, route)] => {
+            *from == peer() && *prefix == ten() && route.spelling() == ROUTE.as_slice()
+        }
+        _ => false,
+    }
+}
+
 #[test]
 fn reads_the_vector(rt: HostRuntime) -> Result<(), Fail> {
-    let admission = Admission::decode(rt.alloc(), &VECTOR)?.ok_or("no admission")?;
-    assert_eq!(rt; admission.time().seconds(), 1_704_067_200);
-    match admission.changes() {
-        [Change::Announce(from, prefix, route)] => {
-            assert_eq!(rt; *from, peer());
-            assert_eq!(rt; *prefix, ten());
-            assert_eq!(rt; route.spelling(), ROUTE.as_slice());
-        }
-        _ => return Err(Fail::from("other changes")),
-    }
-    assert_eq!(rt; admission.encode(rt.alloc())?.as_slice(), VECTOR.as_slice());
+    let admission = vector(rt.alloc())?;
+    assert!(rt; admission.time().seconds() == 1_704_067_200);
+    assert!(rt; is_the_announcement(admission.changes()));
+    assert!(rt; admission.encode(rt.alloc())?.as_slice() == VECTOR.as_slice());
     Ok(())
+}
+
+fn shared_vector(alloc: Global) -> Result<Admission, Fail> {
+    Ok(vector(alloc)?.share(alloc)?)
 }
 
 #[test]
 fn a_shared_admission_is_the_same(rt: HostRuntime) -> Result<(), Fail> {
-    let alloc = rt.alloc();
-    let admission = Admission::decode(alloc, &VECTOR)?.ok_or("no admission")?;
-    let shared = admission.share(alloc)?;
-    assert_eq!(rt; shared.encode(alloc)?.as_slice(), VECTOR.as_slice());
+    let shared = shared_vector(rt.alloc())?;
+    assert!(rt; shared.encode(rt.alloc())?.as_slice() == VECTOR.as_slice());
     for change in shared.changes() {
-        assert_eq!(rt; change.share()?.peer(), peer());
+        assert!(rt; change.share()?.peer() == peer());
     }
     Ok(())
+}
+
+/// A route for 10.0.0.0/8 with this path, and an attribute of so many octets, if any.
+fn announcement(alloc: Global, from: Peer, path: &[u32], other: usize) -> Result<Change, Fail> {
+    let route = SharedRoute::new(alloc, route(alloc, path, other)?)?;
+    Ok(Change::Announce(from, ten(), route))
+}
+
+/// The admission of one change.
+fn admission_of(alloc: Global, change: Change) -> Result<Admission, Fail> {
+    let mut changes = Vec::new(alloc);
+    changes.push(change)?;
+    Ok(Admission::new(moment(), changes)?)
 }
 
 #[test]
 fn writes_the_vector(rt: HostRuntime) -> Result<(), Fail> {
     let alloc = rt.alloc();
-    let route = SharedRoute::new(alloc, route(alloc, &[65001, 65002], 0)?)?;
-    let change = Change::Announce(peer(), ten(), route);
-    assert_eq!(rt; change.peer(), peer());
-    let admission = Admission::new(moment(), vec![in alloc; change]?)?;
-    assert_eq!(rt; admission.encoded_len(), 67);
-    assert_eq!(rt; admission.encode(alloc)?.as_slice(), VECTOR.as_slice());
+    let change = announcement(alloc, peer(), &[65001, 65002], 0)?;
+    assert!(rt; change.peer() == peer());
+    let admission = admission_of(alloc, change)?;
+    assert!(rt; admission.encoded_len() == 67);
+    assert!(rt; admission.encode(alloc)?.as_slice() == VECTOR.as_slice());
     Ok(())
 }
+
+/// Five changes of two peers, with two routes.
+fn five_changes(alloc: Global) -> Result<Vec<Change>, Fail> {
+    let mut changes = Vec::new(alloc);
+    changes.push(Change::Down(later()))?;
+    changes.push(announcement(alloc, peer(), &[65002], 0)?)?;
+    changes.push(announcement(alloc, later(), &[65001], 0)?)?;
+    changes.push(Change::Withdraw(peer(), ten()))?;
+    changes.push(announcement(alloc, peer(), &[65002], 0)?)?;
+    Ok(changes)
+}
+
+/// Octets of their spelling, from a place on: two peers, the second of the list first; then two routes of 17 octets; then
+/// the five changes, up to the end.
+const TABLES: [(usize, &[u8]); 4] = [
+    (8, &[0, 2, 0, 4, 0xC0, 0, 2, 2]),
+    (32, &[0, 4, 0xC0, 0, 2, 1]),
+    (54, &[0, 2, 0, 17]),
+    (
+        94,
+        &[
+            0, 5, 3, 0, 0, 1, 0, 1, 4, 8, 10, 0, 0, 1, 0, 0, 4, 8, 10, 0, 1, 2, 0, 1, 4, 8, 10, 1,
+            0, 1, 4, 8, 10, 0, 0,
+        ],
+    ),
+];
 
 #[test]
 fn tables_list_each_value_once_in_the_order_of_first_use(rt: HostRuntime) -> Result<(), Fail> {
     let alloc = rt.alloc();
-    let first = SharedRoute::new(alloc, route(alloc, &[65001], 0)?)?;
-    let second = SharedRoute::new(alloc, route(alloc, &[65002], 0)?)?;
-    let again = SharedRoute::new(alloc, route(alloc, &[65002], 0)?)?;
-    let changes = vec![in alloc;
-        Change::Down(later()),
-        Change::Announce(peer(), ten(), second),
-        Change::Announce(later(), ten(), first),
-        Change::Withdraw(peer(), ten()),
-        Change::Announce(peer(), ten(), again),
-    ]?;
-    let admission = Admission::new(moment(), changes)?;
+    let admission = Admission::new(moment(), five_changes(alloc)?)?;
     let octets = admission.encode(alloc)?;
-    let octets = octets.as_slice();
-    // Two peers, the second of the list first; then two routes of 17 octets.
-    assert_eq!(rt;
-        octets.get(8..16),
-        Some([0, 2, 0, 4, 0xC0, 0, 2, 2].as_slice())
-    );
-    assert_eq!(rt; octets.get(32..38), Some([0, 4, 0xC0, 0, 2, 1].as_slice()));
-    assert_eq!(rt; octets.get(54..58), Some([0, 2, 0, 17].as_slice()));
-    let places = [
-        0, 5, 3, 0, 0, 1, 0, 1, 4, 8, 10, 0, 0, 1, 0, 0, 4, 8, 10, 0, 1, 2, 0, 1, 4, 8, 10, 1, 0,
-        1, 4, 8, 10, 0, 0,
-    ];
-    assert_eq!(rt; octets.get(94..), Some(places.as_slice()));
-    assert_eq!(rt; octets.len(), admission.encoded_len());
-    let read = Admission::decode(alloc, octets)?.ok_or("no admission")?;
-    assert_eq!(rt; read.changes().len(), 5);
+    assert!(rt; octets.len() == admission.encoded_len());
+    for (place, wanted) in &TABLES {
+        let found = octets
+            .as_slice()
+            .get(*place..place.wrapping_add(wanted.len()));
+        assert!(rt; found == Some(*wanted), "{place}");
+    }
+    assert!(rt; octets.len() == 94 + 35);
+    let read = Admission::decode(alloc, &octets)?.ok_or("no admission")?;
+    assert!(rt; read.changes().len() == 5);
     Ok(())
 }
 
@@ -181,46 +214,55 @@ fn tables_have_one_spelling(rt: HostRuntime) -> Result<(), Fail> {
 }
 
 fn announced(alloc: Global, other: usize) -> Result<Vec<Change>, Fail> {
-    let shared = SharedRoute::new(alloc, route(alloc, &[65001], other)?)?;
-    Ok(vec![in alloc; Change::Announce(peer(), ten(), shared)]?)
+    let mut changes = Vec::new(alloc);
+    changes.push(announcement(alloc, peer(), &[65001], other)?)?;
+    Ok(changes)
+}
+
+/// Whether an admission of these changes has so many octets, and is read from them.
+fn is_read_again(alloc: Global, changes: Vec<Change>, len: usize) -> Result<bool, Fail> {
+    let admission = Admission::new(moment(), changes)?;
+    let octets = admission.encode(alloc)?;
+    let whole = admission.encoded_len() == len && octets.len() == len;
+    Ok(whole && !is_none(alloc, &octets)?)
+}
+
+/// Why changes are no admission, or none where they are one.
+fn refusal_of(changes: Vec<Change>) -> Option<AdmissionError> {
+    Admission::new(moment(), changes).err()
 }
 
 #[test]
 fn routes_have_at_most_3072_octets(rt: HostRuntime) -> Result<(), Fail> {
     let alloc = rt.alloc();
     // A route with one AS number has 17 octets, and an attribute four and its value.
-    let below = Admission::new(moment(), announced(alloc, 3050)?)?;
-    let at = Admission::new(moment(), announced(alloc, 3051)?)?;
-    assert_eq!(rt; below.encoded_len() + 1, at.encoded_len());
-    assert_eq!(rt; at.encoded_len(), 46 + 3072);
-    let octets = at.encode(alloc)?;
-    assert!(rt; Admission::decode(alloc, octets.as_slice())?.is_some());
-    let above = Admission::new(moment(), announced(alloc, 3052)?);
-    assert!(rt; matches!(above, Err(AdmissionError::RouteTooLarge)));
+    assert!(rt; is_read_again(alloc, announced(alloc, 3050)?, 46 + 3071)?);
+    assert!(rt; is_read_again(alloc, announced(alloc, 3051)?, 46 + 3072)?);
+    let above = refusal_of(announced(alloc, 3052)?);
+    assert!(rt; above == Some(AdmissionError::RouteTooLarge));
     Ok(())
+}
+
+/// The spelling of a route that is one octet too large.
+fn large_route(alloc: Global) -> Result<Vec<u8>, Fail> {
+    Ok(route(alloc, &[65001], 3052)?.encode(alloc)?)
+}
+
+/// The vector with this spelling of 3,073 octets in place of its route's.
+fn with_large(alloc: Global, route: &[u8]) -> Result<Vec<u8>, AllocError> {
+    let mut octets = Vec::from_slice(alloc, &VECTOR[..34])?;
+    octets.extend_from_slice(&[12, 1])?;
+    octets.extend_from_slice(route)?;
+    octets.extend_from_slice(&VECTOR[57..])?;
+    Ok(octets)
 }
 
 #[test]
 fn a_route_above_the_limit_is_not_read(rt: HostRuntime) -> Result<(), Fail> {
-    let alloc = rt.alloc();
-    let large = route(alloc, &[65001], 3052)?.encode(alloc)?;
-    assert_eq!(rt; large.len(), 3073);
-    let mut octets = Vec::from_slice(alloc, &VECTOR[..34])?;
-    octets.extend_from_slice(&[12, 1])?;
-    octets.extend_from_slice(large.as_slice())?;
-    octets.extend_from_slice(&VECTOR[57..])?;
-    assert!(rt; is_none(alloc, octets.as_slice())?);
+    let large = large_route(rt.alloc())?;
+    assert!(rt; large.len() == 3073);
+    assert!(rt; is_none(rt.alloc(), &with_large(rt.alloc(), &large)?)?);
     Ok(())
-}
-
-/// So many withdrawals of 9 octets each.
-fn withdrawals(alloc: Global, count: usize) -> Result<Vec<Change>, AllocError> {
-    let mut changes = Vec::new(alloc);
-    for _ in 0..count {
-        let prefix = Prefix::containing(Address::V4([10, 0, 0, 1]), 32);
-        changes.push(Change::Withdraw(peer(), prefix))?;
-    }
-    Ok(changes)
 }
 
 fn withdrawal(length: u8) -> Change {
@@ -230,57 +272,52 @@ fn withdrawal(length: u8) -> Change {
     )
 }
 
+/// So many withdrawals of 9 octets each, and behind them of prefixes of these lengths.
+fn withdrawals(alloc: Global, count: usize, lengths: &[u8]) -> Result<Vec<Change>, AllocError> {
+    let mut changes = Vec::new(alloc);
+    for _ in 0..count {
+        changes.push(withdrawal(32))?;
+    }
+    for length in lengths {
+        changes.push(withdrawal(*length))?;
+    }
+    Ok(changes)
+}
+
 #[test]
 fn admissions_have_at_most_131072_octets(rt: HostRuntime) -> Result<(), Fail> {
     let alloc = rt.alloc();
     // 36 octets stand before the changes.
-    let mut below = withdrawals(alloc, 14_558)?;
-    below.push(withdrawal(16))?;
-    below.push(withdrawal(8))?;
-    assert_eq!(rt; Admission::new(moment(), below)?.encoded_len(), 131_071);
-    let mut at = withdrawals(alloc, 14_559)?;
-    at.push(withdrawal(0))?;
-    let at = Admission::new(moment(), at)?;
-    assert_eq!(rt; at.encoded_len(), 131_072);
-    let octets = at.encode(alloc)?;
-    assert_eq!(rt; octets.len(), 131_072);
-    assert!(rt; Admission::decode(alloc, octets.as_slice())?.is_some());
+    assert!(rt; is_read_again(alloc, withdrawals(alloc, 14_558, &[16, 8])?, 131_071)?);
+    assert!(rt; is_read_again(alloc, withdrawals(alloc, 14_559, &[0])?, 131_072)?);
+    let above = refusal_of(withdrawals(alloc, 14_559, &[8])?);
+    assert!(rt; above == Some(AdmissionError::AdmissionTooLarge));
     Ok(())
 }
 
-#[test]
-fn an_admission_of_131073_octets_is_refused(rt: HostRuntime) -> Result<(), Fail> {
-    let alloc = rt.alloc();
-    let mut above = withdrawals(alloc, 14_559)?;
-    above.push(withdrawal(8))?;
-    let above = Admission::new(moment(), above);
-    assert!(rt; matches!(above, Err(AdmissionError::AdmissionTooLarge)));
-    Ok(())
+/// The octets of an admission of 131,072, of which the prefix of the last withdrawal becomes 10.0.0.0/8: one octet more.
+fn above_the_limit(alloc: Global) -> Result<Vec<u8>, Fail> {
+    let changes = withdrawals(alloc, 14_559, &[0])?;
+    let mut octets = Admission::new(moment(), changes)?.encode(alloc)?;
+    if octets.pop() != Some(0) {
+        return Err(Fail::from("another last prefix"));
+    }
+    octets.extend_from_slice(&[8, 10])?;
+    Ok(octets)
 }
 
 #[test]
 fn octets_of_an_admission_above_the_limit_are_not_read(rt: HostRuntime) -> Result<(), Fail> {
-    let alloc = rt.alloc();
-    let mut at = withdrawals(alloc, 14_559)?;
-    at.push(withdrawal(0))?;
-    let mut octets = Admission::new(moment(), at)?.encode(alloc)?;
-    // The prefix of the last withdrawal becomes 10.0.0.0/8, which has one octet more.
-    let last = octets.pop();
-    assert_eq!(rt; last, Some(0));
-    octets.extend_from_slice(&[8, 10])?;
-    assert_eq!(rt; octets.len(), 131_073);
-    assert!(rt; is_none(alloc, octets.as_slice())?);
+    let octets = above_the_limit(rt.alloc())?;
+    assert!(rt; octets.len() == 131_073);
+    assert!(rt; is_none(rt.alloc(), &octets)?);
     Ok(())
 }
 
 #[test]
 fn a_route_too_large_is_told_first(rt: HostRuntime) -> Result<(), Fail> {
-    let alloc = rt.alloc();
-    let mut changes = withdrawals(alloc, 14_560)?;
-    for change in announced(alloc, 3052)? {
-        changes.push(change)?;
-    }
-    let both = Admission::new(moment(), changes);
-    assert!(rt; matches!(both, Err(AdmissionError::RouteTooLarge)));
+    let mut changes = withdrawals(rt.alloc(), 14_560, &[])?;
+    changes.push(announcement(rt.alloc(), peer(), &[65001], 3052)?)?;
+    assert!(rt; refusal_of(changes) == Some(AdmissionError::RouteTooLarge));
     Ok(())
 }

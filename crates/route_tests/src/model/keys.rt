@@ -17,15 +17,15 @@ fn ten() -> Prefix {
 #[test]
 fn keys_are_made_and_taken_apart(rt: HostRuntime) -> Result<(), Fail> {
     let key = Key::prefix(&peer(), &ten());
-    assert_eq!(rt; key.to_octets(), KEY);
-    assert_eq!(rt; Key::from_octets(&KEY), key);
-    assert_eq!(rt; key.parts(), Some(KeyParts::Prefix(peer(), ten())));
-    assert_eq!(rt; KeyParts::Prefix(peer(), ten()).key(), key);
+    assert!(rt; key.to_octets() == KEY);
+    assert!(rt; Key::from_octets(&KEY) == key);
+    assert!(rt; key.parts() == Some(KeyParts::Prefix(peer(), ten())));
+    assert!(rt; KeyParts::Prefix(peer(), ten()).key() == key);
     let mut octets = [0u8; 40];
     octets[0..22].copy_from_slice(&KEY[..22]);
     let session = Key::session(&peer());
-    assert_eq!(rt; session.to_octets(), octets);
-    assert_eq!(rt; session.parts(), Some(KeyParts::Session(peer())));
+    assert!(rt; session.to_octets() == octets);
+    assert!(rt; session.parts() == Some(KeyParts::Session(peer())));
     Ok(())
 }
 
@@ -33,31 +33,28 @@ fn keys_are_made_and_taken_apart(rt: HostRuntime) -> Result<(), Fail> {
 fn other_octets_are_no_key(rt: HostRuntime) -> Result<(), Fail> {
     let mut octets = KEY;
     octets[22] = 5;
-    assert_eq!(rt; Key::from_octets(&octets).parts(), None, "no kind");
+    assert!(rt; Key::from_octets(&octets).parts() == None, "no kind");
     let mut octets = KEY;
     octets[22] = 0;
-    assert_eq!(rt;
-        Key::from_octets(&octets).parts(),
-        None,
+    assert!(rt;
+        Key::from_octets(&octets).parts() == None,
         "a session with a prefix"
     );
     let mut octets = KEY;
     octets[24] = 1;
-    assert_eq!(rt;
-        Key::from_octets(&octets).parts(),
-        None,
+    assert!(rt;
+        Key::from_octets(&octets).parts() == None,
         "bits past the length"
     );
     let mut octets = KEY;
     octets[39] = 33;
-    assert_eq!(rt;
-        Key::from_octets(&octets).parts(),
-        None,
+    assert!(rt;
+        Key::from_octets(&octets).parts() == None,
         "a length above 32"
     );
     let mut octets = KEY;
     octets[1] = 0;
-    assert_eq!(rt; Key::from_octets(&octets).parts(), None, "no peer");
+    assert!(rt; Key::from_octets(&octets).parts() == None, "no peer");
     Ok(())
 }
 

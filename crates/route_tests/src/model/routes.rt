@@ -60,13 +60,13 @@ pub(crate) fn route(alloc: Global, path: &[u32], other: usize) -> Result<Route, 
 #[test]
 fn routes_have_one_spelling(rt: HostRuntime) -> Result<(), Fail> {
     let route = route(rt.alloc(), &[65001, 65002], 0)?;
-    assert_eq!(rt; route.encoded_len(), 21);
-    assert_eq!(rt; route.encode(rt.alloc())?.as_slice(), ROUTE.as_slice());
+    assert!(rt; route.encoded_len() == 21);
+    assert!(rt; route.encode(rt.alloc())?.as_slice() == ROUTE.as_slice());
     let read = Route::decode(rt.alloc(), &ROUTE)?.ok_or("no route")?;
-    assert_eq!(rt; read.origin, Origin::Igp);
-    assert_eq!(rt; read.next_hop, NextHop::One(Address::V4([192, 0, 2, 1])));
+    assert!(rt; read.origin == Origin::Igp);
+    assert!(rt; read.next_hop == NextHop::One(Address::V4([192, 0, 2, 1])));
     match read.path.as_slice() {
-        [Segment::Sequence(path)] => assert_eq!(rt; path.as_slice(), [65001, 65002].as_slice()),
+        [Segment::Sequence(path)] => assert!(rt; path.as_slice() == [65001, 65002].as_slice()),
         _ => return Err(Fail::from("another path")),
     }
     Ok(())
@@ -75,34 +75,34 @@ fn routes_have_one_spelling(rt: HostRuntime) -> Result<(), Fail> {
 #[test]
 fn every_part_of_a_route_is_read(rt: HostRuntime) -> Result<(), Fail> {
     let read = Route::decode(rt.alloc(), &FULL[..80])?.ok_or("no route")?;
-    assert_eq!(rt; read.origin, Origin::Incomplete);
-    assert_eq!(rt; read.med, Some(10));
-    assert_eq!(rt; read.local_pref, Some(100));
+    assert!(rt; read.origin == Origin::Incomplete);
+    assert!(rt; read.med == Some(10));
+    assert!(rt; read.local_pref == Some(100));
     assert!(rt; read.atomic_aggregate);
     let aggregator = Aggregator {
         as_number: 65003,
         address: [192, 0, 2, 9],
     };
-    assert_eq!(rt; read.aggregator, Some(aggregator));
+    assert!(rt; read.aggregator == Some(aggregator));
     match read.path.as_slice() {
         [Segment::Set(set), Segment::Sequence(path)] => {
-            assert_eq!(rt; set.as_slice(), [65001].as_slice());
-            assert_eq!(rt; path.as_slice(), [65002].as_slice());
+            assert!(rt; set.as_slice() == [65001].as_slice());
+            assert!(rt; path.as_slice() == [65002].as_slice());
         }
         _ => return Err(Fail::from("another path")),
     }
     match read.others.as_slice() {
         [first, second] => {
-            assert_eq!(rt; first.kind, 8);
-            assert_eq!(rt; first.value.as_slice(), [0xFD, 0xE9, 0, 1].as_slice());
-            assert_eq!(rt; second.kind, 32);
-            assert_eq!(rt; second.flags, 0xC0);
-            assert_eq!(rt; second.value.as_slice(), [7].as_slice());
+            assert!(rt; first.kind == 8);
+            assert!(rt; first.value.as_slice() == [0xFD, 0xE9, 0, 1].as_slice());
+            assert!(rt; second.kind == 32);
+            assert!(rt; second.flags == 0xC0);
+            assert!(rt; second.value.as_slice() == [7].as_slice());
         }
         _ => return Err(Fail::from("other attributes")),
     }
-    assert_eq!(rt; read.encode(rt.alloc())?.as_slice(), &FULL[..80]);
-    assert_eq!(rt; read.encoded_len(), 80);
+    assert!(rt; read.encode(rt.alloc())?.as_slice() == &FULL[..80]);
+    assert!(rt; read.encoded_len() == 80);
     Ok(())
 }
 
@@ -149,7 +149,7 @@ fn other_octets_are_no_route(rt: HostRuntime) -> Result<(), Fail> {
 fn a_shared_route_keeps_its_spelling(rt: HostRuntime) -> Result<(), Fail> {
     let shared = SharedRoute::new(rt.alloc(), route(rt.alloc(), &[65001, 65002], 0)?)?;
     let again = shared.share()?;
-    assert_eq!(rt; again.spelling(), ROUTE.as_slice());
-    assert_eq!(rt; again.route().origin, Origin::Igp);
+    assert!(rt; again.spelling() == ROUTE.as_slice());
+    assert!(rt; again.route().origin == Origin::Igp);
     Ok(())
 }

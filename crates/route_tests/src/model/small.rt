@@ -2,6 +2,7 @@
 
 use route_model::octets::{u16_at, u32_at, u64_at};
 use route_model::{Address, Mark, Moment, Peer, Prefix};
+use std::alloc::{AllocError, Global};
 use std::test::Fail;
 
 /// Peer 192.0.2.1 of AS 65001 at collector 0.
@@ -27,14 +28,14 @@ fn ipv6_peer() -> Peer {
 
 #[test]
 fn peers_have_one_spelling(rt: HostRuntime) -> Result<(), Fail> {
-    assert_eq!(rt; peer().encode(), PEER);
-    assert_eq!(rt; peer().encoded_len(), 22);
-    assert_eq!(rt; Peer::decode(&PEER), Some(peer()));
+    assert!(rt; peer().encode() == PEER);
+    assert!(rt; peer().encoded_len() == 22);
+    assert!(rt; Peer::decode(&PEER) == Some(peer()));
     let octets = [
         15, 6, 0x20, 1, 0x0D, 0xB8, 0, 0, 0, 0, 0, 0, 0, 0, 0, 0, 0, 1, 0xFA, 0x56, 0xEA, 1,
     ];
-    assert_eq!(rt; ipv6_peer().encode(), octets);
-    assert_eq!(rt; Peer::decode(&octets), Some(ipv6_peer()));
+    assert!(rt; ipv6_peer().encode() == octets);
+    assert!(rt; Peer::decode(&octets) == Some(ipv6_peer()));
     Ok(())
 }
 
@@ -42,43 +43,52 @@ fn peers_have_one_spelling(rt: HostRuntime) -> Result<(), Fail> {
 fn other_octets_are_no_peer(rt: HostRuntime) -> Result<(), Fail> {
     let mut octets = PEER;
     octets[1] = 5;
-    assert_eq!(rt; Peer::decode(&octets), None, "no family");
+    assert!(rt; Peer::decode(&octets) == None, "no family");
     let mut octets = PEER;
     octets[6] = 1;
-    assert_eq!(rt;
-        Peer::decode(&octets),
-        None,
+    assert!(rt;
+        Peer::decode(&octets) == None,
         "no zeros behind an IPv4 address"
     );
-    assert_eq!(rt; Peer::decode(&PEER[..21]), None, "cut");
+    assert!(rt; Peer::decode(&PEER[..21]) == None, "cut");
     let mut long = [0u8; 23];
     long[0..22].copy_from_slice(&PEER);
-    assert_eq!(rt; Peer::decode(&long), None, "an octet left");
-    assert_eq!(rt; Peer::decode(&[]), None);
+    assert!(rt; Peer::decode(&long) == None, "an octet left");
+    assert!(rt; Peer::decode(&[]) == None);
     Ok(())
+}
+
+/// Addresses, lengths, and the spellings of the prefixes that contain them.
+const PREFIXES: [(Address, u8, &[u8]); 4] = [
+    (Address::V4([10, 1, 2, 3]), 8, &[4, 8, 10]),
+    (Address::V4([255, 255, 255, 255]), 0, &[4, 0]),
+    (Address::V4([9, 10, 255, 255]), 9, &[4, 9, 9, 0]),
+    (
+        Address::V6([0x20, 1, 0x0D, 0xB8, 0, 0, 0, 0, 0, 0, 0, 0, 0, 0, 0, 1]),
+        32,
+        &[6, 32, 0x20, 1, 0x0D, 0xB8],
+    ),
+];
+
+/// Whether the prefix is spelled so, and read from it.
+fn is_spelled(alloc: Global, prefix: Prefix, octets: &[u8]) -> Result<bool, AllocError> {
+    let spelled = prefix.encode(alloc)?;
+    Ok(
+        spelled.as_slice() == octets
+            && prefix.encoded_len() == octets.len()
+            && Prefix::decode(octets) == Some(prefix),
+    )
 }
 
 #[test]
 fn prefixes_have_one_spelling(rt: HostRuntime) -> Result<(), Fail> {
     let ten = Prefix::containing(Address::V4([10, 1, 2, 3]), 8);
-    assert_eq!(rt; ten.address(), Address::V4([10, 0, 0, 0]));
-    assert_eq!(rt; ten.length(), 8);
-    assert_eq!(rt; ten.encoded_len(), 3);
-    assert_eq!(rt; ten.encode(rt.alloc())?.as_slice(), [4, 8, 10].as_slice());
-    assert_eq!(rt; Prefix::decode(&[4, 8, 10]), Some(ten));
-    let all = Prefix::containing(Address::V4([255, 255, 255, 255]), 0);
-    assert_eq!(rt; all.encode(rt.alloc())?.as_slice(), [4, 0].as_slice());
-    let odd = Prefix::containing(Address::V4([9, 10, 255, 255]), 9);
-    assert_eq!(rt; odd.encode(rt.alloc())?.as_slice(), [4, 9, 9, 0].as_slice());
-    let six = Prefix::containing(
-        Address::V6([0x20, 1, 0x0D, 0xB8, 0, 0, 0, 0, 0, 0, 0, 0, 0, 0, 0, 1]),
-        32,
-    );
-    assert_eq!(rt;
-        six.encode(rt.alloc())?.as_slice(),
-        [6, 32, 0x20, 1, 0x0D, 0xB8].as_slice()
-    );
-    assert_eq!(rt; Prefix::decode(&[6, 32, 0x20, 1, 0x0D, 0xB8]), Some(six));
+    assert!(rt; ten.address() == Address::V4([10, 0, 0, 0]));
+    assert!(rt; ten.length() == 8);
+    for (address, length, octets) in &PREFIXES {
+        let prefix = Prefix::containing(*address, (*length).min(32));
+        assert!(rt; is_spelled(rt.alloc(), prefix, octets)?, "{length}");
+    }
     Ok(())
 }
 
@@ -104,13 +114,13 @@ fn other_octets_are_no_prefix(rt: HostRuntime) {
 #[test]
 fn moments_and_marks_have_their_range(rt: HostRuntime) -> Result<(), Fail> {
     let last = Moment::new(4_294_967_295).ok_or("no moment")?;
-    assert_eq!(rt; last.seconds(), 4_294_967_295);
-    assert_eq!(rt; Moment::new(4_294_967_296), None);
-    assert_eq!(rt; Moment::from(1_704_067_200u32).seconds(), 1_704_067_200);
+    assert!(rt; last.seconds() == 4_294_967_295);
+    assert!(rt; Moment::new(4_294_967_296) == None);
+    assert!(rt; Moment::from(1_704_067_200u32).seconds() == 1_704_067_200);
     let end = Mark::new(4_294_967_296).ok_or("no mark")?;
-    assert_eq!(rt; end.seconds(), 4_294_967_296);
-    assert_eq!(rt; Mark::new(4_294_967_297), None);
-    assert_eq!(rt; Mark::at(last).seconds(), 4_294_967_295);
+    assert!(rt; end.seconds() == 4_294_967_296);
+    assert!(rt; Mark::new(4_294_967_297) == None);
+    assert!(rt; Mark::at(last).seconds() == 4_294_967_295);
     assert!(rt; Mark::at(last) < end);
     Ok(())
 }
@@ -118,7 +128,7 @@ fn moments_and_marks_have_their_range(rt: HostRuntime) -> Result<(), Fail> {
 #[test]
 fn numbers_stand_in_network_order(rt: HostRuntime) {
     let octets = [0, 0xFD, 0xE9, 0x65, 0x92, 0, 0x80, 0, 0, 1];
-    assert_eq!(rt; u16_at(&octets, 1), 65001);
-    assert_eq!(rt; u32_at(&octets, 3), 1_704_067_200);
-    assert_eq!(rt; u64_at(&octets, 2), 0xE965_9200_8000_0001);
+    assert!(rt; u16_at(&octets, 1) == 65001);
+    assert!(rt; u32_at(&octets, 3) == 1_704_067_200);
+    assert!(rt; u64_at(&octets, 2) == 0xE965_9200_8000_0001);
 }
