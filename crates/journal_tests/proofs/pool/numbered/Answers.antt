@@ -2,7 +2,7 @@ use Rattle.std.proofs.Common.{◌+◌, ◌≤◌, ℕ, List, [], ◌∷◌, ap, 
 use Rattle.page_journal.specs.Layout.{pages_of}
 use Rattle.page_journal.specs.Recovers.{AreBelow, AreDistinct}
 use Rattle.page_journal.proofs.api.Numbering.{pages-push, below-push, distinct-push}
-use Rattle.disk_tests.proofs.pool.numbered.Goals as goal
+use Rattle.journal_tests.proofs.pool.numbered.Goals as goal
 
 pub loop-n-preserved : goal.loop-n-preserved
 loop-n-preserved c =
