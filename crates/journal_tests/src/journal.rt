@@ -132,11 +132,11 @@ fn after_crash(alloc: Global, disk: &MemErase, kind: u8) -> Result<[u8; 4], Fail
 fn four_pages_are_created_and_read(rt: HostRuntime) -> Result<(), Fail> {
     let alloc = rt.alloc();
     let mut journal = opened(alloc, made(alloc)?)?;
-    assert_eq!(rt; journal.home_pages(), 4);
-    assert_eq!(rt; journal.note(), *b"eleven here");
-    assert_eq!(rt; journal.unhomed(), 0);
-    assert_eq!(rt; journal.closed(), 8);
-    assert_eq!(rt; shown(alloc, &mut journal)?, OLD);
+    assert!(rt; journal.home_pages() == 4);
+    assert!(rt; journal.note() == *b"eleven here");
+    assert!(rt; journal.unhomed() == 0);
+    assert!(rt; journal.closed() == 8);
+    assert!(rt; shown(alloc, &mut journal)? == OLD);
     Ok(())
 }
 
@@ -158,20 +158,20 @@ fn the_ninth_post_waits_for_a_checkpoint(rt: HostRuntime) -> Result<(), Fail> {
     let alloc = rt.alloc();
     let mut journal = opened(alloc, made(alloc)?)?;
     for n in 0..8u8 {
-        assert_eq!(rt; journal.closed(), 8 - usize::from(n));
+        assert!(rt; journal.closed() == 8 - usize::from(n));
         post_one(alloc, &mut journal, 1, 30 + n)?;
-        assert_eq!(rt; shown(alloc, &mut journal)?, [10, 30 + n, 12, 13]);
-        assert_eq!(rt; journal.unhomed(), 1);
+        assert!(rt; shown(alloc, &mut journal)? == [10, 30 + n, 12, 13]);
+        assert!(rt; journal.unhomed() == 1);
     }
-    assert_eq!(rt; journal.closed(), 0);
+    assert!(rt; journal.closed() == 0);
     let ninth = post_one(alloc, &mut journal, 2, 40);
-    assert_eq!(rt; ninth, Err(JournalError::JournalFull));
-    assert_eq!(rt; shown(alloc, &mut journal)?, [10, 37, 12, 13]);
+    assert!(rt; ninth == Err(JournalError::JournalFull));
+    assert!(rt; shown(alloc, &mut journal)? == [10, 37, 12, 13]);
     home(alloc, &mut journal, 1, 37)?;
     checkpoint(&mut journal)?;
-    assert_eq!(rt; journal.closed(), 8);
+    assert!(rt; journal.closed() == 8);
     post_one(alloc, &mut journal, 2, 40)?;
-    assert_eq!(rt; shown(alloc, &mut journal)?, [10, 37, 40, 13]);
+    assert!(rt; shown(alloc, &mut journal)? == [10, 37, 40, 13]);
     Ok(())
 }
 
@@ -183,13 +183,13 @@ fn the_newest_image_of_a_page_stays(rt: HostRuntime) -> Result<(), Fail> {
         post_one(alloc, &mut journal, 1, 31)?;
         post_one(alloc, &mut journal, 2, 41)?;
         post_one(alloc, &mut journal, 1, 32)?;
-        assert_eq!(rt; journal.unhomed(), 2);
-        assert_eq!(rt; shown(alloc, &mut journal)?, [10, 32, 41, 13]);
+        assert!(rt; journal.unhomed() == 2);
+        assert!(rt; shown(alloc, &mut journal)? == [10, 32, 41, 13]);
         home(alloc, &mut journal, 1, octet)?;
-        assert_eq!(rt; journal.unhomed(), 1);
+        assert!(rt; journal.unhomed() == 1);
         let disk = journal.into_disk();
         for choice in 0..KINDS {
-            assert_eq!(rt; after_crash(alloc, &disk, choice)?, [10, 32, 41, 13]);
+            assert!(rt; after_crash(alloc, &disk, choice)? == [10, 32, 41, 13]);
         }
     }
     Ok(())
@@ -255,8 +255,8 @@ fn a_run_that_is_stopped_leaves_each_post_whole(rt: HostRuntime) -> Result<(), F
             let mut done = 0;
             let stopped = run(alloc, &mut journal, &mut done);
             let again = run(alloc, &mut journal, &mut 0);
-            assert_eq!(rt; stopped, Err(JournalError::Fault), "{n}, {kind}");
-            assert_eq!(rt; again, Err(JournalError::NeedsRecovery));
+            assert!(rt; stopped == Err(JournalError::Fault), "{n}, {kind}");
+            assert!(rt; again == Err(JournalError::NeedsRecovery));
             assert!(rt; is_left(alloc, &journal.into_disk(), done)?, "{n}, {kind}");
         }
     }
@@ -273,26 +273,26 @@ fn failure_of_an_opening(alloc: Global, n: u64, kind: u8) -> Result<Failure, All
     })
 }
 
+// The disk that is handed back by an opening of three posts that the n-th failure stops.
+fn stopped_opening(alloc: Global, n: u64, kind: u8) -> Result<MemErase, Fail> {
+    let mut journal = opened(alloc, made(alloc)?)?;
+    post_all(alloc, &mut journal, &mut 0)?;
+    let failure = failure_of_an_opening(alloc, n, kind)?;
+    match Journal::open(alloc, scripted(alloc, journal.into_disk(), failure)?) {
+        Ok(_) => Err("not stopped".into()),
+        Err(refused) => match refused.error {
+            OpenError::Fault => Ok(refused.disk),
+            _ => Err("another refusal".into()),
+        },
+    }
+}
+
 #[test]
 fn an_opening_that_is_stopped_loses_nothing(rt: HostRuntime) -> Result<(), Fail> {
-    let alloc = rt.alloc();
     for n in 0..35u64 {
         for kind in 0..KINDS {
-            let mut journal = opened(alloc, made(alloc)?)?;
-            post_all(alloc, &mut journal, &mut 0)?;
-            let failure = failure_of_an_opening(alloc, n, kind)?;
-            let stopped = match Journal::open(
-                alloc,
-                scripted(alloc, journal.into_disk(), failure)?,
-            ) {
-                Ok(_) => None,
-                Err(refused) => Some(refused),
-            };
-            let Some(refused) = stopped else {
-                return Err(JournalError::NotAJournal.into());
-            };
-            assert_eq!(rt; refused.error, OpenError::Fault, "{n}, {kind}");
-            assert!(rt; is_left(alloc, &refused.disk, 3)?, "{n}, {kind}");
+            let disk = stopped_opening(rt.alloc(), n, kind)?;
+            assert!(rt; is_left(rt.alloc(), &disk, 3)?, "{n}, {kind}");
         }
     }
     Ok(())
@@ -308,53 +308,65 @@ fn a_post_of_32_pages_is_refused(rt: HostRuntime) -> Result<(), Fail> {
     let images = numbered(alloc, 32, 32, 9)?;
     if journal.home_pages() == 32 {
         let refused = journal.post(alloc, &images);
-        assert_eq!(rt; refused, Err(PostError::TooManyImages));
+        assert!(rt; refused == Err(PostError::TooManyImages));
     }
-    assert_eq!(rt; journal.closed(), 8);
-    assert_eq!(rt; journal.unhomed(), 0);
-    assert_eq!(rt; shown(alloc, &mut journal)?, [0; 4]);
+    assert!(rt; journal.closed() == 8);
+    assert!(rt; journal.unhomed() == 0);
+    assert!(rt; shown(alloc, &mut journal)? == [0; 4]);
     Ok(())
+}
+
+// Eight gates and the identity page, each synced.
+fn failure_of_a_creation(n: u64) -> Failure {
+    if n < 9 {
+        Failure::Write(n, Torn::Half)
+    } else {
+        Failure::Sync(n.saturating_sub(9))
+    }
+}
+
+// A disk that is handed back by a creation that the n-th failure stops.
+fn stopped_creation(alloc: Global, n: u64) -> Result<MemErase, Fail> {
+    let disk = scripted(
+        alloc,
+        MemErase::new(alloc, 269 * PAGE),
+        failure_of_a_creation(n),
+    )?;
+    match Journal::create(alloc, disk, 4) {
+        Ok(_) => Err("not stopped".into()),
+        Err(refused) => match refused.error {
+            CreateError::Fault => Ok(refused.disk),
+            _ => Err("another refusal".into()),
+        },
+    }
+}
+
+// A journal of four pages that is created on the disk.
+fn created(alloc: Global, disk: MemErase) -> Result<Journal<MemErase>, JournalError> {
+    match Journal::create(alloc, disk, 4) {
+        Ok(journal) => Ok(journal),
+        Err(refused) => Err(refused.error.into()),
+    }
 }
 
 #[test]
 fn a_creation_that_is_stopped_hands_the_disk_back(rt: HostRuntime) -> Result<(), Fail> {
-    let alloc = rt.alloc();
-    // Eight gates and the identity page, each synced.
     for n in 0..11u64 {
-        let failure = if n < 9 {
-            Failure::Write(n, Torn::Half)
-        } else {
-            Failure::Sync(n - 9)
-        };
-        let disk = scripted(alloc, MemErase::new(alloc, 269 * PAGE), failure)?;
-        let disk = match Journal::create(alloc, disk, 4) {
-            Ok(_) => return Err(JournalError::NotAJournal.into()),
-            Err(refused) => {
-                assert_eq!(rt; refused.error, CreateError::Fault);
-                refused.disk
-            }
-        };
-        assert_eq!(rt; disk.faults(), 1);
-        let mut journal = match Journal::create(alloc, disk, 4) {
-            Ok(journal) => journal,
-            Err(refused) => return Err(refused.error.into()),
-        };
-        assert_eq!(rt; journal.note(), [0; 11]);
-        assert_eq!(rt; shown(alloc, &mut journal)?, [0; 4]);
+        let disk = stopped_creation(rt.alloc(), n)?;
+        assert!(rt; disk.faults() == 1);
+        let mut journal = created(rt.alloc(), disk)?;
+        assert!(rt; journal.note() == [0; 11]);
+        assert!(rt; shown(rt.alloc(), &mut journal)? == [0; 4]);
     }
     Ok(())
 }
 
 // A call that left something on a disk.
-#[derive(Clone, Copy, Debug, PartialEq)]
+#[derive(Clone, Copy, PartialEq)]
 enum Step {
     // A write: where it begins, its size, and its first octet.
-    Write { at: u64, size: u64, first: u8 },
+    Write(u64, u64, u8),
     Sync,
-}
-
-fn write(at: u64, size: u64, first: u8) -> Step {
-    Step::Write { at, size, first }
 }
 
 // What a disk's calls were, but for so many first ones.
@@ -362,7 +374,7 @@ fn steps(alloc: Global, disk: &MemErase, skipped: usize) -> Result<Vec<Step>, Al
     let mut steps = Vec::new(alloc);
     for call in disk.calls().iter().skip(skipped) {
         steps.push(match call {
-            Call::Write(written) => write(
+            Call::Write(written) => Step::Write(
                 written.at(),
                 written.length(),
                 written.octets().first().copied().unwrap_or(0),
@@ -373,6 +385,16 @@ fn steps(alloc: Global, disk: &MemErase, skipped: usize) -> Result<Vec<Step>, Al
     Ok(steps)
 }
 
+// Whether a disk's calls were these, but for so many first ones.
+fn are_steps(
+    alloc: Global,
+    disk: &MemErase,
+    skipped: usize,
+    wanted: &[Step],
+) -> Result<bool, AllocError> {
+    Ok(steps(alloc, disk, skipped)?.as_slice() == wanted)
+}
+
 // The octets of a disk's call, where that is a write.
 fn written(disk: &MemErase, n: usize) -> &[u8] {
     match disk.calls().get(n) {
@@ -381,102 +403,129 @@ fn written(disk: &MemErase, n: usize) -> &[u8] {
     }
 }
 
+// The calls of a creation: the identity page comes last.
+const CREATED: [Step; 15] = [
+    Step::Write(16_384, 1, 0),
+    Step::Write(34 * PAGE, 1, 0),
+    Step::Write(67 * PAGE, 1, 0),
+    Step::Write(100 * PAGE, 1, 0),
+    Step::Write(133 * PAGE, 1, 0),
+    Step::Write(166 * PAGE, 1, 0),
+    Step::Write(199 * PAGE, 1, 0),
+    Step::Write(232 * PAGE, 1, 0),
+    Step::Write(265 * PAGE, PAGE, 10),
+    Step::Write(266 * PAGE, PAGE, 11),
+    Step::Write(267 * PAGE, PAGE, 12),
+    Step::Write(268 * PAGE, PAGE, 13),
+    Step::Sync,
+    Step::Write(0, PAGE, b'R'),
+    Step::Sync,
+];
+
 #[test]
 fn a_creation_writes_the_identity_page_last(rt: HostRuntime) -> Result<(), Fail> {
-    let alloc = rt.alloc();
-    let disk = made(alloc)?;
-    let calls = [
-        write(16_384, 1, 0),
-        write(34 * PAGE, 1, 0),
-        write(67 * PAGE, 1, 0),
-        write(100 * PAGE, 1, 0),
-        write(133 * PAGE, 1, 0),
-        write(166 * PAGE, 1, 0),
-        write(199 * PAGE, 1, 0),
-        write(232 * PAGE, 1, 0),
-        write(265 * PAGE, PAGE, 10),
-        write(266 * PAGE, PAGE, 11),
-        write(267 * PAGE, PAGE, 12),
-        write(268 * PAGE, PAGE, 13),
-        Step::Sync,
-        write(0, PAGE, b'R'),
-        Step::Sync,
-    ];
-    assert_eq!(rt; steps(alloc, &disk, 0)?.as_slice(), calls.as_slice());
+    let disk = made(rt.alloc())?;
+    assert!(rt; are_steps(rt.alloc(), &disk, 0, &CREATED)?);
     let page = written(&disk, 13);
     assert!(rt; page.starts_with(b"RHAPAGE1\0\0\0\0\0\0\0\x04eleven here"));
     assert!(rt; page.iter().skip(27).all(|octet| *octet == 0));
     Ok(())
 }
 
-#[test]
-fn each_call_writes_and_syncs_in_its_order(rt: HostRuntime) -> Result<(), Fail> {
-    let alloc = rt.alloc();
-    let mut journal = opened(alloc, made(alloc)?)?;
-    post(alloc, &mut journal, 21, 22)?;
-    let disk = journal.into_disk();
-    // The opening has nothing to do but for its two syncs.
-    let calls = [
-        Step::Sync,
-        Step::Sync,
-        write(2 * PAGE, 25, 0),
-        write(3 * PAGE, PAGE, 21),
-        write(4 * PAGE, PAGE, 22),
-        Step::Sync,
-        write(PAGE, 1, 0xa5),
-        Step::Sync,
-    ];
-    assert_eq!(rt; steps(alloc, &disk, 15)?.as_slice(), calls.as_slice());
-    let header = b"\0\0\0\0\0\0\0\x01\x02\0\0\0\0\0\0\0\x01\0\0\0\0\0\0\0\x02";
-    assert_eq!(rt; written(&disk, 17), header.as_slice());
+// The calls behind a creation, of an opening, which has nothing to do but for its two syncs, and of a post.
+const POST_CALLS: [Step; 8] = [
+    Step::Sync,
+    Step::Sync,
+    Step::Write(2 * PAGE, 25, 0),
+    Step::Write(3 * PAGE, PAGE, 21),
+    Step::Write(4 * PAGE, PAGE, 22),
+    Step::Sync,
+    Step::Write(PAGE, 1, 0xa5),
+    Step::Sync,
+];
+
+// Behind these, of an opening with one open slot, a post, two pages that are brought home, and a checkpoint.
+const LATER_CALLS: [Step; 17] = [
+    Step::Sync,
+    Step::Write(266 * PAGE, PAGE, 21),
+    Step::Write(267 * PAGE, PAGE, 22),
+    Step::Sync,
+    Step::Write(PAGE, 1, 0),
+    Step::Sync,
+    Step::Write(2 * PAGE, 25, 0),
+    Step::Write(3 * PAGE, PAGE, 21),
+    Step::Write(4 * PAGE, PAGE, 22),
+    Step::Sync,
+    Step::Write(PAGE, 1, 0xa5),
+    Step::Sync,
+    Step::Write(267 * PAGE, PAGE, 22),
+    Step::Write(266 * PAGE, PAGE, 21),
+    Step::Sync,
+    Step::Write(PAGE, 1, 0),
+    Step::Sync,
+];
+
+const HEADER: [u8; 25] = *b"\0\0\0\0\0\0\0\x01\x02\0\0\0\0\0\0\0\x01\0\0\0\0\0\0\0\x02";
+
+// Opens a disk and posts new pages 1 and 2.
+fn opened_and_posted(alloc: Global, disk: MemErase) -> Result<Journal<MemErase>, JournalError> {
     let mut journal = opened(alloc, disk)?;
     post(alloc, &mut journal, 21, 22)?;
+    Ok(journal)
+}
+
+// The same, and then both pages are brought home, and the slot is closed.
+fn opened_and_homed(alloc: Global, disk: MemErase) -> Result<MemErase, JournalError> {
+    let mut journal = opened_and_posted(alloc, disk)?;
     home(alloc, &mut journal, 2, 22)?;
     home(alloc, &mut journal, 1, 21)?;
     checkpoint(&mut journal)?;
-    let calls = [
-        Step::Sync,
-        write(266 * PAGE, PAGE, 21),
-        write(267 * PAGE, PAGE, 22),
-        Step::Sync,
-        write(PAGE, 1, 0),
-        Step::Sync,
-        write(2 * PAGE, 25, 0),
-        write(3 * PAGE, PAGE, 21),
-        write(4 * PAGE, PAGE, 22),
-        Step::Sync,
-        write(PAGE, 1, 0xa5),
-        Step::Sync,
-        write(267 * PAGE, PAGE, 22),
-        write(266 * PAGE, PAGE, 21),
-        Step::Sync,
-        write(PAGE, 1, 0),
-        Step::Sync,
-    ];
-    let disk = journal.into_disk();
-    assert_eq!(rt; steps(alloc, &disk, 23)?.as_slice(), calls.as_slice());
-    assert_eq!(rt; written(&disk, 29), header.as_slice());
+    Ok(journal.into_disk())
+}
+
+#[test]
+fn each_call_writes_and_syncs_in_its_order(rt: HostRuntime) -> Result<(), Fail> {
+    let disk = opened_and_posted(rt.alloc(), made(rt.alloc())?)?.into_disk();
+    assert!(rt; are_steps(rt.alloc(), &disk, 15, &POST_CALLS)?);
+    assert!(rt; written(&disk, 17) == HEADER.as_slice());
+    let disk = opened_and_homed(rt.alloc(), disk)?;
+    assert!(rt; are_steps(rt.alloc(), &disk, 23, &LATER_CALLS)?);
+    assert!(rt; written(&disk, 29) == HEADER.as_slice());
     Ok(())
+}
+
+// Why a disk isn't opened, or none where it is.
+fn refusal_of(alloc: Global, disk: MemErase) -> Option<JournalError> {
+    opened(alloc, disk).err()
+}
+
+// A disk whose second slot is open and has no image.
+fn with_an_empty_slot(alloc: Global) -> Result<MemErase, Fail> {
+    let mut disk = made(alloc)?;
+    if disk.size() > 1_000_000 {
+        disk.write_at(PAGE * 34, &[0xa5])?;
+    }
+    Ok(disk)
+}
+
+// Why no journal of four pages is created on a disk of 268, and how many calls it had by then.
+fn refused_creation(alloc: Global) -> Option<(CreateError, usize)> {
+    match Journal::create(alloc, MemErase::new(alloc, 268 * PAGE), 4) {
+        Ok(_) => None,
+        Err(refused) => Some((refused.error, refused.disk.calls().len())),
+    }
 }
 
 #[test]
 fn disks_that_are_no_journal_or_damaged(rt: HostRuntime) -> Result<(), Fail> {
     let alloc = rt.alloc();
-    let mut empty_slot = made(alloc)?;
-    if empty_slot.size() > 1_000_000 {
-        empty_slot.write_at(PAGE * 34, &[0xa5])?;
-    }
-    let damaged = opened(alloc, empty_slot).err();
-    assert_eq!(rt; damaged, Some(JournalError::BadNode(35)));
-    let small = match Journal::create(alloc, MemErase::new(alloc, 268 * PAGE), 4) {
-        Ok(_) => None,
-        Err(refused) => Some((refused.error, refused.disk.calls().len())),
-    };
-    assert_eq!(rt; small, Some((CreateError::PagesFull, 0)));
-    let blank = opened(alloc, MemErase::new(alloc, 300 * PAGE)).err();
-    assert_eq!(rt; blank, Some(JournalError::NotAJournal));
-    let short = opened(alloc, MemErase::new(alloc, 3 * PAGE)).err();
-    assert_eq!(rt; short, Some(JournalError::NotAJournal));
+    let damaged = refusal_of(alloc, with_an_empty_slot(alloc)?);
+    assert!(rt; damaged == Some(JournalError::BadNode(35)));
+    assert!(rt; refused_creation(alloc) == Some((CreateError::PagesFull, 0)));
+    let blank = refusal_of(alloc, MemErase::new(alloc, 300 * PAGE));
+    assert!(rt; blank == Some(JournalError::NotAJournal));
+    let short = refusal_of(alloc, MemErase::new(alloc, 3 * PAGE));
+    assert!(rt; short == Some(JournalError::NotAJournal));
     Ok(())
 }
 
@@ -490,14 +539,14 @@ fn a_read_that_fails_keeps_all(rt: HostRuntime) -> Result<(), Fail> {
     let mut faults = 0;
     for _ in 0..10 {
         match shown(alloc, &mut journal) {
-            Ok(all) => assert_eq!(rt; all, NEW),
+            Ok(all) => assert!(rt; all == NEW),
             Err(error) => {
-                assert_eq!(rt; error, JournalError::Fault);
+                assert!(rt; error == JournalError::Fault);
                 faults = 1;
             }
         }
     }
-    assert_eq!(rt; faults, 1);
+    assert!(rt; faults == 1);
     Ok(())
 }
 
@@ -526,11 +575,11 @@ fn open_slots_are_laid_by_their_numbers(rt: HostRuntime) -> Result<(), Fail> {
         write_slot(alloc, &mut disk, 0, first, 31)?;
         write_slot(alloc, &mut disk, 5, second, 32)?;
         let mut journal = opened(alloc, disk)?;
-        assert_eq!(rt; shown(alloc, &mut journal)?, [10, last, 12, 13]);
+        assert!(rt; shown(alloc, &mut journal)? == [10, last, 12, 13]);
     }
     let mut disk = made(alloc)?;
     write_slot(alloc, &mut disk, 0, 7, 31)?;
     write_slot(alloc, &mut disk, 5, 7, 32)?;
-    assert_eq!(rt; opened(alloc, disk).err(), Some(JournalError::BadNode(167)));
+    assert!(rt; opened(alloc, disk).err() == Some(JournalError::BadNode(167)));
     Ok(())
 }
