@@ -160,6 +160,22 @@ fn a_block_whose_call_failed_is_spent_once_it_was_tried(rt: HostRuntime) -> Resu
 }
 
 #[test]
+fn a_disk_whose_opening_failed_is_opened_again(rt: HostRuntime) -> Result<(), Fail> {
+    let alloc = rt.alloc();
+    let (disk, mut pen) = MemOnce::new(alloc, 4);
+    let mut script = Vec::new(alloc);
+    script.push(OnceFailure::Blank(0))?;
+    pen.set_script(script);
+    let Err(refused) = Shelf::open(Arc::new(alloc, disk)?, pen, 0) else {
+        return Err(Fault.into());
+    };
+    let mut shelf = open(refused.disk, refused.pen)?;
+    assert_eq!(rt; (shelf.next(), shelf.faults()), (0, 1));
+    assert_eq!(rt; shelf.append(&sealed(alloc, 7)?), Ok(0));
+    Ok(())
+}
+
+#[test]
 fn a_read_that_fails_is_no_damage(rt: HostRuntime) -> Result<(), Fail> {
     let alloc = rt.alloc();
     let mut script = Vec::new(alloc);
@@ -184,7 +200,8 @@ fn torn(alloc: Global, kind: u8) -> Result<Torn, Fail> {
     })
 }
 
-// The n-th call of a run of appends, each of which asks, burns and settles, behind an opening that asks once.
+// The n-th call of a run of appends, each of which asks, burns and settles, behind an opening that asks once. Three appends
+// don't reach the tenth.
 fn failure(alloc: Global, n: u64, kind: u8) -> Result<OnceFailure, Fail> {
     let append = n / 3;
     Ok(match n % 3 {
@@ -194,8 +211,8 @@ fn failure(alloc: Global, n: u64, kind: u8) -> Result<OnceFailure, Fail> {
     })
 }
 
-// Three appends, of which the power ends one at its n-th call; then an opening and one append more. It answers how many
-// blocks were told before, whether each of them is there, and the number of the last one.
+// Three appends, where the power ends at the n-th call, or behind them all; then an opening and one append more. It answers
+// how many blocks were told before, whether each of them is there, and the number of the last one.
 fn stopped(alloc: Global, n: u64, kind: u8) -> Result<(u64, bool, u64), Fail> {
     let mut script = Vec::new(alloc);
     script.push(failure(alloc, n, kind)?)?;
@@ -226,7 +243,7 @@ fn stopped(alloc: Global, n: u64, kind: u8) -> Result<(u64, bool, u64), Fail> {
 #[test]
 fn what_was_told_outlives_each_crash(rt: HostRuntime) -> Result<(), Fail> {
     let alloc = rt.alloc();
-    for n in 0..9u64 {
+    for n in 0..10u64 {
         // a call that only asks leaves its block blank
         let spent = u64::from(n % 3 > 0);
         for kind in 0..4u8 {
