@@ -12,7 +12,7 @@ use Rattle.version_model.specs.declared.bounds.Bounds.{Bounds}
 use Rattle.version_model.specs.Versions.{Version, Has, IsRising, IsAbove}
 use Rattle.tsb_node.specs.Leaves.{tag, value_spelled, entry, entries, IsVersionOf}
 use Rattle.tsb_node.specs.inner.Reading.{value_size, value_in, version_in, versions_in, behind_version, after}
-use Rattle.tsb_node.specs.inner.Scanning.{IsWhole}
+use Rattle.tsb_node.specs.inner.Scanning.{IsWholeVersion}
 use Rattle.tsb_node.specs.inner.Checking.{IsSpelled, AreEntries, IsAfter}
 use Rattle.tsb_node.proofs.Entries.{entry_read, entry-size, entries_read, after-next, after_spelled, version_at, versions_in-size}
 use Rattle.tsb_node.proofs.HeaderLaws.{are-drop, are-take, again_in, number_in-lt, take_on}
@@ -48,7 +48,7 @@ one_octet [] n lt = absurd (omega arith)
 one_octet (x ∷ xs) zero lt = refl
 one_octet (x ∷ xs) (suc n) lt = one_octet xs n (omega arith)
 
-pub spelled_here : (b : Bounds) (bytes : List ℕ) → AreOctets bytes → IsWhole bytes → value_size bytes ≤ 3072 → slice_index bytes 56 ≤ 1 → (slice_index bytes 56 ≡ 0 → value_size bytes ≡ 0)
+pub spelled_here : (b : Bounds) (bytes : List ℕ) → AreOctets bytes → IsWholeVersion bytes → value_size bytes ≤ 3072 → slice_index bytes 56 ≤ 1 → (slice_index bytes 56 ≡ 0 → value_size bytes ≡ 0)
     → b.low ≤ number_in 40 0 bytes → IfSome b.high (λ n. number_in 40 0 bytes < n) → IsSpelled b bytes
 unfolding entry
 spelled_here b bytes are whole small le end low high =

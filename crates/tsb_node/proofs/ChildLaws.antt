@@ -46,15 +46,15 @@ child_there b low bytes c front l = l ∙ ap (number_in 40 0) front.spelled ∙ 
 
 -- ---- in a page
 
-begins : (low count : ℕ) (cs : List Child) → StartsAt low (lows_of cs) → length cs ≡ count → (count ≡ 0 → ⊥) → BeginsAt low (lows_of cs)
-begins low count [] first e some = absurd (some (sym e))
+begins : (low count : ℕ) (cs : List Child) → StartsAt low (lows_of cs) → length cs ≡ count → 0 < count → BeginsAt low (lows_of cs)
+begins low count [] first e some = absurd (omega (arith, e, some))
 begins low count (c ∷ cs) first e some = first
 
 starts : (low : ℕ) (cs : List Child) → BeginsAt low (lows_of cs) → StartsAt low (lows_of cs)
 starts low [] first = tt
 starts low (c ∷ cs) first = first
 
-pub key_node_from : (h : Header) (es : List ℕ) (cs : List Child) → IsNode h es → h.kind ≡ 3 → 2 ≤ h.level → h.level ≤ 7 → h.bounds.start ≡ 0 → (h.count ≡ 0 → ⊥) → AreChildrenOf h.bounds h.count es cs
+pub key_node_from : (h : Header) (es : List ℕ) (cs : List Child) → IsNode h es → h.kind ≡ 3 → 2 ≤ h.level → h.level ≤ 7 → h.bounds.start ≡ 0 → 0 < h.count → AreChildrenOf h.bounds h.count es cs
     → IsKeyNodeOf h es (record { level = h.level; bounds = h.bounds; children = cs })
 key_node_from h es cs node kind lowest highest from_first some are = record {
   kind = kind;
@@ -85,18 +85,18 @@ key_node_children h es k of =
     } in
     subst (λ (b : Bounds). AreChildrenOf b h.count es k.children) of.bounds along
 
-pub key_node_some : (h : Header) (es : List ℕ) (k : KeyNodeInPage) → IsKeyNodeOf h es k → h.count ≡ 0 → ⊥
-key_node_some h es k of none = has k.children of.valid.first (omega (arith, none, of.count))
+key_node_some : (h : Header) (es : List ℕ) (k : KeyNodeInPage) → IsKeyNodeOf h es k → 0 < h.count
+key_node_some h es k of = has k.children of.valid.first of.count
   where
-    has : (cs : List Child) → BeginsAt k.bounds.low (lows_of cs) → length cs ≡ 0 → ⊥
-    has [] first e = first
+    has : (cs : List Child) → BeginsAt k.bounds.low (lows_of cs) → h.count ≡ length cs → 0 < h.count
+    has [] first e = absurd first
     has (c ∷ cs) first e = omega (arith, e)
 
 pub key_node_start : (h : Header) (es : List ℕ) (k : KeyNodeInPage) → IsKeyNodeOf h es k → h.bounds.start ≡ 0
 key_node_start h es k of = ap (λ (b : Bounds). b.start) (sym of.bounds) ∙ of.valid.from_first
 
-pub key_node_kind : (h : Header) (es : List ℕ) (k : KeyNodeInPage) → IsKeyNodeOf h es k → (h.kind ≡ 3) × (2 ≤ h.level) × (h.level ≤ 7)
-key_node_kind h es k of = (of.kind, omega (arith, of.level, of.valid.lowest), omega (arith, of.level, of.valid.highest))
+pub key_node_kind : (h : Header) (es : List ℕ) (k : KeyNodeInPage) → IsKeyNodeOf h es k → (h.kind ≡ 3) × (2 ≤ h.level) × (h.level ≤ 7) × (0 < h.count)
+key_node_kind h es k of = (of.kind, omega (arith, of.level, of.valid.lowest), omega (arith, of.level, of.valid.highest), key_node_some h es k of)
 
 abbrev pub key_node_header : KeyNodeInPage → Header
 key_node_header k = record { kind = 3; level = k.level; count = length k.children; used = length (flat_map child_octets k.children); bounds = k.bounds }

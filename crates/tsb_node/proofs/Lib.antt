@@ -3,6 +3,7 @@ pub mod Entries
 pub mod Places
 pub mod Leaves
 pub mod Scanning
+pub mod HoldingLaws
 pub mod Laying
 pub mod HeaderLaws
 pub mod CheckingLaws

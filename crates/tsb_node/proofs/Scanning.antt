@@ -13,7 +13,7 @@ use Rattle.std.proofs.Common.{inl, inr, true}
 use Rattle.std.proofs.lemmas.Bool.{eq-eqb, ne_eqb, cases_order, lt-ltb, le-ltb}
 use Rattle.tsb_node.specs.declared.leaf.FoundVersion.{FoundVersion}
 use Rattle.tsb_node.specs.Finding.{version_found}
-use Rattle.tsb_node.specs.inner.Scanning.{Counts, NoneFrom, IsLast, IsWhole, IsBroken}
+use Rattle.tsb_node.specs.inner.Scanning.{Counts, NoneFrom, IsLast, IsWholeVersion, IsBroken}
 use Rattle.tsb_node.proofs.Entries.{entry-size, entry_read, after-next, version_at, versions_in-size}
 use Rattle.tsb_node.proofs.Places.{NoneFrom-more, holds_last}
 use Rattle.tsb_node.proofs.Leaves.{pad_of, leaf_says, leaf_area, leaf_versions}
@@ -71,7 +71,7 @@ scan_on i rest bytes e =
 at_place : (count i : ℕ) (rest bytes : List ℕ) → i < count → rest ≡ after i bytes → slice_get (versions_in count bytes) i ≡ Some (version_in rest)
 at_place count i rest bytes lt e = version_at count i bytes lt ∙ ap (λ (t : List ℕ). Some (version_in t)) (sym e)
 
-pub scan_yes : (count i key s : ℕ) (rest bytes : List ℕ) → i < count → rest ≡ after i bytes → Counts key s (version_in rest) → IsWhole rest
+pub scan_yes : (count i key s : ℕ) (rest bytes : List ℕ) → i < count → rest ≡ after i bytes → Counts key s (version_in rest) → IsWholeVersion rest
     → IsLast (versions_in count bytes) bytes key s (i + 1) (Some rest)
 scan_yes count i key s rest bytes lt e is whole = record {
   place = i;
@@ -120,23 +120,25 @@ scanned_none leaf octets key s is none v holds =
     none.none holds.has.place v (omega arith) below here (record { of_key = holds.of_key; not_after = holds.not_after })
 
 -- each version of a leaf is whole
-whole_spelled : (b : Bounds) (n : ℕ) (vs : List Version) (rest : List ℕ) → AllByRecursion (IsVersionOf b) vs → n < length vs → IsWhole (after n (entries vs ++ rest))
+whole_spelled : (b : Bounds) (n : ℕ) (vs : List Version) (rest : List ℕ) → AllByRecursion (IsVersionOf b) vs → n < length vs → IsWholeVersion (after n (entries vs ++ rest))
 unfolding after entries
 whole_spelled b n [] rest all lt = absurd (omega arith)
 whole_spelled b zero (v ∷ vs) rest all lt =
     let e : entries (v ∷ vs) ++ rest ≡ entry v ++ (entries vs ++ rest) = append_assoc (entry v) (entries vs) rest in
     let r = entry_read b v (entries vs ++ rest) all.0 in
     let long = length-append (entry v) (entries vs ++ rest) in
-    subst IsWhole (sym e) (omega (arith, r.size, long, entry-size v))
+    subst IsWholeVersion (sym e) (omega (arith, r.size, long, entry-size v))
 whole_spelled b (suc n) (v ∷ vs) rest all lt =
     let e : entries (v ∷ vs) ++ rest ≡ entry v ++ (entries vs ++ rest) = append_assoc (entry v) (entries vs) rest in
     let r = entry_read b v (entries vs ++ rest) all.0 in
     let same : after (suc n) (entries (v ∷ vs) ++ rest) ≡ after n (entries vs ++ rest) = ap (after (suc n)) e ∙ ap (after n) r.behind in
-    subst IsWhole (sym same) (whole_spelled b n vs rest all.1 (omega arith))
+    subst IsWholeVersion (sym same) (whole_spelled b n vs rest all.1 (omega arith))
+
+pub leaf_whole : (leaf : LeafNode) (octets : List ℕ) (k : ℕ) → BeginsAsLeaf leaf octets → k < number_in 2 4 octets → IsWholeVersion (after k (area octets))
+leaf_whole leaf octets k is lt =
+    let says = leaf_says leaf octets is in
+    subst (λ (t : List ℕ). IsWholeVersion (after k t)) (sym (leaf_area leaf octets is)) (whole_spelled leaf.bounds k leaf.versions (pad_of leaf) is.valid.each (omega (arith, lt, says.count_is)))
 
 -- so what has one that isn't whole is no leaf
 pub broken_none : (leaf : LeafNode) (octets : List ℕ) → IsBroken (area octets) (number_in 2 4 octets) → BeginsAsLeaf leaf octets → ⊥
-broken_none leaf octets broken is =
-    let says = leaf_says leaf octets is in
-    let lt : broken.place < length leaf.versions = omega (arith, broken.below, says.count_is) in
-    broken.broken (subst (λ (t : List ℕ). IsWhole (after broken.place t)) (sym (leaf_area leaf octets is)) (whole_spelled leaf.bounds broken.place leaf.versions (pad_of leaf) is.valid.each lt))
+broken_none leaf octets broken is = broken.broken (leaf_whole leaf octets broken.place is broken.below)

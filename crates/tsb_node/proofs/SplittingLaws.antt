@@ -13,7 +13,7 @@ use Rattle.tsb_node.specs.Nodes.{IsBounds, header, seconds, body}
 use Rattle.tsb_node.specs.Leaves.{LeafNode, IsLeaf, BeginsAsLeaf, IsLeafPage, entry, entries, IsVersionOf}
 use Rattle.tsb_node.specs.inner.Reading.{value_size, after, area}
 use Rattle.tsb_node.specs.inner.Laying.{laid, IsFilling}
-use Rattle.tsb_node.specs.Splitting.{is_below, lies_within, side_of}
+use Rattle.tsb_node.specs.inner.Sides.{is_below, lies_within, side_of}
 use Rattle.std.proofs.lemmas.List.Elements.{filter-append}
 use Rattle.tsb_node.proofs.Scanning.{key_said}
 use Rattle.version_model.proofs.api.Pushed.{get-push, IsRising-push}

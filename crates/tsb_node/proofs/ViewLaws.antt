@@ -21,9 +21,10 @@ use Rattle.tsb_node.specs.declared.column.Spot.TheVariants.{InBlock}
 use Rattle.tsb_node.specs.Leaves.{LeafNode, IsLeaf, IsVersionOf, value_spelled, entry, entries}
 use Rattle.tsb_node.specs.Columns.{ColumnInPage, ColumnInBlock, IsColumn, IsOldColumn, BeginsAt, AreAscending, starts_of}
 use Rattle.tsb_node.specs.KeyNodes.{KeyNodeInPage, IsKeyNode, IsChildEntry}
-use Rattle.tsb_node.specs.Children.{IsUnder, high_of}
+use Rattle.tsb_node.specs.Children.{IsUnder, IsKeyWithin, high_of}
 use Rattle.tsb_node.specs.Parts.{IsSpot, IsPartAt}
-use Rattle.tsb_node.specs.Splitting.{is_below, lies_within, side_of}
+use Rattle.tsb_node.specs.inner.Sides.{is_below, lies_within, side_of}
+use Rattle.tsb_node.specs.Splitting.{IsSide}
 use Rattle.tsb_node.specs.Views.{keys_between}
 use Rattle.tsb_node.proofs.Entries.{entry-size}
 use Rattle.tsb_node.proofs.RowLaws.{ascending_front}
@@ -204,20 +205,26 @@ within_yes b key low high = and_from (not (nat_lt key b.low)) (is_below b.high k
 version_at : (leaf : LeafNode) (v : Version) → IsLeaf leaf → Has leaf.versions v → IsVersionOf leaf.bounds v
 version_at leaf v valid has = each_get (IsVersionOf leaf.bounds) leaf.versions has.place v valid.each has.is
 
-pub side_below : (leaf : LeafNode) (b : Bounds) (key : ℕ) → b.low ≡ leaf.bounds.low → b.high ≡ Some key → IsLeaf leaf → IsBelow leaf.versions key (side_of leaf b).versions
-side_below leaf b key low high valid =
+-- what is copied is the side
+pub side_is : (leaf : LeafNode) (b : Bounds) → IsSide b leaf.versions (side_of leaf b).versions
+side_is leaf b =
     let p : Version → Bool = λ v. lies_within b v.key in
     record {
       is_in = λ v h. (filter_has p leaf.versions v h).0;
-      only = λ v h. subst (λ (o : Option ℕ). IfSome o (λ n. v.key < n)) high (within_true b v.key (filter_has p leaf.versions v h).1).1;
-      each = λ v h lt. has_filter p leaf.versions v h (within_yes b v.key (omega (arith, low, (version_at leaf v valid h).low)) (subst (λ (o : Option ℕ). IfSome o (λ n. v.key < n)) (sym high) lt));
+      only = λ v h. (let within = within_true b v.key (filter_has p leaf.versions v h).1 in record { low = within.0; high = within.1 });
+      each = λ v h within. has_filter p leaf.versions v h (within_yes b v.key within.low within.high);
     }
 
-pub side_from : (leaf : LeafNode) (b : Bounds) (key : ℕ) → b.low ≡ key → b.high ≡ leaf.bounds.high → IsLeaf leaf → IsFromKey leaf.versions key (side_of leaf b).versions
-side_from leaf b key low high valid =
-    let p : Version → Bool = λ v. lies_within b v.key in
-    record {
-      is_in = λ v h. (filter_has p leaf.versions v h).0;
-      only = λ v h. omega (arith, low, (within_true b v.key (filter_has p leaf.versions v h).1).0);
-      each = λ v h le. has_filter p leaf.versions v h (within_yes b v.key (omega (arith, low, le)) (subst (λ (o : Option ℕ). IfSome o (λ n. v.key < n)) (sym high) (version_at leaf v valid h).high));
-    }
+pub side_below : (leaf : LeafNode) (side : List Version) (b : Bounds) (key : ℕ) → b.low ≡ leaf.bounds.low → b.high ≡ Some key → IsLeaf leaf → IsSide b leaf.versions side → IsBelow leaf.versions key side
+side_below leaf side b key low high valid is = record {
+  is_in = is.is_in;
+  only = λ v h. subst (λ (o : Option ℕ). IfSome o (λ n. v.key < n)) high (is.only v h).high;
+  each = λ v h lt. is.each v h (record { low = omega (arith, low, (version_at leaf v valid h).low); high = subst (λ (o : Option ℕ). IfSome o (λ n. v.key < n)) (sym high) lt });
+}
+
+pub side_from : (leaf : LeafNode) (side : List Version) (b : Bounds) (key : ℕ) → b.low ≡ key → b.high ≡ leaf.bounds.high → IsLeaf leaf → IsSide b leaf.versions side → IsFromKey leaf.versions key side
+side_from leaf side b key low high valid is = record {
+  is_in = is.is_in;
+  only = λ v h. omega (arith, low, (is.only v h).low);
+  each = λ v h le. is.each v h (record { low = omega (arith, low, le); high = subst (λ (o : Option ℕ). IfSome o (λ n. v.key < n)) (sym high) (version_at leaf v valid h).high });
+}

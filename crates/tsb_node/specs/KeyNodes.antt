@@ -27,27 +27,24 @@ pub record IsChildEntry (b : Bounds) (c : Child) : Type 0 where
   pub high : IfSome b.high (λ n. c.low < n)
   pub page : c.page < 256 ^ 8
 
--- the children follow one another from the lowest key on, at all stamps
-pub record IsKeyNode (k : KeyNodeInPage) : Type 0 where
+-- the children follow one another from the lowest key on, at all stamps, where bounds and children are such
+pub record IsKeyNodeWith (AreBounds : Bounds → Type 0) (IsOneOf : Bounds → Child → Type 0) (k : KeyNodeInPage) : Type 0 where
   pub lowest : 2 ≤ k.level
   pub highest : k.level ≤ 7
-  pub bounds : IsBounds k.bounds
+  pub bounds : AreBounds k.bounds
   pub from_first : k.bounds.start ≡ 0
-  pub each : AllByRecursion (IsChildEntry k.bounds) k.children
+  pub each : AllByRecursion (IsOneOf k.bounds) k.children
   pub first : BeginsAt k.bounds.low (lows_of k.children)
   pub rising : AreAscending (lows_of k.children)
   pub fits : 48 * length k.children ≤ 16232
 
--- the same beside what types say: what a writer asks of a key node
-pub record CanBeKeyNode (k : KeyNodeInPage) : Type 0 where
-  pub lowest : 2 ≤ k.level
-  pub highest : k.level ≤ 7
-  pub bounds : AreInOrder k.bounds
-  pub from_first : k.bounds.start ≡ 0
-  pub each : AllByRecursion (λ c. IfSome k.bounds.high (λ n. c.low < n)) k.children
-  pub first : BeginsAt k.bounds.low (lows_of k.children)
-  pub rising : AreAscending (lows_of k.children)
-  pub fits : 48 * length k.children ≤ 16232
+-- a key node: children of its keys
+abbrev pub IsKeyNode : KeyNodeInPage → Type 0
+IsKeyNode k = IsKeyNodeWith IsBounds IsChildEntry k
+
+-- what a writer asks of a key node, beside what types say
+abbrev pub CanBeKeyNode : KeyNodeInPage → Type 0
+CanBeKeyNode k = IsKeyNodeWith AreInOrder (λ b c. IfSome b.high (λ n. c.low < n)) k
 
 -- the octets of a key node but for the last 32: a node of kind 3
 abbrev pub key_node_body : KeyNodeInPage → List ℕ

@@ -45,19 +45,20 @@ pub record IsShortOf (b : Bounds) (v : Version) : Type 0 where
 unfoldable pub entries : List Version → List ℕ
 entries versions = flat_map entry versions
 
--- versions of the leaf's keys in the order of their stamps, in at most 16,232 octets
-pub record IsLeaf (leaf : LeafNode) : Type 0 where
-  pub bounds : IsBounds leaf.bounds
-  pub each : AllByRecursion (IsVersionOf leaf.bounds) leaf.versions
+-- versions in the order of their stamps, in at most 16,232 octets, where bounds and versions are such
+pub record IsLeafWith (AreBounds : Bounds → Type 0) (IsOneOf : Bounds → Version → Type 0) (leaf : LeafNode) : Type 0 where
+  pub bounds : AreBounds leaf.bounds
+  pub each : AllByRecursion (IsOneOf leaf.bounds) leaf.versions
   pub rising : IsRising leaf.versions
   pub fits : length (entries leaf.versions) ≤ 16232
 
--- the same beside what types say: what a writer asks
-pub record CanBeLeaf (leaf : LeafNode) : Type 0 where
-  pub bounds : AreInOrder leaf.bounds
-  pub each : AllByRecursion (IsShortOf leaf.bounds) leaf.versions
-  pub rising : IsRising leaf.versions
-  pub fits : length (entries leaf.versions) ≤ 16232
+-- a leaf: versions of its keys
+abbrev pub IsLeaf : LeafNode → Type 0
+IsLeaf leaf = IsLeafWith IsBounds IsVersionOf leaf
+
+-- what a writer asks of a leaf, beside what types say
+abbrev pub CanBeLeaf : LeafNode → Type 0
+CanBeLeaf leaf = IsLeafWith AreInOrder IsShortOf leaf
 
 -- the octets of a leaf but for the last 32: a node of kind 1 and level 0
 abbrev pub leaf_body : LeafNode → List ℕ

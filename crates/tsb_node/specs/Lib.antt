@@ -11,6 +11,7 @@ pub mod Children
 pub mod Parts
 pub mod Splitting
 pub mod Nexts
+pub mod Holding
 pub mod Saying
 pub mod Views
 pub mod inner

@@ -1,17 +1,18 @@
--- A leaf is split.
-use Rattle.std.specs.Prelude.{ℕ, ◌&&◌, not, nat_lt, Bool, true, filter, Option, Some, None}
+-- A leaf is split by key.
+use Rattle.std.specs.Prelude.{ℕ, List}
 use Rattle.version_model.specs.declared.bounds.Bounds.{Bounds}
-use Rattle.tsb_node.specs.Leaves.{LeafNode}
+use Rattle.version_model.specs.Versions.{Version, Has}
+use Rattle.tsb_node.specs.Leaves.{LeafNode, IsLeafPage}
+use Rattle.tsb_node.specs.Children.{IsKeyWithin}
 
--- whether the key is below a high key, where there is one
-abbrev pub is_below : Option ℕ → ℕ → Bool
-is_below None key = true
-is_below (Some n) key = nat_lt key n
+-- just those of the versions whose keys lie between the bounds
+pub record IsSide (b : Bounds) (versions side : List Version) : Type 0 where
+  pub is_in : (v : Version) → Has side v → Has versions v
+  pub only : (v : Version) → Has side v → IsKeyWithin b v.key
+  pub each : (v : Version) → Has versions v → IsKeyWithin b v.key → Has side v
 
--- whether a key lies between the bounds
-abbrev pub lies_within : Bounds → ℕ → Bool
-lies_within b key = not (nat_lt key b.low) && is_below b.high key
-
--- the versions of the keys between the bounds
-abbrev pub side_of : LeafNode → Bounds → LeafNode
-side_of leaf b = record { bounds = b; versions = filter (λ v. lies_within b v.key) leaf.versions }
+-- the octets are the page of a leaf of these bounds, with just those of the leaf's versions whose keys lie between them
+pub record IsSidePage (leaf : LeafNode) (b : Bounds) (octets : List ℕ) : Type 0 where
+  pub versions : List Version
+  pub side : IsSide b leaf.versions versions
+  pub page : IsLeafPage (record { bounds = b; versions = versions }) octets

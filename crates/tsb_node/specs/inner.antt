@@ -7,3 +7,4 @@ pub mod PartReading
 pub mod Laying
 pub mod Rows
 pub mod NodeReading
+pub mod Sides

@@ -10,7 +10,8 @@ ghost use Rattle.tsb_node.specs.inner.PartReading.{IsPartBefore, AreParts, IsCur
 
 use crate::column::{Current, part_in};
 use crate::header::{Header, is_before_end, is_of_kind, is_stamp_below};
-use crate::leaf_part::{ReadFault, keep};
+use crate::leaf_entries::keep;
+use crate::leaf_part::ReadFault;
 use crate::numbers::{number8, stamp_at};
 use std::alloc::Global;
 use version_model::{Part, Stamp};

@@ -9,7 +9,8 @@ ghost use Rattle.tsb_node.specs.inner.Rows.{IsFront, IsNextNumber};
 ghost use Rattle.tsb_node.specs.inner.ChildReading.{AreChildrenOf};
 
 use crate::header::{is_below_high, is_key_below, is_same_key};
-use crate::leaf_part::{ReadFault, keep};
+use crate::leaf_entries::keep;
+use crate::leaf_part::ReadFault;
 use crate::numbers::{key_at, number8};
 use route_model::Key;
 use std::alloc::Global;

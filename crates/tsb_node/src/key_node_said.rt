@@ -1,6 +1,6 @@
 //! What the pages of key nodes say, owned.
 
-ghost use Rattle.std.specs.Prelude.{◌≡◌, ◌↔◌, ◌≤◌, IsTrue};
+ghost use Rattle.std.specs.Prelude.{◌≡◌, ◌↔◌, ◌≤◌, ◌<◌, IsTrue};
 ghost use Rattle.std.specs.Result.{MatchResult};
 ghost use Rattle.tsb_node.specs.KeyNodes.{IsKeyNodePage};
 ghost use Rattle.tsb_node.specs.Saying.{key_node_said, IsRefusal};
@@ -23,11 +23,11 @@ pub struct KeyNodeSaid {
     pub children: Vec<Child>,
 }
 
-/// Whether a header is of a key node's kind, of one of its levels, 2 to 7.
+/// Whether a header is of a key node's kind, of one of its levels, 2 to 7, and counts children.
 fn is_of_key_nodes(header: &Header) -> bool
-    ensures { IsTrue result ↔ ((header.now.kind ≡ 3) × (2 ≤ header.now.level) × (header.now.level ≤ 7)) }
+    ensures { IsTrue result ↔ ((header.now.kind ≡ 3) × (2 ≤ header.now.level) × (header.now.level ≤ 7) × (0 < header.now.count)) }
 {
-    header.kind == 3 && header.level >= 2 && header.level <= 7
+    header.kind == 3 && header.level >= 2 && header.level <= 7 && header.count > 0
 }
 
 /// What the key node says whose header and entries these are.
@@ -39,9 +39,6 @@ fn key_node_in(alloc: Global, header: &Header, entries: &[u8]) -> Result<KeyNode
         return Err(ReadFault::NotANode);
     }
     if header.bounds.start != Stamp::new(0, 0) {
-        return Err(ReadFault::NotANode);
-    }
-    if header.count == 0 {
         return Err(ReadFault::NotANode);
     }
     let bounds = header.bounds;

@@ -17,7 +17,7 @@ ghost use Rattle.tsb_node.specs.Columns.{ColumnInPage, ColumnInBlock, IsColumn, 
 ghost use Rattle.tsb_node.specs.KeyNodes.{KeyNodeInPage, IsKeyNode};
 ghost use Rattle.tsb_node.specs.Children.{IsUnder, BeginsAsKeyNode};
 ghost use Rattle.tsb_node.specs.Parts.{BeginsAsColumn, BeginsAsOldColumn, IsSpot, IsPartAt};
-ghost use Rattle.tsb_node.specs.Splitting.{side_of};
+ghost use Rattle.tsb_node.specs.Splitting.{IsSide};
 ghost use Rattle.tsb_node.specs.Views.{keys_between, PageSays, BlockSays};
 
 /// Octets are the page, or the block, of one column at most, and of one key node; a page says one thing at most, and so does a block.
@@ -36,8 +36,10 @@ pub fn entries_have_their_octets()
 
 /// A side of a leaf that is split by key has its versions of the keys below the key, or of those from it on.
 pub fn sides_are_key_splits()
-    ensures below { (leaf : LeafNode) (b : Bounds) (key : ℕ) → b.low ≡ leaf.bounds.low → b.high ≡ Some key → IsLeaf leaf → IsBelow leaf.versions key (side_of leaf b).versions }
-    ensures from_key { (leaf : LeafNode) (b : Bounds) (key : ℕ) → b.low ≡ key → b.high ≡ leaf.bounds.high → IsLeaf leaf → IsFromKey leaf.versions key (side_of leaf b).versions }
+    ensures below { (leaf : LeafNode) (side : List Version) (b : Bounds) (key : ℕ) → b.low ≡ leaf.bounds.low → b.high ≡ Some key → IsLeaf leaf → IsSide b leaf.versions side
+        → IsBelow leaf.versions key side }
+    ensures from_key { (leaf : LeafNode) (side : List Version) (b : Bounds) (key : ℕ) → b.low ≡ key → b.high ≡ leaf.bounds.high → IsLeaf leaf → IsSide b leaf.versions side
+        → IsFromKey leaf.versions key side }
 {}
 
 /// The children of a key node follow one another over its keys; and the parts of a column over the stamps of its past, each in a block

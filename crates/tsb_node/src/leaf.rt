@@ -9,7 +9,7 @@ ghost use Rattle.std.specs.Prelude.{◌≡◌, ◌≤◌, ◌+◌, length, optio
 ghost use Rattle.tsb_node.specs.Leaves.{LeafNode, BeginsAsLeaf, IsLeafPage, value_spelled};
 ghost use Rattle.tsb_node.specs.Finding.{Finds};
 ghost use Rattle.std.specs.Result.{MatchResult};
-ghost use Rattle.tsb_node.specs.inner.Scanning.{IsLast, IsBroken, IsWhole};
+ghost use Rattle.tsb_node.specs.inner.Scanning.{IsLast, IsBroken, IsWholeVersion};
 ghost use Rattle.tsb_node.specs.inner.Reading.{value_size, version_in, versions_in};
 
 use crate::numbers::{key_at, key_fits, number2, stamp_at, stamp_fits};
@@ -69,8 +69,8 @@ pub const LAST: usize = 16_352;
 
 /// How many octets the entry at the front takes, where it's whole.
 pub fn entry_size(bytes: &[u8]) -> Option<usize>
-    ensures found { IfSome result (λ n. (n ≡ 59 + value_size bytes.now) × IsWhole bytes.now) }
-    ensures none { IfNone result (IsWhole bytes.now → ⊥) }
+    ensures found { IfSome result (λ n. (n ≡ 59 + value_size bytes.now) × IsWholeVersion bytes.now) }
+    ensures none { IfNone result (IsWholeVersion bytes.now → ⊥) }
 {
     if bytes.len() < 59 {
         return None;
@@ -108,7 +108,7 @@ fn last_of<'a>(
 
 /// What the entry at the front says.
 fn found_at<'a>(bytes: &'a [u8]) -> FoundVersion<'a>
-    requires { IsWhole bytes.now }
+    requires { IsWholeVersion bytes.now }
     ensures stamp { result.stamp ≡ (version_in bytes.now).stamp }
     ensures value { result.value ≡ (version_in bytes.now).value }
 {

@@ -39,7 +39,8 @@ fn is_candidate(key: Key, from: Key, best: &Option<Key>) -> bool
 }
 
 /// The least key from `from` on, itself included, that has a value as of the stamp, of the leaf that begins these octets.
-/// Refused only where they aren't a leaf, and not always there.
+/// Refused only where they aren't a leaf, and not always there. All entries are looked at once more for each key that is lower
+/// than those with a value before it, so that of the at most 275 entries that fit none is looked at more than 276 times.
 pub fn next(octets: &[u8], from: Key, stamp: Stamp) -> Result<Option<Key>, NotANode>
     requires size { length octets.now ≡ 16384 }
     ensures next { (leaf : LeafNode) → BeginsAsLeaf leaf octets.now → MatchResult result (IsLeastLive leaf.versions stamp from) (λ e. ⊥) }

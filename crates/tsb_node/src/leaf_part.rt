@@ -1,16 +1,17 @@
 //! The versions of one key of a leaf.
 
-ghost use Rattle.std.specs.Prelude.{◌≡◌, ◌↔◌, ◌++◌, ◌∷◌, [], length, filter, IfOk, OnOk, IsTrue, Err, ◌≤◌, ◌<◌};
+ghost use Rattle.std.specs.Prelude.{◌≡◌, ◌↔◌, length, filter, IfOk, IsTrue, Err, ◌≤◌, ◌<◌};
 ghost use Rattle.version_model.specs.Ranges.{end_or};
 ghost use Rattle.version_model.specs.Looks.{is_of};
-ghost use Rattle.version_model.specs.Entries.{version_of, versions_of};
+ghost use Rattle.version_model.specs.Entries.{versions_of};
 ghost use Rattle.tsb_node.specs.Leaves.{LeafNode, BeginsAsLeaf};
+ghost use Rattle.tsb_node.specs.Holding.{HoldsItsEntries};
 ghost use Rattle.tsb_node.specs.inner.Fields.{number_in};
-ghost use Rattle.tsb_node.specs.inner.Reading.{version_in};
-ghost use Rattle.tsb_node.specs.inner.Scanning.{IsWhole};
+ghost use Rattle.tsb_node.specs.inner.Scanning.{IsWholeVersion};
 
 use crate::header::{is_same_key, is_stamp_below};
-use crate::leaf::{FIRST, LAST, entry_size};
+use crate::leaf::{FIRST, LAST};
+use crate::leaf_entries::{begins_with_entries, entry_of, keep, whole_size};
 use crate::numbers::{key_at, number2, stamp_at};
 use route_model::Key;
 use std::alloc::{AllocError, Global};
@@ -36,35 +37,9 @@ impl From<AllocError> for ReadFault {
     }
 }
 
-// What the entry at the front says.
-fn entry_of(alloc: Global, bytes: &[u8]) -> Result<Entry, AllocError>
-    requires { IsWhole bytes.now }
-    ensures { IfOk result (λ entry. version_of entry ≡ version_in bytes.now) }
-{
-    let size = number2(bytes, 57) as usize;
-    let value = if bytes[56] == 0 {
-        None
-    } else {
-        Some(bytes.split_at(59).1.split_at(size).0.to_vec(alloc)?)
-    };
-    Ok(Entry {
-        key: key_at(bytes, 0),
-        stamp: stamp_at(bytes, 40),
-        value,
-    })
-}
-
-/// Puts an item behind the others.
-pub fn keep<T: Drop>(kept: &mut Vec<T>, item: T) -> Result<(), AllocError>
-    ensures { OnOk result (kept.new.items ≡ kept.old.items ++ item ∷ []) }
-{
-    kept.push(item)?;
-    Ok(())
-}
-
 // Whether the entry at the front is of the key, from a stamp on and before the end.
 fn is_entry_of(bytes: &[u8], key: Key, from: Stamp, end: Option<Stamp>) -> bool
-    requires { IsWhole bytes.now }
+    requires { IsWholeVersion bytes.now }
     ensures { IsTrue result ↔ ((number_in 40 0 bytes.now ≡ key) × (from ≤ number_in 16 40 bytes.now) × (number_in 16 40 bytes.now < end_or end)) }
 {
     if !is_same_key(key_at(bytes, 0), key) {
@@ -81,7 +56,8 @@ fn is_entry_of(bytes: &[u8], key: Key, from: Stamp, end: Option<Stamp>) -> bool
 }
 
 /// The versions of the key from a stamp on and before the end, ends of it included, in the order of their stamps, of the leaf
-/// that begins these octets. Refused as no node only where they aren't a leaf, and not always there.
+/// that begins these octets. Refused as no node exactly where they don't hold as many entries as they count, as a leaf does;
+/// and for want of memory only where they do.
 pub fn part(
     alloc: Global,
     octets: &[u8],
@@ -92,37 +68,21 @@ pub fn part(
     requires size { length octets.now ≡ 16384 }
     ensures part { IfOk result (λ part. (leaf : LeafNode) → BeginsAsLeaf leaf octets.now → versions_of part.items ≡ filter (is_of key from (end_or end)) leaf.versions) }
     ensures refused { (leaf : LeafNode) → BeginsAsLeaf leaf octets.now → result ≡ Err ReadFault.NotANode → ⊥ }
+    ensures not_a_node { result ≡ Err ReadFault.NotANode ↔ (HoldsItsEntries octets.now → ⊥) }
+    ensures memory { result ≡ Err ReadFault.Memory → HoldsItsEntries octets.now }
 {
     let count = number2(octets, 4);
-    let mut rest = octets.split_at(LAST).0.split_at(FIRST).1;
+    let area = octets.split_at(LAST).0.split_at(FIRST).1;
+    if !begins_with_entries(area, count) {
+        return Err(ReadFault::NotANode);
+    }
+    let mut rest = area;
     let mut kept = Vec::new(alloc);
     for _ in 0..count {
-        let Some(size) = entry_size(rest) else {
-            return Err(ReadFault::NotANode);
-        };
         if is_entry_of(rest, key, from, end) {
             keep(&mut kept, entry_of(alloc, rest)?)?;
         }
-        rest = rest.split_at(size).1;
-    }
-    Ok(kept)
-}
-
-/// The entries of the leaf that begins these octets. Refused as no node only where they aren't a leaf, and not always there.
-pub fn entries_in(alloc: Global, octets: &[u8]) -> Result<Vec<Entry>, ReadFault>
-    requires size { length octets.now ≡ 16384 }
-    ensures entries { IfOk result (λ all. (leaf : LeafNode) → BeginsAsLeaf leaf octets.now → versions_of all.items ≡ leaf.versions) }
-    ensures refused { (leaf : LeafNode) → BeginsAsLeaf leaf octets.now → result ≡ Err ReadFault.NotANode → ⊥ }
-{
-    let count = number2(octets, 4);
-    let mut rest = octets.split_at(LAST).0.split_at(FIRST).1;
-    let mut kept = Vec::new(alloc);
-    for _ in 0..count {
-        let Some(size) = entry_size(rest) else {
-            return Err(ReadFault::NotANode);
-        };
-        keep(&mut kept, entry_of(alloc, rest)?)?;
-        rest = rest.split_at(size).1;
+        rest = rest.split_at(whole_size(rest)).1;
     }
     Ok(kept)
 }

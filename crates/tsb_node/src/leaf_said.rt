@@ -4,7 +4,8 @@ ghost use Rattle.std.specs.Result.{MatchResult};
 ghost use Rattle.tsb_node.specs.Leaves.{IsLeafPage, IsLeafBlock};
 ghost use Rattle.tsb_node.specs.Saying.{leaf_said, IsRefusal};
 
-use crate::leaf_part::{ReadFault, entries_in};
+use crate::leaf_entries::entries_in;
+use crate::leaf_part::ReadFault;
 use crate::leaf_reading::{read_leaf, read_leaf_block};
 use disk_models::{Block, Page};
 use std::alloc::Global;

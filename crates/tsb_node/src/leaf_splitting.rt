@@ -2,8 +2,9 @@
 
 ghost use Rattle.std.specs.Prelude.{◌≡◌, None, length};
 ghost use Rattle.tsb_node.specs.Nodes.{AreInOrder};
-ghost use Rattle.tsb_node.specs.Leaves.{LeafNode, BeginsAsLeaf, IsLeafPage};
-ghost use Rattle.tsb_node.specs.Splitting.{lies_within, side_of};
+ghost use Rattle.tsb_node.specs.Leaves.{LeafNode, BeginsAsLeaf};
+ghost use Rattle.tsb_node.specs.Splitting.{IsSidePage};
+ghost use Rattle.tsb_node.specs.inner.Sides.{lies_within};
 ghost use Rattle.std.specs.Result.{MatchResult};
 
 use crate::header::{is_below_high, is_key_below};
@@ -30,7 +31,7 @@ pub fn copy_side(octets: &[u8], bounds: &Bounds, fresh: &mut Page) -> Result<(),
     requires size { length octets.now ≡ 16384 }
     requires valid { AreInOrder bounds.now }
     requires current { bounds.now.end ≡ None }
-    ensures side { (leaf : LeafNode) → BeginsAsLeaf leaf octets.now → MatchResult result (λ u. IsLeafPage (side_of leaf bounds.now) fresh.new) (λ e. ⊥) }
+    ensures side { (leaf : LeafNode) → BeginsAsLeaf leaf octets.now → MatchResult result (λ u. IsSidePage leaf bounds.now fresh.new) (λ e. ⊥) }
 {
     bounds_fit(bounds);
     start_leaf(fresh, bounds);

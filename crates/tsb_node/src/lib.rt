@@ -12,6 +12,7 @@ mod key_node_said;
 mod key_node_writing;
 mod laws;
 mod leaf;
+mod leaf_entries;
 mod leaf_next;
 mod leaf_part;
 mod leaf_reading;
@@ -34,8 +35,9 @@ pub use laws::{
     entries_have_their_octets, nodes_are_one, nodes_say_what_the_tree_asks, sides_are_key_splits,
 };
 pub use leaf::{FoundVersion, NotANode, Value, find, push, start_leaf};
+pub use leaf_entries::entries_in;
 pub use leaf_next::next;
-pub use leaf_part::{ReadFault, entries_in, part};
+pub use leaf_part::{ReadFault, part};
 pub use leaf_reading::{leaf_in, leaves_are_one, read_leaf, read_leaf_block};
 pub use leaf_said::{LeafSaid, leaf_of_block, leaf_of_page};
 pub use leaf_sealing::seal_leaf;

@@ -6,11 +6,11 @@ use Rattle.version_model.specs.Versions.{Version, IsRising}
 use Rattle.tsb_node.specs.declared.header.Header.{Header}
 use Rattle.tsb_node.specs.Leaves.{LeafNode, IsLeaf, entry, entries, IsVersionOf}
 use Rattle.tsb_node.specs.inner.Reading.{value_size, version_in}
-use Rattle.tsb_node.specs.inner.Scanning.{IsWhole}
+use Rattle.tsb_node.specs.inner.Scanning.{IsWholeVersion}
 
 -- the octets begin with an entry of a leaf of these bounds
 pub record IsSpelled (b : Bounds) (bytes : List ℕ) : Type 0 where
-  pub whole : IsWhole bytes
+  pub whole : IsWholeVersion bytes
   pub valid : IsVersionOf b (version_in bytes)
   pub spelled : take (59 + value_size bytes) bytes ≡ entry (version_in bytes)
 

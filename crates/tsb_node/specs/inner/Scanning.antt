@@ -13,8 +13,8 @@ pub record NoneFrom (vs : List Version) (key s low high : ℕ) : Type 0 where
   pub none : (k : ℕ) (v : Version) → low ≤ k → k < high → slice_get vs k ≡ Some v → Counts key s v → ⊥
 
 -- the version at the front is whole
-abbrev pub IsWhole : List ℕ → Type 0
-IsWhole bytes = 59 + value_size bytes ≤ length bytes
+abbrev pub IsWholeVersion : List ℕ → Type 0
+IsWholeVersion bytes = 59 + value_size bytes ≤ length bytes
 
 -- the bytes begin with the last of the first n versions that counts
 pub record IsLastOf (vs : List Version) (bytes : List ℕ) (key s n : ℕ) (found : List ℕ) : Type 0 where
@@ -23,7 +23,7 @@ pub record IsLastOf (vs : List Version) (bytes : List ℕ) (key s n : ℕ) (foun
   pub at : found ≡ after place bytes
   pub counts : Counts key s (version_in found)
   pub none : NoneFrom vs key s (place + 1) n
-  pub whole : IsWhole found
+  pub whole : IsWholeVersion found
 
 abbrev pub IsLast : List Version → List ℕ → ℕ → ℕ → ℕ → Option (List ℕ) → Type 0
 IsLast vs bytes key s n None = NoneFrom vs key s 0 n
@@ -33,4 +33,4 @@ IsLast vs bytes key s n (Some found) = IsLastOf vs bytes key s n found
 pub record IsBroken (bytes : List ℕ) (count : ℕ) : Type 0 where
   pub place : ℕ
   pub below : place < count
-  pub broken : IsWhole (after place bytes) → ⊥
+  pub broken : IsWholeVersion (after place bytes) → ⊥

@@ -1,7 +1,7 @@
 use Rattle.std.proofs.Common.{◌∙◌, sym, ap, subst, drop, arith}
 use Rattle.std.proofs.lemmas.Map.Keys.{le_from_is_le}
 use Rattle.std.proofs.lemmas.Bool.{eqb-true, eq-eqb}
-use Rattle.tsb_node.specs.inner.Scanning.{IsWhole}
+use Rattle.tsb_node.specs.inner.Scanning.{IsWholeVersion}
 use Rattle.tsb_node.proofs.Scanning.{scan_start, scan_on, scan_yes, scan_no, counts, counted, is_le_to}
 use Rattle.tsb_node.proofs.leaf.last_of.Goals as goal
 use Rattle.tsb_node.proofs.leaf.last_of.Goals.{then-eq+then-le, else-eq, else-eq-via-then-eq+else-le, else-eq-via-else-eq}
@@ -34,4 +34,4 @@ loop-preserved c =
     )
 
 pub returns-in_default-clause-broken : goal.returns-in_default-clause-broken
-returns-in_default-clause-broken c = record { place = c.loop.counter; below = omega arith; broken = λ whole. c.in_default.ensures.none (subst IsWhole (sym c.loop.invariant.0) whole) }
+returns-in_default-clause-broken c = record { place = c.loop.counter; below = omega arith; broken = λ whole. c.in_default.ensures.none (subst IsWholeVersion (sym c.loop.invariant.0) whole) }

@@ -6,7 +6,7 @@ use Rattle.version_model.specs.inner.Lower.{IsLower}
 use Rattle.version_model.proofs.api.Least.{LeastBelow, LeastBelow-yes, LeastBelow-no, LeastBelow-end}
 use Rattle.tsb_node.specs.Leaves.{LeafNode, BeginsAsLeaf}
 use Rattle.tsb_node.specs.inner.Reading.{area}
-use Rattle.tsb_node.specs.inner.Scanning.{IsWhole}
+use Rattle.tsb_node.specs.inner.Scanning.{IsWholeVersion}
 use Rattle.tsb_node.proofs.Leaves.{leaf_says}
 use Rattle.tsb_node.proofs.Scanning.{scan_on, broken_none}
 use Rattle.tsb_node.proofs.SplittingLaws.{next_version, after_none}
@@ -28,7 +28,7 @@ returns-in_default c = record {
       absurd (broken_none leaf c.args.octets.now (record {
         place = c.loop.counter;
         below = omega (arith, c.loop-test.true, c.number2-count.ensures.number);
-        broken = λ whole. c.in_default.ensures.none (subst IsWhole (sym c.loop.invariant.there) whole);
+        broken = λ whole. c.in_default.ensures.none (subst IsWholeVersion (sym c.loop.invariant.there) whole);
       }) is);
 }
 

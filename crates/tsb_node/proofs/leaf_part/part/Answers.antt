@@ -1,4 +1,4 @@
-use Rattle.std.proofs.Common.{arith, ◌≡◌, ◌∙◌, ◌<◌, ◌≤◌, ℕ, length, drop, ap, sym, subst, refl}
+use Rattle.std.proofs.Common.{arith, ◌≡◌, ◌∙◌, ◌<◌, ◌≤◌, ℕ, length, drop, ap, sym, refl, true, false}
 use Rattle.std.proofs.lemmas.Bool.{both_ways}
 use Rattle.version_model.specs.Entries.{versions_of}
 use Rattle.version_model.specs.Ranges.{end_or}
@@ -7,13 +7,19 @@ use Rattle.version_model.proofs.api.Least.{filtered_yes, filtered_no, filtered_a
 use Rattle.version_model.proofs.api.LooksShown.{is_of_yes, is_of_no}
 use Rattle.tsb_node.specs.Leaves.{LeafNode, BeginsAsLeaf}
 use Rattle.tsb_node.specs.inner.Reading.{area, version_in}
-use Rattle.tsb_node.specs.inner.Scanning.{IsWhole}
 use Rattle.tsb_node.proofs.Leaves.{leaf_says}
-use Rattle.tsb_node.proofs.Scanning.{scan_on, broken_none}
+use Rattle.tsb_node.proofs.Scanning.{scan_on}
 use Rattle.tsb_node.proofs.SplittingLaws.{next_version, after_none}
+use Rattle.tsb_node.proofs.HoldingLaws.{held_by, whole_here, leaf_holds}
 use Rattle.tsb_node.proofs.Parting.{version_next, versions_more, key_there, stamp_there}
 use Rattle.tsb_node.proofs.leaf_part.part.Goals as goal
 use Rattle.tsb_node.proofs.leaf_part.part.Goals.{then-is_entry_of+in_ok-entry_of+in_ok-keep, else-is_entry_of}
+
+pub returns-then-not-begins_with_entries-clause-refused : goal.returns-then-not-begins_with_entries-clause-refused
+returns-then-not-begins_with_entries-clause-refused c = λ leaf is e.
+    let there : c.split_at-2.result.1.now ≡ area c.args.octets.now = c.split_at-2.ensures.back ∙ ap (drop 120) c.split_at.ensures.front in
+    let yes : false ≡ true = c.if-not-begins_with_entries.ensures.1 (held_by c.args.octets.now c.split_at-2.result.1.now c.number2-count.result c.number2-count.ensures.number there (leaf_holds leaf c.args.octets.now is)) in
+    cc
 
 pub loop-init : goal.loop-init
 loop-init c =
@@ -23,17 +29,23 @@ loop-init c =
       kept = λ leaf is. rw c.new-kept.ensures.items refl;
     }
 
-pub returns-in_default-clause-refused : goal.returns-in_default-clause-refused
-returns-in_default-clause-refused c = λ leaf is e.
-    broken_none leaf c.args.octets.now (record {
-      place = c.loop.counter;
-      below = omega (arith, c.loop-test.true, c.number2-count.ensures.number);
-      broken = λ whole. c.in_default.ensures.none (subst IsWhole (sym c.loop.invariant.there) whole);
-    }) is
+pub is_entry_of-requires : goal.is_entry_of-requires
+is_entry_of-requires c =
+    let there : c.split_at-2.result.1.now ≡ area c.args.octets.now = c.split_at-2.ensures.back ∙ ap (drop 120) c.split_at.ensures.front in
+    whole_here c.args.octets.now c.split_at-2.result.1.now c.loop.rest.now c.number2-count.result c.loop.counter there (c.if-not-begins_with_entries.ensures.0 refl) c.loop-test.true c.loop.invariant.there
+
+pub entry_of-requires : goal.entry_of-requires
+entry_of-requires c =
+    let there : c.split_at-2.result.1.now ≡ area c.args.octets.now = c.split_at-2.ensures.back ∙ ap (drop 120) c.split_at.ensures.front in
+    whole_here c.args.octets.now c.split_at-2.result.1.now c.loop.rest.now c.number2-count.result c.loop.counter there (c.if-not-begins_with_entries.ensures.0 refl) c.loop-test.true c.loop.invariant.there
+
+pub whole_size-requires : goal.whole_size-requires
+whole_size-requires c =
+    let there : c.split_at-2.result.1.now ≡ area c.args.octets.now = c.split_at-2.ensures.back ∙ ap (drop 120) c.split_at.ensures.front in
+    whole_here c.args.octets.now c.split_at-2.result.1.now c.loop.rest.now c.number2-count.result c.loop.counter there (c.if-not-begins_with_entries.ensures.0 refl) c.loop-test.true c.loop.invariant.there
 
 pub loop-preserved : goal.loop-preserved
 loop-preserved c =
-    let found = c.in-Some.ensures.found in
     let rest = c.loop.rest.now in
     let octets = c.args.octets.now in
     let i = c.loop.counter in
@@ -44,7 +56,7 @@ loop-preserved c =
     let old = versions_of c.loop.kept.items in
     let few : (leaf : LeafNode) → BeginsAsLeaf leaf octets → i < length leaf.versions = λ leaf is. (let says = leaf_says leaf octets is in omega (arith, says.count_is, c.loop-test.true, c.number2-count.ensures.number)) in
     record {
-      there = c.split_at-in-loop.ensures.back ∙ ap (λ (n : ℕ). drop n rest) found.0 ∙ scan_on i rest (area octets) c.loop.invariant.there;
+      there = c.split_at-in-loop.ensures.back ∙ ap (λ (n : ℕ). drop n rest) c.whole_size.ensures ∙ scan_on i rest (area octets) c.loop.invariant.there;
       kept = λ leaf is.
           (let n = next_version leaf octets rest i is (few leaf is) c.loop.invariant.there in
           let here : version_in rest ≡ n.v = version_next leaf i rest n in
@@ -68,3 +80,9 @@ returns-clause-part c = λ leaf is.
     let says = leaf_says leaf c.args.octets.now is in
     let done : length leaf.versions ≤ c.loop.counter = omega (arith, c.loop-test.false, c.number2-count.ensures.number, says.count_is) in
     filtered_all (is_of c.args.key c.args.from (end_or c.args.end)) leaf.versions (versions_of c.loop.kept.items) c.loop.counter done (c.loop.invariant.kept leaf is)
+
+pub split_at-requires-in-loop : goal.split_at-requires-in-loop
+split_at-requires-in-loop c =
+    let there : c.split_at-2.result.1.now ≡ area c.args.octets.now = c.split_at-2.ensures.back ∙ ap (drop 120) c.split_at.ensures.front in
+    let whole = whole_here c.args.octets.now c.split_at-2.result.1.now c.loop.rest.now c.number2-count.result c.loop.counter there (c.if-not-begins_with_entries.ensures.0 refl) c.loop-test.true c.loop.invariant.there in
+    omega (arith, c.whole_size.ensures, whole)

@@ -2,9 +2,10 @@ use Rattle.std.proofs.Common.{arith, ◌≡◌, ◌∙◌, ◌<◌, ℕ, List, l
 use Rattle.std.proofs.lemmas.List.{length-drop, length-take}
 use Rattle.tsb_node.specs.Leaves.{LeafNode, BeginsAsLeaf, entry}
 use Rattle.tsb_node.specs.inner.Reading.{area}
-use Rattle.tsb_node.specs.inner.Scanning.{IsWhole}
+use Rattle.tsb_node.specs.inner.Scanning.{IsWholeVersion}
 use Rattle.tsb_node.specs.inner.Laying.{laid}
-use Rattle.tsb_node.specs.Splitting.{lies_within}
+use Rattle.tsb_node.specs.inner.Sides.{lies_within, side_of}
+use Rattle.tsb_node.proofs.ViewLaws.{side_is}
 use Rattle.tsb_node.proofs.Leaves.{leaf_says}
 use Rattle.tsb_node.proofs.Laying.{laid_is}
 use Rattle.tsb_node.proofs.Scanning.{scan_on, broken_none}
@@ -29,7 +30,7 @@ returns-in_default c = record {
       absurd (broken_none leaf c.args.octets.now (record {
         place = c.loop.counter;
         below = omega (arith, c.loop-test.true, c.number2-count.ensures.number);
-        broken = λ whole. c.in_default.ensures.none (subst IsWhole (sym c.loop.invariant.3) whole);
+        broken = λ whole. c.in_default.ensures.none (subst IsWholeVersion (sym c.loop.invariant.3) whole);
       }) is);
 }
 
@@ -83,5 +84,5 @@ returns c =
       side = λ leaf is.
           let says = leaf_says leaf c.args.octets.now is in
           let done : c.loop.counter ≡ length leaf.versions = omega (arith, c.loop-test.false, c.loop.auto.counter-end, c.number2-count.ensures.number, says.count_is) in
-          rw (two, one) (copied_end leaf c.args.bounds.now c.loop.counter c.loop.at c.loop.kept _ c.loop.fresh c.bounds_fit.ensures.fits c.requires.current done (omega (arith, c.loop.invariant.0)) (omega (arith, c.loop.invariant.1)) (c.loop.invariant.4 leaf is));
+          record { versions = (side_of leaf c.args.bounds.now).versions; side = side_is leaf c.args.bounds.now; page = rw (two, one) (copied_end leaf c.args.bounds.now c.loop.counter c.loop.at c.loop.kept _ c.loop.fresh c.bounds_fit.ensures.fits c.requires.current done (omega (arith, c.loop.invariant.0)) (omega (arith, c.loop.invariant.1)) (c.loop.invariant.4 leaf is)) };
     }

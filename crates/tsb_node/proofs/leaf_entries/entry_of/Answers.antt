@@ -3,8 +3,8 @@ use Rattle.std.specs.Option.{option_map}
 use Rattle.tsb_node.specs.inner.Reading.{version_in}
 use Rattle.tsb_node.proofs.Scanning.{key_said, stamp_said, value_said, value_none, value_some}
 use Rattle.tsb_node.proofs.Parting.{version_is}
-use Rattle.tsb_node.proofs.leaf_part.entry_of.Goals as goal
-use Rattle.tsb_node.proofs.leaf_part.entry_of.Goals.{then-bytes-eq0, else-bytes-eq0+in_ok-to_vec}
+use Rattle.tsb_node.proofs.leaf_entries.entry_of.Goals as goal
+use Rattle.tsb_node.proofs.leaf_entries.entry_of.Goals.{then-bytes-eq0, else-bytes-eq0+in_ok-to_vec}
 
 pub returns : goal.returns
 returns c =

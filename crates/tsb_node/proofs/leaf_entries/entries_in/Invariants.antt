@@ -2,7 +2,7 @@ use Rattle.std.proofs.Common.{◌≡◌, ◌++◌, drop}
 use Rattle.version_model.specs.Entries.{versions_of}
 use Rattle.tsb_node.specs.Leaves.{LeafNode, BeginsAsLeaf}
 use Rattle.tsb_node.specs.inner.Reading.{after, area}
-use Rattle.tsb_node.proofs.leaf_part.entries_in.Given as goal
+use Rattle.tsb_node.proofs.leaf_entries.entries_in.Given as goal
 
 abbrev pub invariant-loop : goal.invariant-loop
 invariant-loop l = record {
