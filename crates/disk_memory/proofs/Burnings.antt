@@ -1,5 +1,5 @@
 -- Burns one after another.
-use Rattle.std.proofs.Common.{◌≡◌, ◌≢◌, ⊎_elim, ◌<◌, ℕ, ◌+◌, List, [], ◌∷◌, ◌++◌, length, take, get_or, true, false, ◌||◌, ◌&&◌, ◌==◌, if◌then◌else◌, Option, None, Some, is_some, slice_get, refl, sym, ◌∙◌, ap, subst, arith, append_assoc, append-nil}
+use Rattle.std.proofs.Common.{◌≡◌, ◌≢◌, ⊎_elim, ◌<◌, ℕ, ◌+◌, List, [], ◌∷◌, ◌++◌, length, take, get_or, Bool, Bor, true, false, inr, option_copied, ◌||◌, ◌&&◌, ◌==◌, if◌then◌else◌, Option, None, Some, is_some, slice_get, refl, sym, ◌∙◌, ap, subst, arith, append_assoc, append-nil}
 use Rattle.std.proofs.lemmas.List.{take_more, length-take}
 use Rattle.std.proofs.lemmas.Bool.{ne_eqb, eq-eqb}
 use Rattle.disk_models.specs.Once.{Burns, BurnsOnly, SettlesOnly}
@@ -7,6 +7,7 @@ use Rattle.disk_models.specs.Left.{OnceFound}
 use Rattle.disk_memory.specs.declared.torn.Torn.{Torn}
 use Rattle.disk_memory.specs.declared.torn.Torn.TheVariants.{Old, New, Half, Octets}
 use Rattle.disk_memory.specs.OnceSound.{burnt_still}
+use Rattle.disk_memory.specs.inner.Failing.{burning_kept}
 use Rattle.disk_memory.specs.Burning.{Burning, burnt_in, tried_block_in, once_state_of, torn_burning, torn_burnings, torn_block, LeavesFailed}
 
 -- tried by the first or by the others
@@ -181,3 +182,14 @@ settle_same settled old new_settled new same none =
     subst (λ (s : List Burning). SettlesOnly (once_state_of settled old) (once_state_of s new)) (sym same)
     (subst (λ (l : List Burning). SettlesOnly (once_state_of settled old) (once_state_of settled l)) (sym none)
     (record { tried = refl; burnt = refl; settled = λ n block is. is }))
+
+-- what a burn that was to fail left
+pub kept_failed : (n : ℕ) (block : List ℕ) (failure : Option (Bor Torn)) (fails : Bool) (old new : List Burning) → fails ≡ is_some failure → fails ≡ true
+    → new ≡ old ++ burning_kept (option_copied failure) n block ∷ [] → LeavesFailed n block (option_copied failure) old new
+kept_failed n block None fails old new is failed same = absurd cc
+kept_failed n block (Some torn) fails old new is failed same = inr same
+
+-- what one that wasn't left
+pub kept_whole : (n : ℕ) (block : List ℕ) (failure : Option (Bor Torn)) (fails : Bool) → fails ≡ is_some failure → fails ≡ false → burning_kept (option_copied failure) n block ≡ record { number = n; block = block; whole = true }
+kept_whole n block None fails is sound = refl
+kept_whole n block (Some torn) fails is sound = absurd cc

@@ -31,3 +31,7 @@ on_err_weaker_to (Err e) P Q so p = so p
 pub whole : (failure : Option (Bor Torn)) (fails : Bool) (from : List ℕ) → fails ≡ is_some failure → fails ≡ false → octets_kept (option_copied failure) from ≡ from
 whole None fails from is none = refl
 whole (Some torn) fails from is none = absurd cc
+
+pub on_err : {T E : Type 0} (r : Result T E) (Q : Type 0) → Q → OnErr r Q
+on_err (Ok x) Q q = tt
+on_err (Err e) Q q = q

@@ -1,6 +1,7 @@
 // What a write-once disk in memory remembers of its burns.
 ghost use Rattle.std.specs.Prelude.{◌≡◌, ◌==◌, ◌&&◌, ℕ, List, Bool, true, false, Option, IfOk, length, option_copied, is_some};
 ghost use Rattle.disk_memory.specs.Burning.{Burning, burnt_in, tried_block_in, torn_block, torn_burning};
+ghost use Rattle.disk_memory.specs.inner.Failing.{burning_kept};
 
 use crate::torn::Torn;
 use disk_models::{BLOCK_SIZE, Block};
@@ -48,8 +49,23 @@ impl Burn {
         self.whole
     }
 
+    // A burn of a block, or what a failure leaves of it.
+    pub(crate) fn new(
+        alloc: Global,
+        number: u64,
+        block: &Block,
+        failure: Option<&Torn>,
+    ) -> Result<Burn, AllocError>
+        ensures { IfOk result (λ burn. burn ≡ burning_kept (option_copied failure.entry) number block.now) }
+    {
+        match failure {
+            None => Burn::whole(alloc, number, block),
+            Some(torn) => Burn::failed(alloc, number, block, torn),
+        }
+    }
+
     // A block that was burnt whole.
-    pub(crate) fn whole(alloc: Global, number: u64, block: &Block) -> Result<Burn, AllocError>
+    fn whole(alloc: Global, number: u64, block: &Block) -> Result<Burn, AllocError>
         ensures { IfOk result (λ burn. burn ≡ record { number = number; block = block.now; whole = true }) }
     {
         Ok(Burn {
@@ -60,12 +76,7 @@ impl Burn {
     }
 
     // What a burn of a block leaves that failed so.
-    pub(crate) fn failed(
-        alloc: Global,
-        number: u64,
-        block: &Block,
-        torn: &Torn,
-    ) -> Result<Burn, AllocError>
+    fn failed(alloc: Global, number: u64, block: &Block, torn: &Torn) -> Result<Burn, AllocError>
         ensures { IfOk result (λ burn. burn ≡ record { number = number; block = torn_block torn.now block.now; whole = false }) }
     {
         Ok(Burn {

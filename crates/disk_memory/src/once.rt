@@ -27,6 +27,8 @@ ghost use Rattle.disk_memory.specs.Burning.{LeavesFailed, once_state_of, torn_bu
 ghost use Rattle.disk_memory.specs.OnceFailure.{failing_reads_of};
 ghost use Rattle.disk_memory.specs.Pen.{KeepsBurns, once_faults_of, once_model, once_script_of, settled_of, waiting_of};
 
+use crate::burn::{Burn, is_tried};
+use crate::once_failure::burn_failure;
 use crate::pen::MemPen;
 use crate::seen::MemSeen;
 use crate::torn::Torn;
@@ -115,6 +117,7 @@ impl OnceDisk for MemOnce {
     }
 
     /// Beside the trait's clauses: it fails exactly where the script says.
+    #[tactic(auto, using(crate::proofs::Burnings::tried_append))]
     fn blank(&self, pen: &mut MemPen, n: u64) -> Result<bool, Fault>
         requires { n < blocks_of self.now }
         ensures counts { Counts (once_faults_of pen.old) (once_faults_of pen.new) result }
@@ -123,10 +126,15 @@ impl OnceDisk for MemOnce {
         ensures scripted { IsErr result ↔ IsBlankToFail pen.old }
         ensures next { CalledBlank pen.old pen.new }
     {
-        pen.blank(n)
+        if pen.blank_fails() {
+            return Err(pen.fault());
+        }
+        let spent = is_tried(&pen.settled, n) || is_tried(&pen.waiting, n);
+        Ok(!spent)
     }
 
-    /// Beside the trait's clauses: which burn is remembered, and that it fails where the script says.
+    /// Beside the trait's clauses: which burn is remembered, and that it fails where the script says. Nothing is burnt
+    /// for want of memory.
     fn burn(&self, pen: &mut MemPen, n: u64, block: &Block) -> Result<(), Fault>
         requires inside { n < blocks_of self.now }
         requires blank { (once_model pen.old).tried n ≡ false }
@@ -140,7 +148,19 @@ impl OnceDisk for MemOnce {
         ensures scripted { IsSome (burn_to_fail pen.old) → IsErr result }
         ensures next { CalledBurn pen.old pen.new }
     {
-        pen.burn(n, block)
+        let number = pen.burns;
+        pen.burns = number.saturating_add(1);
+        let failure = burn_failure(&pen.script, number);
+        let fails = failure.is_some();
+        let burn = match Burn::new(pen.alloc, n, block, failure) {
+            Ok(burn) => burn,
+            Err(_) => return Err(pen.fault()),
+        };
+        pen.record(burn)?;
+        if fails {
+            return Err(pen.fault());
+        }
+        Ok(())
     }
 
     /// Beside the trait's clauses: which burns are settled, and that it fails where the script says.
@@ -154,7 +174,13 @@ impl OnceDisk for MemOnce {
         ensures scripted { IsSettleToFail pen.old → IsErr result }
         ensures next { CalledSettle pen.old pen.new }
     {
-        pen.settle()
+        if pen.settle_fails() {
+            return Err(pen.fault());
+        }
+        match pen.settled.append(&mut pen.waiting) {
+            Ok(()) => Ok(()),
+            Err(_) => Err(pen.fault()),
+        }
     }
 
     /// Beside the trait's clauses: which burns a reader knows, which of its reads fail, and that it fails where the
@@ -169,7 +195,13 @@ impl OnceDisk for MemOnce {
         ensures scripted { IsLookToFail pen.old → IsErr result }
         ensures next { CalledLook pen.old pen.new }
     {
-        pen.look()
+        if pen.look_fails() {
+            return Err(pen.fault());
+        }
+        match pen.seen() {
+            Ok(seen) => Ok(seen),
+            Err(_) => Err(pen.fault()),
+        }
     }
 
     /// Beside the trait's clauses: it fails exactly where the script said when the reader looked.

@@ -26,7 +26,7 @@ ghost use Rattle.std.specs.Prelude.{
 };
 ghost use Rattle.std.specs.List.{list_any};
 ghost use Rattle.disk_models.specs.Erase.{Counts};
-ghost use Rattle.disk_memory.specs.Burning.{Burning, LeavesFailed, once_state_of, torn_burning, torn_burnings};
+ghost use Rattle.disk_memory.specs.Burning.{Burning, torn_burnings};
 ghost use Rattle.disk_memory.specs.OnceFailure.{
   burn_failure_at,
   failing_reads_of,
@@ -35,22 +35,22 @@ ghost use Rattle.disk_memory.specs.OnceFailure.{
   is_settle_failure,
 };
 
-use crate::burn::{Burn, copies, is_tried};
-use crate::once_failure::{OnceFailure, burn_failure, failing_reads};
+use crate::burn::{Burn, copies};
+use crate::once_failure::{OnceFailure, failing_reads};
 use crate::seen::MemSeen;
 use crate::torn::Torn;
-use disk_models::{Block, Fault};
+use disk_models::Fault;
 use std::alloc::{AllocError, Global};
 
 /// The one pen of a write-once disk in memory: all its burns, and which of them are settled.
 #[derive(Drop)]
 pub struct MemPen {
-    alloc: Global,
-    settled: Vec<Burn>,
-    waiting: Vec<Burn>,
-    script: Vec<OnceFailure>,
+    pub(crate) alloc: Global,
+    pub(crate) settled: Vec<Burn>,
+    pub(crate) waiting: Vec<Burn>,
+    pub(crate) script: Vec<OnceFailure>,
     blanks: u64,
-    burns: u64,
+    pub(crate) burns: u64,
     settles: u64,
     looks: u64,
     faults: u64,
@@ -139,7 +139,7 @@ impl MemPen {
     }
 
     // Counts a failure.
-    fn fault(&mut self) -> Fault
+    pub(crate) fn fault(&mut self) -> Fault
         ensures { self.new ≡ record self.old { faults = min (self.old.faults + 1) 18446744073709551615 } }
     {
         self.faults = self.faults.saturating_add(1);
@@ -147,7 +147,7 @@ impl MemPen {
     }
 
     // Counts a look for a blank block, and says whether it fails.
-    fn blank_fails(&mut self) -> bool
+    pub(crate) fn blank_fails(&mut self) -> bool
         ensures scripted { result ≡ list_any (λ failure. is_blank_failure self.old.blanks failure) (once_script_of self.old) }
         ensures next { self.new ≡ record self.old { blanks = min (self.old.blanks + 1) 18446744073709551615 } }
     {
@@ -157,7 +157,7 @@ impl MemPen {
     }
 
     // Counts a settle, and says whether it fails.
-    fn settle_fails(&mut self) -> bool
+    pub(crate) fn settle_fails(&mut self) -> bool
         ensures scripted { result ≡ list_any (λ failure. is_settle_failure self.old.settles failure) (once_script_of self.old) }
         ensures next { self.new ≡ record self.old { settles = min (self.old.settles + 1) 18446744073709551615 } }
     {
@@ -167,7 +167,7 @@ impl MemPen {
     }
 
     // Counts a look, and says whether it fails.
-    fn look_fails(&mut self) -> bool
+    pub(crate) fn look_fails(&mut self) -> bool
         ensures scripted { result ≡ list_any (λ failure. is_look_failure self.old.looks failure) (once_script_of self.old) }
         ensures next { self.new ≡ record self.old { looks = min (self.old.looks + 1) 18446744073709551615 } }
     {
@@ -176,90 +176,23 @@ impl MemPen {
         self.script.iter().any(|failure| failure.is_look(number))
     }
 
-    // Whether no burn of this block was begun.
-    #[tactic(auto, using(crate::proofs::Burnings::tried_append))]
-    pub(crate) fn blank(&mut self, n: u64) -> Result<bool, Fault>
-        ensures blank { IfOk result (λ blank. blank ≡ not ((once_state_of (settled_of self.old) (waiting_of self.old)).tried n)) }
-        ensures scripted { IsErr result ↔ IsTrue (list_any (λ failure. is_blank_failure self.old.blanks failure) (once_script_of self.old)) }
-        ensures burns { KeepsBurns self.old self.new }
-        ensures script { once_script_of self.new ≡ once_script_of self.old }
-        ensures next { IsAtOnceCall self.new (min (self.old.blanks + 1) 18446744073709551615) self.old.burns self.old.settles self.old.looks }
-        ensures counts { Counts (once_faults_of self.old) (once_faults_of self.new) result }
-    {
-        if self.blank_fails() {
-            return Err(self.fault());
-        }
-        let spent = is_tried(&self.settled, n) || is_tried(&self.waiting, n);
-        Ok(!spent)
-    }
-
-    // Burns a block, or leaves what the script has for this burn. Nothing is burnt for want of memory.
-    pub(crate) fn burn(&mut self, n: u64, block: &Block) -> Result<(), Fault>
-        ensures ok { OnOk result (waiting_of self.new ≡ waiting_of self.old ++ record { number = n; block = block.now; whole = true } ∷ []) }
-        ensures err { OnErr result (LeavesFailed n block.now (burn_failure_at self.old.burns (once_script_of self.old)) (waiting_of self.old) (waiting_of self.new)) }
-        ensures scripted { IsSome (burn_failure_at self.old.burns (once_script_of self.old)) → IsErr result }
+    // Remembers a burn, or counts a failure for want of memory.
+    pub(crate) fn record(&mut self, burn: Burn) -> Result<(), Fault>
+        ensures ok { OnOk result (waiting_of self.new ≡ waiting_of self.old ++ burn ∷ []) }
+        ensures err { OnErr result (waiting_of self.new ≡ waiting_of self.old) }
         ensures settled { settled_of self.new ≡ settled_of self.old }
         ensures script { once_script_of self.new ≡ once_script_of self.old }
-        ensures next { IsAtOnceCall self.new self.old.blanks (min (self.old.burns + 1) 18446744073709551615) self.old.settles self.old.looks }
+        ensures next { IsAtOnceCall self.new self.old.blanks self.old.burns self.old.settles self.old.looks }
         ensures counts { Counts (once_faults_of self.old) (once_faults_of self.new) result }
     {
-        let number = self.burns;
-        self.burns = number.saturating_add(1);
-        let failure = burn_failure(&self.script, number);
-        let fails = failure.is_some();
-        let burn = match failure {
-            None => Burn::whole(self.alloc, n, block),
-            Some(torn) => Burn::failed(self.alloc, n, block, torn),
-        };
-        let burn = match burn {
-            Ok(burn) => burn,
-            Err(_) => return Err(self.fault()),
-        };
-        if self.waiting.push(burn).is_err() || fails {
-            return Err(self.fault());
-        }
-        Ok(())
-    }
-
-    // Settles all burns.
-    pub(crate) fn settle(&mut self) -> Result<(), Fault>
-        ensures ok { OnOk result (settled_of self.new ≡ settled_of self.old ++ waiting_of self.old) }
-        ensures none { OnOk result (waiting_of self.new ≡ []) }
-        ensures err { OnErr result (KeepsBurns self.old self.new) }
-        ensures scripted { IsTrue (list_any (λ failure. is_settle_failure self.old.settles failure) (once_script_of self.old)) → IsErr result }
-        ensures script { once_script_of self.new ≡ once_script_of self.old }
-        ensures next { IsAtOnceCall self.new self.old.blanks self.old.burns (min (self.old.settles + 1) 18446744073709551615) self.old.looks }
-        ensures counts { Counts (once_faults_of self.old) (once_faults_of self.new) result }
-    {
-        if self.settle_fails() || self.settled.append(&mut self.waiting).is_err() {
-            return Err(self.fault());
-        }
-        Ok(())
-    }
-
-    // What is settled now, to be read.
-    pub(crate) fn look(&mut self) -> Result<MemSeen, Fault>
-        ensures known { IfOk result (λ seen. known_burns_of seen ≡ settled_of self.old) }
-        ensures fresh { IfOk result (λ seen. seen_faults_of seen ≡ 0) }
-        ensures reads { IfOk result (λ seen. seen_reads_of seen ≡ 0) }
-        ensures reads_to_fail { IfOk result (λ seen. failing_of seen ≡ failing_reads_of (once_script_of self.old)) }
-        ensures script { once_script_of self.new ≡ once_script_of self.old }
-        ensures next { IsAtOnceCall self.new self.old.blanks self.old.burns self.old.settles (min (self.old.looks + 1) 18446744073709551615) }
-        ensures scripted { IsTrue (list_any (λ failure. is_look_failure self.old.looks failure) (once_script_of self.old)) → IsErr result }
-        ensures burns { KeepsBurns self.old self.new }
-        ensures counts { Counts (once_faults_of self.old) (once_faults_of self.new) result }
-    {
-        if self.look_fails() {
-            return Err(self.fault());
-        }
-        match self.seen() {
-            Ok(seen) => Ok(seen),
+        match self.waiting.push(burn) {
+            Ok(()) => Ok(()),
             Err(_) => Err(self.fault()),
         }
     }
 
     // What a reader knows now.
-    fn seen(&self) -> Result<MemSeen, AllocError>
+    pub(crate) fn seen(&self) -> Result<MemSeen, AllocError>
         ensures known { IfOk result (λ seen. known_burns_of seen ≡ settled_of self.now) }
         ensures fresh { IfOk result (λ seen. seen_faults_of seen ≡ 0) }
         ensures reads { IfOk result (λ seen. seen_reads_of seen ≡ 0) }

@@ -1,5 +1,6 @@
 -- What fails next, and what a failure leaves. Contracts of private functions alone cite this file.
-use Rattle.std.specs.Prelude.{◌≡◌, ℕ, List, Option, None, Some}
+use Rattle.std.specs.Prelude.{◌≡◌, ℕ, List, true, false, Option, None, Some}
+use Rattle.disk_memory.specs.Burning.{Burning, torn_block}
 use Rattle.disk_memory.specs.Memory.{IsAtCall, script_of}
 use Rattle.disk_memory.specs.Torn.{torn_octets}
 use Rattle.disk_memory.specs.declared.erase.MemErase.{MemErase}
@@ -14,3 +15,8 @@ pub record KeepsScript (old new : MemErase) : Type 0 where
 abbrev pub octets_kept : Option Torn → List ℕ → List ℕ
 octets_kept None new = new
 octets_kept (Some torn) new = torn_octets torn new
+
+-- the burn of a block, where it failed, if it did
+abbrev pub burning_kept : Option Torn → ℕ → List ℕ → Burning
+burning_kept None n block = record { number = n; block = block; whole = true }
+burning_kept (Some torn) n block = record { number = n; block = torn_block torn block; whole = false }

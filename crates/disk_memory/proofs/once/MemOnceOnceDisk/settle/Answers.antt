@@ -1,10 +1,9 @@
-use Rattle.std.proofs.Common.{⊎_elim}
-use Rattle.disk_memory.proofs.Results.{on_ok_both, ok_or_err}
-use Rattle.disk_memory.proofs.Burnings.{settle_only, settle_same}
+use Rattle.std.proofs.Common.{◌++◌, ◌∙◌}
+use Rattle.disk_memory.specs.Pen.{settled_of, waiting_of}
+use Rattle.disk_memory.proofs.Burnings.{settle_only}
 use Rattle.disk_memory.proofs.once.MemOnceOnceDisk.settle.Goals as goal
 
-pub returns-clause-only : goal.returns-clause-only
-returns-clause-only c = ⊎_elim
-    (λ moved. settle_only c.args.pen.now.settled.items c.args.pen.now.waiting.items c.settle.new.self.settled.items c.settle.new.self.waiting.items moved.0 moved.1)
-    (λ same. settle_same c.args.pen.now.settled.items c.args.pen.now.waiting.items c.settle.new.self.settled.items c.settle.new.self.waiting.items same.settled same.waiting)
-    (ok_or_err c.settle.result _ _ (on_ok_both c.settle.result _ _ c.settle.ensures.ok c.settle.ensures.none) c.settle.ensures.err)
+pub returns-in-Ok-clause-only : goal.returns-in-Ok-clause-only
+returns-in-Ok-clause-only c =
+    settle_only (settled_of c.args.pen.now) (waiting_of c.args.pen.now) _ _
+    (c.in-Ok.ensures.items ∙ (λ k. (c.settle_fails.ensures.next k).settled.items ++ (c.settle_fails.ensures.next k).waiting.items)) c.in-Ok.ensures.other_items
