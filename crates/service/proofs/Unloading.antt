@@ -9,8 +9,8 @@ use Rattle.archive.specs.Steps.{given, with_batch, IsCollector, NothingToApply}
 use Rattle.service.specs.FeedLines.{settled_line}
 use Rattle.service.specs.Turns.{offered, admissions_of}
 use Rattle.service.specs.Faults.{of_load}
-use Rattle.service.specs.Feeds.{IsEnd, IsFed, IsFeed, as_told}
-use Rattle.service.specs.Loads.{IsLoaded, IsLoadEnd, IsGivenUpLoad, IsPartLoaded, HasIntakes, IsSettled, IsUnloaded, marked_if}
+use Rattle.service.specs.Feeds.{FitsFailures, IsEnd, IsFed, IsFeed, as_told}
+use Rattle.service.specs.Loads.{IsLoaded, IsLoadEnd, IsGivenUpLoad, IsPartLoaded, IsSettled, IsUnloaded, marked_if}
 use Rattle.service.specs.Refusals.{error_line, TellsFailure}
 use Rattle.service.specs.inner.Loading.{HasNotSettled, mark_after, status_after, told_as}
 use Rattle.service.specs.declared.faults.FeedCut.{FeedCut}
@@ -45,121 +45,118 @@ loaded c limit mark set h bytes cut fed archive was mid now same f settles tells
 there : (c : ℕ) (h : History) (batch : List Admitted) → IsCollector h c → IsCollector (given h c batch) c
 there c h batch here = let n = as_many c (with_batch batch) h.intakes in omega (arith, n, here)
 
--- a feed that was given up for what is outside lost its reader or its writer
-was_lost : (failed lost : Bool) (end : End) → (as_told failed end ≡ ends.Refused reasons.Outside → (lost ≡ true) ⊎ (failed ≡ true)) → end ≡ ends.Refused reasons.Outside → (lost ≡ true) ⊎ (failed ≡ true)
-was_lost true lost end l e = inr refl
-was_lost false lost end l e = l e
-
 -- the feed ended well, and then the load ended
-unloaded_well : (c limit : ℕ) (mark : Option ℕ) (h : History) (bytes : List ℕ) (lost : Bool) (fed archive : History) (was mid : OutputState) (why : LoadStop)
-    → IsCollector h c → mid.failed ≡ false → (f : IsFed c limit h bytes None fed was mid) → HasNotSettled c mark (given h c (admissions_of f.results)) archive why → IsUnloaded c limit mark h bytes lost archive was mid why
-unloaded_well c limit mark h bytes lost fed archive was mid stops.NoCollector here sound f u = absurd (u.0 (there c h (admissions_of f.results) here))
-unloaded_well c limit mark h bytes lost fed archive was mid stops.MarkBack here sound f u =
-    record { lower = u.0; asked = u.1; records = f.records; results = f.results; feed = subst (λ (t : List ℕ). IsFeed c bytes t f.records f.results) f.cut_is f.feed; above = u.2; wrote = f.wrote; carried = u.3 }
-unloaded_well c limit mark h bytes lost fed archive was mid stops.OutOfMemory here sound f u = inl (fed, f, sound, u)
+unloaded_well : (c limit : ℕ) (mark : Option ℕ) (h : History) (bytes : List ℕ) (lost_was lost : Bool) (fed archive : History) (was mid : OutputState) (why : LoadStop)
+    → IsCollector h c → mid.failed ≡ false → lost ≡ lost_was → (f : IsFed c limit h bytes None fed was mid) → HasNotSettled c mark (given h c (admissions_of f.results)) archive why → IsUnloaded c limit mark h bytes lost_was lost archive was mid why
+unloaded_well c limit mark h bytes lost_was lost fed archive was mid stops.NoCollector here sound unlost f u = absurd (u.0 (there c h (admissions_of f.results) here))
+unloaded_well c limit mark h bytes lost_was lost fed archive was mid stops.MarkBack here sound unlost f u = (
+  record { lower = u.0; asked = u.1; records = f.records; results = f.results; feed = subst (λ (t : List ℕ). IsFeed c bytes t f.records f.results) f.cut_is f.feed; above = u.2; wrote = f.wrote; carried = u.3 },
+  unlost,
+)
+unloaded_well c limit mark h bytes lost_was lost fed archive was mid stops.OutOfMemory here sound unlost f u = (u.now, u.carried, inl (fed, f, sound, unlost, u.are))
 
 -- no mark was to be set, and then the load ended
-unloaded_short : (c limit : ℕ) (mark : Option ℕ) (h : History) (bytes : List ℕ) (lost : Bool) (archive : History) (was mid : OutputState) (gave : List Admitted) (why : LoadStop)
-    → IsCollector h c → (HasIntakes (given h c gave).intakes archive → IsPartLoaded c limit mark h bytes lost archive was mid) → HasNotSettled c None (given h c gave) archive why → IsUnloaded c limit mark h bytes lost archive was mid why
-unloaded_short c limit mark h bytes lost archive was mid gave stops.NoCollector here kept u = absurd (u.0 (there c h gave here))
-unloaded_short c limit mark h bytes lost archive was mid gave stops.MarkBack here kept u = let none = u.1 in absurd cc
-unloaded_short c limit mark h bytes lost archive was mid gave stops.OutOfMemory here kept u = kept u
+unloaded_short : (c limit : ℕ) (mark : Option ℕ) (h : History) (bytes : List ℕ) (lost_was lost : Bool) (archive : History) (was mid : OutputState) (gave : List Admitted) (why : LoadStop)
+    → IsCollector h c → ((past : History) → past.intakes ≡ (given h c gave).intakes → IsPartLoaded c limit mark h bytes lost_was lost past was mid) → HasNotSettled c None (given h c gave) archive why → IsUnloaded c limit mark h bytes lost_was lost archive was mid why
+unloaded_short c limit mark h bytes lost_was lost archive was mid gave stops.NoCollector here kept u = absurd (u.0 (there c h gave here))
+unloaded_short c limit mark h bytes lost_was lost archive was mid gave stops.MarkBack here kept u = let none = u.1 in absurd cc
+unloaded_short c limit mark h bytes lost_was lost archive was mid gave stops.OutOfMemory here kept u = (u.now, u.carried, kept u.now u.are)
 
 -- what the feed gave stands, without a mark
-kept_without : (end : End) (c limit : ℕ) (mark : Option ℕ) (h : History) (bytes : List ℕ) (lost : Bool) (fed archive : History) (was mid : OutputState)
-    → (e : IsEnd c limit h bytes end fed was mid) → (end ≡ ends.Well → mid.failed ≡ true) → (end ≡ ends.Refused reasons.Outside → (lost ≡ true) ⊎ (mid.failed ≡ true))
-    → (gave : List Admitted) × Carries fed (given h c gave) × (HasIntakes (given h c gave).intakes archive → IsPartLoaded c limit mark h bytes lost archive was mid)
-kept_without ends.Well c limit mark h bytes lost fed archive was mid f failed l = (admissions_of f.results, f.carried, λ u. inr (inl (fed, None, f, (λ e. failed refl), u)))
-kept_without ends.Cut c limit mark h bytes lost fed archive was mid f failed l = (admissions_of f.1.results, f.1.carried, λ u. inr (inl (fed, Some f.0, f.1, (λ e. absurd cc), u)))
-kept_without (ends.Refused r) c limit mark h bytes lost fed archive was mid g failed l = (offered g.made, g.carried, λ u. inr (inr (fed, r, g, (λ e. l (ap (λ (t : FeedStop). ends.Refused t) e)), u)))
+kept_without : (end : End) (c limit : ℕ) (mark : Option ℕ) (h : History) (bytes : List ℕ) (lost_was lost : Bool) (fed archive : History) (was mid : OutputState)
+    → (e : IsEnd c limit h bytes end fed was mid) → (end ≡ ends.Well → mid.failed ≡ true) → FitsFailures end lost_was lost mid.failed
+    → (gave : List Admitted) × Carries fed (given h c gave) × ((past : History) → past.intakes ≡ (given h c gave).intakes → IsPartLoaded c limit mark h bytes lost_was lost past was mid)
+kept_without ends.Well c limit mark h bytes lost_was lost fed archive was mid f failed l = (admissions_of f.results, f.carried, λ past are. inr (inl (fed, None, f, (λ e. failed refl), l.inside (λ e. absurd cc), are)))
+kept_without ends.Cut c limit mark h bytes lost_was lost fed archive was mid f failed l = (admissions_of f.1.results, f.1.carried, λ past are. inr (inl (fed, Some f.0, f.1, (λ e. absurd cc), l.inside (λ e. absurd cc), are)))
+kept_without (ends.Refused r) c limit mark h bytes lost_was lost fed archive was mid g failed l = (offered g.made, g.carried, λ past are. inr (inr (fed, r, g, l, are)))
 
 -- a load ended outside its feed
-unloaded : (failed : Bool) (end : End) (c limit : ℕ) (mark : Option ℕ) (h : History) (bytes : List ℕ) (lost : Bool) (fed archive : History) (was mid : OutputState) (why : LoadStop)
-    → mid.failed ≡ failed → IsCollector h c → IsEnd c limit h bytes end fed was mid → (end ≡ ends.Refused reasons.Outside → (lost ≡ true) ⊎ (mid.failed ≡ true))
-    → ((g : History) → Carries fed g → HasNotSettled c (mark_after (as_told failed end) mark) g archive why) → IsUnloaded c limit mark h bytes lost archive was mid why
-unloaded true end c limit mark h bytes lost fed archive was mid why failed here e l un =
-    let k = kept_without end c limit mark h bytes lost fed archive was mid e (λ well. failed) l in
-    unloaded_short c limit mark h bytes lost archive was mid k.0 why here k.2 (un _ k.1)
-unloaded false ends.Well c limit mark h bytes lost fed archive was mid why sound here f l un = unloaded_well c limit mark h bytes lost fed archive was mid why here sound f (un _ f.carried)
-unloaded false ends.Cut c limit mark h bytes lost fed archive was mid why sound here f l un =
-    let k = kept_without ends.Cut c limit mark h bytes lost fed archive was mid f (λ e. absurd cc) l in
-    unloaded_short c limit mark h bytes lost archive was mid k.0 why here k.2 (un _ k.1)
-unloaded false (ends.Refused r) c limit mark h bytes lost fed archive was mid why sound here g l un =
-    let k = kept_without (ends.Refused r) c limit mark h bytes lost fed archive was mid g (λ e. absurd cc) l in
-    unloaded_short c limit mark h bytes lost archive was mid k.0 why here k.2 (un _ k.1)
+unloaded : (failed : Bool) (end : End) (c limit : ℕ) (mark : Option ℕ) (h : History) (bytes : List ℕ) (lost_was lost : Bool) (fed archive : History) (was mid : OutputState) (why : LoadStop)
+    → mid.failed ≡ failed → IsCollector h c → IsEnd c limit h bytes end fed was mid → FitsFailures end lost_was lost mid.failed
+    → ((g : History) → Carries fed g → HasNotSettled c (mark_after (as_told failed end) mark) g archive why) → IsUnloaded c limit mark h bytes lost_was lost archive was mid why
+unloaded true end c limit mark h bytes lost_was lost fed archive was mid why failed here e l un =
+    let k = kept_without end c limit mark h bytes lost_was lost fed archive was mid e (λ well. failed) l in
+    unloaded_short c limit mark h bytes lost_was lost archive was mid k.0 why here k.2 (un _ k.1)
+unloaded false ends.Well c limit mark h bytes lost_was lost fed archive was mid why sound here f l un = unloaded_well c limit mark h bytes lost_was lost fed archive was mid why here sound (l.inside (λ e. absurd cc)) f (un _ f.carried)
+unloaded false ends.Cut c limit mark h bytes lost_was lost fed archive was mid why sound here f l un =
+    let k = kept_without ends.Cut c limit mark h bytes lost_was lost fed archive was mid f (λ e. absurd cc) l in
+    unloaded_short c limit mark h bytes lost_was lost archive was mid k.0 why here k.2 (un _ k.1)
+unloaded false (ends.Refused r) c limit mark h bytes lost_was lost fed archive was mid why sound here g l un =
+    let k = kept_without (ends.Refused r) c limit mark h bytes lost_was lost fed archive was mid g (λ e. absurd cc) l in
+    unloaded_short c limit mark h bytes lost_was lost archive was mid k.0 why here k.2 (un _ k.1)
 
 -- and that was told, or it couldn't be
-told_stop : (out_failed err_failed : Bool) (result : Status) (c limit : ℕ) (mark : Option ℕ) (h : History) (bytes : List ℕ) (lost : Bool) (archive : History) (was now err_was err_mid err_now : OutputState) (why : LoadStop)
-    → now.failed ≡ out_failed → err_mid.failed ≡ err_failed → IsUnloaded c limit mark h bytes lost archive was now why
+told_stop : (out_failed err_failed : Bool) (result : Status) (c limit : ℕ) (mark : Option ℕ) (h : History) (bytes : List ℕ) (lost_was lost : Bool) (archive : History) (was now err_was err_mid err_now : OutputState) (why : LoadStop)
+    → now.failed ≡ out_failed → err_mid.failed ≡ err_failed → IsUnloaded c limit mark h bytes lost_was lost archive was now why
     → result ≡ told_as out_failed err_failed statuses.Refused → TellsFailure now.failed err_mid err_now → Tells err_was err_mid (error_line (of_load why))
-    → IsLoadEnd c limit mark h bytes lost result archive was now err_was err_now
-told_stop true err_failed result c limit mark h bytes lost archive was now err_was err_mid err_now why o e u is of_out told_ =
-    subst (λ (t : Status). IsLoadEnd c limit mark h bytes lost t archive was now err_was err_now) (sym is) (inr (why, u, (err_mid, told_, of_out)), inl o)
-told_stop false true result c limit mark h bytes lost archive was now err_was err_mid err_now why o e u is of_out told_ =
-    subst (λ (t : Status). IsLoadEnd c limit mark h bytes lost t archive was now err_was err_now) (sym is) (inr (why, u, (err_mid, told_, of_out)), inr (still_failed now.failed true err_mid err_now o e of_out))
-told_stop false false result c limit mark h bytes lost archive was now err_was err_mid err_now why o e u is of_out told_ =
-    subst (λ (t : Status). IsLoadEnd c limit mark h bytes lost t archive was now err_was err_now) (sym is)
+    → IsLoadEnd c limit mark h bytes lost_was lost result archive was now err_was err_now
+told_stop true err_failed result c limit mark h bytes lost_was lost archive was now err_was err_mid err_now why o e u is of_out told_ =
+    subst (λ (t : Status). IsLoadEnd c limit mark h bytes lost_was lost t archive was now err_was err_now) (sym is) (inr (why, u, (err_mid, told_, of_out)), inl o)
+told_stop false true result c limit mark h bytes lost_was lost archive was now err_was err_mid err_now why o e u is of_out told_ =
+    subst (λ (t : Status). IsLoadEnd c limit mark h bytes lost_was lost t archive was now err_was err_now) (sym is) (inr (why, u, (err_mid, told_, of_out)), inr (still_failed now.failed true err_mid err_now o e of_out))
+told_stop false false result c limit mark h bytes lost_was lost archive was now err_was err_mid err_now why o e u is of_out told_ =
+    subst (λ (t : Status). IsLoadEnd c limit mark h bytes lost_was lost t archive was now err_was err_now) (sym is)
     (inr (inr (why, u, subst (λ (t : OutputState). Tells err_was t (error_line (of_load why))) (sym (of_out.quiet o)) told_)), o, still_failed now.failed false err_mid err_now o e of_out)
 
-pub load_stops : (end : End) (result : Status) (c limit : ℕ) (mark : Option ℕ) (h : History) (bytes : List ℕ) (lost : Bool) (fed archive : History) (was now err_was err_mid err_now : OutputState) (why : LoadStop)
-    → IsCollector h c → IsEnd c limit h bytes end fed was now → (as_told now.failed end ≡ ends.Refused reasons.Outside → (lost ≡ true) ⊎ (now.failed ≡ true))
+pub load_stops : (end : End) (result : Status) (c limit : ℕ) (mark : Option ℕ) (h : History) (bytes : List ℕ) (lost_was lost : Bool) (fed archive : History) (was now err_was err_mid err_now : OutputState) (why : LoadStop)
+    → IsCollector h c → IsEnd c limit h bytes end fed was now → FitsFailures end lost_was lost now.failed
     → ((g : History) → Carries fed g → HasNotSettled c (mark_after (as_told now.failed end) mark) g archive why)
     → result ≡ told_as now.failed err_mid.failed statuses.Refused → TellsFailure now.failed err_mid err_now → Tells err_was err_mid (error_line (of_load why))
-    → IsLoadEnd c limit mark h bytes lost result archive was now err_was err_now
-load_stops end result c limit mark h bytes lost fed archive was now err_was err_mid err_now why here e l un is of_out told_ =
-    told_stop now.failed err_mid.failed result c limit mark h bytes lost archive was now err_was err_mid err_now why refl refl
-    (unloaded now.failed end c limit mark h bytes lost fed archive was now why refl here e (was_lost now.failed lost end l) un) is of_out told_
+    → IsLoadEnd c limit mark h bytes lost_was lost result archive was now err_was err_now
+load_stops end result c limit mark h bytes lost_was lost fed archive was now err_was err_mid err_now why here e l un is of_out told_ =
+    told_stop now.failed err_mid.failed result c limit mark h bytes lost_was lost archive was now err_was err_mid err_now why refl refl
+    (unloaded now.failed end c limit mark h bytes lost_was lost fed archive was now why refl here e l un) is of_out told_
 
 -- there is no such collector
 pub load_nowhere : (result : Status) (c limit : ℕ) (mark : Option ℕ) (h : History) (bytes : List ℕ) (lost : Bool) (archive : History) (was err_was err_mid err_now : OutputState)
     → (IsCollector h c → ⊥) → Carries archive h
     → result ≡ told_as was.failed err_mid.failed statuses.Refused → TellsFailure was.failed err_mid err_now → Tells err_was err_mid (error_line (of_load stops.NoCollector))
-    → IsLoadEnd c limit mark h bytes lost result archive was was err_was err_now
+    → IsLoadEnd c limit mark h bytes lost lost result archive was was err_was err_now
 load_nowhere result c limit mark h bytes lost archive was err_was err_mid err_now none carried is of_out told_ =
-    told_stop was.failed err_mid.failed result c limit mark h bytes lost archive was was err_was err_mid err_now stops.NoCollector refl refl (none, carried, refl) is of_out told_
-
-some_stand : {is : List Intake} {archive : History} → IsSettled is archive → HasIntakes is archive
-some_stand s = record { now = s.now; are = s.intakes_are; carried = s.carried }
+    told_stop was.failed err_mid.failed result c limit mark h bytes lost lost archive was was err_was err_mid err_now stops.NoCollector refl refl (none, carried, refl, refl) is of_out told_
 
 -- what the feed gave is settled, where not all of it could be told
-part_loaded : (failed : Bool) (end : End) (c limit : ℕ) (mark : Option ℕ) (h : History) (bytes : List ℕ) (lost : Bool) (fed archive : History) (was mid : OutputState)
-    → mid.failed ≡ failed → IsEnd c limit h bytes end fed was mid → (end ≡ ends.Refused reasons.Outside → (lost ≡ true) ⊎ (mid.failed ≡ true))
+part_loaded : (failed : Bool) (end : End) (c limit : ℕ) (mark : Option ℕ) (h : History) (bytes : List ℕ) (lost_was lost : Bool) (fed archive : History) (was mid : OutputState)
+    → mid.failed ≡ failed → IsEnd c limit h bytes end fed was mid → FitsFailures end lost_was lost mid.failed
     → ((g : History) → Carries fed g → IsSettled (marked_if c (mark_after (as_told failed end) mark) g).intakes archive)
-    → (past : History) × Carries archive past × NothingToApply past × IsPartLoaded c limit mark h bytes lost archive was mid
-part_loaded true end c limit mark h bytes lost fed archive was mid failed e l settles =
-    let k = kept_without end c limit mark h bytes lost fed archive was mid e (λ well. failed) l in
+    → (past : History) × Carries archive past × NothingToApply past × IsPartLoaded c limit mark h bytes lost_was lost past was mid
+part_loaded true end c limit mark h bytes lost_was lost fed archive was mid failed e l settles =
+    let k = kept_without end c limit mark h bytes lost_was lost fed archive was mid e (λ well. failed) l in
     let s = settles _ k.1 in
-    (s.now, s.carried, s.idle, k.2 (some_stand s))
-part_loaded false ends.Well c limit mark h bytes lost fed archive was mid sound f l settles =
+    (s.now, s.carried, s.idle, k.2 s.now s.intakes_are)
+part_loaded false ends.Well c limit mark h bytes lost_was lost fed archive was mid sound f l settles =
     let s = settles _ f.carried in
-    (s.now, s.carried, s.idle, inl (fed, f, sound, some_stand s))
-part_loaded false ends.Cut c limit mark h bytes lost fed archive was mid sound f l settles =
-    let k = kept_without ends.Cut c limit mark h bytes lost fed archive was mid f (λ e. absurd cc) l in
+    (s.now, s.carried, s.idle, inl (fed, f, sound, l.inside (λ e. absurd cc), s.intakes_are))
+part_loaded false ends.Cut c limit mark h bytes lost_was lost fed archive was mid sound f l settles =
+    let k = kept_without ends.Cut c limit mark h bytes lost_was lost fed archive was mid f (λ e. absurd cc) l in
     let s = settles _ k.1 in
-    (s.now, s.carried, s.idle, k.2 (some_stand s))
-part_loaded false (ends.Refused why) c limit mark h bytes lost fed archive was mid sound g l settles =
-    let k = kept_without (ends.Refused why) c limit mark h bytes lost fed archive was mid g (λ e. absurd cc) l in
+    (s.now, s.carried, s.idle, k.2 s.now s.intakes_are)
+part_loaded false (ends.Refused why) c limit mark h bytes lost_was lost fed archive was mid sound g l settles =
+    let k = kept_without (ends.Refused why) c limit mark h bytes lost_was lost fed archive was mid g (λ e. absurd cc) l in
     let s = settles _ k.1 in
-    (s.now, s.carried, s.idle, k.2 (some_stand s))
+    (s.now, s.carried, s.idle, k.2 s.now s.intakes_are)
 
 -- where the writer hasn't failed, the reader has
 reader_lost : (lost : Bool) (mid : OutputState) → mid.failed ≡ false → (lost ≡ true) ⊎ (mid.failed ≡ true) → lost ≡ true
 reader_lost lost mid sound (inl here) = here
 reader_lost lost mid sound (inr other) = absurd cc
 
+same_stop : (why : FeedStop) → ◌≡◌ {A = End} (ends.Refused why) (ends.Refused reasons.Outside) → why ≡ reasons.Outside
+same_stop why e = cc
+
 -- a load came to its end, and all was told
-whole_load : (end : End) (c limit : ℕ) (mark : Option ℕ) (h : History) (bytes : List ℕ) (lost : Bool) (fed archive : History) (was mid now err_was : OutputState)
-    → IsCollector h c → IsEnd c limit h bytes end fed was mid → mid.failed ≡ false → now.failed ≡ false → err_was.failed ≡ false → (end ≡ ends.Refused reasons.Outside → (lost ≡ true) ⊎ (mid.failed ≡ true))
+whole_load : (end : End) (c limit : ℕ) (mark : Option ℕ) (h : History) (bytes : List ℕ) (lost_was lost : Bool) (fed archive : History) (was mid now err_was : OutputState)
+    → IsCollector h c → IsEnd c limit h bytes end fed was mid → mid.failed ≡ false → now.failed ≡ false → err_was.failed ≡ false → FitsFailures end lost_was lost mid.failed
     → ((g : History) → Carries fed g → IsSettled (marked_if c (mark_after end mark) g).intakes archive)
     → ((g : History) → Carries archive g → Tells mid now (settled_line (settled g)))
-    → IsLoadEnd c limit mark h bytes lost (status_after end) archive was now err_was err_was
-whole_load ends.Well c limit mark h bytes lost fed archive was mid now err_was here f first sound err_sound l settles tells =
-    (here, loaded c limit mark mark h bytes None fed archive was mid now refl f settles tells, sound, err_sound, refl)
-whole_load ends.Cut c limit mark h bytes lost fed archive was mid now err_was here f first sound err_sound l settles tells =
-    (inl (f.0, loaded c limit None None h bytes (Some f.0) fed archive was mid now refl f.1 settles tells, refl), sound, err_sound)
-whole_load (ends.Refused why) c limit mark h bytes lost fed archive was mid now err_was here g first sound err_sound l settles tells =
+    → IsLoadEnd c limit mark h bytes lost_was lost (status_after end) archive was now err_was err_was
+whole_load ends.Well c limit mark h bytes lost_was lost fed archive was mid now err_was here f first sound err_sound l settles tells =
+    (here, loaded c limit mark mark h bytes None fed archive was mid now refl f settles tells, sound, err_sound, refl, l.inside (λ e. absurd cc))
+whole_load ends.Cut c limit mark h bytes lost_was lost fed archive was mid now err_was here f first sound err_sound l settles tells =
+    (inl (f.0, loaded c limit None None h bytes (Some f.0) fed archive was mid now refl f.1 settles tells, refl, l.inside (λ e. absurd cc)), sound, err_sound)
+whole_load (ends.Refused why) c limit mark h bytes lost_was lost fed archive was mid now err_was here g first sound err_sound l settles tells =
     let stands = settles _ g.carried in
-    let up : IsGivenUpLoad c limit h bytes lost archive was now = record { why = why; outside = λ e. reader_lost lost mid first (l (ap (λ (t : FeedStop). ends.Refused t) e)); fed = fed; between = mid; given_up = g; applied = stands; wrote = tells stands.now stands.carried } in
+    let up : IsGivenUpLoad c limit h bytes lost_was lost archive was now = record { why = why; outside = λ e. reader_lost lost mid first (l.outside (ap (λ (t : FeedStop). ends.Refused t) e)); inside = λ other. l.inside (λ e. other (same_stop why e)); fed = fed; between = mid; given_up = g; applied = stands; wrote = tells stands.now stands.carried } in
     (inr (inl (up, refl)), sound, err_sound)
 
 -- a writer that hasn't failed now hadn't before
@@ -168,35 +165,35 @@ sound_before true was now text failed t sound = let e = (t.stays failed).0 in ab
 sound_before false was now text failed t sound = failed
 
 -- a load came to its end
-ends_by : (out_failed err_failed : Bool) (end : End) (result : Status) (c limit : ℕ) (mark : Option ℕ) (h : History) (bytes : List ℕ) (lost : Bool) (fed archive : History) (was mid now err_was err_now : OutputState)
-    → now.failed ≡ out_failed → err_was.failed ≡ err_failed → IsCollector h c → IsEnd c limit h bytes end fed was mid → (end ≡ ends.Refused reasons.Outside → (lost ≡ true) ⊎ (mid.failed ≡ true))
+ends_by : (out_failed err_failed : Bool) (end : End) (result : Status) (c limit : ℕ) (mark : Option ℕ) (h : History) (bytes : List ℕ) (lost_was lost : Bool) (fed archive : History) (was mid now err_was err_now : OutputState)
+    → now.failed ≡ out_failed → err_was.failed ≡ err_failed → IsCollector h c → IsEnd c limit h bytes end fed was mid → FitsFailures end lost_was lost mid.failed
     → ((g : History) → Carries fed g → IsSettled (marked_if c (mark_after (as_told mid.failed end) mark) g).intakes archive)
     → ((g : History) → Carries archive g → Tells mid now (settled_line (settled g)))
     → result ≡ told_as out_failed err_failed (status_after (as_told mid.failed end)) → TellsFailure now.failed err_was err_now
-    → IsLoadEnd c limit mark h bytes lost result archive was now err_was err_now
-ends_by true err_failed end result c limit mark h bytes lost fed archive was mid now err_was err_now o e here is_end l settles tells is of_out =
-    let p = part_loaded mid.failed end c limit mark h bytes lost fed archive was mid refl is_end l settles in
-    subst (λ (t : Status). IsLoadEnd c limit mark h bytes lost t archive was now err_was err_now) (sym is) (inl (mid, p.3, (p.0, p.1, p.2, tells p.0 p.1), of_out), inl o)
-ends_by false true end result c limit mark h bytes lost fed archive was mid now err_was err_now o e here is_end l settles tells is of_out =
-    let p = part_loaded mid.failed end c limit mark h bytes lost fed archive was mid refl is_end l settles in
-    subst (λ (t : Status). IsLoadEnd c limit mark h bytes lost t archive was now err_was err_now) (sym is)
-    (inl (mid, p.3, (p.0, p.1, p.2, tells p.0 p.1), of_out), inr (still_failed now.failed true err_was err_now o e of_out))
-ends_by false false end result c limit mark h bytes lost fed archive was mid now err_was err_now o e here is_end l settles tells is of_out =
-    let p = part_loaded mid.failed end c limit mark h bytes lost fed archive was mid refl is_end l settles in
+    → IsLoadEnd c limit mark h bytes lost_was lost result archive was now err_was err_now
+ends_by true err_failed end result c limit mark h bytes lost_was lost fed archive was mid now err_was err_now o e here is_end l settles tells is of_out =
+    let p = part_loaded mid.failed end c limit mark h bytes lost_was lost fed archive was mid refl is_end l settles in
+    subst (λ (t : Status). IsLoadEnd c limit mark h bytes lost_was lost t archive was now err_was err_now) (sym is) (inl (mid, p.0, p.1, p.2, p.3, tells p.0 p.1, of_out), inl o)
+ends_by false true end result c limit mark h bytes lost_was lost fed archive was mid now err_was err_now o e here is_end l settles tells is of_out =
+    let p = part_loaded mid.failed end c limit mark h bytes lost_was lost fed archive was mid refl is_end l settles in
+    subst (λ (t : Status). IsLoadEnd c limit mark h bytes lost_was lost t archive was now err_was err_now) (sym is)
+    (inl (mid, p.0, p.1, p.2, p.3, tells p.0 p.1, of_out), inr (still_failed now.failed true err_was err_now o e of_out))
+ends_by false false end result c limit mark h bytes lost_was lost fed archive was mid now err_was err_now o e here is_end l settles tells is of_out =
+    let p = part_loaded mid.failed end c limit mark h bytes lost_was lost fed archive was mid refl is_end l settles in
     let sound = sound_before mid.failed mid now (settled_line (settled p.0)) refl (tells p.0 p.1) o in
     let same : as_told mid.failed end ≡ end = ap (λ (t : Bool). as_told t end) sound in
-    subst (λ (t : Status). IsLoadEnd c limit mark h bytes lost t archive was now err_was err_now) (sym (is ∙ ap status_after same))
-    (subst (λ (t : OutputState). IsLoadEnd c limit mark h bytes lost (status_after end) archive was now err_was t) (sym (of_out.quiet o))
-    (whole_load end c limit mark h bytes lost fed archive was mid now err_was here is_end sound o e l (subst (λ (t : End). (g : History) → Carries fed g → IsSettled (marked_if c (mark_after t mark) g).intakes archive) same settles) tells))
+    subst (λ (t : Status). IsLoadEnd c limit mark h bytes lost_was lost t archive was now err_was err_now) (sym (is ∙ ap status_after same))
+    (subst (λ (t : OutputState). IsLoadEnd c limit mark h bytes lost_was lost (status_after end) archive was now err_was t) (sym (of_out.quiet o))
+    (whole_load end c limit mark h bytes lost_was lost fed archive was mid now err_was here is_end sound o e l (subst (λ (t : End). (g : History) → Carries fed g → IsSettled (marked_if c (mark_after t mark) g).intakes archive) same settles) tells))
 
-pub load_ends : (end : End) (result : Status) (c limit : ℕ) (mark : Option ℕ) (h : History) (bytes : List ℕ) (lost : Bool) (fed archive : History) (was mid now err_was err_now : OutputState)
-    → IsCollector h c → IsEnd c limit h bytes end fed was mid → (as_told mid.failed end ≡ ends.Refused reasons.Outside → (lost ≡ true) ⊎ (mid.failed ≡ true))
+pub load_ends : (end : End) (result : Status) (c limit : ℕ) (mark : Option ℕ) (h : History) (bytes : List ℕ) (lost_was lost : Bool) (fed archive : History) (was mid now err_was err_now : OutputState)
+    → IsCollector h c → IsEnd c limit h bytes end fed was mid → FitsFailures end lost_was lost mid.failed
     → ((g : History) → Carries fed g → IsSettled (marked_if c (mark_after (as_told mid.failed end) mark) g).intakes archive)
     → ((g : History) → Carries archive g → Tells mid now (settled_line (settled g)))
     → result ≡ told_as now.failed err_was.failed (status_after (as_told mid.failed end)) → TellsFailure now.failed err_was err_now
-    → IsLoadEnd c limit mark h bytes lost result archive was now err_was err_now
-load_ends end result c limit mark h bytes lost fed archive was mid now err_was err_now here e l settles tells is of_out =
-    ends_by now.failed err_was.failed end result c limit mark h bytes lost fed archive was mid now err_was err_now refl refl here e (was_lost mid.failed lost end l) settles tells is of_out
+    → IsLoadEnd c limit mark h bytes lost_was lost result archive was now err_was err_now
+load_ends end result c limit mark h bytes lost_was lost fed archive was mid now err_was err_now here e l settles tells is of_out =
+    ends_by now.failed err_was.failed end result c limit mark h bytes lost_was lost fed archive was mid now err_was err_now refl refl here e l settles tells is of_out
 
 -- a load that is done has no feed that was given up for what is outside
 pub done_inside : (out_failed err_failed : Bool) (end : End) → told_as out_failed err_failed (status_after end) ≡ statuses.Done → end ≡ ends.Refused reasons.Outside → ⊥

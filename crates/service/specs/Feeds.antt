@@ -1,5 +1,5 @@
 -- What a feed of MRT records is, and what an archive carries once it took it in.
-use Rattle.std.specs.Prelude.{◌≡◌, Bool, true, false, ℕ, map, length, List, [], ◌∷◌, ◌++◌, Option, Some, None, Result}
+use Rattle.std.specs.Prelude.{◌≡◌, ◌⊎◌, Bool, true, false, ℕ, map, length, List, [], ◌∷◌, ◌++◌, Option, Some, None, Result}
 use Rattle.service.specs.Outputs.{OutputState, Tells}
 use Rattle.route_model.specs.Admission.{Admitted}
 use Rattle.route_meaning.specs.History.{History}
@@ -87,3 +87,9 @@ IsEnd c limit h bytes (ends.Refused why) archive was now = IsGivenUp c limit h b
 abbrev pub as_told : Bool → End → End
 as_told true end = ends.Refused stops.Outside
 as_told false end = end
+
+-- What a feed that ended so tells of its reader, which had failed before it or not and has behind it or not, and of its writer: it was
+-- given up for what is outside only where one of them has failed, and where it ended otherwise, no read of it failed.
+pub record FitsFailures (end : End) (lost_was lost failed : Bool) : Type 0 where
+  pub outside : end ≡ ends.Refused stops.Outside → (lost ≡ true) ⊎ (failed ≡ true)
+  pub inside : (end ≡ ends.Refused stops.Outside → ⊥) → lost ≡ lost_was

@@ -11,13 +11,14 @@ use Rattle.service.specs.Turns.{offered, admissions_of}
 use Rattle.service.specs.FeedTexts.{intake_in, feed_text}
 use Rattle.service.specs.FeedLines.{settled_line}
 use Rattle.service.specs.Refusals.{error_line, TellsFailure}
-use Rattle.service.specs.Feeds.{IsFeed, IsCut, IsFed, IsGivenUp}
+use Rattle.service.specs.Feeds.{IsFeed, IsCut, IsFed, IsGivenUp, FitsFailures}
 use Rattle.service.specs.Faults.{of_load}
 use Rattle.service.specs.declared.faults.FeedCut.{FeedCut}
 use Rattle.service.specs.declared.faults.FeedStop.{FeedStop}
 use Rattle.service.specs.declared.faults.FeedStop.TheVariants as reasons
 use Rattle.service.specs.declared.faults.LoadStop.{LoadStop}
 use Rattle.service.specs.declared.faults.LoadStop.TheVariants as stops
+use Rattle.service.specs.declared.intake.End.TheVariants as ends
 use Rattle.service.specs.declared.status.Status.{Status}
 use Rattle.service.specs.declared.status.Status.TheVariants as statuses
 
@@ -50,11 +51,12 @@ pub record IsLoaded (c limit : ℕ) (mark : Option ℕ) (h : History) (bytes : L
   pub applied : IsSettled (marked_if c mark (given h c (admissions_of results))).intakes archive
   pub wrote : Tells was now (feed_text (intake_in h.intakes c) limit records results cut ++ settled_line (settled applied.now))
 
--- The feed was given up, for what is outside only where the reader failed; the archive carries what it gave until then too, applied as
--- far as may be. What the feed wrote is followed by the settled watermark.
-pub record IsGivenUpLoad (c limit : ℕ) (h : History) (bytes : List ℕ) (lost : Bool) (archive : History) (was now : OutputState) : Type 0 where
+-- The feed was given up, for what is outside only where the reader failed, and for anything else only where no read failed; the archive
+-- carries what it gave until then too, applied as far as may be. What the feed wrote is followed by the settled watermark.
+pub record IsGivenUpLoad (c limit : ℕ) (h : History) (bytes : List ℕ) (lost_was lost : Bool) (archive : History) (was now : OutputState) : Type 0 where
   pub why : FeedStop
   pub outside : why ≡ reasons.Outside → lost ≡ true
+  pub inside : (why ≡ reasons.Outside → ⊥) → lost ≡ lost_was
   pub fed : History
   pub between : OutputState
   pub given_up : IsGivenUp c limit h bytes why fed was between
@@ -72,36 +74,37 @@ pub record IsMarkedBack (c limit : ℕ) (mark : Option ℕ) (h : History) (bytes
   pub wrote : Tells was now (feed_text (intake_in h.intakes c) limit records results None)
   pub carried : Carries archive (given h c (admissions_of results))
 
--- The archive carries what the feed gave, and its mark where the feed ended well and all of its lines were written. It was given up for
--- what is outside only where the reader failed, or the writer.
-abbrev pub IsPartLoaded : ℕ → ℕ → Option ℕ → History → List ℕ → Bool → History → OutputState → OutputState → Type 0
-IsPartLoaded c limit mark h bytes lost archive was now =
-    ((fed : History) × (f : IsFed c limit h bytes None fed was now) × (now.failed ≡ false) × HasIntakes (marked_if c mark (given h c (admissions_of f.results))).intakes archive)
-    ⊎ (((fed : History) × (cut : Option FeedCut) × (f : IsFed c limit h bytes cut fed was now) × (cut ≡ None → now.failed ≡ true) × HasIntakes (given h c (admissions_of f.results)).intakes archive)
-    ⊎ ((fed : History) × (why : FeedStop) × (g : IsGivenUp c limit h bytes why fed was now) × (why ≡ reasons.Outside → (lost ≡ true) ⊎ (now.failed ≡ true)) × HasIntakes (given h c (offered g.made)).intakes archive))
+-- This history has the intakes of what the feed gave, and its mark where the feed ended well and all of its lines were written. The feed
+-- was given up for what is outside only where the reader failed, or the writer, and no read failed where it ended otherwise.
+abbrev pub IsPartLoaded : ℕ → ℕ → Option ℕ → History → List ℕ → Bool → Bool → History → OutputState → OutputState → Type 0
+IsPartLoaded c limit mark h bytes lost_was lost past was now =
+    ((fed : History) × (f : IsFed c limit h bytes None fed was now) × (now.failed ≡ false) × (lost ≡ lost_was) × (past.intakes ≡ (marked_if c mark (given h c (admissions_of f.results))).intakes))
+    ⊎ (((fed : History) × (cut : Option FeedCut) × (f : IsFed c limit h bytes cut fed was now) × (cut ≡ None → now.failed ≡ true) × (lost ≡ lost_was) × (past.intakes ≡ (given h c (admissions_of f.results)).intakes))
+    ⊎ ((fed : History) × (why : FeedStop) × (g : IsGivenUp c limit h bytes why fed was now) × FitsFailures (ends.Refused why) lost_was lost now.failed × (past.intakes ≡ (given h c (offered g.made)).intakes)))
 
 -- why a load ends outside its feed: there is no such collector, the mark is below the collector's, or memory was wanting while changes were applied
-abbrev pub IsUnloaded : ℕ → ℕ → Option ℕ → History → List ℕ → Bool → History → OutputState → OutputState → LoadStop → Type 0
-IsUnloaded c limit mark h bytes lost archive was now stops.NoCollector = (IsCollector h c → ⊥) × Carries archive h × (now ≡ was)
-IsUnloaded c limit mark h bytes lost archive was now stops.MarkBack = IsMarkedBack c limit mark h bytes archive was now
-IsUnloaded c limit mark h bytes lost archive was now stops.OutOfMemory = IsPartLoaded c limit mark h bytes lost archive was now
+abbrev pub IsUnloaded : ℕ → ℕ → Option ℕ → History → List ℕ → Bool → Bool → History → OutputState → OutputState → LoadStop → Type 0
+IsUnloaded c limit mark h bytes lost_was lost archive was now stops.NoCollector = (IsCollector h c → ⊥) × Carries archive h × (now ≡ was) × (lost ≡ lost_was)
+IsUnloaded c limit mark h bytes lost_was lost archive was now stops.MarkBack = IsMarkedBack c limit mark h bytes archive was now × (lost ≡ lost_was)
+IsUnloaded c limit mark h bytes lost_was lost archive was now stops.OutOfMemory = (past : History) × Carries archive past × IsPartLoaded c limit mark h bytes lost_was lost past was now
 
 -- something was refused, and told: the feed was cut short, or it was given up, or the load ended outside its feed
-abbrev pub IsRefusedLoad : ℕ → ℕ → Option ℕ → History → List ℕ → Bool → History → OutputState → OutputState → OutputState → OutputState → Type 0
-IsRefusedLoad c limit mark h bytes lost archive was now err_was err_now =
-    ((why : FeedCut) × IsLoaded c limit None h bytes (Some why) archive was now × (err_now ≡ err_was))
-    ⊎ ((IsGivenUpLoad c limit h bytes lost archive was now × (err_now ≡ err_was))
-    ⊎ ((why : LoadStop) × IsUnloaded c limit mark h bytes lost archive was now why × Tells err_was err_now (error_line (of_load why))))
+abbrev pub IsRefusedLoad : ℕ → ℕ → Option ℕ → History → List ℕ → Bool → Bool → History → OutputState → OutputState → OutputState → OutputState → Type 0
+IsRefusedLoad c limit mark h bytes lost_was lost archive was now err_was err_now =
+    ((why : FeedCut) × IsLoaded c limit None h bytes (Some why) archive was now × (err_now ≡ err_was) × (lost ≡ lost_was))
+    ⊎ ((IsGivenUpLoad c limit h bytes lost_was lost archive was now × (err_now ≡ err_was))
+    ⊎ ((why : LoadStop) × IsUnloaded c limit mark h bytes lost_was lost archive was now why × Tells err_was err_now (error_line (of_load why))))
 
 -- Not all lines could be written. The archive carries all the same what the feed gave, applied as far as may be, and the watermark was
 -- told behind its lines as far as it could be; or the load ended outside its feed. Standard error is told of standard output.
-abbrev pub IsFailedLoad : ℕ → ℕ → Option ℕ → History → List ℕ → Bool → History → OutputState → OutputState → OutputState → OutputState → Type 0
-IsFailedLoad c limit mark h bytes lost archive was now err_was err_now =
-    ((mid : OutputState) × IsPartLoaded c limit mark h bytes lost archive was mid × ((past : History) × Carries archive past × NothingToApply past × Tells mid now (settled_line (settled past))) × TellsFailure now.failed err_was err_now)
-    ⊎ ((why : LoadStop) × IsUnloaded c limit mark h bytes lost archive was now why × ((err_mid : OutputState) × Tells err_was err_mid (error_line (of_load why)) × TellsFailure now.failed err_mid err_now))
+abbrev pub IsFailedLoad : ℕ → ℕ → Option ℕ → History → List ℕ → Bool → Bool → History → OutputState → OutputState → OutputState → OutputState → Type 0
+IsFailedLoad c limit mark h bytes lost_was lost archive was now err_was err_now =
+    ((mid : OutputState) × (past : History) × Carries archive past × NothingToApply past × IsPartLoaded c limit mark h bytes lost_was lost past was mid × Tells mid now (settled_line (settled past)) × TellsFailure now.failed err_was err_now)
+    ⊎ ((why : LoadStop) × IsUnloaded c limit mark h bytes lost_was lost archive was now why × ((err_mid : OutputState) × Tells err_was err_mid (error_line (of_load why)) × TellsFailure now.failed err_mid err_now))
 
--- How a load of these octets ended, by its status, where behind it the reader has failed or not. It is `Failed` exactly where a writer has.
-abbrev pub IsLoadEnd : ℕ → ℕ → Option ℕ → History → List ℕ → Bool → Status → History → OutputState → OutputState → OutputState → OutputState → Type 0
-IsLoadEnd c limit mark h bytes lost statuses.Done archive was now err_was err_now = IsCollector h c × IsLoaded c limit mark h bytes None archive was now × (now.failed ≡ false) × (err_now.failed ≡ false) × (err_now ≡ err_was)
-IsLoadEnd c limit mark h bytes lost statuses.Refused archive was now err_was err_now = IsRefusedLoad c limit mark h bytes lost archive was now err_was err_now × (now.failed ≡ false) × (err_now.failed ≡ false)
-IsLoadEnd c limit mark h bytes lost statuses.Failed archive was now err_was err_now = IsFailedLoad c limit mark h bytes lost archive was now err_was err_now × ((now.failed ≡ true) ⊎ (err_now.failed ≡ true))
+-- How a load of these octets ended, by its status, where the reader had failed before it or not, and has behind it or not. It is
+-- `Failed` exactly where a writer has.
+abbrev pub IsLoadEnd : ℕ → ℕ → Option ℕ → History → List ℕ → Bool → Bool → Status → History → OutputState → OutputState → OutputState → OutputState → Type 0
+IsLoadEnd c limit mark h bytes lost_was lost statuses.Done archive was now err_was err_now = IsCollector h c × IsLoaded c limit mark h bytes None archive was now × (now.failed ≡ false) × (err_now.failed ≡ false) × (err_now ≡ err_was) × (lost ≡ lost_was)
+IsLoadEnd c limit mark h bytes lost_was lost statuses.Refused archive was now err_was err_now = IsRefusedLoad c limit mark h bytes lost_was lost archive was now err_was err_now × (now.failed ≡ false) × (err_now.failed ≡ false)
+IsLoadEnd c limit mark h bytes lost_was lost statuses.Failed archive was now err_was err_now = IsFailedLoad c limit mark h bytes lost_was lost archive was now err_was err_now × ((now.failed ≡ true) ⊎ (err_now.failed ≡ true))

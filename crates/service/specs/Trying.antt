@@ -16,14 +16,14 @@ use Rattle.service.specs.declared.status.Status.{Status}
 -- The file was loaded as collector 0's into an empty archive, in batches of at most 1000 admissions; then the line was answered, and
 -- what was buffered written out. The exit status is the greater of both, and 1 where not all could be written. Where that failed before
 -- what was buffered is written out, standard error is told no more of it.
-pub record IsTried (asked : Attempt) (known : Option (List ℕ)) (lost : Bool) (code : ℕ) (was now err_was err_now : OutputState) : Type 0 where
+pub record IsTried (asked : Attempt) (known : Option (List ℕ)) (lost_was lost : Bool) (code : ℕ) (was now err_was err_now : OutputState) : Type 0 where
   pub bytes : List ℕ
   pub given : MayGive known bytes
   pub archive : History
   pub loaded : Status
   pub loaded_to : OutputState
   pub loaded_err : OutputState
-  pub load : IsLoadEnd 0 1000 asked.mark (empty 1) bytes lost loaded archive was loaded_to err_was loaded_err
+  pub load : IsLoadEnd 0 1000 asked.mark (empty 1) bytes lost_was lost loaded archive was loaded_to err_was loaded_err
   pub answered : Status
   pub answered_to : OutputState
   pub answered_err : OutputState
@@ -34,8 +34,9 @@ pub record IsTried (asked : Attempt) (known : Option (List ℕ)) (lost : Bool) (
   pub quiet : answered_to.failed ≡ true → err_now ≡ answered_err
   pub told : answered_to.failed ≡ false → TellsFailure now.failed answered_err err_now
 
--- there was no memory for an archive
-pub record IsUntried (code : ℕ) (was now err_was err_now : OutputState) : Type 0 where
+-- there was no memory for an archive, and nothing was read
+pub record IsUntried (lost_was lost : Bool) (code : ℕ) (was now err_was err_now : OutputState) : Type 0 where
   pub code_is : code ≡ 1
+  pub unread : lost ≡ lost_was
   pub unwritten : now ≡ was
   pub told : Tells err_was err_now (error_line refusals.OutOfMemory)

@@ -5,7 +5,7 @@ ghost use Rattle.route_meaning.specs.History.{History};
 ghost use Rattle.archive.specs.Carries.{Carries};
 ghost use Rattle.service.specs.FeedLines.{counts_line};
 ghost use Rattle.service.specs.FeedTexts.{cut_line};
-ghost use Rattle.service.specs.Feeds.{IsCut, IsEnd, IsFed, MayGive, as_told};
+ghost use Rattle.service.specs.Feeds.{FitsFailures, IsCut, IsEnd, IsFed, MayGive, as_told};
 ghost use Rattle.service.specs.Outputs.{OutputState, Tells};
 ghost use Rattle.service.specs.declared.intake.End.{End};
 ghost use Rattle.service.specs.inner.Feeding.{Reads, IsRead, IsReadOut, StopsWithin};
@@ -74,8 +74,9 @@ impl Feeding {
     {
         let mut piece = [0u8; PIECE];
         for _ in 0..u64::MAX {
-            let Some(count) = reader.read(&mut piece) else {
-                return Err(FeedStop::Outside);
+            let count = match reader.read(&mut piece) {
+                Some(count) => count,
+                None => return Err(FeedStop::Outside),
             };
             if count == 0 {
                 return Ok(());
@@ -169,7 +170,7 @@ pub fn feed<R: Read, W: Write>(
     reader: &mut Input<R>,
     out: &mut Output<W>,
 ) -> End
-    ensures ended { (h : History) → Carries archive.old h → (bytes : List ℕ) × MayGive reader.old.left bytes × (end : End) × (result ≡ as_told out.new.failed end) × IsEnd collector limit h bytes end archive.new out.old out.new }
+    ensures ended { (h : History) → Carries archive.old h → (bytes : List ℕ) × MayGive reader.old.left bytes × (end : End) × (result ≡ as_told out.new.failed end) × IsEnd collector limit h bytes end archive.new out.old out.new × FitsFailures end reader.old.failed reader.new.failed out.new.failed }
     ensures outside { result ≡ End.Refused FeedStop.Outside → (reader.new.failed ≡ true) ⊎ (out.new.failed ≡ true) }
     ensures sound { (result ≡ End.Refused FeedStop.Outside → ⊥) → reader.new.failed ≡ reader.old.failed }
 {

@@ -112,7 +112,7 @@ pub fn load<R: Read, W: Write, E: Write>(
     out: &mut Output<W>,
     err: &mut Output<E>,
 ) -> Status
-    ensures ended { (h : History) → Carries archive.old h → (bytes : List ℕ) × MayGive reader.old.left bytes × IsLoadEnd how.collector how.limit how.mark h bytes reader.new.failed result archive.new out.old out.new err.old err.new }
+    ensures ended { (h : History) → Carries archive.old h → (bytes : List ℕ) × MayGive reader.old.left bytes × IsLoadEnd how.collector how.limit how.mark h bytes reader.old.failed reader.new.failed result archive.new out.old out.new err.old err.new }
     ensures sound { result ≡ Status.Done → reader.new.failed ≡ reader.old.failed }
 {
     if how.collector >= archive.collectors() {

@@ -48,7 +48,7 @@ pub fn try_file<R: Read, W: Write, E: Write>(
     out: &mut Output<W>,
     err: &mut Output<E>,
 ) -> u8
-    ensures ended { IsTried asked.now file.old.left file.new.failed result out.old out.new err.old err.new ⊎ IsUntried result out.old out.new err.old err.new }
+    ensures ended { IsTried asked.now file.old.left file.old.failed file.new.failed result out.old out.new err.old err.new ⊎ IsUntried file.old.failed file.new.failed result out.old out.new err.old err.new }
     ensures sound { result ≡ 0 → file.new.failed ≡ file.old.failed }
 {
     let Ok(mut archive) = Archive::plain(alloc, 1) else {

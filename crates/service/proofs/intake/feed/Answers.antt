@@ -27,14 +27,14 @@ not_cut e = absurd cc
 
 pub returns-in-Ok-None : goal.returns-in-Ok-None
 returns-in-Ok-None g c = record {
-  ended = λ h carried. let fed = rw c.in-Ok-None.field-0-is at (c.in-Ok-None.ensures.fed h carried) in (fed.0, fed.1, Well, c.as_told.ensures.told, fed.2);
+  ended = λ h carried. let fed = rw c.in-Ok-None.field-0-is at (c.in-Ok-None.ensures.fed h carried) in (fed.0, fed.1, Well, c.as_told.ensures.told, fed.2, record { outside = λ e. absurd (not_well e); inside = λ none. c.in-Ok-None.ensures.sound (λ e. absurd cc) });
   outside = λ e. ⊎_elim (λ failed. inr failed) (λ same. absurd (not_well same)) (c.as_told.ensures.outside e);
   sound = λ none. c.in-Ok-None.ensures.sound (λ e. absurd cc);
 }
 
 pub returns-in-Ok-Some : goal.returns-in-Ok-Some
 returns-in-Ok-Some g c = record {
-  ended = λ h carried. let fed = rw c.in-Ok-Some.field-0-is at (c.in-Ok-Some.ensures.fed h carried) in (fed.0, fed.1, Cut, c.as_told-in-Ok-Some.ensures.told, (_, fed.2));
+  ended = λ h carried. let fed = rw c.in-Ok-Some.field-0-is at (c.in-Ok-Some.ensures.fed h carried) in (fed.0, fed.1, Cut, c.as_told-in-Ok-Some.ensures.told, (_, fed.2), record { outside = λ e. absurd (not_cut e); inside = λ none. c.in-Ok-Some.ensures.sound (λ e. absurd cc) });
   outside = λ e. ⊎_elim (λ failed. inr failed) (λ same. absurd (not_cut same)) (c.as_told-in-Ok-Some.ensures.outside e);
   sound = λ none. c.in-Ok-Some.ensures.sound (λ e. absurd cc);
 }
@@ -42,8 +42,17 @@ returns-in-Ok-Some g c = record {
 pub returns-in-Err : goal.returns-in-Err
 returns-in-Err g c = record {
   ended = λ h carried.
-      let up = c.in-Err.ensures.given_up h carried in
-      (up.0, up.1, Refused c.in-Err.why, c.as_told-in-Err.ensures.told, given_up_told c.args.collector c.args.limit h up.0 c.take_in.new.archive _ _ _ c.in-Err.why up.2 (rw c.from.ensures at c.write_refusal.ensures.line));
+      let up = c.in-Err.ensures.given_up h carried in (
+        up.0,
+        up.1,
+        Refused c.in-Err.why,
+        c.as_told-in-Err.ensures.told,
+        given_up_told c.args.collector c.args.limit h up.0 c.take_in.new.archive _ _ _ c.in-Err.why up.2 (rw c.from.ensures at c.write_refusal.ensures.line),
+        record {
+          outside = λ e. ⊎_elim (λ failed. inl failed) (λ failed. inr (c.write_refusal.ensures.line.stays failed).0) (c.in-Err.ensures.outside (ap Err (same_stop c.in-Err.why e)));
+          inside = λ none. c.in-Err.ensures.sound (λ e. none (ap (λ (t : FeedStop). Refused t) (err_is c.in-Err.why e)));
+        },
+      );
   outside = λ e.
       ⊎_elim (λ failed. inr failed)
       (λ same. ⊎_elim (λ failed. inl failed) (λ failed. inr (c.write_refusal.ensures.line.stays failed).0) (c.in-Err.ensures.outside (ap Err (same_stop c.in-Err.why same))))

@@ -13,10 +13,6 @@ use Rattle.service.proofs.Streams.{some_given}
 use Rattle.service.proofs.Unloading.{done_inside, load_ends, load_stops, load_nowhere, refused_undone}
 use Rattle.service.proofs.loading.load.Goals as goal
 
--- the answer that is told of an end, and that end
-lost : {end told : End} {reader writer : Bool} → told ≡ end → (told ≡ Refused Outside → (reader ≡ true) ⊎ (writer ≡ true)) → end ≡ Refused Outside → (reader ≡ true) ⊎ (writer ≡ true)
-lost same l e = l (same ∙ e)
-
 pub returns-then-how-collectors : goal.returns-then-how-collectors
 returns-then-how-collectors g c = record {
   ended = λ h carried.
@@ -42,7 +38,7 @@ returns-in-Ok g c = record {
       let fed = c.feed-end.ensures.ended h carried in (
         fed.0,
         fed.1,
-        load_ends fed.2 c.told-in-Ok.result how.collector how.limit how.mark h fed.0 c.feed-end.new.reader.failed c.feed-end.new.archive c.settle.new.archive c.args.out.now c.feed-end.new.out c.write_settled.new.out c.args.err.now c.told-in-Ok.new.err here fed.4 (lost fed.3 c.feed-end.ensures.outside)
+        load_ends fed.2 c.told-in-Ok.result how.collector how.limit how.mark h fed.0 c.args.reader.now.failed c.feed-end.new.reader.failed c.feed-end.new.archive c.settle.new.archive c.args.out.now c.feed-end.new.out c.write_settled.new.out c.args.err.now c.told-in-Ok.new.err here fed.4 fed.5
             (subst (λ (m : Option ℕ). (past : History) → Carries c.feed-end.new.archive past → IsSettled (marked_if how.collector m past).intakes c.settle.new.archive)
             (c.mark_after.ensures.mark ∙ ap (λ (e : End). mark_after e how.mark) fed.3) c.in-Ok.ensures.settled)
             (λ past stands. subst (λ (n : ℕ). Tells c.feed-end.new.out c.write_settled.new.out (settled_line n)) (c.settled.ensures.settled past stands) c.write_settled.ensures.line)
@@ -61,7 +57,7 @@ returns-in-Err g c = record {
       let fed = c.feed-end.ensures.ended h carried in (
         fed.0,
         fed.1,
-        load_stops fed.2 c.told-in-Err.result how.collector how.limit how.mark h fed.0 c.feed-end.new.reader.failed c.feed-end.new.archive c.settle.new.archive c.args.out.now c.feed-end.new.out c.args.err.now c.write_error-in-Err.new.out c.told-in-Err.new.err c.in-Err.why here fed.4 (lost fed.3 c.feed-end.ensures.outside)
+        load_stops fed.2 c.told-in-Err.result how.collector how.limit how.mark h fed.0 c.args.reader.now.failed c.feed-end.new.reader.failed c.feed-end.new.archive c.settle.new.archive c.args.out.now c.feed-end.new.out c.args.err.now c.write_error-in-Err.new.out c.told-in-Err.new.err c.in-Err.why here fed.4 fed.5
             (subst (λ (m : Option ℕ). (past : History) → Carries c.feed-end.new.archive past → HasNotSettled how.collector m past c.settle.new.archive c.in-Err.why)
             (c.mark_after.ensures.mark ∙ ap (λ (e : End). mark_after e how.mark) fed.3) c.in-Err.ensures.unsettled)
             c.told-in-Err.ensures.status (record { told = c.told-in-Err.ensures.told; quiet = c.told-in-Err.ensures.quiet }) (rw c.from-in-Err.ensures at c.write_error-in-Err.ensures.line),

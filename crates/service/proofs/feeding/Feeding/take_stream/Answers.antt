@@ -50,8 +50,8 @@ pub returns-then-has_failed-clause-given_up : goal.returns-then-has_failed-claus
 returns-then-has_failed-clause-given_up g c = λ k limit h bytes was r.
     taken_failed k limit h bytes _ _ _ _ _ _ _ _ _ _ was _ _ _ c.in-Some.ensures.read (c.loop.invariant.taken k limit h bytes was r) (λ seen s. c.in_ok-goes_on.ensures.read k limit h seen was s)
 
-pub returns-in_default-clause-given_up : goal.returns-in_default-clause-given_up
-returns-in_default-clause-given_up g c = λ k limit h bytes was r. taken_gives k limit h bytes _ _ _ c.loop.self c.loop.archive was _ stops.Outside (λ made. tt) (c.loop.invariant.taken k limit h bytes was r)
+pub returns-in-None-clause-given_up : goal.returns-in-None-clause-given_up
+returns-in-None-clause-given_up g c = λ k limit h bytes was r. taken_gives k limit h bytes _ _ _ c.loop.self c.loop.archive was _ stops.Outside (λ made. tt) (c.loop.invariant.taken k limit h bytes was r)
 
 pub returns-clause-given_up : goal.returns-clause-given_up
 returns-clause-given_up g c = λ k limit h bytes was r. taken_gives k limit h bytes _ _ _ c.loop.self c.loop.archive was _ stops.OutOfMemory (λ made. tt) (c.loop.invariant.taken k limit h bytes was r)
