@@ -1,14 +1,15 @@
 -- What was taken stands in the history at the end, and nothing else does.
-use Rattle.std.proofs.Common.{◌≡◌, ℕ, zero, suc, List, [], ◌∷◌, ◌++◌, length, map, replicate, true, false, ◌==◌, refl, sym, ap, ◌∙◌, inl, inr, subst, Some, append-nil, append_assoc, cond}
+use Rattle.std.proofs.Common.{◌≡◌, ℕ, zero, suc, List, [], ◌∷◌, ◌++◌, length, map, take, drop, replicate, true, false, ◌==◌, refl, sym, ap, ◌∙◌, inl, inr, subst, Some, append-nil, append_assoc, cond, ◌+◌, arith, length-append}
 use Rattle.std.specs.List.{AllByRecursion, AllZip, slice_get}
 use Rattle.std.proofs.lemmas.Bool.{cases_Bool, eqb-true, eq-eqb, cases_lt}
 use Rattle.std.proofs.lemmas.Option.{same_Some, none-some}
 use Rattle.route_model.specs.Admission.{Admitted}
 use Rattle.route_meaning.specs.Holds.{admitted_time}
+use Rattle.route_meaning.proofs.api.Settling.{all_take, all_drop}
 use Rattle.route_meaning.specs.History.{Intake, History, GoesOn, floor, Begins}
 use Rattle.sequencer.specs.Late.{greatest, timely}
-use Rattle.sequencer.proofs.api.Setting.{one_there}
-use Rattle.interleaving_core.specs.declared.reply.Admitted.{Admitted as Told}
+use Rattle.sequencer.proofs.api.Setting.{all_at, one_there}
+use Rattle.interleaving_core.specs.declared.reply.BatchReply.{BatchReply}
 use Rattle.interleaving_core.specs.declared.reply.Reply.{Reply}
 use Rattle.interleaving_core.specs.declared.reply.Reply.TheVariants.{Taken, Marked, NoCollector, MarkBack, Applied, Idle, Again, Done, AboveWatermark, NoQuestion, NeedsRecovery}
 use Rattle.interleaving_core.specs.declared.step.Step.{Step}
@@ -16,8 +17,9 @@ use Rattle.interleaving_core.specs.declared.step.Step.TheVariants.{Admit, Mark, 
 use Rattle.interleaving_core.specs.Steps.{changed, with_batch, with_mark, given, marked, Applies, AppliesMore}
 use Rattle.interleaving_core.specs.World.{World, created}
 use Rattle.interleaving_core.specs.Does.{WhenUp, Admits, DoesAdmit, Does, Runs, IsStep}
-use Rattle.interleaving_core.specs.Headline.{Stands, IsKept, mark_after, taken_by, taken_of}
-use Rattle.interleaving_core.proofs.Sound.{IsSound, step_fine, run_fine}
+use Rattle.interleaving_core.specs.Headline.{mark_after, taken_by, taken_of, mark_of, offered_by, offered_of, Stands, IsKept, IsGiven}
+use Rattle.interleaving_core.proofs.Sound.{step_fine, run_fine, created_sound}
+use Rattle.interleaving_core.proofs.Places.{split}
 
 -- ---- one collector's intake
 
@@ -51,56 +53,20 @@ earlier [] (k ∷ js) c j z at = absurd z
 earlier (i ∷ is) (k ∷ js) zero j z at = (i, refl)
 earlier (i ∷ is) (k ∷ js) (suc c) j z at = earlier is js c j z.1 at
 
--- ---- receipts
+-- ---- what the steps gave
 
-admit_kept : (w m : World) (h : History) (c : ℕ) (batch : List Admitted) (told : Told) → Admits w c batch told m → Begins m.history h → Stands h c batch told
-admit_kept w m h c batch told a b =
-    let b' : Begins (given w.history c batch) h = subst (λ (x : World). Begins x.history h) a.after b in
-    let l = later (changed c (with_batch batch) w.history.intakes) h.intakes c (with_batch batch a.intake) b'.each (changed_here c (with_batch batch) w.history.intakes a.intake a.here) in
-    record {
-      intake = l.intake;
-      here = l.here;
-      collector = a.reply.collector;
-      mark = a.intake.mark;
-      late = a.reply.late;
-      before = a.intake.admitted;
-      after = l.goes.more;
-      admitted = l.goes.begins;
-      from = a.reply.from;
-      to = a.reply.to;
-    }
-
-taken_kept : (w m : World) (h : History) (c : ℕ) (batch : List Admitted) (told : Told) → WhenUp w (Taken told) m (DoesAdmit w c batch (Taken told) m) → Begins m.history h → Stands h c batch told
-taken_kept w m h c batch told (inl up) b = admit_kept w m h c batch told up.1 b
-taken_kept w m h c batch told (inr down) b = absurd (let e : Taken told ≡ NeedsRecovery = down.1 in cc)
-
-step_kept : (w m : World) (h : History) (step : Step) (reply : Reply) → Does w step reply m → Begins m.history h → IsKept h step reply
-step_kept w m h (Admit c batch) (Taken told) d b = taken_kept w m h c batch.items told d b
-step_kept w m h (Admit c batch) _ d b = tt
-step_kept w m h _ reply d b = tt
-
-pub all_kept : (w v : World) (steps : List Step) (replies : List Reply) → AllByRecursion IsStep steps → IsSound w → Runs w steps replies v → AllZip (IsKept v.history) steps replies
-all_kept w v [] [] valid sound run = tt
-all_kept w v [] (r ∷ rs) valid sound run = absurd run
-all_kept w v (s ∷ ss) [] valid sound run = absurd run
-all_kept w v (s ∷ ss) (r ∷ rs) valid sound run =
-    let first = step_fine w s r run.0 valid.0 sound run.1 in
-    let rest = run_fine run.0 v ss rs valid.1 first.sound run.2 in
-    (step_kept w run.0 v.history s r run.1 rest.begins, all_kept run.0 v ss rs valid.1 first.sound run.2)
-
--- ---- nothing else
-
--- the collector's intake after a step that added these admissions, with this mark
-record After (h : History) (c : ℕ) (i : Intake) (added : List Admitted) (mark : ℕ) : Type 0 where
+-- the collector's intake after a step that offered some and added these, with this mark
+record After (h : History) (c : ℕ) (i : Intake) (added : List Admitted) (mark : ℕ) (offered : List Admitted) : Type 0 where
   intake : Intake
   here : slice_get h.intakes c ≡ Some intake
   admitted : intake.admitted ≡ i.admitted ++ added
   mark_is : intake.mark ≡ mark
+  offered_is : intake.offered ≡ i.offered + length offered
 
-same_after : (h g : History) (c : ℕ) (i : Intake) → g.intakes ≡ h.intakes → slice_get h.intakes c ≡ Some i → After g c i [] i.mark
-same_after h g c i e at = record { intake = i; here = ap (λ (l : List Intake). slice_get l c) e ∙ at; admitted = sym (append-nil i.admitted); mark_is = refl }
+same_after : (h g : History) (c : ℕ) (i : Intake) → g.intakes ≡ h.intakes → slice_get h.intakes c ≡ Some i → After g c i [] i.mark []
+same_after h g c i e at = record { intake = i; here = ap (λ (l : List Intake). slice_get l c) e ∙ at; admitted = sym (append-nil i.admitted); mark_is = refl; offered_is = omega arith }
 
-same_world : (w v : World) (c : ℕ) (i : Intake) → v ≡ w → slice_get w.history.intakes c ≡ Some i → After v.history c i [] i.mark
+same_world : (w v : World) (c : ℕ) (i : Intake) → v ≡ w → slice_get w.history.intakes c ≡ Some i → After v.history c i [] i.mark []
 same_world w v c i e at = same_after w.history v.history c i (ap (λ (x : World). x.history.intakes) e) at
 
 applies_same : (h g : History) → Applies h g → g.intakes ≡ h.intakes
@@ -117,53 +83,57 @@ more_same (suc n) h g (inr none) = ap (λ (x : History). x.intakes) none.1
 not_same : (d c : ℕ) → (d == c) ≡ false → d ≡ c → ⊥
 not_same d c e same = absurd (let f : true ≡ false = sym (eq-eqb d c same) ∙ e in cc)
 
-batch_after : (w : World) (d c : ℕ) (batch : List Admitted) (i : Intake) → slice_get w.history.intakes c ≡ Some i → After (given w.history d batch) c i (cond (d == c) (timely admitted_time i.mark [] batch) []) (cond (d == c) (greatest i.mark (map admitted_time batch)) i.mark)
+batch_after : (w : World) (d c : ℕ) (batch : List Admitted) (i : Intake) → slice_get w.history.intakes c ≡ Some i → After (given w.history d batch) c i (cond (d == c) (timely admitted_time i.mark [] batch) []) (cond (d == c) (greatest i.mark (map admitted_time batch)) i.mark) (cond (d == c) batch [])
 batch_after w d c batch i at = elim (cases_Bool (d == c)) [
   | inl e ↦ rw e (let same : d ≡ c = eqb-true d c e in record {
     intake = with_batch batch i;
     here = ap (λ (n : ℕ). slice_get (changed n (with_batch batch) w.history.intakes) c) same ∙ changed_here c (with_batch batch) w.history.intakes i at;
     admitted = refl;
     mark_is = refl;
+    offered_is = refl;
   })
-  | inr e ↦ rw e (record { intake = i; here = changed_elsewhere d c (with_batch batch) w.history.intakes (not_same d c e) ∙ at; admitted = sym (append-nil i.admitted); mark_is = refl })
+  | inr e ↦ rw e (record { intake = i; here = changed_elsewhere d c (with_batch batch) w.history.intakes (not_same d c e) ∙ at; admitted = sym (append-nil i.admitted); mark_is = refl; offered_is = omega arith })
 ]
 
-mark_after_is : (w : World) (d c mark : ℕ) (i : Intake) → slice_get w.history.intakes c ≡ Some i → After (marked w.history d mark) c i [] (cond (d == c) mark i.mark)
+mark_after_is : (w : World) (d c mark : ℕ) (i : Intake) → slice_get w.history.intakes c ≡ Some i → After (marked w.history d mark) c i [] (cond (d == c) mark i.mark) []
 mark_after_is w d c mark i at = elim (cases_Bool (d == c)) [
   | inl e ↦ rw e (let same : d ≡ c = eqb-true d c e in record {
     intake = with_mark mark i;
     here = ap (λ (n : ℕ). slice_get (changed n (with_mark mark) w.history.intakes) c) same ∙ changed_here c (with_mark mark) w.history.intakes i at;
     admitted = sym (append-nil i.admitted);
     mark_is = refl;
+    offered_is = omega arith;
   })
-  | inr e ↦ rw e (record { intake = i; here = changed_elsewhere d c (with_mark mark) w.history.intakes (not_same d c e) ∙ at; admitted = sym (append-nil i.admitted); mark_is = refl })
+  | inr e ↦ rw e (record { intake = i; here = changed_elsewhere d c (with_mark mark) w.history.intakes (not_same d c e) ∙ at; admitted = sym (append-nil i.admitted); mark_is = refl; offered_is = omega arith })
 ]
 
 -- what the step says was added, and which mark it left
 abbrev AfterStep : World → ℕ → Intake → Step → Reply → Type 0
-AfterStep v c i step reply = After v.history c i (taken_by c i.mark step reply) (mark_after c i.mark step reply)
+AfterStep v c i step reply = After v.history c i (taken_by c i.mark step reply) (mark_after c i.mark step reply) (offered_by c step reply)
 
-after_admit : (w v : World) (d c : ℕ) (batch : List Admitted) (i : Intake) (told : Told) → Admits w d batch told v → slice_get w.history.intakes c ≡ Some i
-    → After v.history c i (cond (d == c) (timely admitted_time i.mark [] batch) []) (cond (d == c) (greatest i.mark (map admitted_time batch)) i.mark)
-after_admit w v d c batch i told a at = subst (λ (x : World). After x.history c i (cond (d == c) (timely admitted_time i.mark [] batch) []) (cond (d == c) (greatest i.mark (map admitted_time batch)) i.mark)) (sym a.after) (batch_after w d c batch i at)
+after_admit : (w v : World) (d c : ℕ) (batch : List Admitted) (i : Intake) (told : BatchReply) → Admits w d batch told v → slice_get w.history.intakes c ≡ Some i
+    → After v.history c i (cond (d == c) (timely admitted_time i.mark [] batch) []) (cond (d == c) (greatest i.mark (map admitted_time batch)) i.mark) (cond (d == c) batch [])
+after_admit w v d c batch i told a at = subst (λ (x : World). After x.history c i (cond (d == c) (timely admitted_time i.mark [] batch) []) (cond (d == c) (greatest i.mark (map admitted_time batch)) i.mark) (cond (d == c) batch [])) (sym a.after) (batch_after w d c batch i at)
 
 -- a step that is told that all is down
-down_after : (w v : World) (c : ℕ) (i : Intake) (step : Step) (reply : Reply) → reply ≡ NeedsRecovery → v ≡ w → taken_by c i.mark step NeedsRecovery ≡ [] → mark_after c i.mark step NeedsRecovery ≡ i.mark → slice_get w.history.intakes c ≡ Some i → AfterStep v c i step reply
-down_after w v c i step reply e same none mark at =
+down_after : (w v : World) (c : ℕ) (i : Intake) (step : Step) (reply : Reply) → reply ≡ NeedsRecovery → v ≡ w → taken_by c i.mark step NeedsRecovery ≡ [] → mark_after c i.mark step NeedsRecovery ≡ i.mark → offered_by c step NeedsRecovery ≡ []
+    → slice_get w.history.intakes c ≡ Some i → AfterStep v c i step reply
+down_after w v c i step reply e same none mark unoffered at =
     subst (λ (r : Reply). AfterStep v c i step r) (sym e)
-    (subst (λ (l : List Admitted). After v.history c i l (mark_after c i.mark step NeedsRecovery)) (sym none)
-    (subst (λ (n : ℕ). After v.history c i [] n) (sym mark) (same_world w v c i same at)))
+    (subst (λ (l : List Admitted). After v.history c i l (mark_after c i.mark step NeedsRecovery) (offered_by c step NeedsRecovery)) (sym none)
+    (subst (λ (n : ℕ). After v.history c i [] n (offered_by c step NeedsRecovery)) (sym mark)
+    (subst (λ (l : List Admitted). After v.history c i [] i.mark l) (sym unoffered) (same_world w v c i same at))))
 
 step_after : (w v : World) (c : ℕ) (i : Intake) (step : Step) (reply : Reply) → Does w step reply v → slice_get w.history.intakes c ≡ Some i → AfterStep v c i step reply
 step_after w v c i (Admit d batch) (Taken told) (inl up) at = after_admit w v d c batch.items i told up.1 at
 step_after w v c i (Admit d batch) NoCollector (inl up) at = same_world w v c i up.1.1 at
 step_after w v c i (Admit d batch) _ (inl up) at = absurd up.1
-step_after w v c i (Admit d batch) reply (inr down) at = down_after w v c i (Admit d batch) reply down.1 down.2 refl refl at
-step_after w v c i (Mark d mark) Marked (inl up) at = subst (λ (x : World). After x.history c i [] (cond (d == c) mark i.mark)) (sym up.1.2) (mark_after_is w d c mark i at)
+step_after w v c i (Admit d batch) reply (inr down) at = down_after w v c i (Admit d batch) reply down.1 down.2 refl refl refl at
+step_after w v c i (Mark d mark) Marked (inl up) at = subst (λ (x : World). After x.history c i [] (cond (d == c) mark i.mark) []) (sym up.1.2) (mark_after_is w d c mark i at)
 step_after w v c i (Mark d mark) NoCollector (inl up) at = same_world w v c i up.1.1 at
 step_after w v c i (Mark d mark) MarkBack (inl up) at = same_world w v c i up.1.1 at
 step_after w v c i (Mark d mark) _ (inl up) at = absurd up.1
-step_after w v c i (Mark d mark) reply (inr down) at = down_after w v c i (Mark d mark) reply down.1 down.2 refl refl at
+step_after w v c i (Mark d mark) reply (inr down) at = down_after w v c i (Mark d mark) reply down.1 down.2 refl refl refl at
 step_after w v c i (Apply more) Applied (inl up) at = same_after w.history v.history c i (ap (λ (x : World). x.history.intakes) up.1.after ∙ (more_same more up.1.first up.1.last up.1.others ∙ applies_same w.history up.1.first up.1.next)) at
 step_after w v c i (Apply more) Idle (inl up) at = same_world w v c i up.1.1 at
 step_after w v c i (Apply more) _ (inl up) at = absurd up.1
@@ -180,28 +150,85 @@ step_after w v c i (Turn number reach) reply (inr down) at = same_world w v c i 
 step_after w v c i Crash reply d at = same_after w.history v.history c i (ap (λ (x : World). x.history.intakes) d.1) at
 step_after w v c i Recover reply d at = same_after w.history v.history c i (ap (λ (x : World). x.history.intakes) d.1) at
 
-taken_all : (w v : World) (steps : List Step) (replies : List Reply) (c : ℕ) (i j : Intake) → Runs w steps replies v → slice_get w.history.intakes c ≡ Some i → slice_get v.history.intakes c ≡ Some j → j.admitted ≡ i.admitted ++ taken_of c i.mark steps replies
-taken_all w v [] [] c i j run at last =
-    let same : j ≡ i = one_there (slice_get w.history.intakes c) j i (ap (λ (x : World). slice_get x.history.intakes c) (sym run) ∙ last) at in
-    ap (λ (x : Intake). x.admitted) same ∙ sym (append-nil i.admitted)
-taken_all w v [] (r ∷ rs) c i j run at last = absurd run
-taken_all w v (s ∷ ss) [] c i j run at last = absurd run
-taken_all w v (s ∷ ss) (r ∷ rs) c i j run at last =
+-- what the steps of a run gave the collector
+run_after : (w v : World) (steps : List Step) (replies : List Reply) (c : ℕ) (i : Intake) → Runs w steps replies v → slice_get w.history.intakes c ≡ Some i → After v.history c i (taken_of c i.mark steps replies) (mark_of c i.mark steps replies) (offered_of c steps replies)
+run_after w v [] [] c i run at = same_world w v c i run at
+run_after w v [] (r ∷ rs) c i run at = absurd run
+run_after w v (s ∷ ss) [] c i run at = absurd run
+run_after w v (s ∷ ss) (r ∷ rs) c i run at =
     let a = step_after w run.0 c i s r run.1 at in
-    let rest = taken_all run.0 v ss rs c a.intake j run.2 a.here last in
+    let rest = run_after run.0 v ss rs c a.intake run.2 a.here in
     let by = taken_by c i.mark s r in
-    rest ∙ (ap (λ (l : List Admitted). l ++ taken_of c a.intake.mark ss rs) a.admitted
-    ∙ (append_assoc i.admitted by (taken_of c a.intake.mark ss rs)
-    ∙ ap (λ (n : ℕ). i.admitted ++ (by ++ taken_of c n ss rs)) a.mark_is))
+    record {
+      intake = rest.intake;
+      here = rest.here;
+      admitted = rest.admitted ∙ (ap (λ (l : List Admitted). l ++ taken_of c a.intake.mark ss rs) a.admitted
+          ∙ (append_assoc i.admitted by (taken_of c a.intake.mark ss rs)
+          ∙ ap (λ (n : ℕ). i.admitted ++ (by ++ taken_of c n ss rs)) a.mark_is));
+      mark_is = rest.mark_is ∙ ap (λ (n : ℕ). mark_of c n ss rs) a.mark_is;
+      offered_is = omega (arith, rest.offered_is, a.offered_is, length-append (offered_by c s r) (offered_of c ss rs));
+    }
 
 nothing_there : (n c : ℕ) (x i : Intake) → slice_get (replicate n x) c ≡ Some i → x ≡ i
 nothing_there zero c x i at = absurd (none-some i at)
 nothing_there (suc n) zero x i at = same_Some x i at
 nothing_there (suc n) (suc c) x i at = nothing_there n c x i at
 
--- nothing is in a collector's list but what was offered for it and wasn't late, in the order of offering
-pub all_taken : (n : ℕ) (v : World) (steps : List Step) (replies : List Reply) (c : ℕ) (j : Intake) → AllByRecursion IsStep steps → IsSound (created n) → Runs (created n) steps replies v → slice_get v.history.intakes c ≡ Some j → j.admitted ≡ taken_of c 0 steps replies
-all_taken n v steps replies c j valid sound run last =
-    let first = earlier (created n).history.intakes v.history.intakes c j (run_fine (created n) v steps replies valid sound run).begins.each last in
+-- a collector has just what the steps gave
+pub all_given : (n : ℕ) (v : World) (steps : List Step) (replies : List Reply) (c : ℕ) (j : Intake) → AllByRecursion IsStep steps → Runs (created n) steps replies v → slice_get v.history.intakes c ≡ Some j → IsGiven j c steps replies
+all_given n v steps replies c j valid run last =
+    let first = earlier (created n).history.intakes v.history.intakes c j (run_fine (created n) v steps replies valid (created_sound n) run).begins.each last in
     let none = nothing_there n c (record { admitted = []; mark = 0; offered = 0 }) first.0 first.1 in
-    taken_all (created n) v steps replies c first.0 j run first.1 last ∙ ap (λ (x : Intake). x.admitted ++ taken_of c x.mark steps replies) (sym none)
+    let a = run_after (created n) v steps replies c first.0 run first.1 in
+    let same : j ≡ a.intake = one_there (slice_get v.history.intakes c) j a.intake last a.here in
+    record {
+      admitted = ap (λ (x : Intake). x.admitted) same ∙ (a.admitted ∙ ap (λ (x : Intake). x.admitted ++ taken_of c x.mark steps replies) (sym none));
+      mark = ap (λ (x : Intake). x.mark) same ∙ (a.mark_is ∙ ap (λ (x : Intake). mark_of c x.mark steps replies) (sym none));
+      offered = omega (arith, ap (λ (x : Intake). x.offered) same, a.offered_is, ap (λ (x : Intake). x.offered) none);
+    }
+
+-- ---- receipts
+
+admit_kept : (w m : World) (h : History) (c : ℕ) (batch : List Admitted) (told : BatchReply) (mark : ℕ) (before : List Admitted) (count : ℕ)
+    → ((i : Intake) → slice_get w.history.intakes c ≡ Some i → (i.mark ≡ mark) × (i.admitted ≡ before) × (i.offered ≡ count)) → Admits w c batch told m → Begins m.history h → Stands h mark before count c batch told
+admit_kept w m h c batch told mark before count is a b =
+    let b' : Begins (given w.history c batch) h = subst (λ (x : World). Begins x.history h) a.after b in
+    let l = later (changed c (with_batch batch) w.history.intakes) h.intakes c (with_batch batch a.intake) b'.each (changed_here c (with_batch batch) w.history.intakes a.intake a.here) in
+    let e = is a.intake a.here in
+    let now : Stands h a.intake.mark a.intake.admitted a.intake.offered c batch told = record {
+      intake = l.intake;
+      here = l.here;
+      collector = a.reply.collector;
+      after = l.goes.more;
+      admitted = l.goes.begins;
+      from = a.reply.from;
+      to = a.reply.to;
+      offered = a.reply.offered;
+      late = a.reply.late;
+    } in
+    subst (λ (n : ℕ). Stands h n before count c batch told) e.0
+    (subst (λ (l' : List Admitted). Stands h a.intake.mark l' count c batch told) e.1
+    (subst (λ (n : ℕ). Stands h a.intake.mark a.intake.admitted n c batch told) e.2 now))
+
+taken_kept : (w m : World) (h : History) (c : ℕ) (batch : List Admitted) (told : BatchReply) (mark : ℕ) (before : List Admitted) (count : ℕ)
+    → ((i : Intake) → slice_get w.history.intakes c ≡ Some i → (i.mark ≡ mark) × (i.admitted ≡ before) × (i.offered ≡ count)) → WhenUp w (Taken told) m (DoesAdmit w c batch (Taken told) m) → Begins m.history h → Stands h mark before count c batch told
+taken_kept w m h c batch told mark before count is (inl up) b = admit_kept w m h c batch told mark before count is up.1 b
+taken_kept w m h c batch told mark before count is (inr down) b = absurd (let e : Taken told ≡ NeedsRecovery = down.1 in cc)
+
+step_kept : (n : ℕ) (w m : World) (h : History) (steps : List Step) (replies : List Reply) (step : Step) (reply : Reply) → AllByRecursion IsStep steps → Runs (created n) steps replies w → Does w step reply m → Begins m.history h → IsKept h steps replies step reply
+step_kept n w m h steps replies (Admit c batch) (Taken told) valid run d b =
+    taken_kept w m h c batch.items told (mark_of c 0 steps replies) (taken_of c 0 steps replies) (length (offered_of c steps replies))
+    (λ i at. let g = all_given n w steps replies c i valid run at in (g.mark, g.admitted, g.offered)) d b
+step_kept n w m h steps replies (Admit c batch) _ valid run d b = tt
+step_kept n w m h steps replies _ reply valid run d b = tt
+
+-- each batch that was taken stands behind what was given before it
+pub each_kept : (n : ℕ) (v : World) (steps : List Step) (replies : List Reply) (k : ℕ) (step : Step) (reply : Reply) → AllByRecursion IsStep steps → Runs (created n) steps replies v → slice_get steps k ≡ Some step → slice_get replies k ≡ Some reply
+    → IsKept v.history (take k steps) (take k replies) step reply
+each_kept n v steps replies k step reply valid run at told =
+    let s = split (created n) v steps replies k step reply run at told in
+    let front = all_take IsStep k steps valid in
+    let sound = (run_fine (created n) s.before (take k steps) (take k replies) front (created_sound n) s.first).sound in
+    let next = step_fine s.before step reply s.after (all_at IsStep steps k step valid at) sound s.does in
+    let rest = run_fine s.after v (drop (suc k) steps) (drop (suc k) replies) (all_drop IsStep (suc k) steps valid) next.sound s.later in
+    step_kept n s.before s.after v.history (take k steps) (take k replies) step reply front s.first s.does rest.begins

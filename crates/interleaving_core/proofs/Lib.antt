@@ -3,7 +3,12 @@ pub mod Filtering
 pub mod Turning
 pub mod Sound
 pub mod Running
+pub mod Places
+pub mod Beginnings
 pub mod Keeping
 pub mod Batches
 pub mod Machines
+pub mod Settled
+pub mod Promised
+pub mod Wholly
 pub mod NextChanges

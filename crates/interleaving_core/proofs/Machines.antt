@@ -8,7 +8,7 @@ use Rattle.interleaving_core.specs.declared.query.Query.{Query}
 use Rattle.interleaving_core.specs.declared.question.Question.{Question}
 use Rattle.interleaving_core.specs.declared.question.Question.TheVariants.{Ended}
 use Rattle.route_model.specs.Admission.{Admitted}
-use Rattle.interleaving_core.specs.declared.reply.Admitted.{Admitted as Told}
+use Rattle.interleaving_core.specs.declared.reply.BatchReply.{BatchReply}
 use Rattle.interleaving_core.specs.declared.reply.Reply.TheVariants.{Marked, MarkBack}
 use Rattle.interleaving_core.specs.Steps.{changed, with_batch, with_mark, given}
 use Rattle.interleaving_core.specs.World.{World, asked, ended}
@@ -35,7 +35,7 @@ there (j ∷ is) zero i at = omega arith
 there (j ∷ is) (suc c) i at = omega (arith, there is c i at)
 
 module _ (is : List Intake) (whole some : ℕ) (questions : List Question) (down : Bool) (c : ℕ) (i new : Intake) (at : slice_get is c ≡ Some i) where
-  pub admits : (batch : List Admitted) (told : Told) → new ≡ with_batch batch i → IsReply i c batch told → Admits (world is whole some questions down) c batch told (world (slice_set is c new) whole some questions down)
+  pub admits : (batch : List Admitted) (told : BatchReply) → new ≡ with_batch batch i → IsReply i c batch told → Admits (world is whole some questions down) c batch told (world (slice_set is c new) whole some questions down)
   admits batch told e reply = record {
     intake = i;
     here = at;

@@ -7,7 +7,7 @@ use Rattle.route_meaning.specs.History.{Intake, History, applied, settled, last_
 use Rattle.sequencer.specs.Late.{timely, lates}
 use Rattle.interleaving_core.specs.declared.query.Query.{Query}
 use Rattle.interleaving_core.specs.declared.query.Query.TheVariants.{Rows, Events}
-use Rattle.interleaving_core.specs.declared.reply.Admitted.{Admitted as Told}
+use Rattle.interleaving_core.specs.declared.reply.BatchReply.{BatchReply}
 use Rattle.interleaving_core.specs.declared.reply.Reply.{Reply}
 use Rattle.interleaving_core.specs.declared.reply.Reply.TheVariants.{Taken, Marked, NoCollector, MarkBack, Applied, Idle, Flushed, Begun, Again, Done, AboveWatermark, NoQuestion, Crashed, Recovered, NeedsRecovery}
 use Rattle.interleaving_core.specs.declared.step.Reach.{Reach}
@@ -24,7 +24,7 @@ abbrev pub WhenUp : World → Reply → World → Type 0 → Type 0
 WhenUp w reply v Up = ((w.down ≡ false) × Up) ⊎ ((w.down ≡ true) × (reply ≡ NeedsRecovery) × (v ≡ w))
 
 -- what is told of a batch that the collector c gives after this intake
-pub record IsReply (i : Intake) (c : ℕ) (batch : List Admitted) (told : Told) : Type 0 where
+pub record IsReply (i : Intake) (c : ℕ) (batch : List Admitted) (told : BatchReply) : Type 0 where
   pub collector : told.receipt.collector ≡ c
   pub from : told.receipt.from ≡ length i.admitted
   pub to : told.receipt.to ≡ length i.admitted + length (timely admitted_time i.mark [] batch)
@@ -32,7 +32,7 @@ pub record IsReply (i : Intake) (c : ℕ) (batch : List Admitted) (told : Told) 
   pub late : told.late.items ≡ lates admitted_time i.mark [] 0 batch
 
 -- the collector gives the batch
-pub record Admits (w : World) (c : ℕ) (batch : List Admitted) (told : Told) (v : World) : Type 0 where
+pub record Admits (w : World) (c : ℕ) (batch : List Admitted) (told : BatchReply) (v : World) : Type 0 where
   pub intake : Intake
   pub here : slice_get w.history.intakes c ≡ Some intake
   pub reply : IsReply intake c batch told

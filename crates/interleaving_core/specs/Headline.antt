@@ -1,6 +1,5 @@
 -- What is promised of every run.
-use Rattle.std.specs.Prelude.{ℕ, List, [], ◌∷◌, ◌++◌, ◌+◌, ◌≡◌, ◌==◌, if◌then◌else◌, Some, length, map, take, drop, slice_get}
-use Rattle.std.specs.List.{AllZip}
+use Rattle.std.specs.Prelude.{ℕ, List, [], ◌∷◌, ◌++◌, ◌+◌, ◌≡◌, ◌<◌, ◌==◌, if◌then◌else◌, Some, length, map, take, drop, slice_get}
 use Rattle.route_model.specs.Admission.{Admitted}
 use Rattle.route_meaning.specs.Holds.{admitted_time}
 use Rattle.route_meaning.specs.Merged.{Placed}
@@ -12,7 +11,7 @@ use Rattle.interleaving_core.specs.declared.query.Query.{Query}
 use Rattle.interleaving_core.specs.declared.query.Query.TheVariants.{Rows, Events}
 use Rattle.interleaving_core.specs.declared.query.Answer.{Answer}
 use Rattle.interleaving_core.specs.declared.query.Answer.TheVariants.{Rows as RowsTold, Events as EventsTold}
-use Rattle.interleaving_core.specs.declared.reply.Admitted.{Admitted as Told}
+use Rattle.interleaving_core.specs.declared.reply.BatchReply.{BatchReply}
 use Rattle.interleaving_core.specs.declared.reply.Reply.{Reply}
 use Rattle.interleaving_core.specs.declared.reply.Reply.TheVariants.{Taken, Marked, Begun, Done}
 use Rattle.interleaving_core.specs.declared.step.Reach.{Reach}
@@ -27,24 +26,6 @@ IsAnswered ps (Rows q) (RowsTold a) = IsAnswer ps q a.rows.items a.more
 IsAnswered ps (Rows q) (EventsTold a) = ⊥
 IsAnswered ps (Events q) (RowsTold a) = ⊥
 IsAnswered ps (Events q) (EventsTold a) = IsEventsAnswer ps q a.events.items a.more
-
--- the receipt names the collector, whose list has at its numbers just the records of the batch that weren't late, as they were told when it was given
-pub record Stands (h : History) (c : ℕ) (batch : List Admitted) (told : Told) : Type 0 where
-  pub intake : Intake
-  pub here : slice_get h.intakes c ≡ Some intake
-  pub collector : told.receipt.collector ≡ c
-  pub mark : ℕ
-  pub late : told.late.items ≡ lates admitted_time mark [] 0 batch
-  pub before : List Admitted
-  pub after : List Admitted
-  pub admitted : intake.admitted ≡ (before ++ timely admitted_time mark [] batch) ++ after
-  pub from : told.receipt.from ≡ length before
-  pub to : told.receipt.to ≡ length before + length (timely admitted_time mark [] batch)
-
--- where the step gave a batch that was taken, it stands
-abbrev pub IsKept : History → Step → Reply → Type 0
-IsKept h (Admit c batch) (Taken told) = Stands h c batch.items told
-IsKept h step reply = Unit {0}
 
 -- the mark of the collector c behind the step, where it was mark
 abbrev pub mark_after : ℕ → ℕ → Step → Reply → ℕ
@@ -63,12 +44,62 @@ taken_of c mark [] replies = []
 taken_of c mark (step ∷ steps) [] = []
 taken_of c mark (step ∷ steps) (reply ∷ replies) = taken_by c mark step reply ++ taken_of c (mark_after c mark step reply) steps replies
 
--- What is true at the end of every run from a created world: each question that was done has the answer of the history at the end;
--- each earlier history begins it; each receipt's batch stands at its numbers; and nothing is in it but what was offered and wasn't
--- late, in the order of offering.
+-- the mark of the collector c behind the steps, where it was mark before them
+abbrev pub mark_of : ℕ → ℕ → List Step → List Reply → ℕ
+mark_of c mark [] replies = mark
+mark_of c mark (step ∷ steps) [] = mark
+mark_of c mark (step ∷ steps) (reply ∷ replies) = mark_of c (mark_after c mark step reply) steps replies
+
+-- what the step offered for the collector c: a batch that was taken, its late records too
+abbrev pub offered_by : ℕ → Step → Reply → List Admitted
+offered_by c (Admit d batch) (Taken told) = if d == c then batch.items else []
+offered_by c step reply = []
+
+-- all that the steps offered for the collector c in batches that were taken, late records too
+abbrev pub offered_of : ℕ → List Step → List Reply → List Admitted
+offered_of c [] replies = []
+offered_of c (step ∷ steps) [] = []
+offered_of c (step ∷ steps) (reply ∷ replies) = offered_by c step reply ++ offered_of c steps replies
+
+-- The receipt names the collector. The list of the collector has at the receipt's numbers just the records of the batch that weren't late
+-- at this mark, behind these others. The late ones are told, and how many were offered in all, so many of them before.
+pub record Stands (h : History) (mark : ℕ) (before : List Admitted) (count : ℕ) (c : ℕ) (batch : List Admitted) (told : BatchReply) : Type 0 where
+  pub intake : Intake
+  pub here : slice_get h.intakes c ≡ Some intake
+  pub collector : told.receipt.collector ≡ c
+  pub after : List Admitted
+  pub admitted : intake.admitted ≡ (before ++ timely admitted_time mark [] batch) ++ after
+  pub from : told.receipt.from ≡ length before
+  pub to : told.receipt.to ≡ length before + length (timely admitted_time mark [] batch)
+  pub offered : told.offered ≡ count + length batch
+  pub late : told.late.items ≡ lates admitted_time mark [] 0 batch
+
+-- where the step gave a batch that was taken, it stands: behind what these earlier steps gave for the collector, at the mark that they left
+abbrev pub IsKept : History → List Step → List Reply → Step → Reply → Type 0
+IsKept h steps replies (Admit c batch) (Taken told) = Stands h (mark_of c 0 steps replies) (taken_of c 0 steps replies) (length (offered_of c steps replies)) c batch.items told
+IsKept h steps replies step reply = Unit {0}
+
+-- what the collector c has is what the steps gave: its list is all that they offered for it that wasn't late, in the order of offering
+pub record IsGiven (i : Intake) (c : ℕ) (steps : List Step) (replies : List Reply) : Type 0 where
+  pub admitted : i.admitted ≡ taken_of c 0 steps replies
+  pub mark : i.mark ≡ mark_of c 0 steps replies
+  pub offered : i.offered ≡ length (offered_of c steps replies)
+
+-- an earlier step than that of the place k began the question of the number i
+pub record IsBegun (steps : List Step) (replies : List Reply) (i k : ℕ) : Type 0 where
+  pub place : ℕ
+  pub earlier : place < k
+  pub query : Query
+  pub step : slice_get steps place ≡ Some (Begin query)
+  pub reply : slice_get replies place ≡ Some (Begun i)
+
+-- What is true at the end of every run from a created world: each question that is done was begun; it has the answer of the history at
+-- the end; each earlier history begins that one; each batch that was taken stands at the numbers of its receipt; and no collector has
+-- anything but what was offered for it and wasn't late, in the order of offering.
 pub record Headline (collectors : ℕ) (steps : List Step) (replies : List Reply) (last : World) : Type 0 where
+  pub begun : (k i : ℕ) (reach : Reach) (answer : Answer) → slice_get steps k ≡ Some (Turn i reach) → slice_get replies k ≡ Some (Done answer) → IsBegun steps replies i k
   pub answers : (j k i : ℕ) (query : Query) (reach : Reach) (answer : Answer) → slice_get steps j ≡ Some (Begin query) → slice_get replies j ≡ Some (Begun i)
       → slice_get steps k ≡ Some (Turn i reach) → slice_get replies k ≡ Some (Done answer) → IsAnswered (all_of last.history) query answer
   pub begins : (k : ℕ) (w : World) → Runs (created collectors) (take k steps) (take k replies) w → Runs w (drop k steps) (drop k replies) last → Begins w.history last.history
-  pub receipts : AllZip (IsKept last.history) steps replies
-  pub only : (c : ℕ) (intake : Intake) → slice_get last.history.intakes c ≡ Some intake → intake.admitted ≡ taken_of c 0 steps replies
+  pub receipts : (k : ℕ) (step : Step) (reply : Reply) → slice_get steps k ≡ Some step → slice_get replies k ≡ Some reply → IsKept last.history (take k steps) (take k replies) step reply
+  pub only : (c : ℕ) (intake : Intake) → slice_get last.history.intakes c ≡ Some intake → IsGiven intake c steps replies

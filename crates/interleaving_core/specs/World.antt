@@ -1,6 +1,7 @@
 -- The state of the pure machine: a history, the questions in progress, and whether it is down.
-use Rattle.std.specs.Prelude.{ℕ, List, [], Bool, true, false, map}
-use Rattle.route_meaning.specs.History.{History}
+use Rattle.std.specs.Prelude.{ℕ, List, [], Bool, true, false, map, length}
+use Rattle.route_meaning.specs.History.{Intake, History}
+use Rattle.interleaving_core.specs.declared.reply.Resume.{Resume}
 use Rattle.interleaving_core.specs.declared.query.Query.{Query}
 use Rattle.interleaving_core.specs.declared.query.Query.TheVariants.{Rows, Events}
 use Rattle.interleaving_core.specs.declared.question.Question.{Question}
@@ -43,3 +44,7 @@ with_questions w questions = record { history = w.history; questions = questions
 -- all is down, and all questions are ended
 abbrev pub crashed : World → World
 crashed w = record { history = w.history; questions = map ended w.questions; down = true }
+
+-- where a collector of this intake goes on
+abbrev pub resume_of : Intake → Resume
+resume_of i = record { offered = i.offered; admitted = length i.admitted; mark = i.mark }

@@ -4,9 +4,10 @@ ghost use Rattle.std.specs.Prelude.{◌≡◌, ◌≤◌, ◌<◌, ◌+◌, [], 
 ghost use Rattle.route_meaning.specs.Holds.{admitted_time};
 ghost use Rattle.sequencer.specs.Late.{timely};
 ghost use Rattle.interleaving_core.specs.Steps.{with_batch, with_mark};
+ghost use Rattle.interleaving_core.specs.World.{resume_of};
 ghost use Rattle.interleaving_core.specs.Does.{IsReply};
 
-use crate::reply::{Admitted, Receipt};
+use crate::reply::{BatchReply, Receipt, Resume};
 use route_model::{Admission, Mark, Moment};
 use sequencer::sieve;
 use std::alloc::{AllocError, Global};
@@ -78,6 +79,17 @@ impl Given {
         self.admitted.as_slice()
     }
 
+    /// Where the collector goes on.
+    pub(crate) fn resume(&self) -> Resume
+        ensures { result ≡ resume_of self.now }
+    {
+        Resume {
+            offered: self.offered,
+            admitted: self.admitted.len() as u64,
+            mark: self.mark,
+        }
+    }
+
     /// Sets the mark, where it isn't above it; tells whether it did.
     pub(crate) fn raise(&mut self, mark: Mark) -> bool
         ensures raised { result ≡ true → (self.old.mark ≤ mark) × (self.new ≡ with_mark mark self.old) }
@@ -96,7 +108,7 @@ impl Given {
         alloc: Global,
         collector: u8,
         batch: &[Admission],
-    ) -> Result<Admitted, AllocError>
+    ) -> Result<BatchReply, AllocError>
         ensures taken { IfOk result (λ told. self.new ≡ with_batch batch.now self.old) }
         ensures reply { IfOk result (IsReply self.old collector batch.now) }
     {
@@ -110,7 +122,7 @@ impl Given {
         self.admitted.append(&mut kept)?;
         self.mark = sieved.mark;
         self.offered = offered;
-        Ok(Admitted {
+        Ok(BatchReply {
             receipt: Receipt {
                 collector,
                 from,

@@ -8,11 +8,15 @@ mod machine;
 mod query;
 mod question;
 mod reply;
+mod runs;
+mod settling;
 mod step;
+mod turns;
 
 pub use laws::headline_of_runs;
 pub use machine::Machine;
 pub use query::{Answer, Query};
 pub use question::{EventsSoFar, Question, RowsSoFar};
-pub use reply::{Admitted, Receipt, Reply};
+pub use reply::{BatchReply, Receipt, Reply, Resume};
+pub use runs::{Ran, run};
 pub use step::{Reach, Step};

@@ -1,17 +1,20 @@
 //! The pure machine.
 
-ghost use Rattle.std.specs.Prelude.{◌≡◌, true, false, IfOk, OnOk};
+ghost use Rattle.std.specs.Prelude.{◌≡◌, true, false, map, slice_get, IfOk, OnOk};
 ghost use Rattle.route_meaning.specs.History.{History};
 ghost use Rattle.interleaving_core.specs.Steps.{Applies, AppliesMore, NothingToApply};
-ghost use Rattle.interleaving_core.specs.World.{created, with_history};
-ghost use Rattle.interleaving_core.specs.declared.step.Step.TheVariants.{Admit, Mark as SetMark, Apply, Flush, Begin, Crash, Recover};
-ghost use Rattle.interleaving_core.specs.Does.{Does};
+ghost use Rattle.interleaving_core.specs.World.{created, with_history, resume_of};
+ghost use Rattle.interleaving_core.specs.declared.step.Step.TheVariants.{Mark as SetMark, Apply, Flush, Begin, Turn, Crash, Recover};
+ghost use Rattle.interleaving_core.specs.Does.{WhenUp, DoesAdmit, Does, Runs};
 
 use crate::applying::{is_below_marks, order};
 use crate::given::Given;
 use crate::query::Query;
 use crate::question::Question;
-use crate::reply::Reply;
+use crate::reply::{Reply, Resume};
+use crate::settling::settled_by;
+use crate::step::{Reach, Step};
+use crate::turns::take_turn;
 use route_model::{Admission, Mark};
 use std::alloc::{AllocError, Global};
 use std::marker::Model;
@@ -58,9 +61,17 @@ impl Machine {
         })
     }
 
+    /// Where the collector of this number goes on, where there is one.
+    pub fn resume(&self, collector: u8) -> Option<Resume>
+        ensures resume { result ≡ slice_get (map resume_of self.now.history.intakes) collector }
+    {
+        let given = self.given.get(collector as usize)?;
+        Some(given.resume())
+    }
+
     /// The collector of this number gives a batch.
-    pub fn admit(&mut self, collector: u8, batch: &Vec<Admission>) -> Result<Reply, AllocError>
-        ensures does { IfOk result (λ reply. Does self.old (Admit collector batch.now) reply self.new) }
+    pub fn admit(&mut self, collector: u8, batch: &[Admission]) -> Result<Reply, AllocError>
+        ensures does { IfOk result (λ reply. WhenUp self.old reply self.new (DoesAdmit self.old collector batch.now reply self.new)) }
     {
         if self.down {
             return Ok(Reply::NeedsRecovery);
@@ -157,6 +168,31 @@ impl Machine {
         let number = self.questions.len();
         self.questions.push(Question::start(self.alloc, query))?;
         Ok(Reply::Begun(number))
+    }
+
+    /// The question of this number takes a turn over what is wholly applied: below the settled watermark nothing counts that isn't.
+    pub fn turn(&mut self, number: usize, reach: Reach) -> Result<Reply, AllocError>
+        ensures does { IfOk result (λ reply. Does self.old (Turn number reach) reply self.new) }
+    {
+        if self.down {
+            return Ok(Reply::NeedsRecovery);
+        }
+        if number >= self.questions.len() {
+            return Ok(Reply::NoQuestion);
+        }
+        let question = &self.questions[number];
+        if question.is_ended() {
+            return Ok(Reply::NoQuestion);
+        }
+        let all = order(self.alloc, &self.given)?;
+        let whole = self.whole.min(all.len());
+        let settled = settled_by(self.alloc, &self.given, &all[whole..])?;
+        if settled.seconds() <= question.query().last_moment().seconds() {
+            return Ok(Reply::AboveWatermark(settled));
+        }
+        let turned = take_turn(self.alloc, &all[..whole], question, &reach)?;
+        self.questions[number] = turned.question;
+        Ok(turned.reply)
     }
 
     /// All goes down, and all questions are ended.

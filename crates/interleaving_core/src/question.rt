@@ -67,7 +67,8 @@ impl EventsSoFar {
 }
 
 impl Question {
-    ghost use Rattle.std.specs.Prelude.{◌≡◌};
+    ghost use Rattle.std.specs.Prelude.{◌≡◌, ◌↔◌, IsFalse};
+    ghost use Rattle.interleaving_core.specs.Does.{IsInProgress};
     ghost use Rattle.interleaving_core.specs.World.{asked, started};
 
     /// The question as it begins.
@@ -87,9 +88,16 @@ impl Question {
         }
     }
 
+    /// Whether it has ended.
+    pub fn is_ended(&self) -> bool
+        ensures progress { IsFalse result ↔ IsInProgress self.now }
+    {
+        matches!(self, Question::Ended(_))
+    }
+
     /// What was asked.
     pub fn query(&self) -> Query
-        ensures { result ≡ asked self.now }
+        ensures query { result ≡ asked self.now }
     {
         match self {
             Question::OfRows(so_far) => Query::Rows(so_far.question()),

@@ -15,7 +15,7 @@ pub struct Receipt {
 
 /// What became of a batch.
 #[derive(Debug, Drop)]
-pub struct Admitted {
+pub struct BatchReply {
     pub receipt: Receipt,
     /// How many records were offered for the collector until now, those that came late counted too.
     pub offered: u64,
@@ -23,11 +23,19 @@ pub struct Admitted {
     pub late: Vec<Late>,
 }
 
+/// Where a collector goes on: how many records were offered for it, how many of them were admitted, and its mark.
+#[derive(Clone, Copy, Debug, PartialEq, Eq)]
+pub struct Resume {
+    pub offered: u64,
+    pub admitted: u64,
+    pub mark: Mark,
+}
+
 /// What a step answers.
 #[derive(Debug, Drop)]
 pub enum Reply {
     /// The batch is taken.
-    Taken(Admitted),
+    Taken(BatchReply),
     /// The mark is set.
     Marked,
     /// There is no collector of this number.
@@ -36,7 +44,7 @@ pub enum Reply {
     MarkBack,
     /// A change is applied at least, or an admission without changes.
     Applied,
-    /// Nothing may be applied: each admission that waits isn't below every mark.
+    /// Nothing may be applied: no admission waits, or the first that does isn't below every mark.
     Idle,
     /// Nothing is left to write.
     Flushed,

@@ -1,0 +1,48 @@
+//! Runs of steps.
+
+ghost use Rattle.std.specs.Prelude.{ℕ, ◌≡◌, IfOk};
+ghost use Rattle.std.specs.List.{AllByRecursion};
+ghost use Rattle.interleaving_core.specs.World.{created};
+ghost use Rattle.interleaving_core.specs.Does.{Does, Runs, IsStep};
+ghost use Rattle.interleaving_core.specs.Headline.{Headline};
+
+use crate::machine::Machine;
+use crate::reply::Reply;
+use crate::step::Step;
+use std::alloc::{AllocError, Global};
+
+/// What a run left: the machine behind its last step, and what each step answered.
+#[derive(Drop)]
+pub struct Ran {
+    pub machine: Machine,
+    pub replies: Vec<Reply>,
+}
+
+/// Makes one step.
+fn make(machine: &mut Machine, step: &Step) -> Result<Reply, AllocError>
+    ensures { IfOk result (λ reply. Does machine.old step.now reply machine.new) }
+{
+    match step {
+        Step::Admit(collector, batch) => machine.admit(*collector, batch),
+        Step::Mark(collector, mark) => Ok(machine.mark(*collector, *mark)),
+        Step::Apply(more) => machine.apply(*more),
+        Step::Flush => Ok(machine.flush()),
+        Step::Begin(query) => machine.begin(*query),
+        Step::Turn(number, reach) => machine.turn(*number, *reach),
+        Step::Crash => Ok(machine.crash()),
+        Step::Recover => Ok(machine.recover()),
+    }
+}
+
+/// Makes the steps, one after another. Where memory is wanting there is no run.
+pub fn run(alloc: Global, machine: Machine, steps: &[Step]) -> Result<Ran, AllocError>
+    ensures runs { IfOk result (λ ran. Runs machine steps.now ran.replies.items ran.machine) }
+    ensures headline { (collectors : ℕ) → machine ≡ created collectors → AllByRecursion IsStep steps.now → IfOk result (λ ran. Headline collectors steps.now ran.replies.items ran.machine) }
+{
+    let mut machine = machine;
+    let mut replies = Vec::with_capacity(alloc, steps.len())?;
+    for step in steps {
+        replies.push(make(&mut machine, step)?)?;
+    }
+    Ok(Ran { machine, replies })
+}
