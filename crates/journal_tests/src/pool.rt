@@ -281,3 +281,22 @@ fn a_page_is_written_home_once_and_lent_from_memory(rt: HostRuntime) -> Result<(
     assert_eq!(rt; calls_of(&disk), (5, 15 + 2 + 8 * 5 + 1));
     Ok(())
 }
+
+#[test]
+fn the_page_that_was_dirty_longest_is_written_home_first(rt: HostRuntime) -> Result<(), Fail> {
+    let alloc = rt.alloc();
+    let mut tx = opened(alloc, made(alloc)?, 4)?;
+    for (n, octet) in [(1, 31), (2, 41), (1, 32)] {
+        play(alloc, &mut tx, Step::Set(n, octet))?;
+        play(alloc, &mut tx, Step::Commit)?;
+    }
+    play(alloc, &mut tx, Step::Flush)?;
+    // Page 1 became dirty first, and was committed last.
+    let disk = tx.into_pool().into_disk();
+    let home = match disk.calls().last() {
+        Some(Call::Write(written)) => (written.at(), written.octets().first().copied()),
+        _ => (0, None),
+    };
+    assert_eq!(rt; home, (266 * PAGE, Some(32)));
+    Ok(())
+}
