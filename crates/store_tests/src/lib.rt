@@ -5,6 +5,8 @@
 #[cfg(test)]
 mod leaves;
 #[cfg(test)]
+mod looks;
+#[cfg(test)]
 mod nodes;
 #[cfg(test)]
 mod shelf;

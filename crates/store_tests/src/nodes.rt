@@ -7,7 +7,7 @@ use std::test::Fail;
 use tsb_node::{NotANode, find, leaf_of_page, next, push, start_leaf};
 use version_model::Stamp;
 
-fn key_of(last: u8) -> Key {
+pub fn key_of(last: u8) -> Key {
     let mut octets = [0u8; 40];
     octets[39] = last;
     Key::from_octets(&octets)

@@ -23,7 +23,7 @@ enum Kind {
 }
 
 // A column of the keys below 9, in whole seconds, of level 1; two entries, of 50 octets.
-const COLUMN: [(usize, &[u8]); 8] = [
+pub const COLUMN: [(usize, &[u8]); 8] = [
     (0, &[2, 0, 1, 0, 0, 2, 0, 50]),
     // The high key, the end stamp: none.
     (87, &[9]),
@@ -38,7 +38,7 @@ const COLUMN: [(usize, &[u8]); 8] = [
 ];
 
 // A key node of level 2 of the keys below 9; two entries, of 96 octets.
-const KEY_NODE: [(usize, &[u8]); 7] = [
+pub const KEY_NODE: [(usize, &[u8]); 7] = [
     (0, &[3, 0, 2, 0, 0, 2, 0, 96]),
     (87, &[9]),
     (104, &[255, 255, 255, 255, 255, 255, 255, 255]),
@@ -77,7 +77,7 @@ const LEAF_BLOCK: [(usize, &[u8]); 13] = [
 ];
 
 // A column of the keys below 9 up to time 300: from 0 on in leaf block 7, from time 258 on in column block 9; and its SHA-256.
-const COLUMN_BLOCK: [(usize, &[u8]); 10] = [
+pub const COLUMN_BLOCK: [(usize, &[u8]); 10] = [
     (0, &[2, 0, 1, 0, 0, 2, 0, 50]),
     (87, &[9]),
     (110, &[1, 44]),
@@ -217,40 +217,50 @@ fn expect_block(
     Ok(is_one)
 }
 
-// What an octet is changed to: among header, entries and last octets to 0, to 255 and to one more; among the zeros between to one of
-// these.
-fn changed(at: usize, was: u8) -> [u8; 3] {
-    let more = was.wrapping_add(1);
-    if at < 400 || at > 16_340 {
-        return [0, 255, more];
-    }
-    if at % 2 == 0 { [255; 3] } else { [more; 3] }
+// How an octet is changed.
+#[derive(Clone, Copy, Debug)]
+enum Way {
+    Zero,
+    Ones,
+    OneMore,
 }
 
-// The same of a page of which each octet is changed.
-fn expect_pages(rt: &impl Abort, alloc: Global, kind: Kind, page: &mut Page) -> Result<(), Fail> {
+fn changed(way: Way, was: u8) -> u8 {
+    match way {
+        Way::Zero => 0,
+        Way::Ones => 255,
+        Way::OneMore => was.wrapping_add(1),
+    }
+}
+
+// The same of a page of which each octet is changed in this way.
+fn expect_pages(
+    rt: &impl Abort,
+    alloc: Global,
+    kind: Kind,
+    way: Way,
+    page: &mut Page,
+) -> Result<(), Fail> {
     let mut fresh = Page::new(alloc)?;
     assert!(rt; expect_page(rt, alloc, kind, page, &mut fresh)?);
     for at in 0..16_384usize {
         let was = page.octets()[at];
-        let mut last = was;
-        for octet in changed(at, was) {
-            if octet != last {
-                page.put(at, &[octet]);
-                expect_page(rt, alloc, kind, page, &mut fresh)?;
-            }
-            last = octet;
+        let octet = changed(way, was);
+        if octet != was {
+            page.put(at, &[octet]);
+            expect_page(rt, alloc, kind, page, &mut fresh)?;
+            page.put(at, &[was]);
         }
-        page.put(at, &[was]);
     }
     Ok(())
 }
 
-// The same of a block, of the zeros each sixteenth: with the digest that it had, and with one of the changed octets.
+// The same of a block: none with the digest that it had, and any with one of the changed octets.
 fn expect_blocks(
     rt: &impl Abort,
     alloc: Global,
     kind: Kind,
+    way: Way,
     block: &mut Block,
 ) -> Result<(), Fail> {
     let mut fresh = Block::new(alloc)?;
@@ -258,26 +268,20 @@ fn expect_blocks(
     assert!(rt; expect_block(rt, alloc, kind, block, &mut fresh)?);
     for at in 0..16_384usize {
         let was = block.octets()[at];
-        let mut last = was;
-        for octet in changed(at, was) {
-            if octet != last && (at < 260 || at > 16_340 || at % 16 == 0) {
-                block.put(at, &[octet]);
-                let is_one = expect_block(rt, alloc, kind, block, &mut fresh)?;
-                assert!(rt; octet == was || !is_one);
-                sealed.copy_from(block);
-                seal(&mut sealed);
-                expect_block(rt, alloc, kind, &sealed, &mut fresh)?;
-            }
-            last = octet;
+        let octet = changed(way, was);
+        if octet != was {
+            block.put(at, &[octet]);
+            assert!(rt; !expect_block(rt, alloc, kind, block, &mut fresh)?);
+            sealed.copy_from(block);
+            seal(&mut sealed);
+            expect_block(rt, alloc, kind, &sealed, &mut fresh)?;
+            block.put(at, &[was]);
         }
-        block.put(at, &[was]);
     }
     Ok(())
 }
 
-#[test]
-fn each_octet_of_pages_changed(rt: HostRuntime) -> Result<(), Fail> {
-    let alloc = rt.alloc();
+fn expect_all_pages(rt: &impl Abort, alloc: Global, way: Way) -> Result<(), Fail> {
     let nodes: [(Kind, &[(usize, &[u8])]); 3] = [
         (Kind::Leaf, LEAF.as_slice()),
         (Kind::Column, COLUMN.as_slice()),
@@ -285,23 +289,44 @@ fn each_octet_of_pages_changed(rt: HostRuntime) -> Result<(), Fail> {
     ];
     for (kind, fields) in nodes.as_slice() {
         let mut page = page_of(alloc, *fields)?;
-        expect_pages(&rt, alloc, *kind, &mut page)?;
+        expect_pages(rt, alloc, *kind, way, &mut page)?;
     }
     Ok(())
 }
 
-#[test]
-fn each_octet_of_blocks_changed(rt: HostRuntime) -> Result<(), Fail> {
-    let alloc = rt.alloc();
+fn expect_all_blocks(rt: &impl Abort, alloc: Global, way: Way) -> Result<(), Fail> {
     let nodes: [(Kind, &[(usize, &[u8])]); 2] = [
         (Kind::Leaf, LEAF_BLOCK.as_slice()),
         (Kind::Column, COLUMN_BLOCK.as_slice()),
     ];
     for (kind, fields) in nodes.as_slice() {
         let mut block = block_of(alloc, *fields)?;
-        expect_blocks(&rt, alloc, *kind, &mut block)?;
+        expect_blocks(rt, alloc, *kind, way, &mut block)?;
     }
     Ok(())
+}
+
+#[test]
+fn each_octet_of_pages_changed(rt: HostRuntime) -> Result<(), Fail> {
+    let alloc = rt.alloc();
+    expect_all_pages(&rt, alloc, Way::Zero)?;
+    expect_all_pages(&rt, alloc, Way::Ones)?;
+    expect_all_pages(&rt, alloc, Way::OneMore)
+}
+
+#[test]
+fn each_octet_of_blocks_set_to_0(rt: HostRuntime) -> Result<(), Fail> {
+    expect_all_blocks(&rt, rt.alloc(), Way::Zero)
+}
+
+#[test]
+fn each_octet_of_blocks_set_to_255(rt: HostRuntime) -> Result<(), Fail> {
+    expect_all_blocks(&rt, rt.alloc(), Way::Ones)
+}
+
+#[test]
+fn each_octet_of_blocks_raised_by_one(rt: HostRuntime) -> Result<(), Fail> {
+    expect_all_blocks(&rt, rt.alloc(), Way::OneMore)
 }
 
 // The page of a node of all keys, of so many entries of one size: each has its number in two octets at a place, and a kind
