@@ -217,7 +217,7 @@ fn a_feed_is_read_as_its_records_are(rt: HostRuntime) -> Result<(), Fail> {
         framer.feed(&octets(alloc, record)?, &mut items)?;
     }
     let results = resolve_all(alloc, 0, &items)?;
-    assert_eq!(rt; results.len(), 5);
+    assert!(rt; results.len() == 5);
     assert!(rt; matches!(&results[0], Err(ResolveFault::NoPeerTable)));
     assert!(rt; matches!(&results[1], Ok(None)));
     let Ok(Some(admission)) = &results[2] else {

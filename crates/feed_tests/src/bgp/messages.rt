@@ -1,7 +1,7 @@
 //! Whole messages.
 
 use super::{PLAIN, PLAIN_ROUTE, fault_of, gives, is_spelled, message, octets, told, update};
-use bgp_update::{Message, MessageFault, read_message};
+use bgp_update::{Message, MessageFault, Update, read_message};
 use route_model::wire::AsWidth;
 use route_model::{Address, Prefix};
 use std::alloc::Global;
@@ -74,52 +74,65 @@ fn nlri_and_mp_reach_have_their_own_next_hops(rt: HostRuntime) -> Result<(), Fai
     Ok(())
 }
 
+/// An UPDATE whose octets behind the header are spelled so.
+fn update_behind(alloc: Global, behind: &str) -> Result<Vec<u8>, Fail> {
+    message(alloc, 2, &octets(alloc, behind)?)
+}
+
+/// What it tells.
+fn told_behind(alloc: Global, behind: &str) -> Result<Update, Fail> {
+    match read_message(alloc, &update_behind(alloc, behind)?, AsWidth::Two) {
+        Ok(Message::Update(update)) => Ok(update),
+        _ => Err("no update".into()),
+    }
+}
+
 #[test]
 fn withdrawn_prefixes_of_both_kinds(rt: HostRuntime) -> Result<(), Fail> {
-    let behind = octets(rt.alloc(), "0004 18C63364 000A 800F07 0002 01 1020 01")?;
-    let bytes = message(rt.alloc(), 2, &behind)?;
+    let short = update_behind(rt.alloc(), "0004 18C63364 000A 800F07 0002 01 1020 01")?;
     assert!(rt;
-        fault_of(rt.alloc(), &bytes, AsWidth::Two) == Some(MessageFault::Malformed),
+        fault_of(rt.alloc(), &short, AsWidth::Two) == Some(MessageFault::Malformed),
         "16 bits in 2 octets are 3"
     );
-    let behind = octets(rt.alloc(), "0004 18C63364 0009 800F06 0002 01 1020 01")?;
-    let bytes = message(rt.alloc(), 2, &behind)?;
-    let Ok(Message::Update(update)) = read_message(rt.alloc(), &bytes, AsWidth::Two) else {
-        return Err("no update".into());
-    };
+    let update = told_behind(rt.alloc(), "0004 18C63364 0009 800F06 0002 01 1020 01")?;
     let lost = Prefix::containing(Address::V4([198, 51, 100, 0]), 24);
     assert!(rt; update.withdrawn.len() == 1 && stands(&update.withdrawn, 0, lost));
     assert!(rt; is_one(&update.unreachable, 16));
     Ok(())
 }
 
+/// As what a message is read by its header.
+#[derive(Clone, Copy, PartialEq)]
+enum Read {
+    Notification,
+    Other(u8),
+    Malformed,
+}
+
+/// The type of a message, its octets behind the header, and as what it is read.
+const OTHERS: [(u8, &[u8], Read); 4] = [
+    (4, &[], Read::Other(4)),
+    (4, &[7], Read::Malformed),
+    (3, &[7], Read::Notification),
+    (5, &[7], Read::Other(5)),
+];
+
+/// Whether a message of this type with these octets is read so.
+fn is_read_as(alloc: Global, kind: u8, behind: &[u8], wanted: Read) -> Result<bool, Fail> {
+    let found = match read_message(alloc, &message(alloc, kind, behind)?, AsWidth::Two) {
+        Ok(Message::Notification) => Read::Notification,
+        Ok(Message::Other(other)) => Read::Other(other),
+        Err(MessageFault::Malformed) => Read::Malformed,
+        _ => return Ok(false),
+    };
+    Ok(found == wanted)
+}
+
 #[test]
 fn other_types_are_read_by_their_header(rt: HostRuntime) -> Result<(), Fail> {
-    let empty = vec![in rt.alloc(); 0u8; 0]?;
-    let one = vec![in rt.alloc(); 7u8; 1]?;
-    let keepalive = message(rt.alloc(), 4, &empty)?;
-    assert!(rt;
-        matches!(
-            &read_message(rt.alloc(), &keepalive, AsWidth::Two),
-            Ok(Message::Other(4))
-        )
-    );
-    let longer = message(rt.alloc(), 4, &one)?;
-    assert!(rt; fault_of(rt.alloc(), &longer, AsWidth::Two) == Some(MessageFault::Malformed));
-    let notification = message(rt.alloc(), 3, &one)?;
-    assert!(rt;
-        matches!(
-            &read_message(rt.alloc(), &notification, AsWidth::Two),
-            Ok(Message::Notification)
-        )
-    );
-    let refresh = message(rt.alloc(), 5, &one)?;
-    assert!(rt;
-        matches!(
-            &read_message(rt.alloc(), &refresh, AsWidth::Two),
-            Ok(Message::Other(5))
-        )
-    );
+    for (kind, behind, wanted) in &OTHERS {
+        assert!(rt; is_read_as(rt.alloc(), *kind, behind, *wanted)?, "{kind}");
+    }
     Ok(())
 }
 
@@ -190,20 +203,27 @@ const MP_WHOLE: [&str; 6] = [
     "800F03 0002 01",
 ];
 
+/// Whether an UPDATE with this attribute beside others announces a prefix, and none by the attribute.
+fn is_without_prefix(alloc: Global, text: &str) -> Result<bool, Fail> {
+    let attributes = format!(in alloc; "{PLAIN} {text}")?;
+    let update = told(alloc, &attributes, "080A", AsWidth::Two)?;
+    Ok(update.unreachable.is_empty() && update.reachable.is_none() && update.announced.is_some())
+}
+
+/// The UPDATE of a prefix by two next hops.
+fn by_two_hops(alloc: Global) -> Result<Update, Fail> {
+    let attributes = format!(in alloc; "{PLAIN} 800E27 0001 01 20 {TWO_HOPS} 00 080B")?;
+    told(alloc, &attributes, "", AsWidth::Two)
+}
+
 #[test]
 fn attributes_of_many_protocols_are_read(rt: HostRuntime) -> Result<(), Fail> {
     for text in &MP_WHOLE {
-        let attributes = format!(in rt.alloc(); "{PLAIN} {text}")?;
-        let update = told(rt.alloc(), &attributes, "080A", AsWidth::Two)?;
-        assert!(rt;
-            update.unreachable.is_empty() && update.reachable.is_none(),
-            "{text}"
-        );
-        assert!(rt; update.announced.is_some(), "{text}");
+        assert!(rt; is_without_prefix(rt.alloc(), text)?, "{text}");
     }
-    let attributes = format!(in rt.alloc(); "{PLAIN} 800E27 0001 01 20 {TWO_HOPS} 00 080B")?;
-    let update = told(rt.alloc(), &attributes, "", AsWidth::Two)?;
-    let reachable = update.reachable.ok_or("nothing reachable")?;
+    let reachable = by_two_hops(rt.alloc())?
+        .reachable
+        .ok_or("nothing reachable")?;
     let route = format!(in rt.alloc(); "00 0001 0202 0000FDE9 0000FDEA 20 {TWO_HOPS} 00 0000")?;
     assert!(rt; is_spelled(rt.alloc(), &reachable.route, &route)?);
     Ok(())

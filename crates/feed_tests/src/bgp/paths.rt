@@ -172,24 +172,19 @@ fn long_path(alloc: Global, last: u8, nlri: &str) -> Result<Vec<u8>, Fail> {
     update(alloc, &attributes, nlri)
 }
 
+/// Why such an UPDATE is no message, or none where it is one.
+fn long_fault(alloc: Global, last: u8, nlri: &str) -> Result<Option<MessageFault>, Fail> {
+    Ok(fault_of(alloc, &long_path(alloc, last, nlri)?, AsWidth::Four))
+}
+
 #[test]
 fn a_route_of_3073_octets_is_too_large(rt: HostRuntime) -> Result<(), Fail> {
-    let fits = long_path(rt.alloc(), 253, "080A")?;
-    assert!(rt;
-        fault_of(rt.alloc(), &fits, AsWidth::Four).is_none(),
-        "763 numbers"
-    );
-    let large = long_path(rt.alloc(), 254, "080A")?;
-    assert!(rt;
-        fault_of(rt.alloc(), &large, AsWidth::Four) == Some(MessageFault::RouteTooLarge),
-        "764 numbers"
-    );
-    let silent = long_path(rt.alloc(), 254, "")?;
-    assert!(rt;
-        fault_of(rt.alloc(), &silent, AsWidth::Four).is_none(),
-        "nothing announced"
-    );
-    let update = told(rt.alloc(), "", "", AsWidth::Two)?;
-    assert!(rt; update.announced.is_none());
+    let fits = long_fault(rt.alloc(), 253, "080A")?;
+    assert!(rt; fits == None, "763 numbers");
+    let large = long_fault(rt.alloc(), 254, "080A")?;
+    assert!(rt; large == Some(MessageFault::RouteTooLarge), "764 numbers");
+    let silent = long_fault(rt.alloc(), 254, "")?;
+    assert!(rt; silent == None, "nothing announced");
+    assert!(rt; told(rt.alloc(), "", "", AsWidth::Two)?.announced.is_none());
     Ok(())
 }
