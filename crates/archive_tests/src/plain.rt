@@ -310,7 +310,7 @@ fn a_late_record_is_told(rt: HostRuntime) -> Result<(), Fail> {
     let alloc = rt.alloc();
     let mut one = plain(alloc, 1)?;
     let admitted = admit(&mut one, 0, &empty_at(alloc, &[100, 99, 100])?)?;
-    assert_eq!(rt; admitted.receipt.collector, 0);
+    assert!(rt; admitted.receipt.collector == 0);
     let wanted = Late {
         index: 1,
         time: Moment::from(99),
