@@ -1,5 +1,6 @@
 //! Measures what blocks with digests cost, over the write-once disk in memory.
 
+use crate::clock::spent;
 use disk_memory::MemOnce;
 use disk_models::{Block, OnceDisk};
 use once_store::{Shelf, ShelfReader, seal};
@@ -7,13 +8,6 @@ use std::alloc::Global;
 use std::io;
 use std::rt::CpuClock;
 use std::sync::Arc;
-use std::time::Duration;
-
-fn spent(rt: &impl CpuClock, began: Duration, rounds: u64) -> io::Result<u64> {
-    let now = rt.process_cpu_time()?;
-    let nanoseconds = u64::try_from(now.saturating_sub(began).as_nanos()).unwrap_or(u64::MAX);
-    Ok(nanoseconds / rounds.max(1))
-}
 
 /// Seals and appends so many blocks. It answers how many were told.
 fn append_all(alloc: Global, shelf: &mut Shelf<MemOnce>, rounds: u64) -> io::Result<u64> {
@@ -58,7 +52,7 @@ fn measure_fetches(
     };
     let began = rt.process_cpu_time()?;
     let there = fetch_all(&mut reader, &mut seen, rounds);
-    let each = spent(rt, began, rounds)?;
+    let each = spent(rt, began)? / rounds.max(1);
     println!(rt; "fetch in turn of two blocks, {capacity} kept: {each} ns [{there}]")
 }
 
@@ -72,7 +66,7 @@ pub fn measure_all(rt: &HostRuntime) -> io::Result<()> {
     };
     let began = rt.process_cpu_time()?;
     let told = append_all(alloc, &mut shelf, rounds)?;
-    let each = spent(rt, began, rounds)?;
+    let each = spent(rt, began)? / rounds.max(1);
     println!(rt; "append, with its digest: {each} ns [{told}]")?;
     measure_fetches(rt, &mut shelf, 1, 2_000)?;
     measure_fetches(rt, &mut shelf, 2, 2_000_000)

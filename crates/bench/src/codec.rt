@@ -1,5 +1,6 @@
 //! Measures what the spelling of admissions costs.
 
+use crate::clock::spent;
 use route_model::{
     Address, Admission, AsNumbers, Attributes, Change, Moment, NextHop, Origin, Path, Peer, Prefix,
     Route, Segment, SharedRoute,
@@ -7,7 +8,6 @@ use route_model::{
 use std::alloc::Global;
 use std::io;
 use std::rt::CpuClock;
-use std::time::Duration;
 
 fn peer() -> Peer {
     Peer {
@@ -54,11 +54,6 @@ fn changes(alloc: Global, count: u32) -> io::Result<Vec<Change>> {
         changes.push(Change::Announce(peer(), prefix, route.share()?))?;
     }
     Ok(changes)
-}
-
-fn spent(rt: &impl CpuClock, began: Duration) -> io::Result<u64> {
-    let now = rt.process_cpu_time()?;
-    Ok(u64::try_from(now.saturating_sub(began).as_nanos()).unwrap_or(u64::MAX))
 }
 
 fn encode_all(alloc: Global, admission: &Admission, rounds: u32) -> io::Result<u64> {

@@ -3,9 +3,11 @@
 
 mod admissions;
 mod blocks;
+mod clock;
 mod codec;
 mod framing;
 mod messages;
+mod nodes;
 mod pool;
 mod reading;
 
@@ -35,11 +37,15 @@ fn number<'a>(alloc: Global, name: &'a str, help: &'a str) -> Arg<'a> {
 }
 
 /// The words of measures that read no file.
-const WORDS: [(&str, &str); 3] = [
+const WORDS: [(&str, &str); 4] = [
     ("codec", "Times encoding and decoding of admissions"),
     (
         "blocks",
         "Times blocks with digests, over the write-once disk in memory",
+    ),
+    (
+        "nodes",
+        "Times looks into pages of nodes, and changes of them",
     ),
     ("pool", "Times pages that a pool has in memory"),
 ];
@@ -126,6 +132,7 @@ fn measure(rt: &HostRuntime, word: &str, matches: &ArgMatches<'_>) -> Result<()>
         "messages" => print_messages(rt, path, number_or(matches, "times", 1)?),
         "admissions" => print_admissions(rt, path),
         "blocks" => Ok(blocks::measure_all(rt)?),
+        "nodes" => Ok(nodes::measure_all(rt)?),
         "pool" => Ok(pool::measure_all(rt)?),
         "counts" => print_counts(rt, matches.get_strs("FILE").unwrap_or(&[])),
         _ => Ok(codec::measure_all(rt)?),

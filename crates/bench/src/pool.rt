@@ -1,5 +1,6 @@
 //! Measures what a page in memory costs.
 
+use crate::clock::spent;
 use buffer_pool::Pool;
 use disk_memory::MemErase;
 use disk_models::Page;
@@ -9,7 +10,6 @@ use std::alloc::Global;
 use std::io;
 use std::num::NonZeroUsize;
 use std::rt::CpuClock;
-use std::time::Duration;
 
 /// How many pages are dirty: as many as eight commits may have.
 const DIRTY: u64 = 248;
@@ -52,11 +52,6 @@ fn fetch_all(alloc: Global, pool: &mut Pool<MemErase>, pages: u64, rounds: u32) 
         }
     }
     found
-}
-
-fn spent(rt: &impl CpuClock, began: Duration) -> io::Result<u64> {
-    let now = rt.process_cpu_time()?;
-    Ok(u64::try_from(now.saturating_sub(began).as_nanos()).unwrap_or(u64::MAX))
 }
 
 /// Prints what fetching and lending a page costs that is in memory, dirty or not.
