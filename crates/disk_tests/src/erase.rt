@@ -74,7 +74,7 @@ fn later_writes_stand_over_earlier_ones(rt: HostRuntime) -> Result<(), Fail> {
     Ok(())
 }
 
-// What a crash may make of one unsynced write: the first one leaves it out.
+// What a crash may make of one unsynced write; the first is no choice at all.
 fn torn(alloc: Global, n: usize) -> Result<Option<Torn>, AllocError> {
     Ok(match n {
         0 => None,

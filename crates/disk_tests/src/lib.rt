@@ -1,4 +1,4 @@
-//! Tests of the disks in memory, which fail, tear and crash as their scripts say.
+//! Tests of the disks in memory: their calls, failures as a script has them, and what a crash leaves.
 #![tactic(auto)]
 
 #[cfg(test)]

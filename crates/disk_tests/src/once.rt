@@ -111,7 +111,7 @@ fn left(
     Ok((torn, blank, settled))
 }
 
-// What a crash may make of a block that isn't settled: the first one leaves it out.
+// What a crash may make of a block that isn't settled; the first is no choice at all.
 fn torn(alloc: Global, n: usize) -> Result<Option<Torn>, AllocError> {
     Ok(match n {
         0 => None,

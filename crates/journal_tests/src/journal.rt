@@ -316,7 +316,7 @@ fn a_post_of_32_pages_is_refused(rt: HostRuntime) -> Result<(), Fail> {
     Ok(())
 }
 
-// Eight gates and the identity page, each synced.
+// The n-th failure of a creation: it writes eight gates and the identity page, and syncs twice.
 fn failure_of_a_creation(n: u64) -> Failure {
     if n < 9 {
         Failure::Write(n, Torn::Half)
