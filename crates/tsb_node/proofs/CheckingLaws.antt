@@ -63,11 +63,9 @@ spelled_here b bytes are whole small le end low high =
     record {
       whole = whole;
       valid = record {
+        short = record { low = rw (key_said bytes) low; high = rw (key_said bytes) high; size = rw (value_said bytes) (omega (arith, size)) };
         key = rw (key_said bytes) (number_in-lt 40 0 bytes are (omega (arith, whole)));
-        low = rw (key_said bytes) low;
-        high = rw (key_said bytes) high;
         stamp = rw (stamp_said bytes) (number_in-lt 16 40 bytes are (omega (arith, whole)));
-        size = rw (value_said bytes) (omega (arith, size));
         octets = rw (value_said bytes, v.octets) (are-take n (drop 59 bytes) (are-drop 59 bytes are));
       };
       spelled = rw (key_said bytes, stamp_said bytes, value_said bytes)

@@ -138,8 +138,8 @@ column-size c = omega (arith, parts-size c.parts, place-size c.current.start 0 c
 column_says : (c : ColumnInPage) (octets : List ℕ) → BeginsAsColumn c octets → number_in 2 4 octets ≡ length c.parts + 1
 column_says c octets is =
     let es : List ℕ = flat_map part_octets c.parts ++ current_octets c.current in
-    let fits : length es ≤ 16232 = omega (arith, column-size c, is.valid.fits) in
-    let says = body_says 2 1 (length c.parts + 1) c.bounds es is.last (omega (arith, is.valid.fits)) fits is.valid.bounds.low is.valid.bounds.start in
+    let fits : length es ≤ 16232 = omega (arith, column-size c, is.valid.follow.fits) in
+    let says = body_says 2 1 (length c.parts + 1) c.bounds es is.last (omega (arith, is.valid.follow.fits)) fits is.valid.bounds.low is.valid.bounds.start in
     ap (number_in 2 4) is.spelled ∙ says.count_is
 
 -- what stands behind the parts
@@ -147,7 +147,7 @@ behind_parts : (c : ColumnInPage) (octets : List ℕ) → BeginsAsColumn c octet
 behind_parts c octets is =
     let ps : List ℕ = flat_map part_octets c.parts in
     let es : List ℕ = ps ++ current_octets c.current in
-    let fits : length es ≤ 16232 = omega (arith, column-size c, is.valid.fits) in
+    let fits : length es ≤ 16232 = omega (arith, column-size c, is.valid.follow.fits) in
     let pad : List ℕ = replicate (16232 - length es) 0 in
     (pad, ap area is.spelled ∙ body_area 2 1 (length c.parts + 1) c.bounds es is.last fits ∙ append_assoc ps (current_octets c.current) pad)
 
@@ -163,7 +163,7 @@ current_here c octets is =
     subst (PlaceReads c.current.start 0 c.current.page) (sym here) (current_read c.current b.0 is.valid.current_start is.valid.current_page)
 
 pub column_count : (c : ColumnInPage) (octets : List ℕ) (count : ℕ) → BeginsAsColumn c octets → count ≡ number_in 2 4 octets → (0 < count) × (count ≤ 649)
-column_count c octets count is e = (omega (arith, e, column_says c octets is), omega (arith, e, column_says c octets is, is.valid.fits))
+column_count c octets count is e = (omega (arith, e, column_says c octets is), omega (arith, e, column_says c octets is, is.valid.follow.fits))
 
 first_start : (ps : List Part) (start : ℕ) (p : Part) (rest : List ℕ) → BeginsAt start (starts_of ps ++ rest) → slice_get ps 0 ≡ Some p → p.start ≡ start
 first_start [] start p rest b e = absurd (none-some p e)
@@ -184,7 +184,7 @@ spot_page c octets count stamp at start page is counted before end s p =
     let page_is : page ≡ c.current.page = p ∙ ap (λ (k : ℕ). number_in 8 (k + 17) (area octets)) here ∙ ap (λ (t : List ℕ). number_of (take 8 t)) (sym (drop_twice (25 * n) 17 (area octets))) ∙ r.number_is in
     let le : c.current.start ≤ stamp = elim before.passed [
       | inl le ↦ omega (arith, le, ap (λ (k : ℕ). start_at k (area octets)) last, r.start_is)
-      | inr first ↦ omega (arith, no_parts c.parts c.bounds.start c.current.start is.valid.first (sym last ∙ first), is.valid.from_first)
+      | inr first ↦ omega (arith, no_parts c.parts c.bounds.start c.current.start is.valid.follow.first (sym last ∙ first), is.valid.follow.from_first)
     ] in
     (λ i. record { start = start_is i; page = page_is i }, le)
 
@@ -224,7 +224,7 @@ spot_block c octets count stamp at end p is counted before here e =
       to_end = next ∙ end_is_next c octets (suc before.place) is (omega (arith, lt));
       start = elim before.passed [
         | inl le ↦ omega (arith, le, start)
-        | inr first ↦ omega (arith, first_start c.parts c.bounds.start p (c.current.start ∷ []) is.valid.first (ap (slice_get c.parts) (sym first) ∙ here), is.valid.from_first)
+        | inr first ↦ omega (arith, first_start c.parts c.bounds.start p (c.current.start ∷ []) is.valid.follow.first (ap (slice_get c.parts) (sym first) ∙ here), is.valid.follow.from_first)
       ];
       before = omega (arith, next, before.next (omega (arith, lt, counted, column_says c octets is)));
     }
@@ -253,14 +253,14 @@ ok_is a b e = cc e
 old_column_says : (c : ColumnInBlock) (octets : List ℕ) → BeginsAsOldColumn c octets → number_in 2 4 octets ≡ length c.parts
 old_column_says c octets is =
     let es : List ℕ = flat_map part_octets c.parts in
-    let fits : length es ≤ 16232 = omega (arith, parts-size c.parts, is.valid.fits) in
-    let says = body_says 2 1 (length c.parts) c.bounds es is.last (omega (arith, is.valid.fits)) fits is.valid.bounds.low is.valid.bounds.start in
+    let fits : length es ≤ 16232 = omega (arith, parts-size c.parts, is.valid.follow.fits) in
+    let says = body_says 2 1 (length c.parts) c.bounds es is.last (omega (arith, is.valid.follow.fits)) fits is.valid.bounds.low is.valid.bounds.start in
     ap (number_in 2 4) is.spelled ∙ says.count_is
 
 old_area : (c : ColumnInBlock) (octets : List ℕ) → BeginsAsOldColumn c octets → (more : List ℕ) × (area octets ≡ flat_map part_octets c.parts ++ more)
 old_area c octets is =
     let es : List ℕ = flat_map part_octets c.parts in
-    let fits : length es ≤ 16232 = omega (arith, parts-size c.parts, is.valid.fits) in
+    let fits : length es ≤ 16232 = omega (arith, parts-size c.parts, is.valid.follow.fits) in
     (replicate (16232 - length es) 0, ap area is.spelled ∙ body_area 2 1 (length c.parts) c.bounds es is.last fits)
 
 some_part : (ps : List Part) (start : ℕ) → BeginsAt start (starts_of ps) → 0 < length ps
@@ -272,7 +272,7 @@ first_of [] start p b e = absurd (none-some p e)
 first_of (q ∷ ps) start p b e = ap (λ (x : Part). x.start) (sym (same_Some q p e)) ∙ b
 
 pub old_count : (c : ColumnInBlock) (octets : List ℕ) (count : ℕ) → BeginsAsOldColumn c octets → count ≡ number_in 2 4 octets → (0 < count) × (count ≤ 649)
-old_count c octets count is e = (omega (arith, e, old_column_says c octets is, some_part c.parts c.bounds.start is.valid.first), omega (arith, e, old_column_says c octets is, is.valid.fits))
+old_count c octets count is e = (omega (arith, e, old_column_says c octets is, some_part c.parts c.bounds.start is.valid.follow.first), omega (arith, e, old_column_says c octets is, is.valid.follow.fits))
 
 pub old_there : (c : ColumnInBlock) (octets : List ℕ) (count stamp at : ℕ) → BeginsAsOldColumn c octets → count ≡ number_in 2 4 octets → (before : IsPlaceBefore count (area octets) stamp at)
     → (p : Part) × (rest : List ℕ) × IsPartEntry p × (slice_get c.parts before.place ≡ Some p) × (drop at (area octets) ≡ part_octets p ++ rest)
@@ -288,7 +288,7 @@ old_start c octets count stamp at p is before from here =
     let b = old_area c octets is in
     elim before.passed [
       | inl le ↦ omega (arith, le, start_of_part c.parts before.place p (area octets) b.0 is.valid.each here b.1)
-      | inr first ↦ omega (arith, from, first_of c.parts c.bounds.start p is.valid.first (ap (slice_get c.parts) (sym first) ∙ here))
+      | inr first ↦ omega (arith, from, first_of c.parts c.bounds.start p is.valid.follow.first (ap (slice_get c.parts) (sym first) ∙ here))
     ]
 
 pub old_last : (c : ColumnInBlock) (octets : List ℕ) (count stamp at end : ℕ) (p : Part) → BeginsAsOldColumn c octets → count ≡ number_in 2 4 octets → (before : IsPlaceBefore count (area octets) stamp at) → at + 25 ≡ 25 * count

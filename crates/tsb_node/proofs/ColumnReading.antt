@@ -54,13 +54,15 @@ column_from h es front current ps node is are =
       count = more;
       valid = record {
         bounds = node.bounds;
-        from_first = is.from_first;
         each = entries_all (Some current.start) ps are.each;
         current_start = is.entry.start;
         current_page = is.entry.page;
-        first = begins_or h.bounds.start current.start ps are.from_first (λ none. is.alone (omega (arith, size, none)));
-        rising = ascending_push (starts_of ps) current.start are.rising (starts_before current.start ps are.each);
-        fits = omega (arith, node.fits, ap length is.spelled, length-append front (current_octets current), current-size current, size);
+        follow = record {
+          from_first = is.from_first;
+          first = begins_or h.bounds.start current.start ps are.from_first (λ none. is.alone (omega (arith, size, none)));
+          rising = ascending_push (starts_of ps) current.start are.rising (starts_before current.start ps are.each);
+          fits = omega (arith, node.fits, ap length is.spelled, length-append front (current_octets current), current-size current, size);
+        };
       };
       spelled = is.spelled ∙ ap (λ (t : List ℕ). t ++ current_octets current) are.spelled;
     }
@@ -71,20 +73,20 @@ column_current h es c of =
     record {
       kind = of.kind;
       level = of.level;
-      from_first = sym start ∙ of.valid.from_first;
+      from_first = sym start ∙ of.valid.follow.from_first;
       some = omega (arith, of.count);
       entry = record { start = of.valid.current_start; page = of.valid.current_page };
       spelled = of.spelled;
-      alone = λ none. no_parts c.parts c.bounds.start c.current.start of.valid.first (omega (arith, none, parts-size c.parts)) ∙ start;
+      alone = λ none. no_parts c.parts c.bounds.start c.current.start of.valid.follow.first (omega (arith, none, parts-size c.parts)) ∙ start;
     }
 
 pub column_parts : (h : Header) (es : List ℕ) (c : ColumnInPage) → IsColumnOf h es c → AreParts h.bounds.start (Some c.current.start) (h.count - 1) (flat_map part_octets c.parts) c.parts
 column_parts h es c of =
-    let up = ascending_front (starts_of c.parts) c.current.start of.valid.rising in
+    let up = ascending_front (starts_of c.parts) c.current.start of.valid.follow.rising in
     let start : c.bounds.start ≡ h.bounds.start = ap (λ (b : Bounds). b.start) of.bounds in
     record {
       each = before_all c.current.start c.parts of.valid.each up.1;
-      from_first = subst (λ (n : ℕ). StartsAt n (starts_of c.parts)) start (starts_or c.bounds.start c.current.start c.parts of.valid.first);
+      from_first = subst (λ (n : ℕ). StartsAt n (starts_of c.parts)) start (starts_or c.bounds.start c.current.start c.parts of.valid.follow.first);
       rising = up.0;
       counted = omega (arith, of.count);
       spelled = refl;
@@ -113,7 +115,7 @@ entries-size : (c : ColumnInPage) → length (column_entries c) ≡ 25 * (length
 entries-size c = omega (arith, parts-size c.parts, current-size c.current, length-append (flat_map part_octets c.parts) (current_octets c.current))
 
 pub column_node : (c : ColumnInPage) → IsColumn c → IsNode (column_header c) (column_entries c)
-column_node c valid = record { bounds = valid.bounds; count = omega (arith, valid.fits); used = refl; fits = omega (arith, entries-size c, valid.fits) }
+column_node c valid = record { bounds = valid.bounds; count = omega (arith, valid.follow.fits); used = refl; fits = omega (arith, entries-size c, valid.follow.fits) }
 
 body_of : (h : Header) (es : List ℕ) (c : ColumnInPage) → IsColumnOf h es c → node_body h es ≡ node_body (column_header c) (column_entries c)
 body_of h es c of =
@@ -150,10 +152,12 @@ old_column_from h es ps node kind level some are = record {
   valid = record {
     bounds = node.bounds;
     each = entries_all h.bounds.end ps are.each;
-    first = begun ps are.from_first are.counted;
-    rising = are.rising;
-    before_end = ends h.bounds.end ps are.each;
-    fits = omega (arith, node.fits, ap length are.spelled, parts-size ps);
+    follow = record {
+      first = begun ps are.from_first are.counted;
+      rising = are.rising;
+      before_end = ends h.bounds.end ps are.each;
+      fits = omega (arith, node.fits, ap length are.spelled, parts-size ps);
+    };
   };
   spelled = are.spelled;
 }
@@ -173,9 +177,9 @@ old_column_from h es ps node kind level some are = record {
 pub old_column_parts : (h : Header) (es : List ℕ) (c : ColumnInBlock) → IsOldColumnOf h es c → AreParts h.bounds.start h.bounds.end h.count es c.parts
 old_column_parts h es c of =
     let along : AreParts c.bounds.start c.bounds.end h.count es c.parts = record {
-      each = within c.bounds.end c.parts of.valid.each of.valid.before_end;
-      from_first = begun c.parts of.valid.first;
-      rising = of.valid.rising;
+      each = within c.bounds.end c.parts of.valid.each of.valid.follow.before_end;
+      from_first = begun c.parts of.valid.follow.first;
+      rising = of.valid.follow.rising;
       counted = sym of.count;
       spelled = of.spelled;
     } in
@@ -191,7 +195,7 @@ old_column_parts h es c of =
     within (Some at) (q ∷ qs) all ends = (record { entry = all.0; before = ends.0 }, within (Some at) qs all.1 ends.1)
 
 pub old_column_some : (h : Header) (es : List ℕ) (c : ColumnInBlock) → IsOldColumnOf h es c → h.count ≡ 0 → ⊥
-old_column_some h es c of none = has c.parts of.valid.first (omega (arith, none, of.count))
+old_column_some h es c of none = has c.parts of.valid.follow.first (omega (arith, none, of.count))
   where
     has : (qs : List Part) → BeginsAt c.bounds.start (starts_of qs) → length qs ≡ 0 → ⊥
     has [] first e = first
@@ -201,7 +205,7 @@ abbrev pub old_header : ColumnInBlock → Header
 old_header c = record { kind = 2; level = 1; count = length c.parts; used = length (flat_map part_octets c.parts); bounds = c.bounds }
 
 pub old_node : (c : ColumnInBlock) → IsOldColumn c → IsNode (old_header c) (flat_map part_octets c.parts)
-old_node c valid = record { bounds = valid.bounds; count = omega (arith, valid.fits); used = refl; fits = omega (arith, parts-size c.parts, valid.fits) }
+old_node c valid = record { bounds = valid.bounds; count = omega (arith, valid.follow.fits); used = refl; fits = omega (arith, parts-size c.parts, valid.follow.fits) }
 
 old_body_of : (h : Header) (es : List ℕ) (c : ColumnInBlock) → IsOldColumnOf h es c → node_body h es ≡ node_body (old_header c) (flat_map part_octets c.parts)
 old_body_of h es c of =

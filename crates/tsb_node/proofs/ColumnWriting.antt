@@ -60,19 +60,10 @@ put_each ps n at old sheet done w = subst (AllByRecursion IsPartEntry) (take_all
 
 -- what writers are asked, and what types say
 pub column_valid : (c : ColumnInPage) → CanBeColumn c → IsBounds c.bounds → AllByRecursion IsPartEntry c.parts → c.current.start < 256 ^ 16 → c.current.page < 256 ^ 8 → IsColumn c
-column_valid c can bounds each start page = record {
-  bounds = bounds;
-  from_first = can.from_first;
-  each = each;
-  current_start = start;
-  current_page = page;
-  first = can.first;
-  rising = can.rising;
-  fits = can.fits;
-}
+column_valid c can bounds each start page = record { bounds = bounds; each = each; current_start = start; current_page = page; follow = can.follow }
 
 pub old_column_valid : (c : ColumnInBlock) → CanBeOldColumn c → IsBounds c.bounds → AllByRecursion IsPartEntry c.parts → IsOldColumn c
-old_column_valid c can bounds each = record { bounds = bounds; each = each; first = can.first; rising = can.rising; before_end = can.before_end; fits = can.fits }
+old_column_valid c can bounds each = record { bounds = bounds; each = each; follow = can.follow }
 
 -- the column of a page
 pub column_written : (c : ColumnInPage) (count used : ℕ) (sheet : List ℕ) → IsColumn c → c.bounds.end ≡ None → count ≡ length c.parts + 1 → used ≡ 25 * (length c.parts + 1)
@@ -81,11 +72,11 @@ column_written c count used sheet valid current counted sized f =
     let ps : List ℕ = flat_map part_octets c.parts in
     let es : List ℕ = ps ++ current_octets c.current in
     let size : length es ≡ 25 * (length c.parts + 1) = omega (arith, parts-size c.parts, current-size c.current, length-append ps (current_octets c.current)) in
-    let g = filling_on (header 2 seconds 1 count used c.bounds) ps (current_octets c.current) sheet (120 + 25 * length c.parts) f (omega (arith, parts-size c.parts)) (omega (arith, parts-size c.parts, current-size c.current, valid.fits)) in
+    let g = filling_on (header 2 seconds 1 count used c.bounds) ps (current_octets c.current) sheet (120 + 25 * length c.parts) f (omega (arith, parts-size c.parts)) (omega (arith, parts-size c.parts, current-size c.current, valid.follow.fits)) in
     let h : header 2 seconds 1 count used c.bounds ≡ header 2 seconds 1 (length c.parts + 1) (length es) c.bounds =
     ap (λ (n : ℕ). header 2 seconds 1 n used c.bounds) counted ∙ ap (λ (n : ℕ). header 2 seconds 1 (length c.parts + 1) n c.bounds) (sized ∙ sym size) in
     let whole = subst (λ (t : List ℕ). IsFilling t es (laid (120 + 25 * length c.parts) (current_octets c.current) sheet)) h g in
-    record { valid = valid; page = record { current = current; spelled = filled 2 1 (length c.parts + 1) c.bounds es _ whole (omega (arith, size, valid.fits)) } }
+    record { valid = valid; page = record { current = current; spelled = filled 2 1 (length c.parts + 1) c.bounds es _ whole (omega (arith, size, valid.follow.fits)) } }
 
 -- the column of a block
 pub old_column_written : (c : ColumnInBlock) (count used : ℕ) (sheet : List ℕ) → IsOldColumn c → IsSome c.bounds.end → count ≡ length c.parts → used ≡ 25 * length c.parts
@@ -95,7 +86,7 @@ old_column_written c count used sheet valid ended counted sized f =
     let size : length es ≡ 25 * length c.parts = parts-size c.parts in
     let h : header 2 seconds 1 count used c.bounds ≡ header 2 seconds 1 (length c.parts) (length es) c.bounds =
     ap (λ (n : ℕ). header 2 seconds 1 n used c.bounds) counted ∙ ap (λ (n : ℕ). header 2 seconds 1 (length c.parts) n c.bounds) (sized ∙ sym size) in
-    let fits : length es ≤ 16232 = omega (arith, size, valid.fits) in
+    let fits : length es ≤ 16232 = omega (arith, size, valid.follow.fits) in
     let whole : sheet ≡ body 2 1 (length c.parts) c.bounds es ++ replicate 32 0 = filled 2 1 (length c.parts) c.bounds es sheet (subst (λ (t : List ℕ). IsFilling t es sheet) h f) fits in
     let node : List ℕ = body 2 1 (length c.parts) c.bounds es in
     let long : length node ≡ 16352 = body-size 2 1 (length c.parts) c.bounds es fits in

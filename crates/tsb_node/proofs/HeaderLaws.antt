@@ -139,9 +139,8 @@ pub has_header : (octets : List ℕ) (kind level count used low start : ℕ) (hi
 has_header octets kind level count used low start high end are le u z k l c s lo st hi en ha ea hb eb = record {
   bounds = record {
     low = rw lo (number_in-lt 40 8 octets are (omega arith));
-    high = both_some (λ n. n + 1 < 256 ^ 40) (λ n. low < n) high ha hb;
     start = rw st (number_in-lt 16 88 octets are (omega arith));
-    end = both_some (λ n. n + 1 < 256 ^ 16) (λ n. start < n) end ea eb;
+    order = record { high = both_some (λ n. n + 1 < 256 ^ 40) (λ n. low < n) high ha hb; end = both_some (λ n. n + 1 < 256 ^ 16) (λ n. start < n) end ea eb };
   };
   count = rw c (number_in-lt 2 4 octets are (omega arith));
   used = rw s (number_in-lt 2 6 octets are (omega arith));
@@ -150,21 +149,21 @@ has_header octets kind level count used low start high end are le u z k l c s lo
 
 -- the bounds that are read are those of the header
 pub high_is : (h : Header) (octets : List ℕ) (high : Option ℕ) → HasHeader h octets → bound_octets 40 high ≡ take 40 (drop 48 octets) → IfSome high (λ n. n + 1 < 256 ^ 40) → high ≡ h.bounds.high
-high_is h octets high has e p = bound_one 40 high h.bounds.high p (first_some (λ n. n + 1 < 256 ^ 40) (λ n. h.bounds.low < n) h.bounds.high has.bounds.high) (e ∙ (has_says h octets has).high_is)
+high_is h octets high has e p = bound_one 40 high h.bounds.high p (first_some (λ n. n + 1 < 256 ^ 40) (λ n. h.bounds.low < n) h.bounds.high has.bounds.order.high) (e ∙ (has_says h octets has).high_is)
 
 pub end_is : (h : Header) (octets : List ℕ) (end : Option ℕ) → HasHeader h octets → bound_octets 16 end ≡ take 16 (drop 104 octets) → IfSome end (λ n. n + 1 < 256 ^ 16) → end ≡ h.bounds.end
-end_is h octets end has e p = bound_one 16 end h.bounds.end p (first_some (λ n. n + 1 < 256 ^ 16) (λ n. h.bounds.start < n) h.bounds.end has.bounds.end) (e ∙ (has_says h octets has).end_is)
+end_is h octets end has e p = bound_one 16 end h.bounds.end p (first_some (λ n. n + 1 < 256 ^ 16) (λ n. h.bounds.start < n) h.bounds.end has.bounds.order.end) (e ∙ (has_says h octets has).end_is)
 
 -- so they are in order
 pub high_fits : (h : Header) (octets : List ℕ) (low : ℕ) (high : Option ℕ) → HasHeader h octets → low ≡ number_in 40 8 octets → bound_octets 40 high ≡ take 40 (drop 48 octets) → IfSome high (λ n. n + 1 < 256 ^ 40) → IfSome high (λ n. low < n)
 high_fits h octets low high has lo e p =
     let l : low ≡ h.bounds.low = lo ∙ (has_says h octets has).low_is in
-    rw (high_is h octets high has e p, l) (second_some (λ n. n + 1 < 256 ^ 40) (λ n. h.bounds.low < n) h.bounds.high has.bounds.high)
+    rw (high_is h octets high has e p, l) (second_some (λ n. n + 1 < 256 ^ 40) (λ n. h.bounds.low < n) h.bounds.high has.bounds.order.high)
 
 pub end_fits : (h : Header) (octets : List ℕ) (start : ℕ) (end : Option ℕ) → HasHeader h octets → start ≡ number_in 16 88 octets → bound_octets 16 end ≡ take 16 (drop 104 octets) → IfSome end (λ n. n + 1 < 256 ^ 16) → IfSome end (λ n. start < n)
 end_fits h octets start end has st e p =
     let s : start ≡ h.bounds.start = st ∙ (has_says h octets has).start_is in
-    rw (end_is h octets end has e p, s) (second_some (λ n. n + 1 < 256 ^ 16) (λ n. h.bounds.start < n) h.bounds.end has.bounds.end)
+    rw (end_is h octets end has e p, s) (second_some (λ n. n + 1 < 256 ^ 16) (λ n. h.bounds.start < n) h.bounds.end has.bounds.order.end)
 
 pub ones_stamp : number_of (replicate 16 255) ≡ 340282366920938463463374607431768211455
 ones_stamp = omega (arith, ones-number 16)

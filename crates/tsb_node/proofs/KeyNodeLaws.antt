@@ -150,7 +150,7 @@ under_last node octets count key i low page high is within counted done at spell
     let past : slice_get node.children (suc at.place) ≡ None =
     ap (slice_get node.children) (at.next ∙ done) ∙ ap (λ (t : List Child). slice_get t count) (sym same) ∙ child_past count (area octets) in
     let top : high ≡ node.bounds.high =
-    bound_one 40 high node.bounds.high apart (first_some (λ n. n + 1 < 256 ^ 40) (λ n. node.bounds.low < n) node.bounds.high is.valid.bounds.high) (spelled ∙ (key_node_says node octets is).high_is) in
+    bound_one 40 high node.bounds.high apart (first_some (λ n. n + 1 < 256 ^ 40) (λ n. node.bounds.low < n) node.bounds.high is.valid.bounds.order.high) (spelled ∙ (key_node_says node octets is).high_is) in
     record {
       place = at.place;
       at = here;

@@ -243,4 +243,4 @@ laid_all o old same = ap (λ (t : List ℕ). o ++ t) (drop_over (0 + length o) o
 
 -- a version of a key within the bounds, of what the types say of its parts
 pub version_valid : (b : Bounds) (key stamp : ℕ) (value : Option (List ℕ)) → IsKeyWithin b key → key < 256 ^ 40 → stamp < 256 ^ 16 → length (value_spelled value) ≤ 3072 → AreOctets (value_spelled value) → IsVersionOf b (version key stamp value)
-version_valid b key stamp value within fits in_time short each = record { key = fits; low = within.low; high = within.high; stamp = in_time; size = short; octets = each }
+version_valid b key stamp value within fits in_time short each = record { short = record { low = within.low; high = within.high; size = short }; key = fits; stamp = in_time; octets = each }

@@ -34,8 +34,8 @@ header_one h g octets a b =
     let t = has_says g octets b in
     let low : h.bounds.low ≡ g.bounds.low = sym s.low_is ∙ t.low_is in
     let start : h.bounds.start ≡ g.bounds.start = sym s.start_is ∙ t.start_is in
-    let high : h.bounds.high ≡ g.bounds.high = high_is g octets h.bounds.high b (sym s.high_is) (first_some (λ n. n + 1 < 256 ^ 40) (λ n. h.bounds.low < n) h.bounds.high a.bounds.high) in
-    let end : h.bounds.end ≡ g.bounds.end = end_is g octets h.bounds.end b (sym s.end_is) (first_some (λ n. n + 1 < 256 ^ 16) (λ n. h.bounds.start < n) h.bounds.end a.bounds.end) in
+    let high : h.bounds.high ≡ g.bounds.high = high_is g octets h.bounds.high b (sym s.high_is) (first_some (λ n. n + 1 < 256 ^ 40) (λ n. h.bounds.low < n) h.bounds.high a.bounds.order.high) in
+    let end : h.bounds.end ≡ g.bounds.end = end_is g octets h.bounds.end b (sym s.end_is) (first_some (λ n. n + 1 < 256 ^ 16) (λ n. h.bounds.start < n) h.bounds.end a.bounds.order.end) in
     record {
       kind = sym s.kind_is ∙ t.kind_is;
       level = sym s.level_is ∙ t.level_is;

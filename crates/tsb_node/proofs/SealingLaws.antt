@@ -50,11 +50,11 @@ body_ended kind level count b es last end =
 -- what is kept of versions, where only the end changes
 versions_along : (b : Bounds) (end : ℕ) (vs : List Version) → AllByRecursion (IsVersionOf b) vs → AllByRecursion (IsVersionOf (ending b end)) vs
 versions_along b end [] all = tt
-versions_along b end (v ∷ vs) all = (record { key = all.0.key; low = all.0.low; high = all.0.high; stamp = all.0.stamp; size = all.0.size; octets = all.0.octets }, versions_along b end vs all.1)
+versions_along b end (v ∷ vs) all = (record { short = record { low = all.0.short.low; high = all.0.short.high; size = all.0.short.size }; key = all.0.key; stamp = all.0.stamp; octets = all.0.octets }, versions_along b end vs all.1)
 
 pub leaf_ended : (leaf : LeafNode) (end : ℕ) → IsLeaf leaf → end + 1 < 256 ^ 16 → leaf.bounds.start < end → IsLeaf (ended leaf end)
 leaf_ended leaf end valid lt after = record {
-  bounds = record { low = valid.bounds.low; high = valid.bounds.high; start = valid.bounds.start; end = (lt, after) };
+  bounds = record { low = valid.bounds.low; start = valid.bounds.start; order = record { high = valid.bounds.order.high; end = (lt, after) } };
   each = versions_along leaf.bounds end leaf.versions valid.each;
   rising = valid.rising;
   fits = valid.fits;

@@ -150,7 +150,7 @@ copied_more leaf b n at kept page v valid is within room c =
       filling = rw (same, more) (filling_on (header 1 seconds 0 0 0 b) (entries old) (entry v) page at c.filling c.at_is (omega (arith, room, c.at_is)));
       at_is = rw (same, more) (omega (arith, c.at_is, length-append (entries old) (entry v)));
       kept_is = rw same (omega (arith, c.kept_is, length-append old (v ∷ [])));
-      each = rw same (all_push (IsVersionOf b) old v c.each (record { key = was.key; low = l.0; high = l.1; stamp = was.stamp; size = was.size; octets = was.octets }));
+      each = rw same (all_push (IsVersionOf b) old v c.each (record { short = record { low = l.0; high = l.1; size = was.short.size }; key = was.key; stamp = was.stamp; octets = was.octets }));
       rising = rw same (IsRising-push old v c.rising above);
       is_in = λ w h. elim (get-push old v w h.place (subst (λ (t : List Version). slice_get t h.place ≡ Some w) same h.is)) [
         | inl before ↦ (let k = c.is_in w (record { place = h.place; is = before.1 }) in (k.0, omega (arith, k.1), k.2))

@@ -21,7 +21,7 @@ use Rattle.tsb_node.specs.declared.column.Spot.TheVariants.{InBlock}
 use Rattle.tsb_node.specs.Leaves.{LeafNode, IsLeaf, IsVersionOf, value_spelled, entry, entries}
 use Rattle.tsb_node.specs.Columns.{ColumnInPage, ColumnInBlock, IsColumn, IsOldColumn, BeginsAt, AreAscending, starts_of}
 use Rattle.tsb_node.specs.KeyNodes.{KeyNodeInPage, IsKeyNode, IsChildEntry}
-use Rattle.tsb_node.specs.Children.{IsUnder, IsKeyWithin, high_of}
+use Rattle.tsb_node.specs.Children.{IsUnder, high_of}
 use Rattle.tsb_node.specs.Parts.{IsSpot, IsPartAt}
 use Rattle.tsb_node.specs.inner.Sides.{is_below, lies_within, side_of}
 use Rattle.tsb_node.specs.Splitting.{IsSide}
@@ -130,14 +130,14 @@ parts_are r ps block first up ends lower =
 pub column_parts_are : (c : ColumnInPage) (next : ℕ) → IsColumn c → ((i : ℕ) (p : Part) → slice_get c.parts i ≡ Some p → p.block < next)
     → ((c.parts ≡ []) × (c.current.start ≡ 0)) ⊎ AreParts (past_range (keys_between c.bounds) c.current.start) c.parts next
 column_parts_are c next valid lower =
-    let up = ascending_front (starts_of c.parts) c.current.start valid.rising in
-    either c.parts refl valid.first up
+    let up = ascending_front (starts_of c.parts) c.current.start valid.follow.rising in
+    either c.parts refl valid.follow.first up
   where
     either : (ps : List Part) → ps ≡ c.parts → BeginsAt c.bounds.start (starts_of ps ++ c.current.start ∷ []) → AreAscending (starts_of c.parts) × AllByRecursion (λ n. n < c.current.start) (starts_of c.parts)
         → ((c.parts ≡ []) × (c.current.start ≡ 0)) ⊎ AreParts (past_range (keys_between c.bounds) c.current.start) c.parts next
-    either [] e first up = inl (sym e, first ∙ valid.from_first)
+    either [] e first up = inl (sym e, first ∙ valid.follow.from_first)
     either (p ∷ ps) e first up =
-        inr (parts_are (past_range (keys_between c.bounds) c.current.start) c.parts next (subst (λ (l : List Part). BeginsAt 0 (starts_of l)) e (first ∙ valid.from_first)) up.0 up.1 lower)
+        inr (parts_are (past_range (keys_between c.bounds) c.current.start) c.parts next (subst (λ (l : List Part). BeginsAt 0 (starts_of l)) e (first ∙ valid.follow.from_first)) up.0 up.1 lower)
 
 pub spot_part : (c : ColumnInPage) (stamp : ℕ) (found : PartAt) → IsSpot c stamp (InBlock found)
     → IsPartOf (past_range (keys_between c.bounds) c.current.start) c.parts (record { low = c.bounds.low; high = high_or c.bounds.high; start = found.part.start; end = found.end }) found.part
@@ -147,9 +147,9 @@ spot_part c stamp found is =
 
 pub old_parts_are : (c : ColumnInBlock) (end block : ℕ) → IsOldColumn c → c.bounds.end ≡ Some end → ((i : ℕ) (p : Part) → slice_get c.parts i ≡ Some p → p.block < block) → AreParts (range_of c.bounds) c.parts block
 old_parts_are c end block valid e lower =
-    let ends : AllByRecursion (λ p. p.start < end) c.parts = subst (λ (o : Option ℕ). IfSome o (λ at. AllByRecursion (λ p. p.start < at) c.parts)) e valid.before_end in
+    let ends : AllByRecursion (λ p. p.start < end) c.parts = subst (λ (o : Option ℕ). IfSome o (λ at. AllByRecursion (λ p. p.start < at) c.parts)) e valid.follow.before_end in
     let last : end ≡ end_or c.bounds.end = sym (ap end_or e) in
-    parts_are (range_of c.bounds) c.parts block valid.first valid.rising (subst (λ (m : ℕ). AllByRecursion (λ n. n < m) (starts_of c.parts)) last (mapped c.parts ends)) lower
+    parts_are (range_of c.bounds) c.parts block valid.follow.first valid.follow.rising (subst (λ (m : ℕ). AllByRecursion (λ n. n < m) (starts_of c.parts)) last (mapped c.parts ends)) lower
   where
     mapped : (ps : List Part) → AllByRecursion (λ p. p.start < end) ps → AllByRecursion (λ n. n < end) (starts_of ps)
     mapped [] all = tt
@@ -219,12 +219,12 @@ pub side_below : (leaf : LeafNode) (side : List Version) (b : Bounds) (key : ℕ
 side_below leaf side b key low high valid is = record {
   is_in = is.is_in;
   only = λ v h. subst (λ (o : Option ℕ). IfSome o (λ n. v.key < n)) high (is.only v h).high;
-  each = λ v h lt. is.each v h (record { low = omega (arith, low, (version_at leaf v valid h).low); high = subst (λ (o : Option ℕ). IfSome o (λ n. v.key < n)) (sym high) lt });
+  each = λ v h lt. is.each v h (record { low = omega (arith, low, (version_at leaf v valid h).short.low); high = subst (λ (o : Option ℕ). IfSome o (λ n. v.key < n)) (sym high) lt });
 }
 
 pub side_from : (leaf : LeafNode) (side : List Version) (b : Bounds) (key : ℕ) → b.low ≡ key → b.high ≡ leaf.bounds.high → IsLeaf leaf → IsSide b leaf.versions side → IsFromKey leaf.versions key side
 side_from leaf side b key low high valid is = record {
   is_in = is.is_in;
   only = λ v h. omega (arith, low, (is.only v h).low);
-  each = λ v h le. is.each v h (record { low = omega (arith, low, le); high = subst (λ (o : Option ℕ). IfSome o (λ n. v.key < n)) (sym high) (version_at leaf v valid h).high });
+  each = λ v h le. is.each v h (record { low = omega (arith, low, le); high = subst (λ (o : Option ℕ). IfSome o (λ n. v.key < n)) (sym high) (version_at leaf v valid h).short.high });
 }

@@ -56,41 +56,43 @@ pub record IsPartEntry (p : Part) : Type 0 where
   pub start : p.start < 256 ^ 16
   pub block : p.block < 256 ^ 8
 
--- the parts follow one another from the start on, and the current leaf follows them
+-- from stamp 0 on the parts follow one another, then the current leaf: at most 649 entries
+pub record PartsFollow (c : ColumnInPage) : Type 0 where
+  pub from_first : c.bounds.start ≡ 0
+  pub first : BeginsAt c.bounds.start (starts_of c.parts ++ c.current.start ∷ [])
+  pub rising : AreAscending (starts_of c.parts ++ c.current.start ∷ [])
+  pub fits : 25 * (length c.parts + 1) ≤ 16232
+
+-- from the start on the parts follow one another, all before the end: at most 649
+pub record OldPartsFollow (c : ColumnInBlock) : Type 0 where
+  pub first : BeginsAt c.bounds.start (starts_of c.parts)
+  pub rising : AreAscending (starts_of c.parts)
+  pub before_end : IfSome c.bounds.end (λ end. AllByRecursion (λ p. p.start < end) c.parts)
+  pub fits : 25 * length c.parts ≤ 16232
+
+-- a column in a page, whose numbers have their octets
 pub record IsColumn (c : ColumnInPage) : Type 0 where
   pub bounds : IsBounds c.bounds
-  pub from_first : c.bounds.start ≡ 0
   pub each : AllByRecursion IsPartEntry c.parts
   pub current_start : c.current.start < 256 ^ 16
   pub current_page : c.current.page < 256 ^ 8
-  pub first : BeginsAt c.bounds.start (starts_of c.parts ++ c.current.start ∷ [])
-  pub rising : AreAscending (starts_of c.parts ++ c.current.start ∷ [])
-  pub fits : 25 * (length c.parts + 1) ≤ 16232
+  pub follow : PartsFollow c
 
--- the parts follow one another from the start to the end
+-- a column in a block, whose numbers have their octets
 pub record IsOldColumn (c : ColumnInBlock) : Type 0 where
   pub bounds : IsBounds c.bounds
   pub each : AllByRecursion IsPartEntry c.parts
-  pub first : BeginsAt c.bounds.start (starts_of c.parts)
-  pub rising : AreAscending (starts_of c.parts)
-  pub before_end : IfSome c.bounds.end (λ end. AllByRecursion (λ p. p.start < end) c.parts)
-  pub fits : 25 * length c.parts ≤ 16232
+  pub follow : OldPartsFollow c
 
--- the same beside what types say: what a writer asks of a column
+-- what a writer asks of a column, beside what types say
 pub record CanBeColumn (c : ColumnInPage) : Type 0 where
   pub bounds : AreInOrder c.bounds
-  pub from_first : c.bounds.start ≡ 0
-  pub first : BeginsAt c.bounds.start (starts_of c.parts ++ c.current.start ∷ [])
-  pub rising : AreAscending (starts_of c.parts ++ c.current.start ∷ [])
-  pub fits : 25 * (length c.parts + 1) ≤ 16232
+  pub follow : PartsFollow c
 
--- the same beside what types say: what a writer asks of a column that goes into a block
+-- what a writer asks of a column that goes into a block, beside what types say
 pub record CanBeOldColumn (c : ColumnInBlock) : Type 0 where
   pub bounds : AreInOrder c.bounds
-  pub first : BeginsAt c.bounds.start (starts_of c.parts)
-  pub rising : AreAscending (starts_of c.parts)
-  pub before_end : IfSome c.bounds.end (λ end. AllByRecursion (λ p. p.start < end) c.parts)
-  pub fits : 25 * length c.parts ≤ 16232
+  pub follow : OldPartsFollow c
 
 -- the octets of a column's page but for the last 32: a node of kind 2 and level 1, the current leaf behind the parts
 abbrev pub column_body : ColumnInPage → List ℕ

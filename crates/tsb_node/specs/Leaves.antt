@@ -26,20 +26,18 @@ value_spelled (Some value) = value
 unfoldable pub entry : Version → List ℕ
 entry v = octets_of 40 v.key ++ octets_of 16 v.stamp ++ (tag v.value ∷ []) ++ octets_of 2 (length (value_spelled v.value)) ++ value_spelled v.value
 
--- a version of one of these keys, with a stamp of 16 octets and a value of at most 3,072
-pub record IsVersionOf (b : Bounds) (v : Version) : Type 0 where
-  pub key : v.key < 256 ^ 40
-  pub low : b.low ≤ v.key
-  pub high : IfSome b.high (λ n. v.key < n)
-  pub stamp : v.stamp < 256 ^ 16
-  pub size : length (value_spelled v.value) ≤ 3072
-  pub octets : AreOctets (value_spelled v.value)
-
 -- a version of one of these keys, with a value of at most 3,072 octets: what a writer asks of a version beside what its types say
 pub record IsShortOf (b : Bounds) (v : Version) : Type 0 where
   pub low : b.low ≤ v.key
   pub high : IfSome b.high (λ n. v.key < n)
   pub size : length (value_spelled v.value) ≤ 3072
+
+-- the same, with a key of 40 octets, a stamp of 16, and a value of octets
+pub record IsVersionOf (b : Bounds) (v : Version) : Type 0 where
+  pub short : IsShortOf b v
+  pub key : v.key < 256 ^ 40
+  pub stamp : v.stamp < 256 ^ 16
+  pub octets : AreOctets (value_spelled v.value)
 
 -- the octets of all entries
 unfoldable pub entries : List Version → List ℕ

@@ -4,17 +4,17 @@ use Rattle.sha2.specs.Sha256.{sha256}
 use Rattle.version_model.specs.declared.bounds.Bounds.{Bounds}
 use Rattle.tsb_node.specs.Numbers.{octets_of, bound_octets}
 
--- keys of 40 octets and stamps of 16, of which none is spelled as a missing bound is, and some key and some stamp between them
-pub record IsBounds (b : Bounds) : Type 0 where
-  pub low : b.low < 256 ^ 40
-  pub high : IfSome b.high (λ n. (n + 1 < 256 ^ 40) × (b.low < n))
-  pub start : b.start < 256 ^ 16
-  pub end : IfSome b.end (λ n. (n + 1 < 256 ^ 16) × (b.start < n))
-
--- bounds in order, of which none is spelled as a missing bound is: what a writer asks of bounds beside what their types say
+-- Some key and some stamp lie between the bounds, of which none is spelled as a missing bound is: what a writer asks of bounds, beside
+-- what their types say.
 pub record AreInOrder (b : Bounds) : Type 0 where
   pub high : IfSome b.high (λ n. (n + 1 < 256 ^ 40) × (b.low < n))
   pub end : IfSome b.end (λ n. (n + 1 < 256 ^ 16) × (b.start < n))
+
+-- bounds in order, of keys of 40 octets and stamps of 16
+pub record IsBounds (b : Bounds) : Type 0 where
+  pub low : b.low < 256 ^ 40
+  pub start : b.start < 256 ^ 16
+  pub order : AreInOrder b
 
 -- The header: kind, unit of times, level, zero, how many entries, their octets, low key, high key, start stamp, end stamp.
 unfoldable pub header : ℕ → ℕ → ℕ → ℕ → ℕ → Bounds → List ℕ

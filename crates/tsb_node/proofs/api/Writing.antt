@@ -1,5 +1,5 @@
 -- What is read can be written.
-use Rattle.std.proofs.Common.{◌≡◌, ℕ, ◌<◌, List, [], ◌∷◌, None}
+use Rattle.std.proofs.Common.{◌<◌, List, [], ◌∷◌, None}
 use Rattle.std.specs.List.{AllByRecursion}
 use Rattle.std.specs.Option.{IfSome}
 use Rattle.version_model.specs.declared.bounds.Bounds.{Bounds}
@@ -11,7 +11,7 @@ use Rattle.tsb_node.specs.Columns.{ColumnInPage, ColumnInBlock, IsColumn, IsOldC
 use Rattle.tsb_node.specs.KeyNodes.{KeyNodeInPage, IsKeyNode, CanBeKeyNode, IsChildEntry}
 
 pub bounds_can : (b : Bounds) → IsBounds b → AreInOrder b
-bounds_can b is = record { high = is.high; end = is.end }
+bounds_can b is = is.order
 
 -- the bounds without their end
 abbrev pub opened : Bounds → Bounds
@@ -19,29 +19,29 @@ opened b = record { low = b.low; high = b.high; start = b.start; end = None }
 
 shorts : (b : Bounds) (vs : List Version) → AllByRecursion (IsVersionOf b) vs → AllByRecursion (IsShortOf b) vs
 shorts b [] all = tt
-shorts b (v ∷ vs) all = (record { low = all.0.low; high = all.0.high; size = all.0.size }, shorts b vs all.1)
+shorts b (v ∷ vs) all = (all.0.short, shorts b vs all.1)
 
 opened_shorts : (b : Bounds) (vs : List Version) → AllByRecursion (IsVersionOf b) vs → AllByRecursion (IsShortOf (opened b)) vs
 opened_shorts b [] all = tt
-opened_shorts b (v ∷ vs) all = (record { low = all.0.low; high = all.0.high; size = all.0.size }, opened_shorts b vs all.1)
+opened_shorts b (v ∷ vs) all = (record { low = all.0.short.low; high = all.0.short.high; size = all.0.short.size }, opened_shorts b vs all.1)
 
 pub leaf_can : (leaf : LeafNode) → IsLeaf leaf → CanBeLeaf leaf
-leaf_can leaf is = record { bounds = bounds_can leaf.bounds is.bounds; each = shorts leaf.bounds leaf.versions is.each; rising = is.rising; fits = is.fits }
+leaf_can leaf is = record { bounds = is.bounds.order; each = shorts leaf.bounds leaf.versions is.each; rising = is.rising; fits = is.fits }
 
 pub opened_leaf_can : (leaf : LeafNode) → IsLeaf leaf → CanBeLeaf (record { bounds = opened leaf.bounds; versions = leaf.versions })
-opened_leaf_can leaf is = record { bounds = record { high = is.bounds.high; end = tt }; each = opened_shorts leaf.bounds leaf.versions is.each; rising = is.rising; fits = is.fits }
+opened_leaf_can leaf is = record { bounds = record { high = is.bounds.order.high; end = tt }; each = opened_shorts leaf.bounds leaf.versions is.each; rising = is.rising; fits = is.fits }
 
 pub column_can : (c : ColumnInPage) → IsColumn c → CanBeColumn c
-column_can c is = record { bounds = bounds_can c.bounds is.bounds; from_first = is.from_first; first = is.first; rising = is.rising; fits = is.fits }
+column_can c is = record { bounds = is.bounds.order; follow = is.follow }
 
 pub old_column_can : (c : ColumnInBlock) → IsOldColumn c → CanBeOldColumn c
-old_column_can c is = record { bounds = bounds_can c.bounds is.bounds; first = is.first; rising = is.rising; before_end = is.before_end; fits = is.fits }
+old_column_can c is = record { bounds = is.bounds.order; follow = is.follow }
 
 pub key_node_can : (k : KeyNodeInPage) → IsKeyNode k → CanBeKeyNode k
 key_node_can k is = record {
   lowest = is.lowest;
   highest = is.highest;
-  bounds = bounds_can k.bounds is.bounds;
+  bounds = is.bounds.order;
   from_first = is.from_first;
   each = below k.children is.each;
   first = is.first;

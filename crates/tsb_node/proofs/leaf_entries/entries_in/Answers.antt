@@ -1,4 +1,4 @@
-use Rattle.std.proofs.Common.{arith, ◌≡◌, ◌∙◌, ◌<◌, ◌≤◌, ℕ, length, drop, ap, sym, refl, true, false}
+use Rattle.std.proofs.Common.{arith, ◌≡◌, ◌∙◌, ◌<◌, ◌≤◌, ℕ, length, drop, ap, refl, true, false}
 use Rattle.version_model.specs.Entries.{versions_of}
 use Rattle.tsb_node.specs.Leaves.{LeafNode, BeginsAsLeaf}
 use Rattle.tsb_node.specs.inner.Reading.{area}

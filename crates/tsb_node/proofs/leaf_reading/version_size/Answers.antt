@@ -9,7 +9,7 @@ use Rattle.tsb_node.proofs.leaf_reading.version_size.Goals as goal
 pub returns-then-size-clause-none : goal.returns-then-size-clause-none
 returns-then-size-clause-none c = λ sp.
     let r = spelled_reads c.args.bounds.now c.args.bytes.now sp in
-    omega (arith, r.1, sp.valid.size, c.in_ok-size.ensures.found.0, c.if-size.true)
+    omega (arith, r.1, sp.valid.short.size, c.in_ok-size.ensures.found.0, c.if-size.true)
 
 pub returns-then-bytes-gt1-clause-none : goal.returns-then-bytes-gt1-clause-none
 returns-then-bytes-gt1-clause-none c = λ sp.
@@ -24,11 +24,11 @@ returns-then-is_end_with_octets-clause-none c = λ sp.
 
 pub returns-then-is_key_below-clause-none : goal.returns-then-is_key_below-clause-none
 returns-then-is_key_below-clause-none c = λ sp.
-    omega (arith, c.if-is_key_below.ensures.0 refl, sp.valid.low, c.key_at-key.ensures.number, key_said c.args.bytes.now)
+    omega (arith, c.if-is_key_below.ensures.0 refl, sp.valid.short.low, c.key_at-key.ensures.number, key_said c.args.bytes.now)
 
 pub returns-then-not-is_below_high-clause-none : goal.returns-then-not-is_below_high-clause-none
 returns-then-not-is_below_high-clause-none c = λ sp.
-    let yes = c.is_below_high.ensures.1 (high_along (version_in c.args.bytes.now).key c.key_at-key.result c.args.bounds.now.high (key_said c.args.bytes.now ∙ sym c.key_at-key.ensures.number) sp.valid.high) in
+    let yes = c.is_below_high.ensures.1 (high_along (version_in c.args.bytes.now).key c.key_at-key.result c.args.bounds.now.high (key_said c.args.bytes.now ∙ sym c.key_at-key.ensures.number) sp.valid.short.high) in
     absurd (cc (yes, c.if-not-is_below_high.true))
 
 pub returns-clause-found : goal.returns-clause-found
