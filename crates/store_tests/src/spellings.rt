@@ -50,7 +50,7 @@ pub const KEY_NODE: [(usize, &[u8]); 7] = [
 ];
 
 // The leaf of LEAF, up to time 300, and the SHA-256 of its first 16,352 octets.
-const LEAF_BLOCK: [(usize, &[u8]); 13] = [
+pub const LEAF_BLOCK: [(usize, &[u8]); 13] = [
     (0, &[1, 0, 0, 0, 0, 2, 0, 120]),
     (87, &[9]),
     (110, &[1, 44]),
@@ -100,7 +100,7 @@ pub const COLUMN_BLOCK: [(usize, &[u8]); 10] = [
     ),
 ];
 
-fn block_of(alloc: Global, fields: &[(usize, &[u8])]) -> Result<Block, Fail> {
+pub fn block_of(alloc: Global, fields: &[(usize, &[u8])]) -> Result<Block, Fail> {
     let page = page_of(alloc, fields)?;
     Ok(Block::from_slice(alloc, page.octets())?)
 }
@@ -218,7 +218,7 @@ fn expect_block(
 }
 
 // How an octet is changed.
-#[derive(Clone, Copy, Debug)]
+#[derive(Clone, Copy)]
 enum Way {
     Zero,
     Ones,
@@ -368,11 +368,12 @@ fn fill_leaf(rt: &impl Abort, page: &mut Page) {
     let short = [7u8; 518];
     start_leaf(page, &bounds);
     for i in 0..5u64 {
-        let pushed = push(page, key, Stamp::new(i, 0), Some(&long));
-        assert_eq!(rt; pushed, Ok(true));
+        assert!(rt; push(page, key, Stamp::new(i, 0), Some(&long)) == Ok(true));
     }
-    assert_eq!(rt; push(page, key, Stamp::new(5, 0), Some(&short)), Ok(true));
-    assert_eq!(rt; push(page, key, Stamp::new(6, 0), None), Ok(false));
+    assert!(rt; push(page, key, Stamp::new(5, 0), Some(&short)) == Ok(true));
+    assert!(rt; push(page, key, Stamp::new(6, 0), None) == Ok(false));
+    // Six entries, of 16,232 octets.
+    assert!(rt; page.octets().starts_with(&[1, 0, 0, 0, 0, 6, 63, 104]));
 }
 
 #[test]
@@ -382,16 +383,27 @@ fn the_greatest_nodes(rt: HostRuntime) -> Result<(), Fail> {
     let mut leaf = Page::new(alloc)?;
     fill_leaf(&rt, &mut leaf);
     assert!(rt; expect_page(&rt, alloc, Kind::Leaf, &leaf, &mut fresh)?);
+    let mut block = Block::new(alloc)?;
+    let mut again = Block::new(alloc)?;
+    seal_leaf(&leaf, Stamp::new(7, 0), &mut block);
+    assert!(rt; expect_block(&rt, alloc, Kind::Leaf, &block, &mut again)?);
     // 649 places: parts from order number 0 to 647, the current leaf from 648 on.
     let header: [(usize, &[u8]); 1] = [(0, &[2, 0, 1, 0, 2, 137, 63, 97])];
-    let column = full_page(alloc, header.as_slice(), 649, 25, 14, 1)?;
+    let mut column = full_page(alloc, header.as_slice(), 649, 25, 14, 1)?;
     assert!(rt; expect_page(&rt, alloc, Kind::Column, &column, &mut fresh)?);
+    // The last one a part too, and an end at order number 649: a block.
+    column.put(16_336, &[1]);
+    column.put(104, &[0; 16]);
+    column.put(118, &[2, 137]);
+    block.copy_from(&Block::from_slice(alloc, column.octets())?);
+    seal(&mut block);
+    assert!(rt; expect_block(&rt, alloc, Kind::Column, &block, &mut again)?);
     // 338 children of keys that end in 0 to 337.
     let header: [(usize, &[u8]); 1] = [(0, &[3, 0, 7, 0, 1, 82, 63, 96])];
     let mut key_node = full_page(alloc, header.as_slice(), 338, 48, 38, 0)?;
     assert!(rt; expect_page(&rt, alloc, Kind::KeyNode, &key_node, &mut fresh)?);
     // One more child than there is room for.
-    key_node.put(4, &[1, 83]);
+    key_node.put(4, &[1, 83, 63, 144]);
     assert!(rt; !expect_page(&rt, alloc, Kind::KeyNode, &key_node, &mut fresh)?);
     Ok(())
 }
