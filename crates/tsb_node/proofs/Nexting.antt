@@ -6,7 +6,7 @@ use Rattle.version_model.proofs.api.AsOfs.{dead_of, live_of}
 use Rattle.tsb_node.specs.declared.leaf.FoundVersion.{FoundVersion}
 use Rattle.tsb_node.specs.Leaves.{LeafNode, entry}
 use Rattle.tsb_node.specs.Finding.{version_found}
-use Rattle.tsb_node.specs.Nexts.{TellsLive}
+use Rattle.tsb_node.specs.inner.Nexts.{TellsLive}
 use Rattle.tsb_node.specs.inner.Fields.{number_in}
 use Rattle.tsb_node.proofs.SplittingLaws.{IsNext}
 use Rattle.tsb_node.proofs.Entries.{entry_read}

@@ -1,5 +1,5 @@
 -- Octets are one column at most, and one key node; a page says one thing at most, and so does a block.
-use Rattle.std.proofs.Common.{◌≡◌, ℕ, List, [], ◌∷◌, None, refl, sym, ap, subst, ◌∙◌, arith}
+use Rattle.std.proofs.Common.{◌≡◌, ◌+◌, ℕ, length, List, [], ◌∷◌, None, refl, sym, ap, subst, ◌∙◌, arith}
 use Rattle.std.specs.List.{flat_map, AllByRecursion}
 use Rattle.version_model.specs.declared.bounds.Bounds.{Bounds}
 use Rattle.version_model.specs.declared.part.Part.{Part}
@@ -8,7 +8,7 @@ use Rattle.version_model.specs.Ranges.{range_of}
 use Rattle.version_model.specs.Pages.{PageNode, CurrentLeaf, ColumnNode, KeyNode}
 use Rattle.version_model.specs.Blocks.{BlockNode, OldLeaf, OldColumn}
 use Rattle.tsb_node.specs.declared.header.Header.{Header}
-use Rattle.tsb_node.specs.Leaves.{LeafNode, BeginsAsLeaf}
+use Rattle.tsb_node.specs.Leaves.{LeafNode, BeginsAsLeaf, entries}
 use Rattle.tsb_node.specs.Columns.{ColumnInPage, ColumnInBlock, IsColumnPage, IsColumnBlock, IsPartEntry, part_octets}
 use Rattle.tsb_node.specs.KeyNodes.{KeyNodeInPage, IsKeyNodePage, IsChildEntry, child_octets}
 use Rattle.tsb_node.specs.Children.{BeginsAsKeyNode}
@@ -17,12 +17,14 @@ use Rattle.tsb_node.specs.Views.{PageSays, says_leaf, says_column, says_key_node
 use Rattle.tsb_node.specs.inner.NodeReading.{BeginsAsNode}
 use Rattle.tsb_node.specs.inner.PartReading.{IsPartBefore}
 use Rattle.tsb_node.proofs.Leaves.{leaf_versions, begins_page, begins_block}
-use Rattle.tsb_node.proofs.LeafReading.{begun_one, leaf_begun}
+use Rattle.tsb_node.proofs.LeafReading.{begun_one, leaf_header, leaf_begun}
+use Rattle.tsb_node.specs.Headers.{HasHeader, IsHeaderOf}
+use Rattle.tsb_node.proofs.ReadingLaws.{SameHeader}
 use Rattle.tsb_node.proofs.RowLaws.{rows_one}
 use Rattle.tsb_node.proofs.PartLaws.{parts_spelled, current_back, current_one}
 use Rattle.tsb_node.proofs.ColumnReading.{column_header, column_entries, column_node, column_of_begun, old_header, old_node, old_of_begun}
 use Rattle.tsb_node.proofs.ChildLaws.{children_spelled, key_node_header, key_node_node, key_node_of_begun}
-use Rattle.tsb_node.proofs.NodeLaws.{nodes_same}
+use Rattle.tsb_node.proofs.NodeLaws.{nodes_same, begun_same}
 
 pub column_begun : (c : ColumnInPage) (octets : List ℕ) → BeginsAsColumn c octets → BeginsAsNode (column_header c) (column_entries c) octets
 column_begun c octets is = record { valid = column_node c is.valid; last = is.last; spelled = is.spelled }
@@ -100,3 +102,19 @@ block_one octets _ _ (says_old_leaf l p) (says_old_leaf m q) = ap (λ (x : LeafN
 block_one octets _ _ (says_old_leaf l p) (says_old_column c q) = absurd (omega (arith, kinds _ _ _ _ octets (leaf_begun l octets (begins_block l octets p)) (old_begun c octets (old_block c octets q))))
 block_one octets _ _ (says_old_column c p) (says_old_leaf l q) = absurd (omega (arith, kinds _ _ _ _ octets (old_begun c octets (old_block c octets p)) (leaf_begun l octets (begins_block l octets q))))
 block_one octets _ _ (says_old_column c p) (says_old_column d q) = ap (λ (x : ColumnInBlock). OldColumn (range_of x.bounds) x.parts) (old_column_one c d octets (old_block c octets p) (old_block d octets q))
+
+-- the header that is read is the node's
+as_its_own : (h g : Header) → SameHeader h g → IsHeaderOf g.kind g.level g.count g.bounds h
+as_its_own h g same = record { kind_is = same.kind; level_is = same.level; count_is = same.count; bounds_are = same.bounds }
+
+pub header_of_leaf : (leaf : LeafNode) (h : Header) (octets : List ℕ) → BeginsAsLeaf leaf octets → HasHeader h octets → IsHeaderOf 1 0 (length leaf.versions) leaf.bounds h
+header_of_leaf leaf h octets is has = as_its_own h (leaf_header leaf) (begun_same (leaf_header leaf) h (entries leaf.versions) octets (leaf_begun leaf octets is) has)
+
+pub header_of_column : (c : ColumnInPage) (h : Header) (octets : List ℕ) → BeginsAsColumn c octets → HasHeader h octets → IsHeaderOf 2 1 (length c.parts + 1) c.bounds h
+header_of_column c h octets is has = as_its_own h (column_header c) (begun_same (column_header c) h (column_entries c) octets (column_begun c octets is) has)
+
+pub header_of_old_column : (c : ColumnInBlock) (h : Header) (octets : List ℕ) → BeginsAsOldColumn c octets → HasHeader h octets → IsHeaderOf 2 1 (length c.parts) c.bounds h
+header_of_old_column c h octets is has = as_its_own h (old_header c) (begun_same (old_header c) h (flat_map part_octets c.parts) octets (old_begun c octets is) has)
+
+pub header_of_key_node : (k : KeyNodeInPage) (h : Header) (octets : List ℕ) → BeginsAsKeyNode k octets → HasHeader h octets → IsHeaderOf 3 k.level (length k.children) k.bounds h
+header_of_key_node k h octets is has = as_its_own h (key_node_header k) (begun_same (key_node_header k) h (flat_map child_octets k.children) octets (key_node_begun k octets is) has)

@@ -10,7 +10,6 @@ pub mod Sealing
 pub mod Children
 pub mod Parts
 pub mod Splitting
-pub mod Nexts
 pub mod Holding
 pub mod Saying
 pub mod Views

@@ -8,3 +8,4 @@ pub mod Laying
 pub mod Rows
 pub mod NodeReading
 pub mod Sides
+pub mod Nexts

@@ -1,6 +1,6 @@
 //! Laws of the definitions, each the contract of a function that does nothing.
 
-ghost use Rattle.std.specs.Prelude.{List, ℕ, ◌≡◌, ◌⊎◌, ◌<◌, [], length, slice_get, Some};
+ghost use Rattle.std.specs.Prelude.{List, ℕ, ◌≡◌, ◌⊎◌, ◌<◌, ◌+◌, [], length, slice_get, Some};
 ghost use Rattle.version_model.specs.declared.bounds.Bounds.{Bounds};
 ghost use Rattle.version_model.specs.declared.part.Part.{Part};
 ghost use Rattle.version_model.specs.Versions.{Version};
@@ -9,10 +9,12 @@ ghost use Rattle.version_model.specs.Sizes.{octets};
 ghost use Rattle.version_model.specs.Shows.{IsBelow, IsFromKey};
 ghost use Rattle.version_model.specs.Blocks.{BlockNode, AreParts, IsPartOf};
 ghost use Rattle.version_model.specs.Pages.{PageNode, AreChildren, IsChildOf, past_range};
+ghost use Rattle.tsb_node.specs.declared.header.Header.{Header};
 ghost use Rattle.tsb_node.specs.declared.key_node.Under.{Under};
 ghost use Rattle.tsb_node.specs.declared.column.PartAt.{PartAt};
 ghost use Rattle.tsb_node.specs.declared.column.Spot.TheVariants.{InBlock};
-ghost use Rattle.tsb_node.specs.Leaves.{LeafNode, IsLeaf, entries};
+ghost use Rattle.tsb_node.specs.Headers.{HasHeader, IsHeaderOf};
+ghost use Rattle.tsb_node.specs.Leaves.{LeafNode, IsLeaf, BeginsAsLeaf, entries};
 ghost use Rattle.tsb_node.specs.Columns.{ColumnInPage, ColumnInBlock, IsColumn, IsOldColumn};
 ghost use Rattle.tsb_node.specs.KeyNodes.{KeyNodeInPage, IsKeyNode};
 ghost use Rattle.tsb_node.specs.Children.{IsUnder, BeginsAsKeyNode};
@@ -27,6 +29,18 @@ pub fn nodes_are_one()
     ensures key_nodes { (a b : KeyNodeInPage) (octets : List ℕ) → BeginsAsKeyNode a octets → BeginsAsKeyNode b octets → a ≡ b }
     ensures pages { (a b : PageNode) (octets : List ℕ) → PageSays octets a → PageSays octets b → a ≡ b }
     ensures blocks { (a b : BlockNode) (octets : List ℕ) → BlockSays octets a → BlockSays octets b → a ≡ b }
+{}
+
+/// The header with which the octets of a node begin is the node's.
+pub fn headers_are_of_their_nodes()
+    ensures leaf { (leaf : LeafNode) (header : Header) (octets : List ℕ) → BeginsAsLeaf leaf octets → HasHeader header octets
+        → IsHeaderOf 1 0 (length leaf.versions) leaf.bounds header }
+    ensures column { (column : ColumnInPage) (header : Header) (octets : List ℕ) → BeginsAsColumn column octets → HasHeader header octets
+        → IsHeaderOf 2 1 (length column.parts + 1) column.bounds header }
+    ensures old_column { (column : ColumnInBlock) (header : Header) (octets : List ℕ) → BeginsAsOldColumn column octets → HasHeader header octets
+        → IsHeaderOf 2 1 (length column.parts) column.bounds header }
+    ensures key_node { (node : KeyNodeInPage) (header : Header) (octets : List ℕ) → BeginsAsKeyNode node octets → HasHeader header octets
+        → IsHeaderOf 3 node.level (length node.children) node.bounds header }
 {}
 
 /// The entries of a leaf take the octets that version_model counts.

@@ -62,9 +62,10 @@ pub struct FoundVersion<'a> {
     pub value: Option<Value<'a>>,
 }
 
-/// Where the entries of a leaf begin, and where what they may fill ends.
+/// Where the entries of a node begin.
 pub const FIRST: usize = 120;
 
+/// Where what the entries of a node may fill ends.
 pub const LAST: usize = 16_352;
 
 /// How many octets the entry at the front takes, where it's whole.
@@ -147,7 +148,7 @@ pub const ROOM: usize = 16_232;
 
 /// Writes a version of the leaf's keys that is later than all behind the others of the leaf in this page, where
 /// there is room for it, and answers whether there was. Refused only where the page isn't a leaf, and not always
-/// there.
+/// there. Where nothing was written the page is as it was.
 pub fn push(page: &mut Page, key: Key, stamp: Stamp, value: Option<&[u8]>) -> Result<bool, NotANode>
     requires short { length (value_spelled (option_map (λ x. x.now) value)) ≤ 3072 }
     ensures pushed { (leaf : LeafNode) → IsLeafPage leaf page.old → IsKeyWithin leaf.bounds key → IsAbove leaf.versions stamp

@@ -3,7 +3,7 @@
 ghost use Rattle.std.specs.Prelude.{◌≡◌, ◌≤◌, ◌↔◌, length, IsTrue};
 ghost use Rattle.version_model.specs.inner.Lower.{IsLower};
 ghost use Rattle.tsb_node.specs.Leaves.{LeafNode, BeginsAsLeaf};
-ghost use Rattle.tsb_node.specs.Nexts.{TellsLive};
+ghost use Rattle.tsb_node.specs.inner.Nexts.{TellsLive};
 ghost use Rattle.version_model.specs.Looks.{IsLeastLive};
 ghost use Rattle.std.specs.Result.{MatchResult};
 

@@ -1,4 +1,4 @@
-//! Leaves are split straight into other pages.
+//! Leaves are split by key straight into other pages.
 
 ghost use Rattle.std.specs.Prelude.{◌≡◌, None, length};
 ghost use Rattle.tsb_node.specs.Nodes.{AreInOrder};
@@ -26,7 +26,7 @@ fn is_within(key: Key, bounds: &Bounds) -> bool
 }
 
 /// Makes a page that of a leaf of these bounds, with the versions that the leaf in these octets has of their keys.
-/// Refused only where the octets aren't a leaf, and not always there.
+/// Refused only where the octets aren't a leaf, and not always there. After a refusal the page holds any octets.
 pub fn copy_side(octets: &[u8], bounds: &Bounds, fresh: &mut Page) -> Result<(), NotANode>
     requires size { length octets.now ≡ 16384 }
     requires valid { AreInOrder bounds.now }

@@ -1,4 +1,4 @@
-//! Leaves are written whole where a split makes them.
+//! Leaves are written whole where a split by time makes them.
 
 ghost use Rattle.std.specs.Prelude.{◌≡◌, None, option_map};
 ghost use Rattle.version_model.specs.Entries.{versions_of};

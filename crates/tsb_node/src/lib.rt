@@ -32,7 +32,8 @@ pub use key_node::{Under, child_for};
 pub use key_node_said::{KeyNodeSaid, key_node_of_page};
 pub use key_node_writing::write_key_node;
 pub use laws::{
-    entries_have_their_octets, nodes_are_one, nodes_say_what_the_tree_asks, sides_are_key_splits,
+    entries_have_their_octets, headers_are_of_their_nodes, nodes_are_one,
+    nodes_say_what_the_tree_asks, sides_are_key_splits,
 };
 pub use leaf::{FoundVersion, NotANode, Value, find, push, start_leaf};
 pub use leaf_entries::entries_in;
@@ -43,4 +44,3 @@ pub use leaf_said::{LeafSaid, leaf_of_block, leaf_of_page};
 pub use leaf_sealing::seal_leaf;
 pub use leaf_splitting::copy_side;
 pub use leaf_writing::write_leaf;
-pub use numbers::{key_fits, stamp_fits};

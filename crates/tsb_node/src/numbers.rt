@@ -41,7 +41,7 @@ pub fn key_at(octets: &[u8], place: usize) -> Key
     Key::from_octets(&key)
 }
 
-/// A key is a number of forty octets: what a caller says of bounds and versions that it makes.
+/// A key is a number of forty octets.
 pub fn key_fits(key: Key)
     ensures fits { key < 256 ^ 40 }
 {}
