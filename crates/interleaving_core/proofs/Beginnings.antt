@@ -1,8 +1,8 @@
 -- Each question that is done was begun in the run.
-use Rattle.std.proofs.Common.{◌≡◌, ℕ, zero, suc, ◌<◌, ◌⊎◌, List, [], ◌∷◌, ◌++◌, length, map, take, drop, refl, sym, ap, ◌∙◌, inl, inr, arith, subst, Some, length-append}
-use Rattle.std.specs.List.{AllByRecursion, slice_get, slice_set}
+use Rattle.std.proofs.Common.{◌≡◌, ℕ, zero, suc, ◌<◌, ◌⊎◌, List, [], ◌∷◌, ◌++◌, length, map, take, refl, sym, ap, ◌∙◌, inl, inr, arith, Some, length-append}
+use Rattle.std.specs.List.{slice_get, slice_set}
 use Rattle.std.proofs.lemmas.Bool.{cases_lt}
-use Rattle.std.proofs.lemmas.Option.{same_Some, none-some}
+use Rattle.std.proofs.lemmas.Option.{none-some}
 use Rattle.interleaving_core.specs.declared.query.Query.{Query}
 use Rattle.interleaving_core.specs.declared.query.Answer.{Answer}
 use Rattle.interleaving_core.specs.declared.reply.Reply.{Reply}
@@ -12,7 +12,7 @@ use Rattle.interleaving_core.specs.declared.step.Step.{Step}
 use Rattle.interleaving_core.specs.declared.step.Step.TheVariants.{Admit, Mark, Apply, Flush, Begin, Turn, Crash, Recover}
 use Rattle.interleaving_core.specs.declared.question.Question.{Question}
 use Rattle.interleaving_core.specs.World.{World, ended, started, created}
-use Rattle.interleaving_core.specs.Does.{WhenUp, DoesTurn, Turns, Does, Runs}
+use Rattle.interleaving_core.specs.Does.{DoesTurn, Turns, Does, Runs}
 use Rattle.interleaving_core.specs.Headline.{IsBegun}
 use Rattle.interleaving_core.proofs.Places.{split, taken_there}
 

@@ -4,6 +4,7 @@ use Rattle.std.specs.List.{AllByRecursion, slice_get}
 use Rattle.std.proofs.lemmas.Option.{same_Some, none-some}
 use Rattle.route_meaning.specs.History.{History, IsHistory, Begins, all_of, applied, settled}
 use Rattle.route_meaning.proofs.api.Agreeing.{IsAnswer-until, IsEventsAnswer-until, until-later}
+use Rattle.route_meaning.proofs.api.Front.{settled_stays}
 use Rattle.route_meaning.proofs.api.Settling.{all_take, all_drop}
 use Rattle.sequencer.proofs.api.Setting.{all_at, one_there}
 use Rattle.interleaving_core.specs.declared.query.Query.{Query}
@@ -29,23 +30,29 @@ answered_later h g (Rows q) (EventsTold a) right b lt is = is
 answered_later h g (Events q) (RowsTold a) right b lt is = is
 answered_later h g (Events q) (EventsTold a) right b lt is = IsEventsAnswer-until (applied h) (all_of g) q a.events.items a.more (until-later h g q.to right b lt) is
 
+-- over all of the history the question has the answer, and its last moment is settled
+abbrev pub IsSettled : History → Query → Answer → Type 0
+IsSettled g query answer = IsAnswered (all_of g) query answer × (last_moment query < settled g)
+
 -- the step that is done took a turn
 does_turn : (w : World) (i : ℕ) (reach : Reach) (answer : Answer) (v : World) → Does w (Turn i reach) (Done answer) v → Turns w i reach (Done answer) v
 does_turn w i reach answer v (inl up) = up.1
 does_turn w i reach answer v (inr down) = absurd (let e : Done answer ≡ NeedsRecovery = down.1 in cc)
 
 -- a turn that is done answers what was asked
-done_now : (w m v : World) (i : ℕ) (reach : Reach) (answer : Answer) (q : Question) → IsSound w → Does w (Turn i reach) (Done answer) m → Begins w.history v.history → slice_get w.questions i ≡ Some q → IsAnswered (all_of v.history) (asked q) answer
+done_now : (w m v : World) (i : ℕ) (reach : Reach) (answer : Answer) (q : Question) → IsSound w → Does w (Turn i reach) (Done answer) m → Begins w.history v.history → slice_get w.questions i ≡ Some q → IsSettled v.history (asked q) answer
 done_now w m v i reach answer q sound d b at =
     let t = does_turn w i reach answer m d in
     let same : t.question ≡ q = one_there (slice_get w.questions i) t.question q t.here at in
     let so = all_at (IsSoFar w.history) w.questions i t.question sound.questions t.here in
-    subst (λ (x : Question). IsAnswered (all_of v.history) (asked x) answer) same
-    (answered_later w.history v.history (asked t.question) answer sound.history b t.below (turn_done w.history reach t.question t.new answer sound.history t.below so t.turn))
+    subst (λ (x : Question). IsSettled v.history (asked x) answer) same (
+      answered_later w.history v.history (asked t.question) answer sound.history b t.below (turn_done w.history reach t.question t.new answer sound.history t.below so t.turn),
+      settled_stays w.history v.history (last_moment (asked t.question)) sound.history b t.below,
+    )
 
 -- each later turn that is done too
 done_later : (w v : World) (steps : List Step) (replies : List Reply) (i k : ℕ) (q : Question) (reach : Reach) (answer : Answer) → AllByRecursion IsStep steps → IsSound w → Runs w steps replies v → slice_get w.questions i ≡ Some q
-    → slice_get steps k ≡ Some (Turn i reach) → slice_get replies k ≡ Some (Done answer) → IsAnswered (all_of v.history) (asked q) answer
+    → slice_get steps k ≡ Some (Turn i reach) → slice_get replies k ≡ Some (Done answer) → IsSettled v.history (asked q) answer
 done_later w v [] rs i k q reach answer valid sound run at step reply = absurd (none-some (Turn i reach) step)
 done_later w v (s ∷ ss) [] i k q reach answer valid sound run at step reply = absurd run
 done_later w v (s ∷ ss) (r ∷ rs) i zero q reach answer valid sound run at step reply =
@@ -54,7 +61,7 @@ done_later w v (s ∷ ss) (r ∷ rs) i zero q reach answer valid sound run at st
 done_later w v (s ∷ ss) (r ∷ rs) i (suc k) q reach answer valid sound run at step reply =
     let first = step_fine w s r run.0 valid.0 sound run.1 in
     let next = first.asks i q at in
-    subst (λ (x : Query). IsAnswered (all_of v.history) x answer) next.2 (done_later run.0 v ss rs i k next.0 reach answer valid.1 first.sound run.2 next.1 step reply)
+    subst (λ (x : Query). IsSettled v.history x answer) next.2 (done_later run.0 v ss rs i k next.0 reach answer valid.1 first.sound run.2 next.1 step reply)
 
 -- the first step began the question
 begins_now : (w m : World) (query : Query) (i : ℕ) (s : Step) (r : Reply) → Does w s r m → s ≡ Begin query → r ≡ Begun i → (i ≡ length w.questions) × (m ≡ with_questions w (w.questions ++ started query ∷ []))
@@ -85,7 +92,7 @@ not_before w m v ss rs i j reach answer query s r valid one sound d run es er st
     omega (arith, fine.grows, there w.questions i t.question t.here, begun_above m v ss rs i j query valid fine.sound run step reply)
 
 pub all_answers : (w v : World) (steps : List Step) (replies : List Reply) (j k i : ℕ) (query : Query) (reach : Reach) (answer : Answer) → AllByRecursion IsStep steps → IsSound w → Runs w steps replies v
-    → slice_get steps j ≡ Some (Begin query) → slice_get replies j ≡ Some (Begun i) → slice_get steps k ≡ Some (Turn i reach) → slice_get replies k ≡ Some (Done answer) → IsAnswered (all_of v.history) query answer
+    → slice_get steps j ≡ Some (Begin query) → slice_get replies j ≡ Some (Begun i) → slice_get steps k ≡ Some (Turn i reach) → slice_get replies k ≡ Some (Done answer) → IsSettled v.history query answer
 all_answers w v [] rs j k i query reach answer valid sound run bs br ts tr = absurd (none-some (Begin query) bs)
 all_answers w v (s ∷ ss) [] j k i query reach answer valid sound run bs br ts tr = absurd run
 all_answers w v (s ∷ ss) (r ∷ rs) zero zero i query reach answer valid sound run bs br ts tr = absurd (let e : Begin query ≡ Turn i reach = sym (same_Some s (Begin query) bs) ∙ same_Some s (Turn i reach) ts in cc)
@@ -94,7 +101,7 @@ all_answers w v (s ∷ ss) (r ∷ rs) zero (suc k) i query reach answer valid so
     let now = begins_now w run.0 query i s r run.1 (same_Some s (Begin query) bs) (same_Some r (Begun i) br) in
     let at : slice_get run.0.questions i ≡ Some (started query) =
     ap (λ (x : World). slice_get x.questions i) now.1 ∙ (ap (slice_get (w.questions ++ started query ∷ [])) now.0 ∙ get_pushed w.questions (started query)) in
-    subst (λ (x : Query). IsAnswered (all_of v.history) x answer) (asked_started query) (done_later run.0 v ss rs i k (started query) reach answer valid.1 first.sound run.2 at ts tr)
+    subst (λ (x : Query). IsSettled v.history x answer) (asked_started query) (done_later run.0 v ss rs i k (started query) reach answer valid.1 first.sound run.2 at ts tr)
 all_answers w v (s ∷ ss) (r ∷ rs) (suc j) zero i query reach answer valid sound run bs br ts tr =
     absurd (not_before w run.0 v ss rs i j reach answer query s r valid.1 valid.0 sound run.1 run.2 (same_Some s (Turn i reach) ts) (same_Some r (Done answer) tr) bs br)
 all_answers w v (s ∷ ss) (r ∷ rs) (suc j) (suc k) i query reach answer valid sound run bs br ts tr =

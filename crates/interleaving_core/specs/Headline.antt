@@ -5,7 +5,7 @@ use Rattle.route_meaning.specs.Holds.{admitted_time}
 use Rattle.route_meaning.specs.Merged.{Placed}
 use Rattle.route_meaning.specs.Rows.{IsAnswer}
 use Rattle.route_meaning.specs.Events.{IsEventsAnswer}
-use Rattle.route_meaning.specs.History.{Intake, History, Begins, all_of}
+use Rattle.route_meaning.specs.History.{Intake, History, IsHistory, Begins, all_of, settled}
 use Rattle.sequencer.specs.Late.{greatest, timely, lates}
 use Rattle.interleaving_core.specs.declared.query.Query.{Query}
 use Rattle.interleaving_core.specs.declared.query.Query.TheVariants.{Rows, Events}
@@ -18,7 +18,7 @@ use Rattle.interleaving_core.specs.declared.step.Reach.{Reach}
 use Rattle.interleaving_core.specs.declared.step.Step.{Step}
 use Rattle.interleaving_core.specs.declared.step.Step.TheVariants.{Admit, Mark, Begin, Turn}
 use Rattle.interleaving_core.specs.World.{World, created}
-use Rattle.interleaving_core.specs.Does.{Runs}
+use Rattle.interleaving_core.specs.Does.{Runs, last_moment}
 
 -- over these admissions the question has this answer
 abbrev pub IsAnswered : List (Placed Admitted) → Query → Answer → Type 0
@@ -93,13 +93,26 @@ pub record IsBegun (steps : List Step) (replies : List Reply) (i k : ℕ) : Type
   pub step : slice_get steps place ≡ Some (Begin query)
   pub reply : slice_get replies place ≡ Some (Begun i)
 
--- What is true at the end of every run from a created world: each question that is done was begun; it has the answer of the history at
--- the end; each earlier history begins that one; each batch that was taken stands at the numbers of its receipt; and no collector has
--- anything but what was offered for it and wasn't late, in the order of offering.
+-- the step of one place began the question, and a turn of it, at another place, was done with this answer
+pub record WasDone (steps : List Step) (replies : List Reply) (query : Query) (answer : Answer) : Type 0 where
+  pub number : ℕ
+  pub began : ℕ
+  pub begin : slice_get steps began ≡ Some (Begin query)
+  pub begun : slice_get replies began ≡ Some (Begun number)
+  pub place : ℕ
+  pub reach : Reach
+  pub turn : slice_get steps place ≡ Some (Turn number reach)
+  pub done : slice_get replies place ≡ Some (Done answer)
+
+-- What is true at the end of every run from a created world: the history at the end is right, and each earlier one begins it; each
+-- question that is done was begun; it has the answer of the history at the end, below whose settled watermark its last moment is; each
+-- batch that was taken stands at the numbers of its receipt; and no collector has anything but what was offered for it and wasn't late,
+-- in the order of offering.
 pub record Headline (collectors : ℕ) (steps : List Step) (replies : List Reply) (last : World) : Type 0 where
+  pub right : IsHistory last.history
   pub begun : (k i : ℕ) (reach : Reach) (answer : Answer) → slice_get steps k ≡ Some (Turn i reach) → slice_get replies k ≡ Some (Done answer) → IsBegun steps replies i k
-  pub answers : (j k i : ℕ) (query : Query) (reach : Reach) (answer : Answer) → slice_get steps j ≡ Some (Begin query) → slice_get replies j ≡ Some (Begun i)
-      → slice_get steps k ≡ Some (Turn i reach) → slice_get replies k ≡ Some (Done answer) → IsAnswered (all_of last.history) query answer
+  pub answers : (query : Query) (answer : Answer) → WasDone steps replies query answer → IsAnswered (all_of last.history) query answer
+  pub settled : (query : Query) (answer : Answer) → WasDone steps replies query answer → last_moment query < settled last.history
   pub begins : (k : ℕ) (w : World) → Runs (created collectors) (take k steps) (take k replies) w → Runs w (drop k steps) (drop k replies) last → Begins w.history last.history
   pub receipts : (k : ℕ) (step : Step) (reply : Reply) → slice_get steps k ≡ Some step → slice_get replies k ≡ Some reply → IsKept last.history (take k steps) (take k replies) step reply
   pub only : (c : ℕ) (intake : Intake) → slice_get last.history.intakes c ≡ Some intake → IsGiven intake c steps replies

@@ -1,4 +1,4 @@
-use Rattle.std.proofs.Common.{◌≡◌, ◌<◌, length, subst, inl, arith}
+use Rattle.std.proofs.Common.{◌<◌, length, subst, inl, arith}
 use Rattle.std.specs.List.{slice_set}
 use Rattle.sequencer.proofs.api.Setting.{get_some}
 use Rattle.interleaving_core.specs.declared.reply.Reply.TheVariants.{Taken}

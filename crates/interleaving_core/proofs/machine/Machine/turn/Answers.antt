@@ -1,5 +1,5 @@
-use Rattle.std.proofs.Common.{◌≡◌, ◌∙◌, ◌<◌, ◌≤◌, ◌-◌, ℕ, List, length, map, take, drop, min, ap, subst, inl, refl, arith, Some}
-use Rattle.std.specs.List.{slice_get, slice_set}
+use Rattle.std.proofs.Common.{◌≡◌, ◌∙◌, ◌<◌, ◌≤◌, ◌-◌, List, length, map, take, drop, min, ap, subst, inl, refl, arith}
+use Rattle.std.specs.List.{slice_set}
 use Rattle.std.proofs.lemmas.List.{length-drop}
 use Rattle.sequencer.proofs.api.Setting.{get_some}
 use Rattle.route_model.specs.Admission.{Admitted}
