@@ -1,8 +1,9 @@
 -- A run before a place, the step there, and the run behind it.
 use Rattle.std.proofs.Common.{◌≡◌, ℕ, zero, suc, ◌+◌, ◌<◌, List, [], ◌∷◌, ◌++◌, length, take, drop, get_or, refl, sym, ap, ◌∙◌, subst, arith, Some}
 use Rattle.std.proofs.lemmas.List.{take_more}
-use Rattle.std.specs.List.{slice_get}
+use Rattle.std.specs.List.{AllByRecursion, slice_get}
 use Rattle.std.proofs.lemmas.Option.{same_Some, none-some}
+use Rattle.route_meaning.proofs.api.Sorting.{all_append}
 use Rattle.interleaving_core.specs.declared.reply.Reply.{Reply}
 use Rattle.interleaving_core.specs.declared.step.Step.{Step}
 use Rattle.interleaving_core.specs.World.{World}
@@ -36,6 +37,11 @@ taken_there zero xs j x at = absurd (none-some x at)
 taken_there (suc k) [] j x at = absurd (none-some x at)
 taken_there (suc k) (y ∷ xs) zero x at = (at, omega arith)
 taken_there (suc k) (y ∷ xs) (suc j) x at = let rest = taken_there k xs j x at in (rest.0, omega (arith, rest.1))
+
+-- what holds of the first of a list holds of one more of which it holds
+pub all_more : {X : Type 0} (P : X → Type 0) (xs : List X) (i : ℕ) (x : X) → i < length xs → x ≡ get_or xs i x → P x → AllByRecursion P (take i xs) → AllByRecursion P (take (i + 1) xs)
+all_more {X} P xs i x lt e one all =
+    subst (AllByRecursion P) (sym (take_more xs i x lt ∙ ap (λ (y : X). take i xs ++ y ∷ []) (sym e))) (all_append P (take i xs) (x ∷ []) all (one, tt))
 
 -- one step more
 runs_push : (w m v : World) (steps : List Step) (replies : List Reply) (step : Step) (reply : Reply) → Runs w steps replies m → Does m step reply v → Runs w (steps ++ step ∷ []) (replies ++ reply ∷ []) v
