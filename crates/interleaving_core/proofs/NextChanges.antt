@@ -1,5 +1,6 @@
 -- The next change is applied, and more.
-use Rattle.std.proofs.Common.{◌≡◌, ℕ, zero, suc, ◌+◌, ◌<◌, ◌≤◌, List, [], ◌∷◌, length, drop, get_or, refl, sym, ap, inl, inr, arith, subst, ◌∙◌}
+use Rattle.std.proofs.Common.{◌≡◌, ℕ, zero, suc, ◌+◌, ◌<◌, ◌≤◌, List, [], ◌∷◌, length, drop, get_or, refl, sym, ap, inl, inr, arith, subst, ◌∙◌, Result, Ok, Err}
+use Rattle.std.specs.Result.{OnErr}
 use Rattle.route_model.specs.Admission.{Admitted}
 use Rattle.route_meaning.specs.Holds.{time_of}
 use Rattle.route_meaning.specs.Merged.{Placed}
@@ -58,3 +59,8 @@ stop_more zero zero h g le e none = e
 stop_more zero (suc n) h g le e none = inr (subst NothingToApply e none, e)
 stop_more (suc k) zero h g le some none = absurd (omega arith)
 stop_more (suc k) (suc n) h g le some none = inl (some.0, some.1, stop_more k n some.0 g (omega arith) some.2 none)
+
+-- what holds, holds of an error
+pub of_error : {T E P : Type 0} (r : Result T E) → P → OnErr r P
+of_error (Ok x) p = tt
+of_error (Err e) p = p

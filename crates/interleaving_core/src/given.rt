@@ -1,6 +1,6 @@
 //! What one collector gave.
 
-ghost use Rattle.std.specs.Prelude.{◌≡◌, ◌≤◌, ◌<◌, ◌+◌, [], map, length, true, false, IfOk};
+ghost use Rattle.std.specs.Prelude.{◌≡◌, ◌≤◌, ◌<◌, ◌+◌, [], map, length, true, false, IfOk, OnErr};
 ghost use Rattle.route_meaning.specs.Holds.{admitted_time};
 ghost use Rattle.sequencer.specs.Late.{timely};
 ghost use Rattle.interleaving_core.specs.Steps.{with_batch, with_mark};
@@ -111,6 +111,7 @@ impl Given {
     ) -> Result<BatchReply, AllocError>
         ensures taken { IfOk result (λ told. self.new ≡ with_batch batch.now self.old) }
         ensures reply { IfOk result (IsReply self.old collector batch.now) }
+        ensures same { OnErr result (self.new ≡ self.old) }
     {
         let times = times_of(alloc, batch)?;
         let sieved = sieve(alloc, self.mark, &times)?;

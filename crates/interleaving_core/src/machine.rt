@@ -1,11 +1,11 @@
 //! The pure machine.
 
-ghost use Rattle.std.specs.Prelude.{◌≡◌, true, false, map, slice_get, IfOk, OnOk};
+ghost use Rattle.std.specs.Prelude.{ℕ, ◌≡◌, ◌<◌, true, false, map, slice_get, IfOk, OnOk, OnErr};
 ghost use Rattle.route_meaning.specs.History.{History};
 ghost use Rattle.interleaving_core.specs.Steps.{Applies, AppliesMore, NothingToApply};
 ghost use Rattle.interleaving_core.specs.World.{created, with_history, resume_of};
 ghost use Rattle.interleaving_core.specs.declared.step.Step.TheVariants.{Mark as SetMark, Apply, Flush, Begin, Turn, Crash, Recover};
-ghost use Rattle.interleaving_core.specs.Does.{WhenUp, DoesAdmit, Does, Runs};
+ghost use Rattle.interleaving_core.specs.Does.{WhenUp, AppliesLess, DoesAdmit, Does};
 
 use crate::applying::{is_below_marks, order};
 use crate::given::Given;
@@ -19,7 +19,8 @@ use route_model::{Admission, Mark};
 use std::alloc::{AllocError, Global};
 use std::marker::Model;
 
-/// A history, the questions that were begun, and whether all is down. All is in memory.
+/// A history, the questions that were begun, and whether all is down. All is in memory: a call that is refused memory leaves all as it
+/// was, but for [`Machine::apply`].
 #[derive(Drop)]
 pub struct Machine {
     alloc: Global,
@@ -72,6 +73,7 @@ impl Machine {
     /// The collector of this number gives a batch.
     pub fn admit(&mut self, collector: u8, batch: &[Admission]) -> Result<Reply, AllocError>
         ensures does { IfOk result (λ reply. WhenUp self.old reply self.new (DoesAdmit self.old collector batch.now reply self.new)) }
+        ensures same { OnErr result (self.new ≡ self.old) }
     {
         if self.down {
             return Ok(Reply::NeedsRecovery);
@@ -107,6 +109,7 @@ impl Machine {
     fn apply_one(&mut self) -> Result<bool, AllocError>
         ensures applied { IfOk result (λ did. did ≡ true → (g : History) × Applies self.old.history g × (self.new ≡ with_history self.old g)) }
         ensures idle { IfOk result (λ did. did ≡ false → NothingToApply self.old.history × (self.new ≡ self.old)) }
+        ensures same { OnErr result (self.new ≡ self.old) }
     {
         let all = order(self.alloc, &self.given)?;
         if self.whole >= all.len() {
@@ -125,9 +128,10 @@ impl Machine {
         Ok(true)
     }
 
-    /// Applies up to so many changes more.
+    /// Applies up to so many changes more; fewer where memory is wanting.
     fn apply_more(&mut self, more: u64) -> Result<(), AllocError>
-        ensures { OnOk result ((g : History) × AppliesMore more self.old.history g × (self.new ≡ with_history self.old g)) }
+        ensures all { OnOk result ((g : History) × AppliesMore more self.old.history g × (self.new ≡ with_history self.old g)) }
+        ensures less { OnErr result ((fewer : ℕ) × (fewer < more) × (g : History) × AppliesMore fewer self.old.history g × (self.new ≡ with_history self.old g)) }
     {
         'more: for _ in 0..more {
             if !self.apply_one()? {
@@ -137,9 +141,10 @@ impl Machine {
         Ok(())
     }
 
-    /// The next change is applied, and up to so many more.
+    /// The next change is applied, and up to so many more. Where memory is wanting, none may be applied, or fewer.
     pub fn apply(&mut self, more: u64) -> Result<Reply, AllocError>
         ensures does { IfOk result (λ reply. Does self.old (Apply more) reply self.new) }
+        ensures less { OnErr result (AppliesLess self.old more self.new) }
     {
         if self.down {
             return Ok(Reply::NeedsRecovery);
@@ -164,6 +169,7 @@ impl Machine {
     /// Puts a question in progress under the next number.
     pub fn begin(&mut self, query: Query) -> Result<Reply, AllocError>
         ensures does { IfOk result (λ reply. Does self.old (Begin query) reply self.new) }
+        ensures same { OnErr result (self.new ≡ self.old) }
     {
         let number = self.questions.len();
         self.questions.push(Question::start(self.alloc, query))?;
@@ -173,6 +179,7 @@ impl Machine {
     /// The question of this number takes a turn over what is wholly applied: below the settled watermark nothing counts that isn't.
     pub fn turn(&mut self, number: usize, reach: Reach) -> Result<Reply, AllocError>
         ensures does { IfOk result (λ reply. Does self.old (Turn number reach) reply self.new) }
+        ensures same { OnErr result (self.new ≡ self.old) }
     {
         if self.down {
             return Ok(Reply::NeedsRecovery);

@@ -17,4 +17,5 @@ returns c =
     record {
       does = subst (λ (x : World). WhenUp x (Taken c.in_ok-told.told) after (DoesAdmit x c.args.collector c.args.batch.now (Taken c.in_ok-told.told) after)) c.self.view_is
           (inl (c.if-self.false, admits m.given.items m.whole m.some m.questions.items m.down c.args.collector i c.take_in.new.self at c.args.batch.now c.in_ok-told.told c.in_ok-told.ensures.taken c.in_ok-told.ensures.reply));
+      same = tt;
     }

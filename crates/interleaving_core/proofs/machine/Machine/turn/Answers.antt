@@ -35,6 +35,7 @@ returns-then-seconds c =
     record {
       does = subst (λ (x : World). WhenUp x (AboveWatermark c.in_ok-settled.settled) x (IsAboveWatermark x c.args.number c.in_ok-settled.settled × (x ≡ x))) c.self.view_is
           (inl (c.if-self.false, (record { question = q; here = at; in_progress = c.is_ended.ensures.progress.0 c.if-is_ended.false; told_is = told; above = above }, refl)));
+      same = tt;
     }
 
 pub returns : goal.returns
@@ -63,4 +64,5 @@ returns c =
     record {
       does = subst (λ (x : World). WhenUp x reply after (DoesTurn x c.args.number c.args.reach reply after)) c.self.view_is
           (inl (c.if-self.false, does_turn before c.args.number c.args.reach reply after (record { question = q; here = at; below = below; new = new; turn = turn_whole h c.args.reach q reply new below turn; after = refl })));
+      same = tt;
     }
