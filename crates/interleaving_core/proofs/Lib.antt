@@ -5,6 +5,7 @@ pub mod Sound
 pub mod Running
 pub mod Places
 pub mod Beginnings
+pub mod Lateness
 pub mod Keeping
 pub mod Batches
 pub mod Machines

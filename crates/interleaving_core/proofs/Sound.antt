@@ -66,7 +66,7 @@ admit_fine w c batch (Taken told) v valid sound d = subst (Fine w) (sym d.after)
 admit_fine w c batch NoCollector v valid sound d = fine_same w v d.1 sound
 admit_fine w c batch _ v valid sound d = absurd d
 
-not_back : (h : History) (c mark : ℕ) → (IsMarkAbove h c mark → ⊥) → (i : Intake) → slice_get h.intakes c ≡ Some i → i.mark ≤ mark
+pub not_back : (h : History) (c mark : ℕ) → (IsMarkAbove h c mark → ⊥) → (i : Intake) → slice_get h.intakes c ≡ Some i → i.mark ≤ mark
 not_back h c mark back i here = elim (cases_lt mark i.mark) [ inl lt ↦ absurd (back (record { intake = i; here = here; above = lt })) | inr ge ↦ ge ]
 
 mark_fine : (w : World) (c mark : ℕ) (reply : Reply) (v : World) → mark ≤ last_mark → IsSound w → DoesMark w c mark reply v → Fine w v

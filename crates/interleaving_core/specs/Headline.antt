@@ -27,28 +27,29 @@ IsAnswered ps (Rows q) (EventsTold a) = ⊥
 IsAnswered ps (Events q) (RowsTold a) = ⊥
 IsAnswered ps (Events q) (EventsTold a) = IsEventsAnswer ps q a.events.items a.more
 
--- the mark of the collector c behind the step, where it was mark
-abbrev pub mark_after : ℕ → ℕ → Step → Reply → ℕ
-mark_after c mark (Admit d batch) (Taken told) = if d == c then greatest mark (map admitted_time batch.items) else mark
-mark_after c mark (Mark d new) Marked = if d == c then new else mark
-mark_after c mark step reply = mark
+-- the times and the mark that the step told of the collector c, late records too
+abbrev pub told_by : ℕ → Step → Reply → List ℕ
+told_by c (Admit d batch) (Taken told) = if d == c then map admitted_time batch.items else []
+told_by c (Mark d mark) Marked = if d == c then mark ∷ [] else []
+told_by c step reply = []
 
--- what the step offered for the collector c, at its mark, that wasn't late and was taken
-abbrev pub taken_by : ℕ → ℕ → Step → Reply → List Admitted
-taken_by c mark (Admit d batch) (Taken told) = if d == c then timely admitted_time mark [] batch.items else []
-taken_by c mark step reply = []
+-- all the times and marks that the steps told of the collector c
+abbrev pub told_of : ℕ → List Step → List Reply → List ℕ
+told_of c [] replies = []
+told_of c (step ∷ steps) [] = []
+told_of c (step ∷ steps) (reply ∷ replies) = told_by c step reply ++ told_of c steps replies
 
--- all that the steps offered for the collector c, whose mark was this before them, that wasn't late and was taken, in the order of offering
-abbrev pub taken_of : ℕ → ℕ → List Step → List Reply → List Admitted
-taken_of c mark [] replies = []
-taken_of c mark (step ∷ steps) [] = []
-taken_of c mark (step ∷ steps) (reply ∷ replies) = taken_by c mark step reply ++ taken_of c (mark_after c mark step reply) steps replies
+-- what the step offered for the collector c that was taken and wasn't late: each record below none of these times and marks, and below none before it in its batch
+abbrev pub taken_by : ℕ → List ℕ → Step → Reply → List Admitted
+taken_by c earlier (Admit d batch) (Taken told) = if d == c then timely admitted_time 0 earlier batch.items else []
+taken_by c earlier step reply = []
 
--- the mark of the collector c behind the steps, where it was mark before them
-abbrev pub mark_of : ℕ → ℕ → List Step → List Reply → ℕ
-mark_of c mark [] replies = mark
-mark_of c mark (step ∷ steps) [] = mark
-mark_of c mark (step ∷ steps) (reply ∷ replies) = mark_of c (mark_after c mark step reply) steps replies
+-- All that the steps offered for the collector c that was taken and wasn't late, in the order of offering: each record below none of the times
+-- and marks that were told of the collector before it, these earlier ones among them.
+abbrev pub taken_of : ℕ → List ℕ → List Step → List Reply → List Admitted
+taken_of c earlier [] replies = []
+taken_of c earlier (step ∷ steps) [] = []
+taken_of c earlier (step ∷ steps) (reply ∷ replies) = taken_by c earlier step reply ++ taken_of c (earlier ++ told_by c step reply) steps replies
 
 -- what the step offered for the collector c: a batch that was taken, its late records too
 abbrev pub offered_by : ℕ → Step → Reply → List Admitted
@@ -62,27 +63,29 @@ offered_of c (step ∷ steps) [] = []
 offered_of c (step ∷ steps) (reply ∷ replies) = offered_by c step reply ++ offered_of c steps replies
 
 -- The receipt names the collector. The list of the collector has at the receipt's numbers just the records of the batch that weren't late
--- at this mark, behind these others. The late ones are told, and how many were offered in all, so many of them before.
-pub record Stands (h : History) (mark : ℕ) (before : List Admitted) (count : ℕ) (c : ℕ) (batch : List Admitted) (told : BatchReply) : Type 0 where
+-- behind these earlier times and marks, and before them these others. The late ones are told, and how many were offered in all, so many of
+-- them before.
+pub record Stands (h : History) (earlier : List ℕ) (before : List Admitted) (count : ℕ) (c : ℕ) (batch : List Admitted) (told : BatchReply) : Type 0 where
   pub intake : Intake
   pub here : slice_get h.intakes c ≡ Some intake
   pub collector : told.receipt.collector ≡ c
   pub after : List Admitted
-  pub admitted : intake.admitted ≡ (before ++ timely admitted_time mark [] batch) ++ after
+  pub admitted : intake.admitted ≡ (before ++ timely admitted_time 0 earlier batch) ++ after
   pub from : told.receipt.from ≡ length before
-  pub to : told.receipt.to ≡ length before + length (timely admitted_time mark [] batch)
+  pub to : told.receipt.to ≡ length before + length (timely admitted_time 0 earlier batch)
   pub offered : told.offered ≡ count + length batch
-  pub late : told.late.items ≡ lates admitted_time mark [] 0 batch
+  pub late : told.late.items ≡ lates admitted_time 0 earlier 0 batch
 
--- where the step gave a batch that was taken, it stands: behind what these earlier steps gave for the collector, at the mark that they left
+-- where the step gave a batch that was taken, it stands: behind what these earlier steps gave for the collector, and told of it
 abbrev pub IsKept : History → List Step → List Reply → Step → Reply → Type 0
-IsKept h steps replies (Admit c batch) (Taken told) = Stands h (mark_of c 0 steps replies) (taken_of c 0 steps replies) (length (offered_of c steps replies)) c batch.items told
+IsKept h steps replies (Admit c batch) (Taken told) = Stands h (told_of c steps replies) (taken_of c [] steps replies) (length (offered_of c steps replies)) c batch.items told
 IsKept h steps replies step reply = Unit {0}
 
--- what the collector c has is what the steps gave: its list is all that they offered for it that wasn't late, in the order of offering
+-- What the collector c has is what the steps gave: its list is all that they offered for it that wasn't late, in the order of offering; its
+-- mark is the greatest of the times and marks that they told of it.
 pub record IsGiven (i : Intake) (c : ℕ) (steps : List Step) (replies : List Reply) : Type 0 where
-  pub admitted : i.admitted ≡ taken_of c 0 steps replies
-  pub mark : i.mark ≡ mark_of c 0 steps replies
+  pub admitted : i.admitted ≡ taken_of c [] steps replies
+  pub mark : i.mark ≡ greatest 0 (told_of c steps replies)
   pub offered : i.offered ≡ length (offered_of c steps replies)
 
 -- an earlier step than that of the place k began the question of the number i
