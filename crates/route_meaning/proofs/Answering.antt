@@ -1,13 +1,11 @@
 -- From the table to the rows.
-use Rattle.std.proofs.Common.{◌≡◌, ◌↔◌, ℕ, zero, suc, ◌+◌, ◌<◌, ◌≤◌, ◌⊎◌, ◌&&◌, inl, inr, List, [], ◌∷◌, ◌++◌, length, map, get_or, Bool, true, false, not, cond, ltb, Some, None, Option, refl, sym, ap, ◌∙◌, subst, arith, Contains, Bor}
+use Rattle.std.proofs.Common.{◌≡◌, ℕ, suc, ◌<◌, inl, inr, List, [], ◌∷◌, length, map, Bool, true, false, not, ltb, Some, None, Option, refl, sym, ap, ◌∙◌, arith, Contains, Bor}
 use Rattle.std.specs.List.{AllByRecursion}
 use Rattle.std.specs.List.Sorted.{IsStrictlySortedBy}
-use Rattle.std.specs.Cmp.{IsTotalOrder}
 use Rattle.std.specs.Map.{lookup, keys_of}
 use Rattle.std.specs.Map.Iter.{deref_pair}
-use Rattle.std.specs.Ordering.{is_eq, is_lt, ordering_reverse}
-use Rattle.std.specs.declared.cmp.Ordering.{Ordering}
-use Rattle.std.specs.declared.cmp.Ordering.TheVariants.{Less, Equal, Greater}
+use Rattle.std.specs.Ordering.{is_eq, ordering_reverse}
+use Rattle.std.specs.declared.cmp.Ordering.TheVariants.{Less}
 use Rattle.std.specs.BTreeMap.{BTreeMap, get, IsOrdered}
 use Rattle.std.proofs.lemmas.Bool.{cases_Bool, ltb-true, ltb-false, lt-ltb, le-ltb}
 use Rattle.std.proofs.lemmas.Option.{same_Some, none-some}
@@ -19,17 +17,14 @@ use Rattle.route_model.specs.Prefix.{IpPrefix, cleared_address}
 use Rattle.route_model.specs.declared.route.Route.{Route}
 use Rattle.route_meaning.specs.declared.question.Spot.{Spot}
 use Rattle.route_meaning.specs.declared.question.Row.{Row}
-use Rattle.route_model.specs.declared.change.Change.{Change}
-use Rattle.route_model.specs.declared.change.Change.TheVariants.{Announce, Withdraw, Down}
 use Rattle.route_meaning.specs.declared.question.Select.{Select}
 use Rattle.route_meaning.specs.declared.question.Select.TheVariants.{Route as OneRoute, ByPrefix, Covering, PeerTable, All as Everything}
 use Rattle.route_model.specs.Admission.{Admitted}
-use Rattle.route_meaning.specs.Holds.{time_of}
 use Rattle.route_meaning.specs.Merged.{Placed}
-use Rattle.route_meaning.specs.Holds.{same_address, same_peer, same_prefix, until, changes_of, Holds}
-use Rattle.route_meaning.specs.Rows.{Covers, Selects, row_number, spot_number, IsAbove, IsWithin, AreRising, IsRow, AreRows, IsAnswer, most_rows}
+use Rattle.route_meaning.specs.Holds.{same_address, same_peer, same_prefix, until, changes_of}
+use Rattle.route_meaning.specs.Rows.{Selects, row_number, spot_number, IsAbove, IsWithin, AreRising, IsRow, AreRows}
 use Rattle.route_meaning.specs.declared.question.RowsRange.{RowsRange}
-use Rattle.route_meaning.specs.inner.Replay.{spot_cmp, spot, IsSpot, covers, selects, is_above, is_within, is_wanted, route_after, IsTable, row_at}
+use Rattle.route_meaning.specs.inner.Replay.{spot_cmp, spot, IsSpot, selects, is_above, is_within, is_wanted, IsTable, row_at}
 use Rattle.route_meaning.proofs.Holding.{both, all_true, same_address-true, same_address-itself, same_peer-true, same_prefix-true, same_peer-itself, same_prefix-itself, Holds-after, after-Holds}
 use Rattle.route_meaning.proofs.Spots.{spot_cmp_total, spot_cmp-itself, same_spot, spots_below}
 
@@ -39,7 +34,7 @@ family-cleared : (n : ℕ) (a : Address) → family (cleared_address n a) ≡ fa
 family-cleared n (V4 o) = refl
 family-cleared n (V6 o) = refl
 
-selects_is : (select : Select) (peer : Peer) (prefix : IpPrefix) → selects select peer prefix ≡ true → Selects select peer prefix
+pub selects_is : (select : Select) (peer : Peer) (prefix : IpPrefix) → selects select peer prefix ≡ true → Selects select peer prefix
 selects_is (OneRoute p x) peer prefix e = let h = both _ _ e in (same_peer-true peer p h.0, same_prefix-true prefix x h.1)
 selects_is (ByPrefix x) peer prefix e = same_prefix-true prefix x e
 selects_is (Covering address) peer prefix e =
@@ -55,7 +50,7 @@ is_selects (Covering address) peer prefix h = ap (λ (a : Address). same_address
 is_selects (PeerTable p) peer prefix h = ap (λ (q : Peer). same_peer q p) h ∙ same_peer-itself p
 is_selects Everything peer prefix h = refl
 
-above_is : (low : Option Spot) (n : ℕ) → is_above low n ≡ true → IsAbove low n
+pub above_is : (low : Option Spot) (n : ℕ) → is_above low n ≡ true → IsAbove low n
 above_is None n e = tt
 above_is (Some l) n e = ltb-true _ _ e
 
@@ -63,7 +58,7 @@ is_above_of : (low : Option Spot) (n : ℕ) → IsAbove low n → is_above low n
 is_above_of None n h = refl
 is_above_of (Some l) n h = lt-ltb _ _ h
 
-within_is : (high : Option Spot) (n : ℕ) → is_within high n ≡ true → IsWithin high n
+pub within_is : (high : Option Spot) (n : ℕ) → is_within high n ≡ true → IsWithin high n
 within_is None n e = tt
 within_is (Some h) n e = ltb-false _ _ (not_true (ltb (spot_number h) n) e)
   where
@@ -74,6 +69,11 @@ within_is (Some h) n e = ltb-false _ _ (not_true (ltb (spot_number h) n) e)
 is_within_of : (high : Option Spot) (n : ℕ) → IsWithin high n → is_within high n ≡ true
 is_within_of None n h = refl
 is_within_of (Some l) n h = ap not (le-ltb (spot_number l) n h)
+
+-- a row's spot is wanted
+pub wanted_row : (ps : List (Placed Admitted)) (moment : ℕ) (w : RowsRange) (row : Row) → IsRow ps moment w.select w.low w.high row → is_wanted w (spot row.peer row.prefix) ≡ true
+wanted_row ps moment w row h =
+    all_true _ _ (is_selects w.select row.peer row.prefix h.selected) (all_true _ _ (is_above_of w.low (row_number row) h.above) (is_within_of w.high (row_number row) h.within))
 
 -- ---- the entries of the table
 
@@ -136,10 +136,7 @@ module _ (ps : List (Placed Admitted)) (moment : ℕ) (w : RowsRange) (table : B
   all_rows (e ∷ es) a = (row_is e.0 e.1 a.0, all_rows es a.1)
 
   row_found : (row : Row) → IsRow ps moment w.select w.low w.high row → get spot_cmp table (spot row.peer row.prefix) ≡ Some row.route
-  row_found row h =
-      let want : is_wanted w (spot row.peer row.prefix) ≡ true =
-      all_true _ _ (is_selects w.select row.peer row.prefix h.selected) (all_true _ _ (is_above_of w.low (row_number row) h.above) (is_within_of w.high (row_number row) h.within)) in
-      t.at (spot row.peer row.prefix) ∙ rw want (Holds-after ps moment row.peer row.prefix row.route h.holds)
+  row_found row h = t.at (spot row.peer row.prefix) ∙ rw (wanted_row ps moment w row h) (Holds-after ps moment row.peer row.prefix row.route h.holds)
 
   all_spots : (es : List (Spot × Route)) → AllByRecursion (λ d. get spot_cmp table d.0 ≡ Some d.1) es → AllByRecursion (λ e. IsSpot e.0) es
   all_spots [] a = tt

@@ -1,22 +1,18 @@
 -- The order of spots is total, is the one that is derived, and of values it is the order of their numbers.
-use Rattle.std.proofs.Common.{◌≡◌, ℕ, ◌+◌, ◌*◌, ◌^◌, ◌<◌, ◌≤◌, suc, List, [], ◌∷◌, ◌++◌, length, Bool, true, false, not, cond, ◌&&◌, eqb, ltb, leb, refl, sym, ap, ◌∙◌, subst, arith, inl, inr, Some, None, Option}
+use Rattle.std.proofs.Common.{◌≡◌, ℕ, ◌<◌, true, cond, ◌&&◌, eqb, refl, sym, ap, ◌∙◌, subst, arith, inl, inr, Option}
 use Rattle.std.specs.Cmp.{IsTotalOrder}
-use Rattle.std.specs.Cmp.Lexicographic.{slice_cmp}
-use Rattle.std.specs.Ordering.{nat_cmp, ordering_then, is_lt, is_eq}
-use Rattle.std.specs.Str.{bytes_eq}
+use Rattle.std.specs.Ordering.{nat_cmp, ordering_then, is_eq}
 use Rattle.std.specs.BTreeMap.{BTreeMap, get, IsOrdered}
 use Rattle.std.specs.declared.cmp.Ordering.{Ordering}
 use Rattle.std.specs.declared.cmp.Ordering.TheVariants.{Less, Equal, Greater}
-use Rattle.std.proofs.Math.Nat.{mul-le-mul_left}
-use Rattle.std.proofs.lemmas.Bool.{cases_Bool, cases_order, lt-ltb, le-ltb, eq-eqb, ne_eqb}
+use Rattle.std.proofs.lemmas.Bool.{cases_order, le-ltb, eq-eqb, ne_eqb}
 use Rattle.std.proofs.lemmas.Bool.Decides.{nat_tests}
 use Rattle.std.proofs.lemmas.Map.Text.{is_eq-slice_cmp}
 use Rattle.route_model.specs.declared.address.Address.{Address}
 use Rattle.route_model.specs.declared.address.Address.TheVariants.{V4, V6}
 use Rattle.route_model.specs.declared.peer.Peer.{Peer}
 use Rattle.route_model.specs.declared.route.Route.{Route}
-use Rattle.route_model.specs.Prefix.{IpPrefix, IsPrefix}
-use Rattle.route_model.specs.Spelling.{IsPeer}
+use Rattle.route_model.specs.Prefix.{IpPrefix}
 use Rattle.route_model.specs.Keys.{address_order, peer_order, prefix_order}
 use Rattle.route_model.proofs.api.Keys.{prefixes_cmp}
 use Rattle.route_meaning.specs.declared.question.Spot.{Spot}
@@ -25,7 +21,7 @@ use Rattle.route_meaning.specs.contracts.question.SpotOrd.TheImpl as spot_ord
 use Rattle.route_meaning.specs.contracts.question.SpotOrd.TheImpl.Laws as spot_laws
 use Rattle.route_meaning.specs.Holds.{same_address, same_peer, same_prefix}
 use Rattle.route_meaning.specs.Rows.{spot_number}
-use Rattle.route_meaning.specs.inner.Replay.{spot, spot_cmp, IsSpot}
+use Rattle.route_meaning.specs.inner.Replay.{spot_cmp, IsSpot}
 use Rattle.route_meaning.proofs.Holding.{both, all_true, same_peer-true, same_prefix-true, same_peer-itself, same_prefix-itself}
 
 -- ---- the derived order
@@ -90,7 +86,7 @@ spot_cmp-itself s = spot_cmp-eq s s ∙ all_true _ _ (same_peer-itself s.peer) (
 
 -- ---- the numbers of spots
 
-cmp_equal : (m n : ℕ) → m ≡ n → nat_cmp m n ≡ Equal
+pub cmp_equal : (m n : ℕ) → m ≡ n → nat_cmp m n ≡ Equal
 cmp_equal m n e = rw (le-ltb m n (omega arith), eq-eqb m n e) refl
 
 cmp_greater : (m n : ℕ) → n < m → nat_cmp m n ≡ Greater

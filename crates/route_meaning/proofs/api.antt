@@ -5,3 +5,4 @@ pub mod Agreeing
 pub mod Beginning
 pub mod Front
 pub mod Ranges
+pub mod There

@@ -6,7 +6,7 @@ ghost use Rattle.route_model.specs.declared.peer.Peer.{Peer};
 ghost use Rattle.route_model.specs.declared.route.Route.{Route};
 ghost use Rattle.route_model.specs.declared.change.Change.{Change};
 ghost use Rattle.route_model.specs.Prefix.{IpPrefix};
-ghost use Rattle.route_model.specs.Admission.{Admitted};
+ghost use Rattle.route_model.specs.Admission.{Admitted, IsChange};
 ghost use Rattle.route_meaning.specs.declared.question.Row.{Row};
 ghost use Rattle.route_meaning.specs.declared.question.Event.{Event};
 ghost use Rattle.route_meaning.specs.declared.question.Spot.{Spot};
@@ -58,4 +58,11 @@ pub fn answers_are_one()
 /// The rows of a range and those of the range that follows it are together those of both.
 pub fn ranges_join()
     ensures rows { (ps : List (Placed Admitted)) (moment : ℕ) (select : Select) (low : Option Spot) (mid : Spot) (high : Option Spot) (xs ys : List Row) → IsRange low (Some mid) → IsRange (Some mid) high → AreRows ps moment select low (Some mid) xs → AreRows ps moment select (Some mid) high ys → AreRows ps moment select low high (xs ++ ys) }
+{}
+
+/// Where the changes of the admissions are made of values, there are the rows of each range at each moment, and an answer to each
+/// question of a moment.
+pub fn answers_are_there()
+    ensures range { (ps : List (Placed Admitted)) (moment : ℕ) (select : Select) (low high : Option Spot) → AllByRecursion (λ p. AllByRecursion IsChange p.item.changes) ps → (rows : List Row) × AreRows ps moment select low high rows }
+    ensures rows { (ps : List (Placed Admitted)) (q : RowsQuestion) → AllByRecursion (λ p. AllByRecursion IsChange p.item.changes) ps → (rows : List Row) × (more : Bool) × IsAnswer ps q rows more }
 {}
