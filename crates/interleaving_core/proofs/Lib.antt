@@ -13,3 +13,4 @@ pub mod Settled
 pub mod Promised
 pub mod Wholly
 pub mod NextChanges
+pub mod Answered

@@ -5,7 +5,7 @@ ghost use Rattle.std.specs.List.{AllByRecursion};
 ghost use Rattle.interleaving_core.specs.declared.reply.Reply.{Reply};
 ghost use Rattle.interleaving_core.specs.declared.step.Step.{Step};
 ghost use Rattle.interleaving_core.specs.World.{World, created};
-ghost use Rattle.interleaving_core.specs.Does.{Runs, IsStep};
+ghost use Rattle.interleaving_core.specs.Does.{Does, Runs, IsStep};
 ghost use Rattle.interleaving_core.specs.Headline.{Headline};
 
 /// Whatever steps are made from a created world, in any order, with crashes anywhere between them: at the end each question that was
@@ -13,4 +13,9 @@ ghost use Rattle.interleaving_core.specs.Headline.{Headline};
 /// it but what was offered and wasn't late, in the order of offering.
 pub fn headline_of_runs()
     ensures headline { (collectors : ℕ) (steps : List Step) (replies : List Reply) (last : World) → AllByRecursion IsStep steps → Runs (created collectors) steps replies last → Headline collectors steps replies last }
+{}
+
+/// In whatever world a run has come to, each step has an answer and leads to a world.
+pub fn each_step_is_answered()
+    ensures answered { (collectors : ℕ) (steps : List Step) (replies : List Reply) (w : World) (step : Step) → AllByRecursion IsStep steps → Runs (created collectors) steps replies w → (reply : Reply) × (v : World) × Does w step reply v }
 {}

@@ -13,7 +13,7 @@ mod settling;
 mod step;
 mod turns;
 
-pub use laws::headline_of_runs;
+pub use laws::{each_step_is_answered, headline_of_runs};
 pub use machine::Machine;
 pub use query::{Answer, Query};
 pub use question::{EventsSoFar, Question, RowsSoFar};
