@@ -1,10 +1,13 @@
 -- The next change is applied, and more.
-use Rattle.std.proofs.Common.{◌≡◌, ℕ, zero, suc, ◌+◌, ◌<◌, ◌≤◌, List, [], ◌∷◌, length, drop, get_or, refl, sym, ap, inl, inr, arith, subst, ◌∙◌, Result, Ok, Err}
+use Rattle.std.proofs.Common.{◌≡◌, ℕ, zero, suc, ◌+◌, ◌<◌, ◌≤◌, List, [], ◌∷◌, length, map, drop, get_or, refl, sym, ap, inl, inr, arith, subst, ◌∙◌, Result, Ok, Err}
+use Rattle.std.specs.List.{AllByRecursion}
 use Rattle.std.specs.Result.{OnErr}
 use Rattle.route_model.specs.Admission.{Admitted}
 use Rattle.route_meaning.specs.Holds.{time_of}
-use Rattle.route_meaning.specs.Merged.{Placed}
-use Rattle.route_meaning.specs.History.{History, IsBelowMarks, all_of, waiting}
+use Rattle.route_meaning.specs.Merged.{Placed, all_placed, IsRising}
+use Rattle.route_meaning.specs.History.{Intake, History, IsBelowMarks, all_of, waiting}
+use Rattle.route_meaning.proofs.api.Sorting.{all_weaker, rises_by_time}
+use Rattle.route_meaning.proofs.api.Settling.{rises_drop}
 use Rattle.interleaving_core.specs.Steps.{moved, Applies, AppliesMore, NothingToApply}
 
 -- from a place on stands the admission there, and those behind it
@@ -20,12 +23,14 @@ module _ (h : History) (next : Placed Admitted) (later : List (Placed Admitted))
   pub applies_whole : IsBelowMarks h (time_of next) → length next.item.changes ≤ suc h.some → Applies h (moved h (suc h.whole) 0)
   applies_whole below le = record { next = next; later = later; here = here; below = below; part = λ l. absurd (omega arith); whole = λ l. refl }
 
-  -- where the first that waits isn't below every mark, nothing may be applied
+  -- where the first that waits isn't below every mark, nothing may be applied: those behind it are no earlier
   pub nothing : (IsBelowMarks h (time_of next) → ⊥) → NothingToApply h
-  nothing never first others there below =
-      let same : next ∷ later ≡ first ∷ others = sym here ∙ there in
-      let one : next ≡ first = cc in
-      never (subst (λ (p : Placed Admitted). IsBelowMarks h (time_of p)) (sym one) below)
+  nothing never =
+      let all_rise : IsRising time_of (waiting h) = rises_drop time_of h.whole (all_of h) (rises_by_time time_of (all_placed 0 (map (λ (i : Intake). i.admitted) h.intakes))) in
+      let rise : IsRising time_of (next ∷ later) = subst (IsRising time_of) here all_rise in
+      let others : AllByRecursion (λ p. IsBelowMarks h (time_of p) → ⊥) later =
+      all_weaker _ _ (λ p le below. never (all_weaker _ _ (λ (i : Intake) lt. let low : time_of p < i.mark = lt in let no_later : time_of next ≤ time_of p = le in omega (arith, low, no_later)) h.intakes below)) later rise.0 in
+      subst (AllByRecursion (λ p. IsBelowMarks h (time_of p) → ⊥)) (sym here) (never, others)
 
 -- beyond the last nothing waits
 pub past_all : (n : ℕ) (ps : List (Placed Admitted)) → length ps ≤ n → drop n ps ≡ []
@@ -35,7 +40,7 @@ past_all (suc n) [] le = refl
 past_all (suc n) (p ∷ ps) le = past_all n ps (omega arith)
 
 pub none_waits : (h : History) → length (all_of h) ≤ h.whole → NothingToApply h
-none_waits h le first others there below = absurd (let e : [] ≡ first ∷ others = sym (past_all h.whole (all_of h) le) ∙ there in cc)
+none_waits h le = subst (AllByRecursion (λ p. IsBelowMarks h (time_of p) → ⊥)) (sym (past_all h.whole (all_of h) le)) tt
 
 -- just so many changes are applied
 abbrev pub AppliesAll : ℕ → History → History → Type 0

@@ -1,5 +1,6 @@
 -- The steps of a history.
 use Rattle.std.specs.Prelude.{ℕ, List, [], ◌∷◌, ◌++◌, ◌+◌, ◌≡◌, ◌<◌, ◌≤◌, ◌⊎◌, zero, suc, map, length, replicate, Some, slice_get}
+use Rattle.std.specs.List.{AllByRecursion}
 use Rattle.route_model.specs.Admission.{Admitted}
 use Rattle.sequencer.specs.Late.{greatest, timely}
 use Rattle.route_meaning.specs.Merged.{Placed}
@@ -55,9 +56,9 @@ pub record Applies (h g : History) : Type 0 where
   pub part : suc h.some < length next.item.changes → g ≡ moved h h.whole (suc h.some)
   pub whole : length next.item.changes ≤ suc h.some → g ≡ moved h (suc h.whole) 0
 
--- the first admission that waits, where one does, isn't below every mark
+-- no admission that waits is below every mark
 abbrev pub NothingToApply : History → Type 0
-NothingToApply h = (next : Placed Admitted) (later : List (Placed Admitted)) → waiting h ≡ next ∷ later → IsBelowMarks h (time_of next) → ⊥
+NothingToApply h = AllByRecursion (λ p. IsBelowMarks h (time_of p) → ⊥) (waiting h)
 
 -- up to n changes are applied, as many while the first admission that waits is below every mark
 abbrev pub AppliesMore : ℕ → History → History → Type 0

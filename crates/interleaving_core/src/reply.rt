@@ -44,7 +44,7 @@ pub enum Reply {
     MarkBack,
     /// A change is applied at least, or an admission without changes.
     Applied,
-    /// Nothing may be applied: no admission waits, or the first that does isn't below every mark.
+    /// Nothing may be applied: no admission that waits is below every mark.
     Idle,
     /// Nothing is left to write.
     Flushed,
