@@ -7,7 +7,6 @@ pub mod Places
 pub mod Beginnings
 pub mod Lateness
 pub mod Keeping
-pub mod Batches
 pub mod Machines
 pub mod Settled
 pub mod Promised

@@ -1,2 +1,4 @@
 pub mod GoingOn
 pub mod Right
+pub mod Batches
+pub mod Joining

@@ -11,6 +11,7 @@ mod reply;
 mod runs;
 mod settling;
 mod step;
+mod step_laws;
 mod turns;
 
 pub use laws::{each_step_is_answered, headline_of_runs};
@@ -20,3 +21,4 @@ pub use question::{EventsSoFar, Question, RowsSoFar};
 pub use reply::{BatchReply, Receipt, Reply, Resume};
 pub use runs::{Ran, run};
 pub use step::{Reach, Step};
+pub use step_laws::{batches_are_one, steps_go_on};

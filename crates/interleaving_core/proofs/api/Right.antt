@@ -147,13 +147,13 @@ right_given h c batch valid right =
           (all_weaker _ _ (λ p b. below_given c (time_of p) batch h.intakes b) (applied h) right.released);
     }
 
-same_given : (c mark : ℕ) (is : List Intake) → map (λ i. i.admitted) (changed c (with_mark mark) is) ≡ map (λ i. i.admitted) is
+pub same_given : (c mark : ℕ) (is : List Intake) → map (λ i. i.admitted) (changed c (with_mark mark) is) ≡ map (λ i. i.admitted) is
 same_given c mark [] = refl
 same_given zero mark (i ∷ is) = refl
 same_given (suc c) mark (i ∷ is) = ap (λ (l : List (List Admitted)). i.admitted ∷ l) (same_given c mark is)
 
 -- the mark of the collector, where there is one, isn't above the new one
-abbrev IsNotBack : ℕ → ℕ → List Intake → Type 0
+abbrev pub IsNotBack : ℕ → ℕ → List Intake → Type 0
 IsNotBack c mark is = (i : Intake) → slice_get is c ≡ Some i → i.mark ≤ mark
 
 right_marked_intakes : (c mark : ℕ) (is : List Intake) → IsNotBack c mark is → mark ≤ 4294967296 → AllByRecursion IsIntake is → AllByRecursion IsIntake (changed c (with_mark mark) is)

@@ -3,7 +3,7 @@ use Rattle.route_meaning.specs.Holds.{admitted_time}
 use Rattle.route_meaning.specs.History.{Intake}
 use Rattle.sequencer.specs.Late.{lates}
 use Rattle.interleaving_core.specs.Does.{IsReply}
-use Rattle.interleaving_core.proofs.Batches.{lates-map}
+use Rattle.interleaving_core.proofs.api.Batches.{lates-map}
 use Rattle.interleaving_core.proofs.given.Given.take_in.Goals as goal
 
 pub returns-clause-reply : goal.returns-clause-reply
