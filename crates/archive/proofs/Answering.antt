@@ -10,12 +10,13 @@ use Rattle.route_meaning.specs.History.{all_of, waiting, applied, settled}
 use Rattle.route_meaning.proofs.api.Settling.{until-applied, until-late, waiting_after_settled}
 use Rattle.route_meaning.proofs.api.Agreeing.{IsAnswer-until, IsEventsAnswer-until}
 use Rattle.sequencer.specs.Lanes.{Waiting}
-use Rattle.archive.specs.declared.question.Query.{Query}
-use Rattle.archive.specs.declared.question.Query.TheVariants.{Rows, Events}
-use Rattle.archive.specs.declared.question.Answer.{Answer}
-use Rattle.archive.specs.declared.question.Answer.TheVariants.{Rows as RowsTold, Events as EventsTold}
+use Rattle.interleaving_core.specs.declared.query.Query.{Query}
+use Rattle.interleaving_core.specs.declared.query.Query.TheVariants.{Rows, Events}
+use Rattle.interleaving_core.specs.declared.query.Answer.{Answer}
+use Rattle.interleaving_core.specs.declared.query.Answer.TheVariants.{Rows as RowsTold, Events as EventsTold}
 use Rattle.archive.specs.Kept.{Queued, history_of, IsKept}
-use Rattle.archive.specs.Replies.{last_moment, IsAnswered}
+use Rattle.interleaving_core.specs.Does.{last_moment}
+use Rattle.interleaving_core.specs.Headline.{IsAnswered}
 
 -- of the wholly applied, the same counts up to a settled moment as of all that is applied
 until_kept : (lanes : List Waiting) (queues : List Queued) (ps : List (Placed Admitted)) (some moment : ℕ) → IsKept lanes queues ps some → moment < settled (history_of lanes queues ps some) → until moment ps ≡ until moment (applied (history_of lanes queues ps some))

@@ -6,17 +6,18 @@ use Rattle.std.proofs.lemmas.List.{map-append}
 use Rattle.route_model.specs.Admission.{Admitted}
 use Rattle.route_meaning.specs.Holds.{admitted_time, time_of}
 use Rattle.route_meaning.specs.Merged.{Placed, placed, part, insert_by, by_time, all_placed, merged, IsRising}
-use Rattle.route_meaning.specs.History.{History, IsIntake, IsHistory, IsBelowMarks, all_of, begun, waiting}
-use Rattle.route_meaning.proofs.api.Sorting.{all_weaker, all_append}
+use Rattle.route_meaning.specs.History.{History, IsIntake, IsHistory, IsBelowMarks, all_of, waiting}
+use Rattle.route_meaning.proofs.api.Sorting.{all_weaker}
 use Rattle.route_meaning.proofs.api.OneOrder.{merged-first}
-use Rattle.route_meaning.proofs.api.Front.{all_left, take_next, length_of_drop}
+use Rattle.route_meaning.proofs.api.Front.{take_next}
 use Rattle.sequencer.specs.Lanes.{Waiting, marks, waiting_times, in_order, IsOpen, NoneOpen, Releases}
 use Rattle.sequencer.specs.First.{IsNext}
 use Rattle.sequencer.proofs.api.Setting.{one_there, marks_same, times_set}
+use Rattle.interleaving_core.proofs.api.Right.{part_moved, whole_moved}
 use Rattle.archive.proofs.Batches.{times_at}
 use Rattle.archive.specs.Kept.{Queued, intakes_of, history_of, AreCounted, IsKept}
 use Rattle.archive.specs.inner.Waiting.{waiting_of}
-use Rattle.archive.specs.Steps.{Applies, NothingToApply, moved}
+use Rattle.interleaving_core.specs.Steps.{Applies, NothingToApply, moved}
 use Rattle.archive.proofs.Keeping.{same_number, waiting-merged, part-append}
 use Rattle.archive.proofs.Marking.{same_marks}
 use Rattle.archive.proofs.Giving.{map_get, map_set, length_set}
@@ -130,23 +131,6 @@ next_is lanes queues ps some c q k n here =
     }
 
 -- ---- the place moves
-
-pub part_moved : (h : History) (next : Placed Admitted) (later : List (Placed Admitted)) → IsHistory h → waiting h ≡ next ∷ later → IsBelowMarks h (time_of next) → suc h.some < length next.item.changes → IsHistory (moved h h.whole (suc h.some))
-part_moved h next later right e below lt = record {
-  intakes = right.intakes;
-  place = record { within = right.place.within; part = inr (next, later, e, lt) };
-  released = all_append _ (take h.whole (all_of h)) (begun (suc h.some) (waiting h)) (all_left _ (take h.whole (all_of h)) (begun h.some (waiting h)) right.released)
-      (subst (λ (l : List (Placed Admitted)). AllByRecursion (λ p. IsBelowMarks h (time_of p)) (begun (suc h.some) l)) (sym e) (below, tt));
-}
-
-pub whole_moved : (h : History) (next : Placed Admitted) (later : List (Placed Admitted)) → IsHistory h → waiting h ≡ next ∷ later → IsBelowMarks h (time_of next) → IsHistory (moved h (suc h.whole) 0)
-whole_moved h next later right e below = record {
-  intakes = right.intakes;
-  place = record { within = length_of_drop h.whole (all_of h) next later e; part = inl refl };
-  released = all_append _ (take (suc h.whole) (all_of h)) []
-      (subst (AllByRecursion (λ p. IsBelowMarks h (time_of p))) (sym (take_next h.whole (all_of h) next later e))
-      (all_append _ (take h.whole (all_of h)) (next ∷ []) (all_left _ (take h.whole (all_of h)) (begun h.some (waiting h)) right.released) (below, tt))) tt;
-}
 
 pub kept_part : (lanes : List Waiting) (queues : List Queued) (ps : List (Placed Admitted)) (some c : ℕ) (q : Queued) → IsKept lanes queues ps some → (n : Next lanes queues ps some c q) → suc some < length n.first.changes → IsKept lanes queues ps (suc some)
 kept_part lanes queues ps some c q k n lt = record {

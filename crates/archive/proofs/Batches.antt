@@ -1,71 +1,23 @@
--- What of a batch is late, by the admissions and by their times.
-use Rattle.std.proofs.Common.{◌≡◌, ℕ, ◌+◌, ◌<◌, ◌≤◌, List, [], ◌∷◌, ◌++◌, length, take, get_or, map, refl, sym, ap, ◌∙◌, subst, arith, zero, suc, Some, inl, inr, max, append-nil}
+-- How large a batch is, and what of it is taken in.
+use Rattle.std.proofs.Common.{◌≡◌, ℕ, ◌+◌, ◌<◌, ◌≤◌, List, [], ◌∷◌, ◌++◌, length, take, get_or, map, sym, ap, ◌∙◌, subst, arith, zero, suc, Some}
 use Rattle.std.specs.List.{AllByRecursion, slice_get, slice_set}
-use Rattle.std.proofs.lemmas.List.{take_more, map-append}
-use Rattle.std.proofs.lemmas.Bool.{lt-ltb, le-ltb, cases_Bool}
+use Rattle.std.proofs.lemmas.List.{take_more}
 use Rattle.route_model.specs.Admission.{Admitted, admission_octets, IsAdmission}
 use Rattle.route_meaning.specs.Holds.{admitted_time}
 use Rattle.route_meaning.proofs.api.Sorting.{all_append}
-use Rattle.sequencer.specs.declared.late.Late.{Late}
 use Rattle.sequencer.specs.declared.late.Sieved.{Sieved}
-use Rattle.sequencer.specs.Late.{greatest, is_late, timely, lates}
+use Rattle.sequencer.specs.Late.{greatest, timely, lates}
 use Rattle.sequencer.specs.Lanes.{Waiting, marks, waiting_times, SameLanes}
 use Rattle.sequencer.specs.Taking.{IsSieved, TakesIn}
-use Rattle.sequencer.proofs.api.Sieving.{timely-push, greatest-push}
-use Rattle.sequencer.proofs.api.Rising.{few_timely}
 use Rattle.sequencer.proofs.api.Setting.{one_there}
-use Rattle.archive.specs.Steps.{batch_octets}
-
-pub timely-map : {X : Type 0} (f : X → ℕ) (mark : ℕ) (earlier : List ℕ) (xs : List X) → timely (λ t. t) mark earlier (map f xs) ≡ map f (timely f mark earlier xs)
-timely-map f mark earlier [] = refl
-timely-map f mark earlier (x ∷ xs) =
-    let rest = timely-map f mark (earlier ++ f x ∷ []) xs in
-    elim (cases_Bool (is_late mark earlier (f x))) [
-      | inl e ↦ rw e rest
-      | inr e ↦ rw e (ap (λ (l : List ℕ). f x ∷ l) rest)
-    ]
-
-pub lates-map : {X : Type 0} (f : X → ℕ) (mark : ℕ) (earlier : List ℕ) (i : ℕ) (xs : List X) → lates (λ t. t) mark earlier i (map f xs) ≡ lates f mark earlier i xs
-lates-map f mark earlier i [] = refl
-lates-map f mark earlier i (x ∷ xs) =
-    let rest = lates-map f mark (earlier ++ f x ∷ []) (i + 1) xs in
-    elim (cases_Bool (is_late mark earlier (f x))) [
-      | inl e ↦ rw e (ap (λ (l : List Late). record { index = i; time = f x; mark = greatest mark earlier } ∷ l) rest)
-      | inr e ↦ rw e rest
-    ]
-
-pub all_timely : {X : Type 0} (P : X → Type 0) (f : X → ℕ) (mark : ℕ) (earlier : List ℕ) (xs : List X) → AllByRecursion P xs → AllByRecursion P (timely f mark earlier xs)
-all_timely P f mark earlier [] all = tt
-all_timely P f mark earlier (x ∷ xs) all =
-    let rest = all_timely P f mark (earlier ++ f x ∷ []) xs all.1 in
-    elim (cases_Bool (is_late mark earlier (f x))) [
-      | inl e ↦ rw e rest
-      | inr e ↦ rw e (all.0, rest)
-    ]
-
-pub length_map : {X Y : Type 0} (f : X → Y) (xs : List X) → length (map f xs) ≡ length xs
-length_map f [] = refl
-length_map f (x ∷ xs) = ap suc (length_map f xs)
-
-pub few : {X : Type 0} (f : X → ℕ) (mark : ℕ) (xs : List X) → length (timely f mark [] xs) ≤ length xs
-few f mark xs = omega (arith, few_timely mark [] (map f xs), ap length (timely-map f mark [] xs), length_map f (timely f mark [] xs), length_map f xs)
+use Rattle.interleaving_core.proofs.api.Right.{timely-map}
+use Rattle.interleaving_core.proofs.api.Batches.{lates-map}
+use Rattle.archive.specs.Limits.{batch_octets}
 
 -- ---- the loops
 
 more : {X : Type 0} (xs : List X) (i : ℕ) (x : X) → i < length xs → x ≡ get_or xs i x → take (i + 1) xs ≡ take i xs ++ x ∷ []
 more {X} xs i x lt e = take_more xs i x lt ∙ ap (λ (y : X). take i xs ++ y ∷ []) (sym e)
-
-pub kept_more : {X : Type 0} (f : X → ℕ) (mark : ℕ) (xs : List X) (i : ℕ) (x : X) → i < length xs → x ≡ get_or xs i x → greatest mark (map f (take i xs)) ≤ f x → timely f mark [] (take (i + 1) xs) ≡ timely f mark [] (take i xs) ++ x ∷ []
-kept_more f mark xs i x lt e high =
-    ap (timely f mark []) (more xs i x lt e) ∙ (timely-push f mark [] (take i xs) x ∙ rw (le-ltb (f x) (greatest mark (map f (take i xs))) high) refl)
-
-pub late_more : {X : Type 0} (f : X → ℕ) (mark : ℕ) (xs : List X) (i : ℕ) (x : X) → i < length xs → x ≡ get_or xs i x → f x < greatest mark (map f (take i xs)) → timely f mark [] (take (i + 1) xs) ≡ timely f mark [] (take i xs)
-late_more f mark xs i x lt e low =
-    ap (timely f mark []) (more xs i x lt e) ∙ (timely-push f mark [] (take i xs) x ∙ rw (lt-ltb (f x) (greatest mark (map f (take i xs))) low) (append-nil _))
-
-pub greatest_more : {X : Type 0} (f : X → ℕ) (mark : ℕ) (xs : List X) (i : ℕ) (x : X) → i < length xs → x ≡ get_or xs i x → greatest mark (map f (take (i + 1) xs)) ≡ max (f x) (greatest mark (map f (take i xs)))
-greatest_more f mark xs i x lt e =
-    ap (λ l. greatest mark (map f l)) (more xs i x lt e) ∙ (ap (greatest mark) (map-append f (take i xs) (x ∷ [])) ∙ greatest-push mark (map f (take i xs)) (f x))
 
 octets-append : (xs ys : List Admitted) → batch_octets (xs ++ ys) ≡ batch_octets xs + batch_octets ys
 octets-append [] ys = omega arith

@@ -1,13 +1,14 @@
 -- An archive to which nothing was given.
-use Rattle.std.proofs.Common.{◌≡◌, ℕ, ◌≤◌, List, [], ◌∷◌, ◌++◌, length, map, replicate, refl, sym, ap, ◌∙◌, subst, arith, zero, suc, inl}
+use Rattle.std.proofs.Common.{◌≡◌, ℕ, ◌≤◌, List, [], ◌∷◌, ◌++◌, length, map, replicate, refl, sym, ap, ◌∙◌, subst, arith, zero, suc}
 use Rattle.std.specs.List.{AllByRecursion}
 use Rattle.route_meaning.specs.Holds.{admitted_time}
-use Rattle.route_meaning.specs.History.{Intake, IsIntake, IsHistory}
+use Rattle.route_meaning.specs.History.{Intake, IsHistory}
 use Rattle.route_meaning.proofs.api.Sorting.{all_append}
 use Rattle.sequencer.specs.Lanes.{Waiting, marks, waiting_times}
+use Rattle.interleaving_core.proofs.api.Right.{right_empty}
 use Rattle.archive.specs.Kept.{Queued, intakes_of, history_of, AreCounted, IsKept}
 use Rattle.archive.specs.Carries.{Carries}
-use Rattle.archive.specs.Steps.{empty}
+use Rattle.interleaving_core.specs.Steps.{empty}
 
 -- the queue of a collector that gave nothing
 pub record IsEmptyQueue (q : Queued) : Type 0 where
@@ -31,13 +32,6 @@ intakes_are c (suc n) (w ∷ lanes) (q ∷ queues) m l all =
     let tail : marks lanes ≡ replicate n 0 = cc in
     let rest = intakes_are (suc c) n lanes queues tail (omega arith) all.1 in
     λ i. record { admitted = all.0.waiting i; mark = head i; offered = all.0.offered i } ∷ rest i
-
-right_intakes : (n : ℕ) → AllByRecursion IsIntake (replicate n nothing)
-right_intakes zero = tt
-right_intakes (suc n) = (record { rising = tt; below = tt; valid = tt; mark = omega arith; counted = omega arith }, right_intakes n)
-
-right_empty : (n : ℕ) → IsHistory (empty n)
-right_empty n = record { intakes = right_intakes n; place = record { within = omega arith; part = inl refl }; released = tt }
 
 times_are : (n : ℕ) (lanes : List Waiting) (queues : List Queued) → waiting_times lanes ≡ replicate n [] → length queues ≡ n → AllByRecursion IsEmptyQueue queues → waiting_times lanes ≡ map (λ q. map admitted_time q.waiting) queues
 times_are zero lanes [] t l all = t

@@ -1,136 +1,25 @@
 -- A collector gives a batch.
 use Rattle.std.proofs.Common.{◌≡◌, ℕ, ◌+◌, ◌<◌, ◌≤◌, List, [], ◌∷◌, ◌++◌, length, take, map, refl, sym, ap, ◌∙◌, subst, arith, zero, suc, Some, inl, inr, append_assoc, length-append}
-use Rattle.std.specs.List.{AllByRecursion, AllZip, slice_get, slice_set}
-use Rattle.std.proofs.lemmas.Bool.{cases_eq, cases_lt}
-use Rattle.std.proofs.lemmas.List.{length-take, map-append}
+use Rattle.std.specs.List.{AllByRecursion, slice_get, slice_set}
+use Rattle.std.proofs.lemmas.Bool.{cases_lt}
+use Rattle.std.proofs.lemmas.List.{map-append}
 use Rattle.route_model.specs.Admission.{Admitted, IsAdmission}
-use Rattle.route_meaning.specs.Holds.{admitted_time, time_of}
-use Rattle.route_meaning.specs.Merged.{Placed, part, IsRising}
-use Rattle.route_meaning.specs.History.{Intake, History, IsIntake, IsHistory, IsBelowMarks, GoesOn, floor, Begins, all_of, begun, waiting, applied}
-use Rattle.route_meaning.proofs.api.Sorting.{all_weaker, all_append}
-use Rattle.route_meaning.proofs.api.Beginning.{GoesOn-refl, each-refl}
-use Rattle.route_meaning.proofs.api.Front.{front_kept, front_stays, all_left, all_right, take_next, drop_same, begun_time, length_of_drop}
+use Rattle.route_meaning.specs.Holds.{admitted_time}
+use Rattle.route_meaning.specs.Merged.{Placed, part}
+use Rattle.route_meaning.specs.History.{Intake, History, IsIntake, IsHistory, all_of}
 use Rattle.sequencer.specs.Late.{greatest, timely}
-use Rattle.sequencer.specs.Lanes.{Waiting, IsLane, marks, waiting_times}
-use Rattle.sequencer.proofs.api.Rising.{taken_in, greatest-above, timely_above}
+use Rattle.sequencer.specs.Lanes.{Waiting, marks, waiting_times}
 use Rattle.archive.specs.Kept.{Queued, intakes_of, history_of, AreCounted, IsKept}
 use Rattle.sequencer.specs.Lanes.{SameLanes}
 use Rattle.sequencer.proofs.api.Setting.{one_there, all_at}
-use Rattle.archive.specs.declared.admit.Admitted.{Admitted as Reply}
-use Rattle.archive.specs.Replies.{IsReply}
+use Rattle.interleaving_core.specs.declared.reply.BatchReply.{BatchReply as Reply}
+use Rattle.interleaving_core.specs.Does.{IsReply}
 use Rattle.archive.specs.inner.Taking.{IsTaken, SameQueue}
-use Rattle.archive.specs.Steps.{changed, with_batch, given, IsCounterFull}
+use Rattle.interleaving_core.specs.Steps.{changed, with_batch, given}
+use Rattle.archive.specs.Limits.{IsCounterFull}
 use Rattle.archive.proofs.Keeping.{same_number}
 use Rattle.archive.proofs.Marking.{same_marks}
-use Rattle.archive.proofs.Batches.{timely-map, all_timely, few}
-
--- ---- one intake
-
-pub to_map : {X : Type 0} (f : X → ℕ) (P : ℕ → Type 0) (xs : List X) → AllByRecursion (λ x. P (f x)) xs → AllByRecursion P (map f xs)
-to_map f P [] a = tt
-to_map f P (x ∷ xs) a = (a.0, to_map f P xs a.1)
-
-rising_map : {X : Type 0} (f : X → ℕ) (xs : List X) → IsRising f xs → IsRising (λ t. t) (map f xs)
-rising_map f [] r = tt
-rising_map f (x ∷ xs) r = (to_map f (λ t. f x ≤ t) xs r.0, rising_map f xs r.1)
-
-pub from_map : {X : Type 0} (f : X → ℕ) (P : ℕ → Type 0) (xs : List X) → AllByRecursion P (map f xs) → AllByRecursion (λ x. P (f x)) xs
-from_map f P [] a = tt
-from_map f P (x ∷ xs) a = (a.0, from_map f P xs a.1)
-
-pub rising_from : {X : Type 0} (f : X → ℕ) (xs : List X) → IsRising (λ t. t) (map f xs) → IsRising f xs
-rising_from f [] r = tt
-rising_from f (x ∷ xs) r = (from_map f (λ t. f x ≤ t) xs r.0, rising_from f xs r.1)
-
-greatest-below : (mark last : ℕ) (ts : List ℕ) → mark ≤ last → AllByRecursion (λ t. t ≤ last) ts → greatest mark ts ≤ last
-greatest-below mark last [] le all = le
-greatest-below mark last (t ∷ ts) le all = let ih = greatest-below mark last ts le all.1 in let h = all.0 in omega (arith, ih, h)
-
-times_low : (batch : List Admitted) → AllByRecursion IsAdmission batch → AllByRecursion (λ t. t ≤ 4294967296) (map admitted_time batch)
-times_low [] all = tt
-times_low (a ∷ batch) all = (let h : a.time < 4294967296 = all.0.time in omega arith, times_low batch all.1)
-
-right_intake : (i : Intake) (batch : List Admitted) → IsIntake i → AllByRecursion IsAdmission batch → IsIntake (with_batch batch i)
-right_intake i batch right valid =
-    let times = map admitted_time batch in
-    let kept = timely admitted_time i.mark [] batch in
-    let lane : IsLane (record { mark = i.mark; times = map admitted_time i.admitted; room = 0 }) = record { rising = rising_map admitted_time i.admitted right.rising; below = to_map admitted_time (λ t. t ≤ i.mark) i.admitted right.below } in
-    let taken = taken_in (record { mark = i.mark; times = map admitted_time i.admitted; room = 0 }) 0 times lane in
-    let same : map admitted_time i.admitted ++ timely (λ t. t) i.mark [] times ≡ map admitted_time (i.admitted ++ kept) =
-    ap (λ (l : List ℕ). map admitted_time i.admitted ++ l) (timely-map admitted_time i.mark [] batch) ∙ sym (map-append admitted_time i.admitted kept) in
-    let n = few admitted_time i.mark batch in
-    let c = right.counted in
-    record {
-      rising = rising_from admitted_time (i.admitted ++ kept) (subst (IsRising (λ t. t)) same taken.rising);
-      below = from_map admitted_time (λ t. t ≤ greatest i.mark times) (i.admitted ++ kept) (subst (AllByRecursion (λ t. t ≤ greatest i.mark times)) same taken.below);
-      valid = all_append IsAdmission i.admitted kept right.valid (all_timely IsAdmission admitted_time i.mark [] batch valid);
-      mark = greatest-below i.mark 4294967296 times right.mark (times_low batch valid);
-      counted = (let l = length-append i.admitted kept in omega (arith, n, c, l));
-    }
-
-goes_on : (i : Intake) (batch : List Admitted) → GoesOn (floor i) i (with_batch batch i)
-goes_on i batch = record {
-  more = timely admitted_time i.mark [] batch;
-  begins = refl;
-  after = from_map admitted_time (λ t. i.mark ≤ t) (timely admitted_time i.mark [] batch) (subst (AllByRecursion (λ t. i.mark ≤ t)) (timely-map admitted_time i.mark [] batch) (timely_above i.mark (map admitted_time batch)));
-  mark = greatest-above i.mark (map admitted_time batch);
-  offered = omega arith;
-}
-
--- ---- all intakes
-
-right_intakes : (c : ℕ) (batch : List Admitted) (is : List Intake) → AllByRecursion IsAdmission batch → AllByRecursion IsIntake is → AllByRecursion IsIntake (changed c (with_batch batch) is)
-right_intakes c batch [] valid all = tt
-right_intakes zero batch (i ∷ is) valid all = (right_intake i batch all.0 valid, all.1)
-right_intakes (suc c) batch (i ∷ is) valid all = (all.0, right_intakes c batch is valid all.1)
-
-each_goes_on : (c : ℕ) (batch : List Admitted) (is : List Intake) → AllZip (λ i j. GoesOn (floor i) i j) is (changed c (with_batch batch) is)
-each_goes_on c batch [] = tt
-each_goes_on zero batch (i ∷ is) = (goes_on i batch, each-refl is)
-each_goes_on (suc c) batch (i ∷ is) = (GoesOn-refl i, each_goes_on c batch is)
-
-below_given : (c time : ℕ) (batch : List Admitted) (is : List Intake) → AllByRecursion (λ i. time < i.mark) is → AllByRecursion (λ i. time < i.mark) (changed c (with_batch batch) is)
-below_given c time batch [] all = tt
-below_given zero time batch (i ∷ is) all = (let g = greatest-above i.mark (map admitted_time batch) in let lt : time < i.mark = all.0 in omega (arith, g, lt), all.1)
-below_given (suc c) time batch (i ∷ is) all = (all.0, below_given c time batch is all.1)
-
-pub begins_given : (h : History) (c : ℕ) (batch : List Admitted) → Begins h (given h c batch)
-begins_given h c batch = record { each = each_goes_on c batch h.intakes; place = inr (refl, omega arith) }
-
--- what is wholly applied stays the front of all
-pub whole_given : (h : History) (c : ℕ) (batch : List Admitted) → IsHistory h → take h.whole (all_of (given h c batch)) ≡ take h.whole (all_of h)
-whole_given h c batch right = front_stays h (given h c batch) h.whole (each_goes_on c batch h.intakes) right.place.within (all_left _ (take h.whole (all_of h)) (begun h.some (waiting h)) right.released)
-
-part_given : (h : History) (c : ℕ) (batch : List Admitted) → IsHistory h → (next : Placed Admitted) (later : List (Placed Admitted)) → waiting h ≡ next ∷ later → 0 < h.some → (more : List (Placed Admitted)) × (waiting (given h c batch) ≡ next ∷ more)
-part_given h c batch right next later e lt =
-    let below : IsBelowMarks h (time_of next) = begun_time (IsBelowMarks h) h.some next later lt (subst (λ (l : List (Placed Admitted)). AllByRecursion (λ p. IsBelowMarks h (time_of p)) (begun h.some l)) e (all_right _ (take h.whole (all_of h)) (begun h.some (waiting h)) right.released)) in
-    let longer : AllByRecursion (λ p. IsBelowMarks h (time_of p)) (take (suc h.whole) (all_of h)) =
-    subst (AllByRecursion (λ p. IsBelowMarks h (time_of p))) (sym (take_next h.whole (all_of h) next later e))
-    (all_append _ (take h.whole (all_of h)) (next ∷ []) (all_left _ (take h.whole (all_of h)) (begun h.some (waiting h)) right.released) (below, tt)) in
-    drop_same h.whole (all_of h) (all_of (given h c batch)) next later e
-    (front_stays h (given h c batch) (suc h.whole) (each_goes_on c batch h.intakes) (length_of_drop h.whole (all_of h) next later e) longer)
-
-pub right_given : (h : History) (c : ℕ) (batch : List Admitted) → AllByRecursion IsAdmission batch → IsHistory h → IsHistory (given h c batch)
-right_given h c batch valid right =
-    let whole = ap length (whole_given h c batch right) in
-    let a = length-take h.whole (all_of (given h c batch)) in
-    let b = length-take h.whole (all_of h) in
-    let within = right.place.within in
-    record {
-      intakes = right_intakes c batch h.intakes valid right.intakes;
-      place = record {
-        within = omega (arith, whole, a, b, within);
-        part = elim (cases_eq h.some 0) [
-          | inl none ↦ inl none
-          | inr some ↦ elim right.place.part [
-            | inl none ↦ inl none
-            | inr p ↦ let q = part_given h c batch right p.0 p.1 p.2 (omega arith) in inr (p.0, q.0, q.1, p.3)
-          ]
-        ];
-      };
-      released = subst (AllByRecursion (λ p. IsBelowMarks (given h c batch) (time_of p))) (sym (front_kept h (given h c batch) right (begins_given h c batch)))
-          (all_weaker _ _ (λ p b. below_given c (time_of p) batch h.intakes b) (applied h) right.released);
-    }
+use Rattle.interleaving_core.proofs.api.Right.{whole_given, right_given}
 
 -- ---- what is kept
 

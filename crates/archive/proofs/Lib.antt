@@ -6,5 +6,3 @@ pub mod Batches
 pub mod Giving
 pub mod Applying
 pub mod Answering
-pub mod Joining
-pub mod GoingOn

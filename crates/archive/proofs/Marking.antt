@@ -1,15 +1,15 @@
 -- A mark is raised.
-use Rattle.std.proofs.Common.{◌≡◌, ℕ, ◌<◌, ◌≤◌, ◌⊎◌, List, [], ◌∷◌, ◌++◌, length, take, drop, map, refl, sym, ap, ◌∙◌, subst, arith, zero, suc, Some}
-use Rattle.std.specs.List.{AllByRecursion, slice_get, slice_set}
+use Rattle.std.proofs.Common.{◌≡◌, ℕ, ◌<◌, ◌≤◌, List, [], ◌∷◌, ◌++◌, length, take, refl, sym, ap, ◌∙◌, subst, arith, zero, suc, Some}
+use Rattle.std.specs.List.{slice_get, slice_set}
 use Rattle.route_model.specs.Admission.{Admitted}
-use Rattle.route_meaning.specs.Holds.{admitted_time, time_of}
+use Rattle.route_meaning.specs.Holds.{admitted_time}
 use Rattle.route_meaning.specs.Merged.{Placed, part, merged}
-use Rattle.route_meaning.specs.History.{Intake, History, IsIntake, IsHistory, IsBelowMarks, all_of, front, applied}
-use Rattle.route_meaning.proofs.api.Sorting.{all_weaker}
+use Rattle.route_meaning.specs.History.{Intake, IsHistory, all_of}
 use Rattle.sequencer.specs.Lanes.{Waiting, marks, Raises, HasMarkAbove}
 use Rattle.sequencer.proofs.api.Setting.{one_there}
 use Rattle.archive.specs.Kept.{Queued, intakes_of, history_of, IsKept}
-use Rattle.archive.specs.Steps.{changed, with_mark, marked, IsMarkAbove}
+use Rattle.interleaving_core.specs.Steps.{changed, with_mark, marked, IsMarkAbove}
+use Rattle.interleaving_core.proofs.api.Right.{IsNotBack, same_given, right_marked}
 use Rattle.archive.proofs.Keeping.{same_number}
 
 pub same_marks : (d : ℕ) (ps : List (Placed Admitted)) (lanes new : List Waiting) (queues : List Queued) → marks new ≡ marks lanes → intakes_of d ps new queues ≡ intakes_of d ps lanes queues
@@ -42,39 +42,6 @@ intakes_marked d (suc c) mark ps (v ∷ lanes) (w ∷ new) (q ∷ queues) e =
 
 pub marked_is : (lanes new : List Waiting) (queues : List Queued) (ps : List (Placed Admitted)) (begun c mark : ℕ) → Raises lanes c mark new → history_of new queues ps begun ≡ marked (history_of lanes queues ps begun) c mark
 marked_is lanes new queues ps begun c mark raises = ap (λ (is : List Intake). record { intakes = is; whole = length ps; some = begun }) (intakes_marked 0 c mark ps lanes new queues raises.marks)
-
-same_given : (c mark : ℕ) (is : List Intake) → map (λ i. i.admitted) (changed c (with_mark mark) is) ≡ map (λ i. i.admitted) is
-same_given c mark [] = refl
-same_given zero mark (i ∷ is) = refl
-same_given (suc c) mark (i ∷ is) = ap (λ (l : List (List Admitted)). i.admitted ∷ l) (same_given c mark is)
-
--- the mark of the collector, where there is one, isn't above the new one
-abbrev IsNotBack : ℕ → ℕ → List Intake → Type 0
-IsNotBack c mark is = (i : Intake) → slice_get is c ≡ Some i → i.mark ≤ mark
-
-right_intakes : (c mark : ℕ) (is : List Intake) → IsNotBack c mark is → mark ≤ 4294967296 → AllByRecursion IsIntake is → AllByRecursion IsIntake (changed c (with_mark mark) is)
-right_intakes c mark [] back low all = tt
-right_intakes zero mark (i ∷ is) back low all =
-    let le : i.mark ≤ mark = back i refl in
-    (record { rising = all.0.rising; below = all_weaker _ _ (λ a h. let h' : a.time ≤ i.mark = h in omega arith) i.admitted all.0.below; valid = all.0.valid; mark = low; counted = all.0.counted }, all.1)
-right_intakes (suc c) mark (i ∷ is) back low all = (all.0, right_intakes c mark is (λ j e. back j e) low all.1)
-
-below_marked : (c mark time : ℕ) (is : List Intake) → IsNotBack c mark is → AllByRecursion (λ i. time < i.mark) is → AllByRecursion (λ i. time < i.mark) (changed c (with_mark mark) is)
-below_marked c mark time [] back all = tt
-below_marked zero mark time (i ∷ is) back all = (let le : i.mark ≤ mark = back i refl in let lt : time < i.mark = all.0 in omega arith, all.1)
-below_marked (suc c) mark time (i ∷ is) back all = (all.0, below_marked c mark time is (λ j e. back j e) all.1)
-
-right_marked : (h : History) (c mark : ℕ) → IsNotBack c mark h.intakes → mark ≤ 4294967296 → IsHistory h → IsHistory (marked h c mark)
-right_marked h c mark back low right =
-    let same : all_of h ≡ all_of (marked h c mark) = ap (merged admitted_time) (sym (same_given c mark h.intakes)) in
-    record {
-      intakes = right_intakes c mark h.intakes back low right.intakes;
-      place = record {
-        within = subst (λ (l : List (Placed Admitted)). h.whole ≤ length l) same right.place.within;
-        part = subst (λ (l : List (Placed Admitted)). (h.some ≡ 0) ⊎ ((next : Placed Admitted) × (later : List (Placed Admitted)) × (drop h.whole l ≡ next ∷ later) × (h.some < length next.item.changes))) same right.place.part;
-      };
-      released = subst (λ (l : List (Placed Admitted)). AllByRecursion (λ p. IsBelowMarks (marked h c mark) (time_of p)) (front h.whole h.some l)) same (all_weaker _ _ (λ p b. below_marked c mark (time_of p) h.intakes back b) (applied h) right.released);
-    }
 
 -- ---- lanes and intakes
 

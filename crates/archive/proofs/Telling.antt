@@ -7,7 +7,7 @@ use Rattle.route_meaning.specs.History.{History, IsHistory}
 use Rattle.sequencer.specs.Lanes.{Waiting, marks}
 use Rattle.archive.specs.Kept.{Queued, intakes_of, AreCounted, IsKept}
 use Rattle.archive.specs.Carries.{Carries}
-use Rattle.archive.specs.Replies.{resume_of}
+use Rattle.interleaving_core.specs.World.{resume_of}
 use Rattle.archive.proofs.Keeping.{same_number, intakes_number}
 
 pub carried : (P : History → Type 0) (g v : History) → g ≡ v → P g → (h : History) → Carries v h → P h

@@ -1,5 +1,5 @@
 pub mod Carries
-pub mod Steps
+pub mod Limits
 pub mod Replies
 pub mod Kept
 pub mod inner

@@ -6,36 +6,18 @@ ghost use Rattle.route_model.specs.Admission.{IsAdmission};
 ghost use Rattle.route_meaning.specs.Holds.{admitted_time};
 ghost use Rattle.sequencer.specs.Lanes.{SameLanes, marks};
 ghost use Rattle.sequencer.specs.Late.{timely};
-ghost use Rattle.archive.specs.Steps.{batch_octets};
+ghost use Rattle.archive.specs.Limits.{batch_octets};
 ghost use Rattle.archive.specs.inner.Taking.{IsTaken, SameQueue};
 
 use crate::queue::Queue;
+use interleaving_core::{BatchReply, Receipt};
 use route_model::{Admission, Mark, Moment};
-use sequencer::{Late, Sequencer};
+use sequencer::Sequencer;
 use std::alloc::{AllocError, Global};
 use thiserror::Error;
 
 /// The most octets of a batch: for each admission the octets of its spelling and 4 more.
 pub const MAX_BATCH_LEN: usize = 262_144;
-
-/// Which admissions of a collector a batch became: those from number `from` to below number `to`. The first
-/// admission of a collector has the number 0.
-#[derive(Clone, Copy, Debug, PartialEq, Eq)]
-pub struct Receipt {
-    pub collector: u8,
-    pub from: u64,
-    pub to: u64,
-}
-
-/// What became of a batch.
-#[derive(Debug, Drop)]
-pub struct Admitted {
-    pub receipt: Receipt,
-    /// How many records were offered for the collector until now, those that came late counted too.
-    pub offered: u64,
-    /// The records of the batch that came late, in their order. They aren't admitted.
-    pub late: Vec<Late>,
-}
 
 /// Why a batch isn't taken. The first of these that holds is told.
 #[derive(Clone, Copy, Debug, PartialEq, Eq, Error)]
@@ -102,7 +84,7 @@ pub(crate) fn take_in(
     queue: &mut Queue,
     collector: u8,
     batch: &[Admission],
-) -> Result<Admitted, AllocError>
+) -> Result<BatchReply, AllocError>
     requires inside { collector < length sequencer.old }
     requires counted { queue.old.admitted ≤ queue.old.offered }
     requires countable { queue.old.offered + length batch.now < 18446744073709551616 }
@@ -118,7 +100,7 @@ pub(crate) fn take_in(
     sequencer.take_in(number, &sieved);
     let from = queue.admitted();
     queue.take_in(kept, batch.len());
-    Ok(Admitted {
+    Ok(BatchReply {
         receipt: Receipt {
             collector,
             from,

@@ -3,26 +3,22 @@
 ghost use Rattle.std.specs.Prelude.{◌≡◌, ◌≤◌, ◌<◌, ◌↔◌, ℕ, map, length, Some, IfOk, OnOk, OnErr, slice_get, IsOk};
 ghost use Rattle.route_meaning.specs.History.{History, Intake, applied, settled};
 ghost use Rattle.archive.specs.Carries.{Carries};
-ghost use Rattle.archive.specs.Steps.{empty, marked, given, batch_octets, IsCollector, IsMarkAbove, IsCounterFull, Applies, NothingToApply};
-ghost use Rattle.archive.specs.Replies.{resume_of, last_moment, IsReply, IsTurn};
+ghost use Rattle.interleaving_core.specs.Steps.{empty, marked, given, IsCollector, IsMarkAbove, Applies, NothingToApply};
+ghost use Rattle.interleaving_core.specs.World.{resume_of};
+ghost use Rattle.interleaving_core.specs.Does.{last_moment, IsReply};
+ghost use Rattle.archive.specs.Limits.{batch_octets, IsCounterFull};
+ghost use Rattle.archive.specs.Replies.{IsTurn};
 
-use crate::admit::{AdmitRefusal, Admitted, fits, take_in};
+use crate::admit::{AdmitRefusal, fits, take_in};
 use crate::applied::{AppliedAdmission, put};
-use crate::question::{Cursor, DescendRefusal, Query, Turn, answer_over};
+use crate::question::{Cursor, DescendRefusal, Turn, answer_over};
 use crate::queue::Queue;
+use interleaving_core::{BatchReply, Query, Resume};
 use route_model::{Admission, Mark};
 use sequencer::Sequencer;
 use std::alloc::{AllocError, Global};
 use std::marker::Model;
 use thiserror::Error;
-
-/// Where a collector goes on: how many records were offered for it, how many of them were admitted, and its mark.
-#[derive(Clone, Copy, Debug, PartialEq, Eq)]
-pub struct Resume {
-    pub offered: u64,
-    pub admitted: u64,
-    pub mark: Mark,
-}
 
 /// What a step of applying did.
 #[derive(Clone, Copy, Debug, PartialEq, Eq)]
@@ -145,7 +141,7 @@ impl Archive {
     /// Admits the records of a collector, in their order, but for those that come late: whose time is below the
     /// collector's mark or below an earlier time of the batch. Each of these is told. The mark is raised to the
     /// greatest of these times. A refusal changes nothing. The batch has at most [`crate::MAX_BATCH_LEN`] octets.
-    pub fn admit(&mut self, collector: u8, batch: &[Admission]) -> Result<Admitted, AdmitRefusal>
+    pub fn admit(&mut self, collector: u8, batch: &[Admission]) -> Result<BatchReply, AdmitRefusal>
         ensures admitted { (h : History) → Carries self.old h → OnOk result (Carries self.new (given h collector batch.now)) }
         ensures reply { (h : History) → Carries self.old h → (i : Intake) → slice_get h.intakes collector ≡ Some i → IfOk result (IsReply i collector batch.now) }
         ensures no_collector { (h : History) → Carries self.old h → (result ≡ Err AdmitRefusal.NoCollector) ↔ (IsCollector h collector → ⊥) }

@@ -4,11 +4,10 @@
 mod admit;
 mod applied;
 mod archive;
-mod laws;
 mod question;
 mod queue;
 
-pub use admit::{AdmitRefusal, Admitted, MAX_BATCH_LEN, Receipt};
-pub use archive::{Archive, Flush, MarkRefusal, Resume, Step};
-pub use laws::{batches_are_one, steps_go_on};
-pub use question::{Answer, Cursor, DescendRefusal, Query, Turn};
+pub use admit::{AdmitRefusal, MAX_BATCH_LEN};
+pub use archive::{Archive, Flush, MarkRefusal, Step};
+pub use interleaving_core::{Answer, BatchReply as Admitted, Query, Receipt, Resume};
+pub use question::{Cursor, DescendRefusal, Turn};

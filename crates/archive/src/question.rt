@@ -1,31 +1,15 @@
 //! Questions, and how they are answered.
 
 ghost use Rattle.std.specs.Prelude.{◌≡◌, map, IfOk};
-ghost use Rattle.archive.specs.Replies.{IsAnswered};
+ghost use Rattle.interleaving_core.specs.Headline.{IsAnswered};
 
 use crate::applied::AppliedAdmission;
-use route_meaning::{
-    EventsAnswer, EventsQuestion, PlacedAdmission, RowsAnswer, RowsQuestion, answer_events,
-    answer_rows,
-};
-use route_model::{Mark, Moment};
+use interleaving_core::{Answer, Query};
+use route_meaning::{PlacedAdmission, answer_events, answer_rows};
+use route_model::Mark;
 use std::alloc::{AllocError, Global};
 use std::marker::Model;
 use thiserror::Error;
-
-/// A question: of one moment, or of what was told from one moment to another.
-#[derive(Clone, Copy, Debug, PartialEq, Eq)]
-pub enum Query {
-    Rows(RowsQuestion),
-    Events(EventsQuestion),
-}
-
-/// The answer to a question.
-#[derive(Debug, Drop)]
-pub enum Answer {
-    Rows(RowsAnswer),
-    Events(EventsAnswer),
-}
 
 /// A question under way. It keeps its question.
 #[derive(Debug, Drop)]
@@ -34,7 +18,7 @@ pub struct Cursor {
 }
 
 impl Model for Cursor {
-    ghost use Rattle.archive.specs.declared.question.Query.{Query};
+    ghost use Rattle.interleaving_core.specs.declared.query.Query.{Query};
 
     ghost Value = { Query };
 
@@ -56,20 +40,6 @@ pub enum DescendRefusal {
     AboveWatermark(Mark),
     #[error("out of memory")]
     OutOfMemory,
-}
-
-impl Query {
-    ghost use Rattle.archive.specs.Replies.{last_moment};
-
-    /// The last moment that it asks of.
-    pub fn last_moment(&self) -> Moment
-        ensures moment { result ≡ last_moment self.now }
-    {
-        match self {
-            Query::Rows(question) => question.moment,
-            Query::Events(question) => question.to,
-        }
-    }
 }
 
 impl Cursor {

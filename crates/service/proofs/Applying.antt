@@ -3,7 +3,7 @@ use Rattle.std.proofs.Common.{◌≡◌, List, suc, length, ap, ◌∙◌, refl,
 use Rattle.std.proofs.lemmas.Bool.{cases_lt}
 use Rattle.route_meaning.specs.History.{Intake, History}
 use Rattle.archive.specs.Carries.{Carries}
-use Rattle.archive.specs.Steps.{Applies, NothingToApply}
+use Rattle.interleaving_core.specs.Steps.{Applies, NothingToApply}
 use Rattle.service.specs.Loads.{HasIntakes, IsSettled}
 
 intakes_stay : (h g : History) → Applies h g → g.intakes ≡ h.intakes

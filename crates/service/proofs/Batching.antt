@@ -4,7 +4,7 @@ use Rattle.std.specs.List.{AllByRecursion}
 use Rattle.std.proofs.lemmas.Bool.Decides.{leb_tells}
 use Rattle.route_model.specs.Admission.{Admitted, IsAdmission, admission_octets}
 use Rattle.mrt_records.proofs.api.Streams.{all-append}
-use Rattle.archive.specs.Steps.{batch_octets}
+use Rattle.archive.specs.Limits.{batch_octets}
 use Rattle.resolve.specs.declared.fault.ResolveFault.{ResolveFault}
 use Rattle.service.specs.Turns.{IsWithinLimits, admissions_of, is_crowded, is_full, offer_where, wait_unless, waiting_with, turns_at, waits_after, turns_for, waits_behind, last_turns, feed_turns}
 use Rattle.service.proofs.Gathering.{not_above}

@@ -14,14 +14,14 @@ use Rattle.resolve.specs.declared.fault.ResolveFault.{ResolveFault}
 use Rattle.resolve.specs.declared.fault.ResolveFault.TheVariants as faults
 use Rattle.resolve.proofs.api.Feeds.{one_more}
 use Rattle.archive.specs.Carries.{Carries}
-use Rattle.archive.specs.Steps.{batch_octets}
+use Rattle.archive.specs.Limits.{batch_octets}
 use Rattle.service.specs.Turns.{Turn, turns_at, waits_after, turns_for, waits_behind}
 use Rattle.service.specs.FeedTexts.{capped, skips}
 use Rattle.service.specs.inner.Feeding.{HasDone, IsCounted, IsBehind}
 use Rattle.service.specs.declared.feed_lines.FeedCounts.{FeedCounts}
 use Rattle.service.specs.declared.feeding.Feeding.{Feeding}
 use Rattle.service.specs.declared.faults.FeedStop.{FeedStop}
-use Rattle.service.proofs.Batches.{given_none}
+use Rattle.interleaving_core.proofs.api.Joining.{given_none}
 
 pub turns_snoc : (limit place : ℕ) (waiting : List Admitted) (results : List (Result (Option Admitted) ResolveFault)) (r : Result (Option Admitted) ResolveFault)
     → turns_for limit place waiting (results ++ r ∷ []) ≡ turns_for limit place waiting results ++ turns_at limit (place + length results) (waits_behind limit waiting results) r

@@ -2,7 +2,7 @@
 use Rattle.std.proofs.Common.{◌≡◌, ℕ, ◌+◌, ◌≤◌, List, [], ◌∷◌, ◌++◌, length, ltb, Bool, true, false, inl, inr, sym, ap, ◌∙◌, arith}
 use Rattle.std.proofs.lemmas.Bool.{cases_lt, lt-ltb}
 use Rattle.route_model.specs.Admission.{Admitted, admission_octets}
-use Rattle.archive.specs.Steps.{batch_octets}
+use Rattle.archive.specs.Limits.{batch_octets}
 use Rattle.service.specs.Turns.{is_crowded, wait_unless, waiting_with}
 use Rattle.service.specs.inner.Feeding.{IsCounted}
 use Rattle.service.specs.declared.feeding.Feeding.{Feeding}

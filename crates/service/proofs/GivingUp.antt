@@ -15,8 +15,9 @@ use Rattle.mrt_records.specs.Streams.{IsItem, GainsFrames}
 use Rattle.mrt_records.specs.declared.item.Item.{Item}
 use Rattle.mrt_records.proofs.api.Streams.{part_begins_none}
 use Rattle.archive.specs.Carries.{Carries}
-use Rattle.archive.specs.Steps.{with_batch, given, batch_octets, IsCollector, IsCounterFull}
-use Rattle.archive.specs.declared.admit.Admitted.{Admitted as Reply}
+use Rattle.interleaving_core.specs.Steps.{with_batch, given, IsCollector}
+use Rattle.archive.specs.Limits.{batch_octets, IsCounterFull}
+use Rattle.interleaving_core.specs.declared.reply.BatchReply.{BatchReply as Reply}
 use Rattle.archive.specs.declared.admit.AdmitRefusal.{AdmitRefusal}
 use Rattle.archive.specs.declared.admit.AdmitRefusal.TheVariants as admits
 use Rattle.resolve.specs.Records.{Gives}
@@ -33,7 +34,7 @@ use Rattle.service.specs.declared.feed_lines.FeedCounts.{FeedCounts}
 use Rattle.service.specs.declared.feeding.Feeding.{Feeding}
 use Rattle.service.specs.declared.faults.FeedStop.{FeedStop}
 use Rattle.service.specs.declared.faults.FeedStop.TheVariants as stops
-use Rattle.service.proofs.Batches.{given_both}
+use Rattle.interleaving_core.proofs.api.Joining.{given_both}
 use Rattle.service.proofs.Turning.{offered_both, as_many, collector_there}
 use Rattle.service.proofs.Following.{turns_snoc}
 

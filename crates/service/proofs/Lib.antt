@@ -1,7 +1,6 @@
 pub mod Outputs
 pub mod Words
 pub mod Lines
-pub mod Batches
 pub mod Turning
 pub mod Gathering
 pub mod Following

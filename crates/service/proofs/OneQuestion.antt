@@ -9,8 +9,8 @@ use Rattle.route_text.specs.MomentText.{IsMomentText}
 use Rattle.route_text.specs.PrefixText.{IsPrefixText}
 use Rattle.route_text.proofs.api.Addresses.{IsAddressText_unique}
 use Rattle.route_text.proofs.api.OneValue.{one_instant, one_prefix}
-use Rattle.archive.specs.declared.question.Query.{Query}
-use Rattle.archive.specs.declared.question.Query.TheVariants.{Rows, Events}
+use Rattle.interleaving_core.specs.declared.query.Query.{Query}
+use Rattle.interleaving_core.specs.declared.query.Query.TheVariants.{Rows, Events}
 use Rattle.service.specs.Requests.{words_of, ArePeerWords, AreSpotWords, AreAfterWords, AreByPrefixWords, IsQueryLine}
 
 abbrev Text : Type 0

@@ -14,7 +14,7 @@ use Rattle.mrt_records.specs.declared.item.Item.{Item}
 use Rattle.mrt_records.proofs.api.Pieces.{frames_then}
 use Rattle.mrt_records.proofs.api.Streams.{frames_none, part_begins_none, over_begins_none, over-append}
 use Rattle.archive.specs.Carries.{Carries}
-use Rattle.archive.specs.Steps.{given}
+use Rattle.interleaving_core.specs.Steps.{given}
 use Rattle.service.specs.Feeds.{IsCut, IsFed, IsReason, MayGive}
 use Rattle.service.specs.Turns.{Turn, turns_for, last_turns, feed_turns}
 use Rattle.service.specs.FeedTexts.{intake_in, cut_line, counts_of}

@@ -10,9 +10,10 @@ use Rattle.route_meaning.specs.Holds.{admitted_time}
 use Rattle.route_meaning.specs.History.{Intake, History}
 use Rattle.sequencer.specs.Late.{lates}
 use Rattle.archive.specs.Carries.{Carries}
-use Rattle.archive.specs.Replies.{IsReply}
-use Rattle.archive.specs.Steps.{changed, with_batch, given, batch_octets, IsCollector}
-use Rattle.archive.specs.declared.admit.Admitted.{Admitted as Reply}
+use Rattle.interleaving_core.specs.Does.{IsReply}
+use Rattle.interleaving_core.specs.Steps.{changed, with_batch, given, IsCollector}
+use Rattle.archive.specs.Limits.{batch_octets}
+use Rattle.interleaving_core.specs.declared.reply.BatchReply.{BatchReply as Reply}
 use Rattle.archive.specs.declared.admit.AdmitRefusal.{AdmitRefusal}
 use Rattle.archive.specs.declared.admit.AdmitRefusal.TheVariants as admits
 use Rattle.resolve.specs.declared.fault.ResolveFault.{ResolveFault}
@@ -23,7 +24,7 @@ use Rattle.service.specs.Turns.{Turn, Offer, Refuse, offered, refusals, admissio
 use Rattle.service.specs.FeedTexts.{capped, intake_in, admitted_of, batch_text, turns_text}
 use Rattle.service.specs.inner.Feeding.{HasDone}
 use Rattle.service.specs.declared.feed_lines.FeedCounts.{FeedCounts}
-use Rattle.service.proofs.Batches.{timely_both, lates_both, with_both, with_none, given_both}
+use Rattle.interleaving_core.proofs.api.Joining.{timely_both, lates_both, with_both, with_none, given_both}
 
 pub offered_both : (xs ys : List Turn) → offered (xs ++ ys) ≡ offered xs ++ offered ys
 offered_both [] ys = refl

@@ -3,9 +3,9 @@ use Rattle.std.proofs.Common.{◌≡◌, ◌∙◌, ℕ, Bool, true, false, List
 use Rattle.service.specs.Outputs.{OutputState, Tells}
 use Rattle.service.proofs.Outputs.{Tells-trans, still_failed}
 use Rattle.route_model.specs.Admission.{Admitted}
-use Rattle.route_meaning.specs.History.{History, Intake, settled}
+use Rattle.route_meaning.specs.History.{History, settled}
 use Rattle.archive.specs.Carries.{Carries}
-use Rattle.archive.specs.Steps.{given, with_batch, IsCollector, NothingToApply}
+use Rattle.interleaving_core.specs.Steps.{given, with_batch, IsCollector, NothingToApply}
 use Rattle.service.specs.FeedLines.{settled_line}
 use Rattle.service.specs.Turns.{offered, admissions_of}
 use Rattle.service.specs.Faults.{of_load}

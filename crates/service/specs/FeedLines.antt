@@ -1,7 +1,7 @@
 -- The lines of a feed. Each ends in LF.
 use Rattle.std.specs.Prelude.{ℕ, List, [], ◌∷◌, ◌++◌, codes, decimal}
 use Rattle.std.specs.List.{flat_map}
-use Rattle.archive.specs.declared.admit.Admitted.{Admitted}
+use Rattle.interleaving_core.specs.declared.reply.BatchReply.{BatchReply}
 use Rattle.sequencer.specs.declared.late.Late.{Late}
 use Rattle.service.specs.declared.feed_lines.FeedCounts.{FeedCounts}
 use Rattle.service.specs.Refusals.{line_end}
@@ -19,7 +19,7 @@ abbrev pub late_line : Late → List ℕ
 late_line l = numbers_line (codes "L") (l.index ∷ l.time ∷ l.mark ∷ [])
 
 -- what a batch became, and then each of its late records
-abbrev pub admitted_text : Admitted → List ℕ
+abbrev pub admitted_text : BatchReply → List ℕ
 admitted_text a = batch_line a.receipt.from a.receipt.to a.offered ++ flat_map late_line a.late.items
 
 -- of a feed: its records, and how many of them were admitted, came late, were refused and skipped

@@ -6,7 +6,7 @@ use Rattle.route_meaning.specs.Holds.{admitted_time}
 use Rattle.route_meaning.specs.History.{Intake}
 use Rattle.sequencer.specs.Late.{timely, lates}
 use Rattle.mrt_records.specs.Values.{Told, Read, Skipped, Malformed}
-use Rattle.archive.specs.Steps.{with_batch}
+use Rattle.interleaving_core.specs.Steps.{with_batch}
 use Rattle.resolve.specs.declared.fault.ResolveFault.{ResolveFault}
 use Rattle.service.specs.Faults.{of_cut, of_record}
 use Rattle.service.specs.FeedLines.{batch_line, late_line, counts_line}

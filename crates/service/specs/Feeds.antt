@@ -10,7 +10,8 @@ use Rattle.mrt_records.specs.declared.item.Item.{Item}
 use Rattle.resolve.specs.Meanings.{Means}
 use Rattle.resolve.specs.declared.fault.ResolveFault.{ResolveFault}
 use Rattle.archive.specs.Carries.{Carries}
-use Rattle.archive.specs.Steps.{given, IsCollector, IsCounterFull}
+use Rattle.interleaving_core.specs.Steps.{given, IsCollector}
+use Rattle.archive.specs.Limits.{IsCounterFull}
 use Rattle.service.specs.Turns.{Turn, Offer, offered, admissions_of, feed_turns}
 use Rattle.service.specs.FeedTexts.{intake_in, turns_text, feed_text}
 use Rattle.service.specs.Refusals.{refusal_line}

@@ -5,7 +5,7 @@ use Rattle.route_model.specs.Admission.{Admitted}
 use Rattle.route_meaning.specs.History.{History, Intake, settled}
 use Rattle.mrt_records.specs.Values.{Told}
 use Rattle.archive.specs.Carries.{Carries}
-use Rattle.archive.specs.Steps.{given, marked, NothingToApply, IsCollector, IsMarkAbove}
+use Rattle.interleaving_core.specs.Steps.{given, marked, NothingToApply, IsCollector, IsMarkAbove}
 use Rattle.resolve.specs.declared.fault.ResolveFault.{ResolveFault}
 use Rattle.service.specs.Turns.{offered, admissions_of}
 use Rattle.service.specs.FeedTexts.{intake_in, feed_text}

@@ -3,9 +3,10 @@ use Rattle.std.specs.Prelude.{◌≡◌, ◌⊎◌, true, false, ℕ, ◌<◌, �
 use Rattle.service.specs.Outputs.{OutputState, Tells}
 use Rattle.route_meaning.specs.History.{History, applied, settled}
 use Rattle.route_meaning.specs.declared.question.RowsAnswer.{RowsAnswer}
-use Rattle.archive.specs.declared.question.Query.{Query}
-use Rattle.archive.specs.declared.question.Answer.TheVariants.{Rows}
-use Rattle.archive.specs.Replies.{last_moment, IsAnswered}
+use Rattle.interleaving_core.specs.declared.query.Query.{Query}
+use Rattle.interleaving_core.specs.declared.query.Answer.TheVariants.{Rows}
+use Rattle.interleaving_core.specs.Does.{last_moment}
+use Rattle.interleaving_core.specs.Headline.{IsAnswered}
 use Rattle.service.specs.AnswerLines.{answer_text}
 use Rattle.service.specs.Refusals.{refusal_line, TellsFailure}
 use Rattle.service.specs.Requests.{IsQueryLine}

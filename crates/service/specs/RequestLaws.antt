@@ -1,6 +1,6 @@
 -- Laws of request lines.
 use Rattle.std.specs.Prelude.{◌≡◌, ℕ, List}
-use Rattle.archive.specs.declared.question.Query.{Query}
+use Rattle.interleaving_core.specs.declared.query.Query.{Query}
 use Rattle.service.specs.Requests.{IsQueryLine}
 
 -- no line asks two questions

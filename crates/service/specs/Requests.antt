@@ -9,8 +9,8 @@ use Rattle.route_meaning.specs.declared.question.RowsQuestion.{RowsQuestion}
 use Rattle.route_text.specs.AddressText.{IsAddressText}
 use Rattle.route_text.specs.PrefixText.{IsPrefixText}
 use Rattle.route_text.specs.MomentText.{IsMomentText}
-use Rattle.archive.specs.declared.question.Query.{Query}
-use Rattle.archive.specs.declared.question.Query.TheVariants.{Rows, Events}
+use Rattle.interleaving_core.specs.declared.query.Query.{Query}
+use Rattle.interleaving_core.specs.declared.query.Query.TheVariants.{Rows, Events}
 
 -- the words of a line: the texts before, between and behind its spaces
 abbrev pub words_of : List ℕ → List (List ℕ)

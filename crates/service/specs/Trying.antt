@@ -2,7 +2,7 @@
 use Rattle.std.specs.Prelude.{◌≡◌, ℕ, max, Bool, true, false, Option, List, [], string_bytes}
 use Rattle.route_meaning.specs.History.{History}
 use Rattle.archive.specs.Carries.{Carries}
-use Rattle.archive.specs.Steps.{empty}
+use Rattle.interleaving_core.specs.Steps.{empty}
 use Rattle.service.specs.Feeds.{MayGive}
 use Rattle.service.specs.Loads.{IsLoadEnd}
 use Rattle.service.specs.Outputs.{OutputState, Tells}

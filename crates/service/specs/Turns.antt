@@ -1,7 +1,7 @@
 -- What is done for the records of a feed, one after another: admissions are offered in batches, and refused records told.
 use Rattle.std.specs.Prelude.{ℕ, ◌≤◌, ltb, leb, suc, length, Bool, true, false, List, [], ◌∷◌, ◌++◌, Option, Some, None, Result, Ok, Err}
 use Rattle.route_model.specs.Admission.{Admitted}
-use Rattle.archive.specs.Steps.{batch_octets}
+use Rattle.archive.specs.Limits.{batch_octets}
 use Rattle.resolve.specs.declared.fault.ResolveFault.{ResolveFault}
 
 -- a batch is offered, or the record at this place is told as refused; the first record has the place 0

@@ -4,7 +4,7 @@ ghost use Rattle.std.specs.Prelude.{◌≡◌, Option, map, IfOk, OnErr};
 ghost use Rattle.route_meaning.specs.declared.question.RowsQuestion.{RowsQuestion};
 ghost use Rattle.route_meaning.specs.declared.question.Spot.{Spot};
 ghost use Rattle.route_model.specs.declared.peer.Peer.{Peer};
-ghost use Rattle.archive.specs.declared.question.Query.{Query};
+ghost use Rattle.interleaving_core.specs.declared.query.Query.{Query};
 ghost use Rattle.service.specs.Requests.{words_of, ArePeerWords, AreSpotWords, AreAfterWords, AreByPrefixWords, IsQueryLine};
 
 use archive::Query;

@@ -4,7 +4,7 @@ use Rattle.route_model.specs.Admission.{Admitted}
 use Rattle.route_meaning.specs.Holds.{admitted_time}
 use Rattle.sequencer.specs.Lanes.{Waiting, marks, waiting_times}
 use Rattle.sequencer.specs.Late.{greatest, timely, lates}
-use Rattle.archive.specs.declared.admit.Admitted.{Admitted as Reply}
+use Rattle.interleaving_core.specs.declared.reply.BatchReply.{BatchReply as Reply}
 use Rattle.archive.specs.Kept.{Queued}
 
 -- the same admissions and counts

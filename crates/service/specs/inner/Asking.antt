@@ -1,5 +1,5 @@
 -- The turns of a question, for contracts of private functions.
-use Rattle.archive.specs.declared.question.Answer.TheVariants.{Rows, Events}
+use Rattle.interleaving_core.specs.declared.query.Answer.TheVariants.{Rows, Events}
 use Rattle.archive.specs.declared.question.DescendRefusal.{DescendRefusal}
 use Rattle.archive.specs.declared.question.DescendRefusal.TheVariants as descends
 use Rattle.archive.specs.declared.question.Turn.{Turn}

@@ -13,7 +13,8 @@ use Rattle.resolve.specs.Tables.{LastTable}
 use Rattle.resolve.specs.Meanings.{Means}
 use Rattle.resolve.specs.declared.fault.ResolveFault.{ResolveFault}
 use Rattle.archive.specs.Carries.{Carries}
-use Rattle.archive.specs.Steps.{given, batch_octets, IsCollector}
+use Rattle.interleaving_core.specs.Steps.{given, IsCollector}
+use Rattle.archive.specs.Limits.{batch_octets}
 use Rattle.service.specs.Turns.{Turn, offered, refusals, turns_for, waits_behind, feed_turns}
 use Rattle.service.specs.Feeds.{IsReason}
 use Rattle.archive.specs.declared.admit.AdmitRefusal.{AdmitRefusal}

@@ -2,7 +2,7 @@
 use Rattle.std.specs.Prelude.{◌≡◌, Bool, true, false, ℕ, Option, Some, None}
 use Rattle.route_meaning.specs.History.{History}
 use Rattle.archive.specs.Carries.{Carries}
-use Rattle.archive.specs.Steps.{IsCollector, IsMarkAbove}
+use Rattle.interleaving_core.specs.Steps.{IsCollector, IsMarkAbove}
 use Rattle.service.specs.Loads.{HasIntakes, marked_if}
 use Rattle.service.specs.declared.faults.LoadStop.{LoadStop}
 use Rattle.service.specs.declared.faults.LoadStop.TheVariants as stops

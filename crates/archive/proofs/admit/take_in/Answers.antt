@@ -4,7 +4,8 @@ use Rattle.sequencer.specs.Lanes.{marks}
 use Rattle.sequencer.specs.Late.{greatest, timely}
 use Rattle.sequencer.proofs.api.Setting.{one_there}
 use Rattle.route_meaning.specs.Holds.{admitted_time}
-use Rattle.archive.proofs.Batches.{few, marks_taken, times_taken, lates_taken}
+use Rattle.interleaving_core.proofs.api.Right.{few}
+use Rattle.archive.proofs.Batches.{marks_taken, times_taken, lates_taken}
 use Rattle.archive.proofs.admit.take_in.Goals as goal
 
 pub take_in-requires-2-clause-admitted : goal.take_in-requires-2-clause-admitted

@@ -1,7 +1,7 @@
 use Rattle.std.proofs.Common.{◌≤◌, ◌<◌, arith, refl, map, take}
 use Rattle.route_meaning.specs.Holds.{admitted_time}
 use Rattle.sequencer.specs.Late.{greatest}
-use Rattle.archive.proofs.Batches.{kept_more, late_more, greatest_more}
+use Rattle.interleaving_core.proofs.api.Batches.{kept_more, late_more, greatest_more}
 use Rattle.archive.proofs.admit.timely_of.Goals as goal
 use Rattle.archive.proofs.admit.timely_of.Goals.{then-seconds+in_ok-share+in_ok-push, else-seconds}
 

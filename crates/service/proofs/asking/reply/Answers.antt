@@ -1,8 +1,9 @@
 use Rattle.std.proofs.Common.{◌≡◌, ℕ, ◌≤◌, ◌↔◌, List, Result, Err, refl, sym, subst}
 use Rattle.route_meaning.specs.History.{History, applied, settled}
-use Rattle.archive.specs.Replies.{last_moment, IsTurn}
+use Rattle.interleaving_core.specs.Does.{last_moment}
+use Rattle.archive.specs.Replies.{IsTurn}
 use Rattle.archive.specs.declared.question.Turn.{Turn}
-use Rattle.archive.specs.declared.question.Query.{Query}
+use Rattle.interleaving_core.specs.declared.query.Query.{Query}
 use Rattle.archive.specs.declared.question.DescendRefusal.{DescendRefusal}
 use Rattle.archive.specs.declared.question.DescendRefusal.TheVariants as descends
 use Rattle.service.specs.Requests.{IsQueryLine}

@@ -1,13 +1,11 @@
-use Rattle.std.proofs.Common.{◌≡◌, ◌⊎◌, ◌∙◌, ℕ, Bool, true, Option, arith, subst, sym, ap, refl}
+use Rattle.std.proofs.Common.{◌∙◌, ℕ, Option, arith, subst, sym, ap, refl}
 use Rattle.route_meaning.specs.History.{History}
 use Rattle.archive.specs.Carries.{Carries}
-use Rattle.archive.specs.Steps.{IsCollector}
+use Rattle.interleaving_core.specs.Steps.{IsCollector}
 use Rattle.service.specs.Loads.{IsSettled, marked_if}
 use Rattle.service.specs.Outputs.{Tells}
 use Rattle.service.specs.FeedLines.{settled_line}
-use Rattle.service.specs.declared.faults.FeedStop.TheVariants.{Outside}
 use Rattle.service.specs.declared.intake.End.{End}
-use Rattle.service.specs.declared.intake.End.TheVariants.{Refused}
 use Rattle.service.specs.inner.Loading.{HasNotSettled, mark_after, status_after, told_as}
 use Rattle.service.proofs.Streams.{some_given}
 use Rattle.service.proofs.Unloading.{done_inside, load_ends, load_stops, load_nowhere, refused_undone}

@@ -1,5 +1,5 @@
 use Rattle.std.proofs.Common.{◌≡◌, ◌∙◌, ◌≤◌, ℕ, max, List, string_bytes, inl, ap, refl, subst, arith}
-use Rattle.archive.specs.Steps.{empty}
+use Rattle.interleaving_core.specs.Steps.{empty}
 use Rattle.service.specs.Replies.{IsAskEnd}
 use Rattle.service.specs.Statuses.{code_of}
 use Rattle.service.specs.declared.status.Status.{Status}

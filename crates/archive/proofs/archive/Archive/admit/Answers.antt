@@ -3,8 +3,9 @@ use Rattle.std.specs.List.{slice_get, slice_set}
 use Rattle.std.proofs.lemmas.Bool.{false≢true, cases_lt}
 use Rattle.route_meaning.specs.History.{Intake, IsHistory}
 use Rattle.archive.specs.Carries.{Carries}
-use Rattle.archive.specs.Steps.{IsCollector, IsCounterFull, batch_octets, given}
-use Rattle.archive.specs.Replies.{IsReply}
+use Rattle.interleaving_core.specs.Steps.{IsCollector, given}
+use Rattle.archive.specs.Limits.{IsCounterFull, batch_octets}
+use Rattle.interleaving_core.specs.Does.{IsReply}
 use Rattle.archive.specs.Kept.{history_of}
 use Rattle.sequencer.proofs.api.Setting.{get_some}
 use Rattle.archive.proofs.Telling.{carried, carries_step, collectors_are}

@@ -6,7 +6,7 @@ use Rattle.route_meaning.specs.History.{History}
 use Rattle.sequencer.proofs.api.Calls.{first_in}
 use Rattle.sequencer.proofs.api.Setting.{get_some, one_there}
 use Rattle.archive.specs.Carries.{Carries}
-use Rattle.archive.specs.Steps.{Applies, NothingToApply}
+use Rattle.interleaving_core.specs.Steps.{Applies, NothingToApply}
 use Rattle.archive.specs.Kept.{Queued, history_of, IsKept}
 use Rattle.archive.proofs.Keeping.{same_number}
 use Rattle.archive.proofs.Telling.{carried}

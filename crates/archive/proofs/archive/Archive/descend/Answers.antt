@@ -2,9 +2,10 @@ use Rattle.std.proofs.Common.{◌≡◌, ◌<◌, arith, sym, subst, List}
 use Rattle.route_model.specs.Admission.{Admitted}
 use Rattle.route_meaning.specs.Merged.{Placed}
 use Rattle.route_meaning.specs.History.{applied, settled}
-use Rattle.archive.specs.declared.question.Query.{Query}
+use Rattle.interleaving_core.specs.declared.query.Query.{Query}
 use Rattle.archive.specs.Kept.{history_of}
-use Rattle.archive.specs.Replies.{last_moment, IsAnswered}
+use Rattle.interleaving_core.specs.Does.{last_moment}
+use Rattle.interleaving_core.specs.Headline.{IsAnswered}
 use Rattle.archive.proofs.Telling.{carried}
 use Rattle.archive.proofs.Answering.{answered}
 use Rattle.archive.proofs.archive.Archive.descend.Goals as goal

@@ -1,7 +1,7 @@
 use Rattle.std.proofs.Common.{◌<◌, ◌≤◌, List, length, arith, sym, subst, refl}
 use Rattle.sequencer.specs.Lanes.{Waiting}
 use Rattle.archive.specs.Carries.{Carries}
-use Rattle.archive.specs.Steps.{IsCollector, IsMarkAbove, marked}
+use Rattle.interleaving_core.specs.Steps.{IsCollector, IsMarkAbove, marked}
 use Rattle.archive.specs.Kept.{history_of, IsKept}
 use Rattle.archive.proofs.Telling.{carried, carries_step, collectors_are}
 use Rattle.archive.proofs.Marking.{there, kept_marked, marked_is, mark_above, above_mark}

@@ -3,7 +3,7 @@ use Rattle.route_model.specs.Admission.{Admitted}
 use Rattle.route_meaning.specs.Merged.{Placed}
 use Rattle.archive.specs.Kept.{history_of, IsKept}
 use Rattle.archive.specs.Carries.{Carries}
-use Rattle.archive.specs.Steps.{empty}
+use Rattle.interleaving_core.specs.Steps.{empty}
 use Rattle.archive.proofs.Empty.{kept_empty, carries_empty}
 use Rattle.archive.proofs.archive.Archive.plain.Goals as goal
 

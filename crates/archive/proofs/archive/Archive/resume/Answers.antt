@@ -1,7 +1,7 @@
 use Rattle.std.proofs.Common.{◌≡◌, ◌<◌, ◌∙◌, length, map, arith, sym, Some}
 use Rattle.std.specs.List.{slice_get}
 use Rattle.archive.specs.Kept.{history_of}
-use Rattle.archive.specs.Replies.{resume_of}
+use Rattle.interleaving_core.specs.World.{resume_of}
 use Rattle.sequencer.proofs.api.Setting.{get_some}
 use Rattle.archive.proofs.Keeping.{same_number}
 use Rattle.archive.proofs.Telling.{carried, collectors_are, resume_at}

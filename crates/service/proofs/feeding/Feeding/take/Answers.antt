@@ -1,6 +1,6 @@
 use Rattle.std.proofs.Common.{◌≤◌, ℕ, ◌++◌, ◌∷◌, [], ◌∙◌, Ok, Err, Some, None, refl, sym, ap, subst, length}
 use Rattle.mrt_records.specs.Values.{told}
-use Rattle.archive.specs.Steps.{batch_octets}
+use Rattle.archive.specs.Limits.{batch_octets}
 use Rattle.resolve.specs.Tables.{LastTable, Feed}
 use Rattle.service.specs.Turns.{turns_for}
 use Rattle.service.proofs.Turning.{done_no_more}
