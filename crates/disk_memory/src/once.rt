@@ -27,7 +27,7 @@ ghost use Rattle.disk_memory.specs.Burning.{LeavesFailed, once_state_of, torn_bu
 ghost use Rattle.disk_memory.specs.OnceFailure.{failing_reads_of};
 ghost use Rattle.disk_memory.specs.Pen.{KeepsBurns, once_faults_of, once_model, once_script_of, settled_of, waiting_of};
 
-use crate::burn::{Burn, is_tried};
+use crate::burn::{Burn, burnt, is_tried, tried};
 use crate::once_failure::burn_failure;
 use crate::pen::MemPen;
 use crate::seen::MemSeen;
@@ -204,7 +204,8 @@ impl OnceDisk for MemOnce {
         }
     }
 
-    /// Beside the trait's clauses: it fails exactly where the script said when the reader looked.
+    /// Beside the trait's clauses: it fails exactly where the script said when the reader looked. Of a block that isn't
+    /// known it gives what came to stand there, and of a blank one zeros.
     fn read(&self, seen: &mut MemSeen, n: u64, into: &mut Block) -> Result<(), Fault>
         requires { n < blocks_of self.now }
         ensures counts { Counts (seen_faults_of seen.old) (seen_faults_of seen.new) result }
@@ -214,7 +215,17 @@ impl OnceDisk for MemOnce {
         ensures failing { failing_of seen.new ≡ failing_of seen.old }
         ensures next { seen_reads_of seen.new ≡ next_number (seen_reads_of seen.old) }
     {
-        seen.read(n, into)
+        if seen.read_fails() {
+            return Err(seen.fault());
+        }
+        if let Some(block) = burnt(&seen.burns, n) {
+            into.copy_from(block);
+        } else if let Some(block) = tried(&seen.burns, n) {
+            into.copy_from(block);
+        } else {
+            into.octets_mut().fill(0);
+        }
+        Ok(())
     }
 
     fn pen_faults(pen: &MemPen) -> u64 {

@@ -1,7 +1,6 @@
-use Rattle.std.proofs.Common.{◌≡◌, ◌++◌, ◌∷◌, [], List, length, refl, ap, ◌∙◌}
+use Rattle.std.proofs.Common.{◌++◌, ◌∷◌, [], List, length, refl, ap, ◌∙◌}
 use Rattle.disk_memory.specs.Memory.{calls_of}
 use Rattle.disk_memory.specs.Writing.{Writing}
-use Rattle.disk_memory.specs.declared.call.Call.{Call}
 use Rattle.disk_memory.specs.declared.call.Call.TheVariants.{Write}
 use Rattle.disk_memory.proofs.Replaying.{same_within, more_within, more_done}
 use Rattle.disk_memory.proofs.Results.{whole}

@@ -1,4 +1,4 @@
-use Rattle.std.proofs.Common.{◌≡◌, ◌++◌, ◌∷◌, [], List, Option, None, ap, ◌∙◌}
+use Rattle.std.proofs.Common.{◌++◌, ◌∷◌, [], None, ap, ◌∙◌}
 use Rattle.disk_memory.specs.Burning.{Burning}
 use Rattle.disk_memory.specs.Pen.{settled_of, waiting_of}
 use Rattle.disk_memory.proofs.Results.{on_err}
