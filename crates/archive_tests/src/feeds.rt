@@ -618,14 +618,19 @@ impl Read for Failing<'_> {
     }
 }
 
-/// A reader of these octets, one at a time.
+/// A reader of these octets, one at a time, each behind an interruption.
 #[derive(Drop)]
 struct Slow<'a> {
     octets: &'a [u8],
+    interrupted: bool,
 }
 
 impl Read for Slow<'_> {
     fn read(&mut self, buf: &mut [u8]) -> std::io::Result<usize> {
+        self.interrupted = !self.interrupted;
+        if self.interrupted {
+            return Err(Error::from(ErrorKind::Interrupted));
+        }
         let Some(first) = buf.get_mut(..1) else {
             return Ok(0);
         };
@@ -633,11 +638,45 @@ impl Read for Slow<'_> {
     }
 }
 
-/// Whether octets may come one at a time.
+/// A writer of one octet at a time, each behind an interruption.
+#[derive(Drop)]
+struct SlowOut<'a> {
+    octets: &'a mut Vec<u8>,
+    interrupted: bool,
+}
+
+impl Write for SlowOut<'_> {
+    fn write(&mut self, buf: &[u8]) -> std::io::Result<usize> {
+        self.interrupted = !self.interrupted;
+        if self.interrupted {
+            return Err(Error::from(ErrorKind::Interrupted));
+        }
+        let Some(first) = buf.get(..1) else {
+            return Ok(0);
+        };
+        self.octets.write(first)
+    }
+
+    fn flush(&mut self) -> std::io::Result<()> {
+        Ok(())
+    }
+}
+
+/// Whether octets may come and go one at a time, with interruptions.
 fn is_fed_slowly(alloc: Global) -> Result<bool, Fail> {
     let mut archive = Archive::plain(alloc, 1)?;
     let octets = stream(alloc, &[LONG_PREFIX, UPDATE])?;
-    let (out, end) = feed_from(alloc, &mut archive, 0, Slow { octets: &octets });
+    let mut reader = Input::new(Slow {
+        octets: &octets,
+        interrupted: false,
+    });
+    let mut out: Vec<u8> = Vec::new(alloc);
+    let mut writer = Output::new(SlowOut {
+        octets: &mut out,
+        interrupted: false,
+    });
+    let end = feed_to(alloc, &mut archive, 0, &mut reader, &mut writer);
+    drop(writer);
     let lines = "X|15|Malformed|0\nB|0|1|1\nF|2|1|0|1|0\n";
     Ok(end == End::Well && out.as_slice() == lines.as_bytes())
 }

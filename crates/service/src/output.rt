@@ -1,7 +1,8 @@
 //! Writers of lines and readers of octets that remember that they failed.
 
 ghost use Rattle.std.specs.Prelude.{◌≡◌, ◌≤◌, ◌<◌, [], decimal, length, true, false, is_some, IfSome, IfNone, Some, take};
-ghost use Rattle.std.specs.Io.KnownBytes.{Appends, Consumes, IsAtEnd};
+ghost use Rattle.std.specs.Io.{ReadsAtMost, WritesAtMost};
+ghost use Rattle.std.specs.Io.KnownBytes.{Appends, Consumes, IsAtEnd, ReadConsumes, WriteAppends};
 ghost use Rattle.service.specs.Outputs.{Tells};
 
 use itoa::Buffer;
@@ -22,6 +23,20 @@ impl<W: Write> Model for Output<W> {
     ghost Value = { OutputState };
 
     ghost view = { λ o. record { held = W.contents o.writer; failed = is_some o.failure } };
+}
+
+/// One write, done again where a signal interrupts it.
+fn write_through<W: Write>(writer: &mut W, octets: &[u8]) -> Result<usize, Error>
+    ensures bound { WritesAtMost result octets.now }
+    ensures bytes { WriteAppends (W.contents writer.old) (W.contents writer.new) result octets.now }
+{
+    for _ in 0..u64::MAX {
+        match writer.write(octets) {
+            Err(error) if error.kind() == ErrorKind::Interrupted => {}
+            ended => return ended,
+        }
+    }
+    writer.write(octets)
 }
 
 impl<W: Write> Output<W> {
@@ -49,34 +64,26 @@ impl<W: Write> Output<W> {
         self.failure.as_ref()
     }
 
-    /// Writes some of the octets: how many, 0 where a signal interrupted it, or none where the write failed.
+    /// Writes some of the octets, of which there are some: how many, or none where the write failed.
     fn write_some(&mut self, octets: &[u8]) -> Option<usize>
+        ensures some { IfSome result (λ count. 0 < count) }
         ensures fits { IfSome result (λ count. count ≤ length octets.now) }
         ensures wrote { IfSome result (λ count. Appends self.old.held self.new.held (take count octets.now)) }
         ensures sound { IfSome result (λ count. self.new.failed ≡ self.old.failed) }
         ensures failed { IfNone result (self.new.failed ≡ true) }
         ensures kept { IfNone result (Appends self.old.held self.new.held []) }
     {
-        match self.writer.write(octets) {
+        match write_through(&mut self.writer, octets) {
             Ok(0) => {
                 self.failure = Some(Error::from(ErrorKind::WriteZero));
                 None
             }
             Ok(count) => Some(count),
-            Err(error) if error.kind() == ErrorKind::Interrupted => Some(0),
             Err(error) => {
                 self.failure = Some(error);
                 None
             }
         }
-    }
-
-    /// Counts the writer as failed: it takes nothing, however often it is tried.
-    fn give_up(&mut self)
-        ensures failed { self.new.failed ≡ true }
-        ensures held { self.new.held ≡ self.old.held }
-    {
-        self.failure = Some(Error::from(ErrorKind::Other));
     }
 
     /// Writes the octets.
@@ -87,16 +94,12 @@ impl<W: Write> Output<W> {
             return;
         }
         let mut rest = octets;
-        for _ in 0..u64::MAX {
-            if rest.is_empty() {
-                return;
-            }
+        while !rest.is_empty() {
             let Some(count) = self.write_some(rest) else {
                 return;
             };
             rest = &rest[count..];
         }
-        self.give_up();
     }
 
     /// Writes out what the writer buffers.
@@ -143,6 +146,20 @@ impl<R: Read> Model for Input<R> {
     ghost view = { λ i. record { left = R.remaining i.reader; failed = is_some i.failure } };
 }
 
+/// One read, done again where a signal interrupts it.
+fn read_through<R: Read>(reader: &mut R, piece: &mut [u8]) -> Result<usize, Error>
+    ensures bound { ReadsAtMost result piece.new }
+    ensures bytes { ReadConsumes (R.remaining reader.old) (R.remaining reader.new) result piece.new }
+{
+    for _ in 0..u64::MAX {
+        match reader.read(piece) {
+            Err(error) if error.kind() == ErrorKind::Interrupted => {}
+            ended => return ended,
+        }
+    }
+    reader.read(piece)
+}
+
 impl<R: Read> Input<R> {
     pub fn new(reader: R) -> Input<R>
         ensures left { result.left ≡ R.remaining reader }
@@ -169,7 +186,7 @@ impl<R: Read> Input<R> {
         ensures sound { IfSome result (λ _. self.new.failed ≡ self.old.failed) }
         ensures failed { IfNone result (self.new.failed ≡ true) }
     {
-        match self.reader.read(piece) {
+        match read_through(&mut self.reader, piece) {
             Ok(count) => Some(count),
             Err(error) => {
                 self.failure = Some(error);
