@@ -173,7 +173,7 @@ pub crash_then : (s0 s1 s2 : DiskState) (homes0 homes1 : ℕ) (note0 note1 : Lis
 crash_then s0 s1 s2 homes0 homes1 note0 note1 pages homes note one two = leaves_then s0 s1 s2 (λ c. Recovers homes0 note0 c pages) one
     (subst (λ k. Leaves s1 s2 (λ c. Recovers k note0 c pages)) homes (subst (λ (k : List ℕ). Leaves s1 s2 (λ c. Recovers homes1 k c pages)) note two))
 
-not_fault : uses.NeedsRecovery ≡ uses.Fault → ⊥
+pub not_fault : uses.NeedsRecovery ≡ uses.Fault → ⊥
 not_fault is = cc
 
 -- How a last step of a journal ends that leaves it usable: it succeeded, or nothing was done.

@@ -1,10 +1,10 @@
 //! Pages in memory under their numbers.
-ghost use Rattle.std.specs.Prelude.{◌≡◌, ◌<◌, ◌↔◌, ℕ, List, Some, IfSome, IsSome, IsTrue, length, nat_eq, slice_get, slice_set};
+ghost use Rattle.std.specs.Prelude.{◌≡◌, ◌<◌, ◌↔◌, ◌⊎◌, ℕ, List, Some, IfSome, IsSome, IsTrue, length, nat_eq, slice_get, slice_set};
 ghost use Rattle.std.specs.Ordering.{nat_cmp};
 ghost use Rattle.std.specs.BTreeMap.{get};
 ghost use Rattle.std.specs.Map.{lookup};
 ghost use Rattle.page_journal.specs.Layout.{pages_of};
-ghost use Rattle.page_journal.specs.Recovers.{laid, AreBelow};
+ghost use Rattle.page_journal.specs.Recovers.{laid, AreBelow, IsListed};
 ghost use Rattle.buffer_pool.specs.Held.{AreShown, HoldsPages};
 ghost use Rattle.buffer_pool.specs.inner.Taking.{Has, IsDropped};
 
@@ -16,6 +16,7 @@ use std::collections::BTreeMap;
 fn take_in(pages: &mut BTreeMap<u64, Page>, n: u64, page: Page)
     ensures has { (m : ℕ) → IfSome (get nat_cmp pages.new m) (Has pages.old n page m) }
     ensures waits { (m : ℕ) → IsSome (get nat_cmp pages.old m) → IsSome (get nat_cmp pages.new m) }
+    ensures only { (m : ℕ) → IsSome (get nat_cmp pages.new m) → (m ≡ n) ⊎ IsSome (get nat_cmp pages.old m) }
 {
     pages.insert(n, page).ok();
 }
@@ -57,6 +58,7 @@ fn take_page(
 )
     ensures holds { (map : List (List ℕ)) → n < length map → HoldsPages committed.old cached.old map → HoldsPages committed.new cached.new (slice_set map n page) }
     ensures waits { (m : ℕ) → IsSome (get nat_cmp committed.old m) → IsSome (get nat_cmp committed.new m) }
+    ensures only { (m : ℕ) → IsSome (get nat_cmp committed.new m) → (m ≡ n) ⊎ IsSome (get nat_cmp committed.old m) }
     ensures capacity { cached.new.cap ≡ cached.old.cap }
 {
     drop_page(cached, n);
@@ -71,6 +73,7 @@ pub fn take_all(
 )
     ensures holds { (map : List (List ℕ)) → AreBelow (length map) (pages_of images.items) → HoldsPages committed.old cached.old map → HoldsPages committed.new cached.new (laid images.items map) }
     ensures waits { (m : ℕ) → IsSome (get nat_cmp committed.old m) → IsSome (get nat_cmp committed.new m) }
+    ensures only { (m : ℕ) → IsSome (get nat_cmp committed.new m) → IsListed m (pages_of images.items) ⊎ IsSome (get nat_cmp committed.old m) }
     ensures capacity { cached.new.cap ≡ cached.old.cap }
 {
     for (n, page) in images {

@@ -1,11 +1,14 @@
 //! The pool.
 ghost use Rattle.std.specs.Prelude.{◌≡◌, ◌≢◌, ◌≤◌, ◌<◌, ◌-◌, ◌↔◌, ◌⊎◌, ℕ, List, length, OnOk, OnErr, IfOk, IfErr, IsOk, IsErrOf, IfSome, IsSome, ◌==◌, not, filter, true, false, Some, slice_get};
+ghost use Rattle.std.specs.Ordering.{nat_cmp};
+ghost use Rattle.std.specs.BTreeMap.{get};
 ghost use Rattle.disk_models.specs.Erase.{Leaves, Stays};
 ghost use Rattle.disk_models.specs.Serves.{Serves};
+ghost use Rattle.page_journal.specs.Bookkeeping.{is_among};
 ghost use Rattle.page_journal.specs.Calls.{IsDown, IsIdle, SameButDisk, SameJournal, TakesSlot};
 ghost use Rattle.page_journal.specs.Journal.{Keeps, closed_slots, disk_of, home_pages, needs_recovery, note_of, opened_slots, unhomed_pages};
 ghost use Rattle.page_journal.specs.Layout.{pages_of};
-ghost use Rattle.page_journal.specs.Recovers.{laid, AreBelow, AreDistinct, Recovers, RecoversEither};
+ghost use Rattle.page_journal.specs.Recovers.{laid, AreBelow, AreDistinct, IsListed, Recovers, RecoversEither};
 ghost use Rattle.page_journal.specs.Refusals.{PostRefusal, PostsAt, UseRefusal};
 ghost use Rattle.buffer_pool.specs.Refusals.{ReadRefusal};
 
@@ -20,14 +23,15 @@ use std::num::NonZeroUsize;
 
 /// The pages of a journal, some of which are kept in memory.
 ///
-/// A page that was committed stays in memory until it is written home, as far as there is memory: one that doesn't is
-/// read from its image. Of the others the last ones that were used stay.
+/// A page that was committed stays in memory until it is written home, and no longer, as far as there is memory: one that
+/// doesn't is read from its image. Of the others the last ones that were used stay.
 #[derive(Drop)]
 pub struct Pool<D: EraseDisk + Drop> {
     journal: Journal<D>,
     committed: BTreeMap<u64, Page>,
     cached: LruCache<u64, Page>,
     spare: Page,
+    ghost dirty: { (n : ℕ) → IsSome (get nat_cmp committed n) → is_among n (unhomed_pages journal) ≡ true },
 }
 
 // A page of the map, as the journal has it.
@@ -105,6 +109,9 @@ impl<D: EraseDisk + Drop> Pool<D> {
     /// How many pages are dirty: committed, and not written home.
     pub fn dirty(&self) -> usize
         ensures dirty { result ≡ length (unhomed_pages (journal_of self.now)) }
+
+        // What waits in memory to be written home is dirty.
+        ensures waiting { (n : ℕ) → IsWaiting self.now n → IsListed n (unhomed_pages (journal_of self.now)) }
     {
         self.journal.unhomed()
     }

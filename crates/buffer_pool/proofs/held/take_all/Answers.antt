@@ -1,9 +1,9 @@
-use Rattle.std.proofs.Common.{◌≡◌, ◌∙◌, ◌∷◌, [], List, length, arith, refl, ap, sym, subst}
+use Rattle.std.proofs.Common.{◌≡◌, ◌∙◌, ◌∷◌, [], List, inl, inr, ⊎_elim, length, arith, refl, ap, sym, subst}
 use Rattle.std.specs.List.{slice_set}
 use Rattle.std.proofs.lemmas.List.{length-set}
 use Rattle.std.specs.Vec.Iter.{into_iter_items}
 use Rattle.page_journal.specs.Layout.{Image, pages_of}
-use Rattle.page_journal.specs.Recovers.{laid, AreBelow}
+use Rattle.page_journal.specs.Recovers.{laid, AreBelow, IsListed}
 use Rattle.buffer_pool.specs.Held.{HoldsPages}
 use Rattle.buffer_pool.proofs.held.take_all.Goals as goal
 
@@ -18,6 +18,13 @@ loop-n-preserved c =
     record {
       capacity = c.take_page.ensures.capacity ∙ c.loop-n.invariant.capacity;
       waits = λ m there. c.take_page.ensures.waits m (c.loop-n.invariant.waits m there);
+      only = λ m there. c.loop-n.invariant.only m (⊎_elim
+          (λ later. inl (subst (λ (l : List Image). IsListed m (pages_of l)) (sym step.0) (inr later)))
+          (λ now. ⊎_elim
+          (λ same. inl (subst (λ (l : List Image). IsListed m (pages_of l)) (sym step.0) (inl same)))
+          (λ was. inr was)
+          (c.take_page.ensures.only m now))
+          there);
       holds = λ map below held.
           let so_far = c.loop-n.invariant.holds map below held in
           let now = so_far.0 in

@@ -1,9 +1,11 @@
-use Rattle.std.proofs.Common.{◌≡◌, List, length, sym, subst}
+use Rattle.std.proofs.Common.{◌≡◌, ◌≢◌, ⊎_elim, inl, inr, rules, List, length, sym, subst}
 use Rattle.disk_models.specs.Erase.{Leaves}
 use Rattle.page_journal.specs.Layout.{Image, pages_of}
 use Rattle.page_journal.specs.Journal.{Keeps, disk_of, home_pages, note_of}
-use Rattle.page_journal.specs.Recovers.{laid, AreBelow, RecoversEither}
+use Rattle.page_journal.specs.Recovers.{laid, AreBelow, IsListed, RecoversEither}
+use Rattle.page_journal.specs.declared.error.PostError.TheVariants as posts
 use Rattle.page_journal.proofs.api.Kept.{kept_length}
+use Rattle.buffer_pool.proofs.Waiting.{posted_among, unchanged_pool}
 use Rattle.buffer_pool.proofs.pool.Pool.commit.Goals as goal
 
 pub returns-in_err-post-clause-crash : goal.returns-in_err-post-clause-crash
@@ -27,3 +29,17 @@ returns-clause-maps g c h pages m =
       keeps = subst (λ (l : List Image). Keeps g.D.EraseDisk c.post.new.self (laid l pages)) c.deref.ensures.value (c.in_ok-post.ensures.posted h pages m.keeps);
       held = c.take_all.ensures.holds pages (subst (λ k. AreBelow k (pages_of images)) (sym long) c.requires.below) m.held;
     }
+
+pub returns-in_err-post-clause-unchanged : goal.returns-in_err-post-clause-unchanged
+returns-in_err-post-clause-unchanged g c = unchanged_pool (λ e. e ≢ posts.Fault) c.args.self.now c.post.new.self c.from_residual.result _ (search rules)
+
+pub invariant_of-self-2 : goal.invariant_of-self-2
+invariant_of-self-2 g c = record {
+  dirty = λ m there.
+      let self = c.args.self.now in
+      let same = c.deref.ensures.value in
+      posted_among c.deref.result.now self.journal c.post.new.self m c.post.ensures.empty c.in_ok-post.ensures.taken (⊎_elim
+      (λ listed. inl (subst (λ (l : List Image). IsListed m (pages_of l)) (sym same) listed))
+      (λ was. inr (self.dirty m was))
+      (c.take_all.ensures.only m there));
+}

@@ -1,10 +1,12 @@
-use Rattle.std.proofs.Common.{◌≡◌, ◌∙◌, ◌==◌, not, filter, List, ℕ, length, arith, Some, Option, IfSome, ap, sym, subst}
+use Rattle.std.proofs.Common.{◌≡◌, ◌∙◌, ◌==◌, not, filter, List, ℕ, length, true, arith, Some, Option, IfSome, ap, sym, subst}
 use Rattle.std.specs.List.{slice_get}
 use Rattle.disk_models.specs.Erase.{Leaves}
 use Rattle.disk_models.proofs.api.Moments.{leaves_then}
 use Rattle.page_journal.specs.Journal.{disk_of, home_pages, note_of, unhomed_pages}
 use Rattle.page_journal.specs.Recovers.{Recovers}
 use Rattle.buffer_pool.proofs.Holding.{fewer, removed_shown}
+use Rattle.buffer_pool.proofs.Waiting.{failed_same, homed_among, homed_or_not, removed_only}
+use Rattle.page_journal.specs.Bookkeeping.{is_among}
 use Rattle.buffer_pool.proofs.pool.Pool.flush_one.Goals as goal
 
 pub returns-in_err-home-in-Some-remove-clause-crash : goal.returns-in_err-home-in-Some-remove-clause-crash
@@ -77,4 +79,25 @@ returns-in_err-read-in-None-clause-maps g c h pages m up = record {
     committed = removed_shown c.args.self.now.committed c.remove.new.self _ pages c.remove.ensures.updates.0 m.held.committed;
     cached = m.held.cached;
   };
+}
+
+pub invariant_of-self-in-Some-remove : goal.invariant_of-self-in-Some-remove
+invariant_of-self-in-Some-remove g c = record {
+  dirty = λ m there.
+      let self = c.args.self.now in
+      let n = c.in-Some.n in
+      let was = removed_only self.committed c.remove.new.self n c.remove.ensures.updates.0 m there in
+      ap (is_among m) c.in_ok-home-in-Some-remove.ensures.unhomed ∙ homed_among m n (unhomed_pages self.journal) was.0 (self.dirty m was.1);
+}
+
+pub invariant_of-self-in-None : goal.invariant_of-self-in-None
+invariant_of-self-in-None g c = record {
+  dirty = λ m there.
+      let self = c.args.self.now in
+      let n = c.in-Some.n in
+      let read = c.read.new.self in
+      let home = c.home-in-None in
+      let was = removed_only self.committed c.remove.new.self n c.remove.ensures.updates.0 m there in
+      let still : is_among m (unhomed_pages read) ≡ true = ap (is_among m) c.read.ensures.same.unhomed ∙ self.dirty m was.1 in
+      homed_or_not m n (unhomed_pages read) (unhomed_pages home.new.self) home.result home.ensures.unhomed (failed_same read home.new.self home.result home.ensures.unchanged home.ensures.failed) was.0 still;
 }
