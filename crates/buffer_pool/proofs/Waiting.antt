@@ -3,6 +3,7 @@ use Rattle.std.proofs.Common.{◌≡◌, ◌≢◌, ◌⊎◌, inl, inr, ⊎_eli
 use Rattle.std.specs.Ordering.{is_eq, nat_cmp}
 use Rattle.std.specs.Cmp.{nat_cmp_is}
 use Rattle.std.specs.BTreeMap.{BTreeMap, get}
+use Rattle.std.specs.List.{slice_get}
 use Rattle.std.specs.Result.{IfErr, IsErrOf, OnErr, OnOk}
 use Rattle.std.proofs.Props.{props}
 use Rattle.std.proofs.lemmas.Bool.{cases_eq, cond-true, cond-false, eq-eqb, ne_eqb}
@@ -16,6 +17,7 @@ use Rattle.page_journal.specs.declared.error.UseError.{UseError}
 use Rattle.page_journal.specs.declared.error.UseError.TheVariants as uses
 use Rattle.page_journal.specs.declared.journal.Journal.{Journal}
 use Rattle.buffer_pool.specs.declared.pool.Pool.{Pool}
+use Rattle.buffer_pool.specs.Pool.{oldest_dirty}
 use Rattle.buffer_pool.specs.inner.Taking.{Has}
 use Rattle.buffer_pool.proofs.Holding.{not_fault}
 
@@ -136,3 +138,23 @@ posted_among (image ∷ images) old new m same takes is =
     (λ listed. among_joined m all (pages_of (image ∷ images)) listed)
     (λ was. among_first m all (without all (pages_of (image ∷ images))) was)
     is
+
+kept_listed : (n m : ℕ) (b : Bool) (ns kept : List ℕ) → (IsListed n kept → IsListed n ns) → IsListed n (cond b (m ∷ kept) kept) → IsListed n (m ∷ ns)
+kept_listed n m true ns kept rest is = ⊎_elim (λ here. inl here) (λ later. inr (rest later)) is
+kept_listed n m false ns kept rest is = inr (rest is)
+
+filter_listed : (n : ℕ) (test : ℕ → Bool) (ns : List ℕ) → IsListed n (filter test ns) → IsListed n ns
+filter_listed n test [] listed = listed
+filter_listed n test (m ∷ ns) listed = kept_listed n m (test m) ns (filter test ns) (filter_listed n test ns) listed
+
+-- a page that isn't home after a flush wasn't before it
+pub flushed_listed : {D : Type 0} {device : Ghosts D} (n : ℕ) (old new : Pool D device) (r : Result Bool UseError)
+    → OnOk r (IfSome (oldest_dirty old) (λ k. unhomed_pages new.journal ≡ filter (λ m. not (m == k)) (unhomed_pages old.journal)))
+    → (length (unhomed_pages old.journal) ≡ 0 → new ≡ old) → OnErr r (unhomed_pages new.journal ≡ unhomed_pages old.journal)
+    → IsListed n (unhomed_pages new.journal) → IsListed n (unhomed_pages old.journal)
+flushed_listed n old new (Err e) oldest none same listed = subst (IsListed n) same listed
+flushed_listed n old new (Ok more) oldest none same listed = first_gone n (unhomed_pages old.journal) (unhomed_pages new.journal) oldest (λ empty. ap (λ p. unhomed_pages p.journal) (none empty)) listed
+  where
+    first_gone : (n : ℕ) (before after : List ℕ) → IfSome (slice_get before 0) (λ k. after ≡ filter (λ m. not (m == k)) before) → (length before ≡ 0 → after ≡ before) → IsListed n after → IsListed n before
+    first_gone n [] after gone same listed = subst (IsListed n) (same refl) listed
+    first_gone n (k ∷ ns) after gone same listed = filter_listed n (λ m. not (m == k)) (k ∷ ns) (subst (IsListed n) gone listed)

@@ -5,7 +5,9 @@ use Rattle.std.specs.BTreeMap.{get}
 use Rattle.std.specs.Map.{lookup}
 use Rattle.disk_models.specs.declared.erase.EraseDisk.{Ghosts}
 use Rattle.page_journal.specs.declared.journal.Journal.{Journal}
-use Rattle.page_journal.specs.Journal.{Keeps, unhomed_pages}
+use Rattle.disk_models.specs.Erase.{Stays}
+use Rattle.page_journal.specs.Calls.{SameButDisk}
+use Rattle.page_journal.specs.Journal.{Keeps, disk_of, unhomed_pages}
 use Rattle.buffer_pool.specs.Held.{HoldsPages}
 use Rattle.buffer_pool.specs.declared.pool.Pool.{Pool}
 
@@ -37,3 +39,8 @@ IsResident pool n = IsWaiting pool n ⊎ IsSome (lookup (nat_eq n) pool.cached.e
 pub record Maps {D : Type 0} (device : Ghosts D) (pool : Pool D device) (pages : List (List ℕ)) : Type 0 where
   pub keeps : Keeps device pool.journal pages
   pub held : HoldsPages pool.committed pool.cached pages
+
+-- Nothing but its disk has changed, and of that a read at most: nothing was written.
+pub record WasOnlyRead {D : Type 0} (device : Ghosts D) (old new : Journal D device) : Type 0 where
+  pub same : SameButDisk device old new
+  pub stays : device.honest (disk_of old) → Stays (device.model (disk_of old)) (device.model (disk_of new))

@@ -57,7 +57,7 @@ fn read_page<D: EraseDisk + Drop>(
 }
 
 impl<D: EraseDisk + Drop> Pool<D> {
-    ghost use Rattle.buffer_pool.specs.Pool.{IsResident, IsWaiting, Maps, clean_pages, journal_of, most_clean, oldest_dirty};
+    ghost use Rattle.buffer_pool.specs.Pool.{IsResident, IsWaiting, Maps, WasOnlyRead, clean_pages, journal_of, most_clean, oldest_dirty};
     ghost use Rattle.std.specs.NonZero.{non_zero_usize_get};
 
     /// The pool of a journal, with room for so many pages that are home. For want of memory the journal is handed back.
@@ -220,6 +220,7 @@ impl<D: EraseDisk + Drop> Pool<D> {
             → needs_recovery (journal_of self.new) ≡ false → Maps D.EraseDisk self.new pages }
 
         ensures wrote { IfOk result (λ more. (more ≡ false) ↔ (length (unhomed_pages (journal_of self.old)) ≡ 0)) }
+        ensures none { length (unhomed_pages (journal_of self.old)) ≡ 0 → self.new ≡ self.old }
         ensures oldest { OnOk result (IfSome (oldest_dirty self.old) (λ n. unhomed_pages (journal_of self.new) ≡ filter (λ m. not (m == n)) (unhomed_pages (journal_of self.old)))) }
         ensures fewer { OnOk result (length (unhomed_pages (journal_of self.new)) ≤ length (unhomed_pages (journal_of self.old)) - 1) }
         ensures as_dirty { OnErr result (unhomed_pages (journal_of self.new) ≡ unhomed_pages (journal_of self.old)) }
@@ -230,8 +231,9 @@ impl<D: EraseDisk + Drop> Pool<D> {
         ensures refused { IfErr result (UseRefusal (needs_recovery (journal_of self.old))) }
         ensures unchanged { IsErrOf result UseError.NeedsRecovery → self.new ≡ self.old }
 
-        // A write that failed asks for recovery. A page that couldn't be read to be written leaves the journal as it was.
-        ensures failed { IsErrOf result UseError.Fault → IsDown D.EraseDisk (journal_of self.old) (journal_of self.new) ⊎ SameButDisk D.EraseDisk (journal_of self.old) (journal_of self.new) }
+        // A write that failed asks for recovery. Where a page couldn't be read to be written, nothing was written.
+        ensures failed { IsErrOf result UseError.Fault → IsDown D.EraseDisk (journal_of self.old) (journal_of self.new) ⊎ WasOnlyRead D.EraseDisk (journal_of self.old) (journal_of self.new) }
+        ensures some { IsErrOf result UseError.Fault → 0 < length (unhomed_pages (journal_of self.old)) }
         ensures journal { SameJournal D.EraseDisk (journal_of self.old) (journal_of self.new) (IsErrOf result UseError.Fault) }
         ensures capacity { most_clean self.new ≡ most_clean self.old }
     {
@@ -262,9 +264,14 @@ impl<D: EraseDisk + Drop> Pool<D> {
             → needs_recovery (journal_of self.new) ≡ false → Maps D.EraseDisk self.new pages }
 
         ensures idle { OnOk result (IsIdle D.EraseDisk (journal_of self.new)) }
+        ensures still { IsIdle D.EraseDisk (journal_of self.old) → journal_of self.new ≡ journal_of self.old }
         ensures ok { OnOk result (needs_recovery (journal_of self.old) ≡ false) }
         ensures refused { IfErr result (UseRefusal (needs_recovery (journal_of self.old))) }
         ensures unchanged { IsErrOf result UseError.NeedsRecovery → self.new ≡ self.old }
+
+        // A failure asks for recovery, or leaves dirty pages, of those that were.
+        ensures failed { IsErrOf result UseError.Fault → (needs_recovery (journal_of self.new) ≡ true) ⊎ (0 < length (unhomed_pages (journal_of self.new))) }
+        ensures as_dirty { (n : ℕ) → IsListed n (unhomed_pages (journal_of self.new)) → IsListed n (unhomed_pages (journal_of self.old)) }
         ensures as_opened { OnErr result (opened_slots (journal_of self.new) ≡ opened_slots (journal_of self.old)) }
         ensures journal { SameJournal D.EraseDisk (journal_of self.old) (journal_of self.new) (IsErrOf result UseError.Fault) }
         ensures capacity { most_clean self.new ≡ most_clean self.old }

@@ -1,8 +1,8 @@
-use Rattle.std.proofs.Common.{◌≡◌, ◌≤◌, ◌-◌, ℕ, List, false, length}
+use Rattle.std.proofs.Common.{◌≡◌, ◌≤◌, [], ◌-◌, ℕ, List, false, length}
 use Rattle.disk_models.specs.Erase.{Leaves}
 use Rattle.page_journal.specs.Calls.{SameJournal}
 use Rattle.page_journal.specs.Journal.{disk_of, home_pages, needs_recovery, note_of, opened_slots, unhomed_pages}
-use Rattle.page_journal.specs.Recovers.{Recovers}
+use Rattle.page_journal.specs.Recovers.{IsListed, Recovers}
 use Rattle.buffer_pool.specs.Pool.{Maps, most_clean}
 use Rattle.buffer_pool.proofs.pool.Pool.checkpoint.Given as goal
 
@@ -12,6 +12,8 @@ invariant-loop g l = record {
   opened : opened_slots l.self.journal ≡ opened_slots l.fn.self.journal;
   capacity : most_clean l.self ≡ most_clean l.fn.self;
   usable : needs_recovery l.self.journal ≡ false;
+  still : unhomed_pages l.fn.self.journal ≡ [] → l.self.journal ≡ l.fn.self.journal;
+  dirty : (n : ℕ) → IsListed n (unhomed_pages l.self.journal) → IsListed n (unhomed_pages l.fn.self.journal);
   few : length (unhomed_pages l.self.journal) ≤ l.count - l.counter;
   maps : g.D.EraseDisk.honest (disk_of l.fn.self.journal) → (pages : List (List ℕ)) → Maps g.D.EraseDisk l.fn.self pages → Maps g.D.EraseDisk l.self pages;
   crash : g.D.EraseDisk.honest (disk_of l.fn.self.journal) → (pages : List (List ℕ)) → Maps g.D.EraseDisk l.fn.self pages
