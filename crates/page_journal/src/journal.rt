@@ -116,6 +116,7 @@ impl<D: EraseDisk + Drop> Journal<D> {
         ensures undamaged { D.honest disk → (homes : ℕ) (note : List ℕ) (pages : List (List ℕ)) → Recovers homes note (D.model disk).octet pages
             → home_place homes ≤ D.octet_count disk → IfErr (outcome result) IsWant }
         ensures untouched { D.honest disk → IfErr result (λ refused. refused.error ≢ OpenError.Fault → (D.model refused.disk).octet ≡ (D.model disk).octet) }
+        ensures unsynced { D.honest disk → IfErr result (λ refused. refused.error ≢ OpenError.Fault → (i : ℕ) → (D.model refused.disk).unsynced i → (D.model disk).unsynced i) }
 
         ensures serves { Serves D.EraseDisk disk (disk_after result) (IsErrOf (outcome result) OpenError.Fault) }
     {
