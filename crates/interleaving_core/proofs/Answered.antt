@@ -12,7 +12,7 @@ use Rattle.route_meaning.specs.Holds.{admitted_time, time_of}
 use Rattle.route_meaning.specs.Merged.{Placed, placed, all_placed}
 use Rattle.route_meaning.specs.Events.{events}
 use Rattle.route_meaning.specs.Rows.{most_rows}
-use Rattle.route_meaning.specs.History.{Intake, History, IsIntake, IsHistory, all_of, begun, waiting, applied, settled}
+use Rattle.route_meaning.specs.History.{Intake, History, IsIntake, IsHistory, IsBelowMarks, all_of, begun, waiting, applied, settled}
 use Rattle.route_meaning.proofs.api.Settling.{all_take, all_drop, all_map_placed}
 use Rattle.route_meaning.proofs.api.Sorting.{all_weaker, all_append, all_by_time}
 use Rattle.route_meaning.proofs.api.There.{rows_there}
@@ -106,7 +106,7 @@ below_or_not t (i ∷ is) = elim (cases_lt t i.mark) [
 ]
 
 next_or_none : (h : History) (ps : List (Placed Admitted)) → waiting h ≡ ps → ((g : History) × Applies h g) ⊎ NothingToApply h
-next_or_none h [] e = inr (λ next later here below. absurd (let none : [] ≡ next ∷ later = sym e ∙ here in cc))
+next_or_none h [] e = inr (subst (AllByRecursion (λ p. IsBelowMarks h (time_of p) → ⊥)) (sym e) tt)
 next_or_none h (next ∷ later) e = elim (below_or_not (time_of next) h.intakes) [
   | inl below ↦ elim (cases_lt (suc h.some) (length next.item.changes)) [
     | inl lt ↦ inl (moved h h.whole (suc h.some), applies_part h next later e below lt)
