@@ -17,7 +17,6 @@ mod turns;
 pub use laws::{each_step_is_answered, headline_of_runs};
 pub use machine::Machine;
 pub use query::{Answer, Query};
-pub use question::{EventsSoFar, Question, RowsSoFar};
 pub use reply::{BatchReply, Receipt, Reply, Resume};
 pub use runs::{Ran, run};
 pub use step::{Reach, Step};

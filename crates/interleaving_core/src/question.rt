@@ -7,7 +7,7 @@ use std::marker::Model;
 
 /// A question of a moment in progress: where it has come, and the rows so far.
 #[derive(Debug, Drop)]
-pub struct RowsSoFar {
+pub(crate) struct RowsSoFar {
     pub(crate) question: RowsQuestion,
     pub(crate) low: Option<Spot>,
     pub(crate) rows: Vec<Row>,
@@ -23,7 +23,7 @@ impl Model for RowsSoFar {
 
 /// A question of events in progress: the events so far.
 #[derive(Debug, Drop)]
-pub struct EventsSoFar {
+pub(crate) struct EventsSoFar {
     pub(crate) question: EventsQuestion,
     pub(crate) events: Vec<Event>,
 }
@@ -38,7 +38,7 @@ impl Model for EventsSoFar {
 
 /// What became of a question that was begun: it is in progress, or it has ended.
 #[derive(Debug, Drop)]
-pub enum Question {
+pub(crate) enum Question {
     OfRows(RowsSoFar),
     OfEvents(EventsSoFar),
     Ended(Query),
@@ -89,14 +89,14 @@ impl Question {
     }
 
     /// Whether it has ended.
-    pub fn is_ended(&self) -> bool
+    pub(crate) fn is_ended(&self) -> bool
         ensures progress { IsFalse result ↔ IsInProgress self.now }
     {
         matches!(self, Question::Ended(_))
     }
 
     /// What was asked.
-    pub fn query(&self) -> Query
+    pub(crate) fn query(&self) -> Query
         ensures query { result ≡ asked self.now }
     {
         match self {
