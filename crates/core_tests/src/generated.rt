@@ -139,27 +139,79 @@ impl Generator {
     }
 }
 
-/// What a collector gave in a run that wasn't late.
-fn admitted_by(
+/// Puts those of the batch at the end that are no earlier than the mark and than those before them; tells the mark behind them.
+fn add_timely(
     alloc: Global,
-    collector: u8,
-    steps: &[Step],
-    replies: &[Reply],
-) -> Result<Vec<Admission>, Fail> {
+    list: &mut Vec<Admission>,
+    mark: u64,
+    batch: &[Admission],
+) -> Result<u64, Fail> {
+    let mut mark = mark;
+    for admission in batch {
+        let seconds = admission.time().seconds();
+        if seconds >= mark {
+            list.push(admission.share(alloc)?)?;
+            mark = seconds;
+        }
+    }
+    Ok(mark)
+}
+
+/// What a collector gave in a run that wasn't late, as the steps alone tell it.
+fn admitted_by(alloc: Global, collector: u8, steps: &[Step]) -> Result<Vec<Admission>, Fail> {
     let mut list = Vec::new(alloc);
-    for (step, reply) in steps.iter().zip(replies) {
-        if let Step::Admit(number, batch) = step
-            && let Reply::Taken(told) = reply
-            && *number == collector
-        {
-            for (place, admission) in batch.iter().enumerate() {
-                if told.late.iter().all(|late| late.index != place) {
-                    list.push(admission.share(alloc)?)?;
+    let mut mark = 0u64;
+    let mut down = false;
+    for step in steps {
+        match step {
+            Step::Crash => down = true,
+            Step::Recover => down = false,
+            Step::Mark(number, new) => {
+                if !down && *number == collector {
+                    mark = mark.max(new.seconds());
                 }
             }
+            Step::Admit(number, batch) => {
+                if !down && *number == collector {
+                    mark = add_timely(alloc, &mut list, mark, batch)?;
+                }
+            }
+            _ => {}
         }
     }
     Ok(list)
+}
+
+/// Whether the question is done in these steps, and something is applied before that.
+fn is_done_behind_an_application(number: usize, steps: &[Step], replies: &[Reply]) -> bool {
+    let mut applied = false;
+    for (step, reply) in steps.iter().zip(replies) {
+        match reply {
+            Reply::Applied => applied = true,
+            Reply::Done(_) => {
+                if let Step::Turn(turned, _) = step
+                    && *turned == number
+                {
+                    return applied;
+                }
+            }
+            _ => {}
+        }
+    }
+    false
+}
+
+/// Whether something is applied between two turns of a question that is done.
+fn is_interleaved(steps: &[Step], replies: &[Reply]) -> bool {
+    for (place, step) in steps.iter().enumerate() {
+        if let Step::Turn(number, _) = step
+            && let Some(Reply::Again) = replies.get(place)
+            && is_done_behind_an_application(*number, &steps[place..], &replies[place..])
+        {
+            return true;
+        }
+    }
+    false
 }
 
 /// The questions of a run, in the order in which they were begun.
@@ -183,8 +235,8 @@ fn plain(alloc: Global, list: &[PlacedAdmission], query: &Query) -> Result<Strin
 
 /// How many answers a run gave, where each is the plain one.
 fn agreed(alloc: Global, steps: &[Step], ran: &Ran) -> Result<u32, Fail> {
-    let first = admitted_by(alloc, 0, steps, &ran.replies)?;
-    let second = admitted_by(alloc, 1, steps, &ran.replies)?;
+    let first = admitted_by(alloc, 0, steps)?;
+    let second = admitted_by(alloc, 1, steps)?;
     let list = merge(alloc, &[first.as_slice(), second.as_slice()])?;
     let queries = queries_of(alloc, steps)?;
     let mut count = 0u32;
@@ -206,6 +258,7 @@ fn agreed(alloc: Global, steps: &[Step], ran: &Ran) -> Result<u32, Fail> {
 fn answers_are_those_of_the_last_history(rt: HostRuntime) -> Result<(), Fail> {
     let alloc = rt.alloc();
     let mut answers = 0u32;
+    let mut interleaved = 0u32;
     for seed in 0..RUNS {
         let mut generator = Generator {
             state: seed as u64,
@@ -215,7 +268,14 @@ fn answers_are_those_of_the_last_history(rt: HostRuntime) -> Result<(), Fail> {
         let steps = generator.steps(alloc)?;
         let ran = run(alloc, Machine::created(alloc, COLLECTORS)?, &steps)?;
         answers = answers.saturating_add(agreed(alloc, &steps, &ran)?);
+        if is_interleaved(&steps, &ran.replies) {
+            interleaved = interleaved.saturating_add(1);
+        }
     }
     assert!(rt; answers > 1000, "{answers} answers");
+    assert!(rt;
+        interleaved > 20,
+        "{interleaved} runs with an application between turns"
+    );
     Ok(())
 }
