@@ -1,8 +1,7 @@
 -- Each question that is done was begun in the run.
-use Rattle.std.proofs.Common.{◌≡◌, ℕ, zero, suc, ◌<◌, ◌⊎◌, List, [], ◌∷◌, ◌++◌, length, map, take, refl, sym, ap, ◌∙◌, inl, inr, arith, Some, length-append}
+use Rattle.std.proofs.Common.{◌≡◌, ℕ, suc, ◌<◌, ◌⊎◌, List, [], ◌∷◌, ◌++◌, length, take, refl, sym, ap, ◌∙◌, inl, inr, arith, Some, length-append}
 use Rattle.std.specs.List.{slice_get, slice_set}
 use Rattle.std.proofs.lemmas.Bool.{cases_lt}
-use Rattle.std.proofs.lemmas.Option.{none-some}
 use Rattle.interleaving_core.specs.declared.query.Query.{Query}
 use Rattle.interleaving_core.specs.declared.query.Answer.{Answer}
 use Rattle.interleaving_core.specs.declared.reply.Reply.{Reply}
@@ -10,11 +9,11 @@ use Rattle.interleaving_core.specs.declared.reply.Reply.TheVariants.{Taken, Mark
 use Rattle.interleaving_core.specs.declared.step.Reach.{Reach}
 use Rattle.interleaving_core.specs.declared.step.Step.{Step}
 use Rattle.interleaving_core.specs.declared.step.Step.TheVariants.{Admit, Mark, Apply, Flush, Begin, Turn, Crash, Recover}
-use Rattle.interleaving_core.specs.declared.question.Question.{Question}
-use Rattle.interleaving_core.specs.World.{World, ended, started, created}
+use Rattle.interleaving_core.specs.World.{World, started, created}
 use Rattle.interleaving_core.specs.Does.{DoesTurn, Turns, Does, Runs}
 use Rattle.interleaving_core.specs.Headline.{IsBegun}
-use Rattle.interleaving_core.proofs.Places.{split, taken_there}
+use Rattle.interleaving_core.proofs.Places.{split, there, taken_there}
+use Rattle.interleaving_core.proofs.Sound.{length_set, ended_length}
 
 -- there are as many questions as before
 abbrev SameCount : World → World → Type 0
@@ -22,20 +21,6 @@ SameCount w m = length m.questions ≡ length w.questions
 
 same_count : (w m : World) → m ≡ w → SameCount w m
 same_count w m e = ap (λ (x : World). length x.questions) e
-
-length_set : (xs : List Question) (i : ℕ) (y : Question) → length (slice_set xs i y) ≡ length xs
-length_set [] i y = refl
-length_set (x ∷ xs) zero y = refl
-length_set (x ∷ xs) (suc i) y = ap suc (length_set xs i y)
-
-ended_length : (qs : List Question) → length (map ended qs) ≡ length qs
-ended_length [] = refl
-ended_length (q ∷ qs) = ap suc (ended_length qs)
-
-there : (xs : List Question) (i : ℕ) (x : Question) → slice_get xs i ≡ Some x → i < length xs
-there [] i x at = absurd (none-some x at)
-there (y ∷ xs) zero x at = omega arith
-there (y ∷ xs) (suc i) x at = omega (arith, there xs i x at)
 
 turned_count : (w m : World) (i : ℕ) (reach : Reach) (reply : Reply) → Turns w i reach reply m → SameCount w m
 turned_count w m i reach reply t = same_count' ∙ length_set w.questions i t.new

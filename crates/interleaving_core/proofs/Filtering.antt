@@ -1,5 +1,5 @@
 -- The rows up to a spot are the first of the rows that are left, and just those of their range.
-use Rattle.std.proofs.Common.{◌≡◌, ℕ, zero, suc, ◌<◌, List, [], ◌∷◌, ◌++◌, Bool, true, refl, sym, ap, ◌∙◌, inl, inr, ◌⊎◌, arith, Some, None, Option, Contains, filter, append-nil}
+use Rattle.std.proofs.Common.{◌≡◌, ℕ, ◌<◌, List, [], ◌∷◌, ◌++◌, Bool, true, refl, sym, ap, ◌∙◌, inl, inr, arith, Some, None, Option, Contains, filter, append-nil}
 use Rattle.std.specs.List.{AllByRecursion}
 use Rattle.std.specs.Prelude.{nat_le}
 use Rattle.std.proofs.lemmas.Bool.{cases_Bool, leb-true, leb-false, le-leb}
@@ -10,6 +10,7 @@ use Rattle.route_meaning.specs.declared.question.Select.{Select}
 use Rattle.route_meaning.specs.Merged.{Placed}
 use Rattle.route_meaning.specs.Rows.{row_number, spot_number, AreRising, AreRows}
 use Rattle.route_meaning.proofs.api.Sorting.{all_weaker, all_filter}
+use Rattle.route_meaning.proofs.api.There.{has_later, first_or_later}
 use Rattle.interleaving_core.specs.declared.step.Reach.{Reach}
 use Rattle.interleaving_core.specs.declared.step.Reach.TheVariants.{UpTo, Further, End}
 use Rattle.interleaving_core.specs.Turns.{is_further, rows_up_to, added_rows}
@@ -48,13 +49,6 @@ all_passed P p (row ∷ rows) all = elim (cases_Bool (p row)) [
   | inl is_so ↦ rw is_so ((all.0, is_so), all_passed P p rows all.1)
   | inr not_so ↦ rw not_so (all_passed P p rows all.1)
 ]
-
-has_later : (x : Row) (xs : List Row) (r : Row) → Contains xs r → Contains (x ∷ xs) r
-has_later x xs r h = (suc h.0, omega (arith, h.1), h.2)
-
-first_or_later : (y : Row) (ys : List Row) (r : Row) → Contains (y ∷ ys) r → (y ≡ r) ⊎ Contains ys r
-first_or_later y ys r (zero, lt, e) = inl e
-first_or_later y ys r (suc k, lt, e) = inr (k, omega arith, e)
 
 passes : (p : Row → Bool) (rows : List Row) (r : Row) → p r ≡ true → Contains rows r → Contains (filter p rows) r
 passes p [] r is_so h = absurd (omega (arith, h.1))

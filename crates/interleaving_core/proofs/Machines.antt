@@ -1,7 +1,7 @@
 -- The machine's fields, and the world that they are.
 use Rattle.std.proofs.Common.{◌≡◌, ℕ, zero, suc, ◌<◌, ◌≤◌, List, [], ◌∷◌, ◌++◌, length, map, take, drop, get_or, ◌+◌, refl, sym, ap, ◌∙◌, arith, Some, Bool}
 use Rattle.std.specs.List.{slice_get, slice_set}
-use Rattle.std.proofs.lemmas.Option.{same_Some, none-some}
+use Rattle.std.proofs.lemmas.Option.{same_Some}
 use Rattle.sequencer.proofs.api.Setting.{one_there}
 use Rattle.route_meaning.specs.History.{Intake}
 use Rattle.interleaving_core.specs.declared.query.Query.{Query}
@@ -13,6 +13,7 @@ use Rattle.interleaving_core.specs.declared.reply.Reply.TheVariants.{Marked, Mar
 use Rattle.interleaving_core.specs.Steps.{changed, with_batch, with_mark, given}
 use Rattle.interleaving_core.specs.World.{World, asked, ended}
 use Rattle.interleaving_core.specs.Does.{IsReply, Admits, DoesMark}
+use Rattle.interleaving_core.proofs.Places.{there}
 
 -- the world of these fields
 abbrev pub world : List Intake → ℕ → ℕ → List Question → Bool → World
@@ -28,11 +29,6 @@ pub set_same : (is : List Intake) (c : ℕ) (i : Intake) → slice_get is c ≡ 
 set_same [] c i at = refl
 set_same (j ∷ is) zero i at = ap (λ (x : Intake). x ∷ is) (sym (same_Some j i at))
 set_same (j ∷ is) (suc c) i at = ap (λ (l : List Intake). j ∷ l) (set_same is c i at)
-
-there : (is : List Intake) (c : ℕ) (i : Intake) → slice_get is c ≡ Some i → c < length is
-there [] c i at = absurd (none-some i at)
-there (j ∷ is) zero i at = omega arith
-there (j ∷ is) (suc c) i at = omega (arith, there is c i at)
 
 module _ (is : List Intake) (whole some : ℕ) (questions : List Question) (down : Bool) (c : ℕ) (i new : Intake) (at : slice_get is c ≡ Some i) where
   pub admits : (batch : List Admitted) (told : BatchReply) → new ≡ with_batch batch i → IsReply i c batch told → Admits (world is whole some questions down) c batch told (world (slice_set is c new) whole some questions down)

@@ -31,6 +31,12 @@ split w v (s ∷ ss) (r ∷ rs) (suc k) step reply run at told =
     let rest = split run.0 v ss rs k step reply run.2 at told in
     record { before = rest.before; after = rest.after; first = (run.0, run.1, rest.first); does = rest.does; later = rest.later }
 
+-- what has something is a place of the list
+pub there : {X : Type 0} (xs : List X) (i : ℕ) (x : X) → slice_get xs i ≡ Some x → i < length xs
+there [] i x at = absurd (none-some x at)
+there (y ∷ xs) zero x at = omega arith
+there (y ∷ xs) (suc i) x at = omega (arith, there xs i x at)
+
 -- what stands in the first k stands there in all
 pub taken_there : {X : Type 0} (k : ℕ) (xs : List X) (j : ℕ) (x : X) → slice_get (take k xs) j ≡ Some x → (slice_get xs j ≡ Some x) × (j < k)
 taken_there zero xs j x at = absurd (none-some x at)

@@ -20,6 +20,7 @@ use Rattle.interleaving_core.specs.declared.question.Question.{Question}
 use Rattle.interleaving_core.specs.World.{World, asked, started, created, with_questions}
 use Rattle.interleaving_core.specs.Does.{last_moment, Turns, Does, Runs, IsStep}
 use Rattle.interleaving_core.specs.Headline.{IsAnswered}
+use Rattle.interleaving_core.proofs.Places.{there}
 use Rattle.interleaving_core.proofs.Turning.{IsSoFar, asked_started, turn_done}
 use Rattle.interleaving_core.proofs.Sound.{IsSound, step_fine, run_fine, created_sound, get_pushed}
 
@@ -77,11 +78,6 @@ begun_above w v (s ∷ ss) (r ∷ rs) i zero query valid sound run step reply = 
 begun_above w v (s ∷ ss) (r ∷ rs) i (suc j) query valid sound run step reply =
     let first = step_fine w s r run.0 valid.0 sound run.1 in
     omega (arith, first.grows, begun_above run.0 v ss rs i j query valid.1 first.sound run.2 step reply)
-
-there : (xs : List Question) (i : ℕ) (x : Question) → slice_get xs i ≡ Some x → i < length xs
-there [] i x at = absurd (none-some x at)
-there (y ∷ xs) zero x at = omega arith
-there (y ∷ xs) (suc i) x at = omega (arith, there xs i x at)
 
 -- no question is done before it begins
 not_before : (w m v : World) (ss : List Step) (rs : List Reply) (i j : ℕ) (reach : Reach) (answer : Answer) (query : Query) (s : Step) (r : Reply) → AllByRecursion IsStep ss → IsStep s → IsSound w → Does w s r m → Runs m ss rs v

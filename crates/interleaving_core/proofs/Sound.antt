@@ -1,5 +1,5 @@
 -- Each step keeps the world sound, and each history begins the next one.
-use Rattle.std.proofs.Common.{◌≡◌, ℕ, zero, suc, ◌<◌, ◌≤◌, List, [], ◌∷◌, ◌++◌, length, map, false, refl, sym, ap, ◌∙◌, inl, inr, arith, subst, Some, length-append}
+use Rattle.std.proofs.Common.{◌≡◌, ℕ, zero, suc, ◌≤◌, List, [], ◌∷◌, ◌++◌, length, map, false, refl, sym, ap, ◌∙◌, inl, inr, arith, subst, Some, length-append}
 use Rattle.std.specs.List.{AllByRecursion, slice_get, slice_set}
 use Rattle.std.proofs.lemmas.Bool.{cases_lt}
 use Rattle.std.proofs.lemmas.Option.{same_Some, none-some}
@@ -84,11 +84,6 @@ apply_fine w more _ v sound d = absurd d
 
 -- ---- questions
 
-there : (xs : List Question) (i : ℕ) (x : Question) → slice_get xs i ≡ Some x → i < length xs
-there [] i x at = absurd (none-some x at)
-there (y ∷ xs) zero x at = omega arith
-there (y ∷ xs) (suc i) x at = omega (arith, there xs i x at)
-
 pub get_push : (xs : List Question) (y : Question) (i : ℕ) (x : Question) → slice_get xs i ≡ Some x → slice_get (xs ++ y ∷ []) i ≡ Some x
 get_push [] y i x at = absurd (none-some x at)
 get_push (z ∷ xs) y zero x at = at
@@ -98,7 +93,7 @@ pub get_pushed : (xs : List Question) (y : Question) → slice_get (xs ++ y ∷ 
 get_pushed [] y = refl
 get_pushed (z ∷ xs) y = get_pushed xs y
 
-length_set : (xs : List Question) (i : ℕ) (y : Question) → length (slice_set xs i y) ≡ length xs
+pub length_set : (xs : List Question) (i : ℕ) (y : Question) → length (slice_set xs i y) ≡ length xs
 length_set [] i y = refl
 length_set (x ∷ xs) zero y = refl
 length_set (x ∷ xs) (suc i) y = ap suc (length_set xs i y)
@@ -146,7 +141,7 @@ ended_asks [] i q at = absurd (none-some q at)
 ended_asks (z ∷ qs) zero q at = (ended z, refl, ap asked (same_Some z q at))
 ended_asks (z ∷ qs) (suc i) q at = ended_asks qs i q at
 
-ended_length : (qs : List Question) → length (map ended qs) ≡ length qs
+pub ended_length : (qs : List Question) → length (map ended qs) ≡ length qs
 ended_length [] = refl
 ended_length (q ∷ qs) = ap suc (ended_length qs)
 

@@ -54,10 +54,10 @@ put_rises r (x ∷ xs) rising = elim (cases_Bool (ltb (row_number r) (row_number
   ]
 ]
 
-has_later : (x : Row) (xs : List Row) (r : Row) → Contains xs r → Contains (x ∷ xs) r
+pub has_later : (x : Row) (xs : List Row) (r : Row) → Contains xs r → Contains (x ∷ xs) r
 has_later x xs r h = (suc h.0, omega (arith, h.1), h.2)
 
-first_or_later : (y : Row) (ys : List Row) (r : Row) → Contains (y ∷ ys) r → (y ≡ r) ⊎ Contains ys r
+pub first_or_later : (y : Row) (ys : List Row) (r : Row) → Contains (y ∷ ys) r → (y ≡ r) ⊎ Contains ys r
 first_or_later y ys r (zero, lt, e) = inl e
 first_or_later y ys r (suc k, lt, e) = inr (k, omega arith, e)
 
