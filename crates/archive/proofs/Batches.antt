@@ -1,5 +1,5 @@
 -- How large a batch is, and what of it is taken in.
-use Rattle.std.proofs.Common.{◌≡◌, ℕ, ◌+◌, ◌<◌, ◌≤◌, List, [], ◌∷◌, ◌++◌, length, take, get_or, map, sym, ap, ◌∙◌, subst, arith, zero, suc, Some}
+use Rattle.std.proofs.Common.{refl, ◌≡◌, ℕ, ◌+◌, ◌<◌, ◌≤◌, List, [], ◌∷◌, ◌++◌, length, take, get_or, map, sym, ap, ◌∙◌, subst, arith, zero, suc, Some}
 use Rattle.std.specs.List.{AllByRecursion, slice_get, slice_set}
 use Rattle.std.proofs.lemmas.List.{take_more}
 use Rattle.route_model.specs.Admission.{Admitted, admission_octets, IsAdmission}
@@ -43,6 +43,11 @@ pub times_at : (lanes : List Waiting) (c : ℕ) (w : Waiting) → slice_get lane
 times_at [] c w e = cc
 times_at (v ∷ lanes) zero w e = let same : v ≡ w = cc in ap (λ (x : Waiting). Some x.times) same
 times_at (v ∷ lanes) (suc c) w e = times_at lanes c w e
+
+pub mark_there : (lanes : List Waiting) (c : ℕ) → c < length lanes → (mark : ℕ) × (slice_get (marks lanes) c ≡ Some mark)
+mark_there [] c lt = absurd (omega arith)
+mark_there (w ∷ lanes) zero lt = (w.mark, refl)
+mark_there (w ∷ lanes) (suc c) lt = mark_there lanes c (omega arith)
 
 pub marks_taken : (lanes mid new : List Waiting) (c mark : ℕ) (times : List ℕ) (s : Sieved) → SameLanes lanes mid → TakesIn mid c s new → IsSieved mark times s → marks new ≡ slice_set (marks lanes) c (greatest mark times)
 marks_taken lanes mid new c mark times s same takes sieved = takes.marks ∙ (ap (λ (l : List ℕ). slice_set l c s.mark) same.marks ∙ ap (slice_set (marks lanes) c) sieved.mark)

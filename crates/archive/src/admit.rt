@@ -3,16 +3,14 @@
 ghost use Rattle.std.specs.Prelude.{◌≡◌, ◌≤◌, ◌<◌, ◌+◌, ℕ, [], map, length, Some, IfOk, OnErr, IsTrue, ◌↔◌, slice_get};
 ghost use Rattle.std.specs.List.{AllByRecursion};
 ghost use Rattle.route_model.specs.Admission.{IsAdmission};
-ghost use Rattle.route_meaning.specs.Holds.{admitted_time};
 ghost use Rattle.sequencer.specs.Lanes.{SameLanes, marks};
-ghost use Rattle.sequencer.specs.Late.{timely};
 ghost use Rattle.archive.specs.Limits.{batch_octets};
 ghost use Rattle.archive.specs.inner.Taking.{IsTaken, SameQueue};
 
 use crate::queue::Queue;
 use interleaving_core::{BatchReply, Receipt};
-use route_model::{Admission, Mark, Moment};
-use sequencer::Sequencer;
+use route_model::Admission;
+use sequencer::{Sequencer, timely_of, times_of};
 use std::alloc::{AllocError, Global};
 use thiserror::Error;
 
@@ -51,32 +49,6 @@ pub(crate) fn fits(batch: &[Admission]) -> bool
     true
 }
 
-/// The times of the batch.
-fn times_of(alloc: Global, batch: &[Admission]) -> Result<Vec<Moment>, AllocError>
-    ensures { IfOk result (λ times. times.items ≡ map admitted_time batch.now) }
-{
-    let mut times = Vec::with_capacity(alloc, batch.len())?;
-    for admission in batch {
-        times.push(admission.time())?;
-    }
-    Ok(times)
-}
-
-/// The admissions of the batch that aren't late, where the collector has this mark.
-fn timely_of(alloc: Global, mark: Mark, batch: &[Admission]) -> Result<Vec<Admission>, AllocError>
-    ensures { IfOk result (λ kept. kept.items ≡ timely admitted_time mark [] batch.now) }
-{
-    let mut kept = Vec::new(alloc);
-    let mut reached = mark;
-    for admission in batch {
-        if reached.seconds() <= admission.time().seconds() {
-            kept.push(admission.share(alloc)?)?;
-            reached = Mark::at(admission.time());
-        }
-    }
-    Ok(kept)
-}
-
 /// Takes a batch of the collector in: it waits in the queue, and its times in the sequencer.
 pub(crate) fn take_in(
     alloc: Global,
@@ -93,9 +65,9 @@ pub(crate) fn take_in(
 {
     let number = collector as usize;
     let times = times_of(alloc, batch)?;
-    let kept = timely_of(alloc, sequencer.mark(number), batch)?;
-    queue.reserve(kept.len())?;
     let sieved = sequencer.sieve(alloc, number, &times)?;
+    let kept = timely_of(alloc, batch, &sieved.late)?;
+    queue.reserve(kept.len())?;
     // From here on no memory is needed.
     sequencer.take_in(number, &sieved);
     let from = queue.admitted();

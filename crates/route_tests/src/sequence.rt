@@ -1,7 +1,7 @@
 //! Late records, marks that go back, ties, and what is released.
 
-use route_model::{Mark, Moment};
-use sequencer::{MarkBack, Sequencer, Sieved, sieve};
+use route_model::{Admission, Mark, Moment};
+use sequencer::{MarkBack, Sequencer, Sieved, sieve, timely_of, times_of};
 use std::alloc::{AllocError, Global};
 use std::test::Fail;
 
@@ -19,6 +19,15 @@ fn moments(alloc: Global, seconds: &[u32]) -> Result<Vec<Moment>, AllocError> {
         times.push(moment(s))?;
     }
     Ok(times)
+}
+
+/// A batch of admissions of these times, without changes.
+fn batch_at(alloc: Global, seconds: &[u32]) -> Result<Vec<Admission>, Fail> {
+    let mut batch = Vec::with_capacity(alloc, seconds.len())?;
+    for &s in seconds {
+        batch.push(Admission::new(moment(s), Vec::new(alloc))?)?;
+    }
+    Ok(batch)
 }
 
 /// Offers times of a collector, and takes in those that aren't late.
@@ -55,14 +64,16 @@ fn settled(sequencer: &Sequencer) -> Result<Mark, Fail> {
 #[test]
 fn a_time_below_an_earlier_one_is_late(rt: HostRuntime) -> Result<(), Fail> {
     let alloc = rt.alloc();
-    let times = moments(alloc, &[100, 99, 100])?;
-    let sieved = sieve(alloc, mark(0), &times)?;
+    let batch = batch_at(alloc, &[100, 99, 100])?;
+    let sieved = sieve(alloc, mark(0), &times_of(alloc, &batch)?)?;
     assert!(rt; sieved.timely.as_slice() == moments(alloc, &[100, 100])?.as_slice());
     assert!(rt; sieved.late.len() == 1);
     assert!(rt; sieved.late[0].index == 1);
     assert!(rt; sieved.late[0].time == moment(99));
     assert!(rt; sieved.late[0].mark == mark(100));
     assert!(rt; sieved.mark == mark(100));
+    let kept = timely_of(alloc, &batch, &sieved.late)?;
+    assert!(rt; times_of(alloc, &kept)?.as_slice() == sieved.timely.as_slice());
     Ok(())
 }
 

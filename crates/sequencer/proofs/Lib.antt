@@ -2,4 +2,5 @@ pub mod Firsts
 pub mod Releasing
 pub mod Leasts
 pub mod Running
+pub mod Told
 pub mod api

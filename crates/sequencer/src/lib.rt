@@ -2,12 +2,14 @@
 //! all is settled.
 #![tactic(auto)]
 
+mod batch;
 mod first;
 mod lane;
 mod late;
 mod laws;
 mod sequencer;
 
+pub use batch::{timely_of, times_of};
 pub use late::{Late, Sieved, sieve};
 pub use laws::runs_release_in_order;
 pub use sequencer::{MarkBack, Sequencer};

@@ -1,25 +1,27 @@
 use Rattle.std.proofs.Common.{◌≡◌, ℕ, List, [], arith, refl, ◌∙◌, ap, map, length}
-use Rattle.std.specs.List.{slice_get, slice_set}
+use Rattle.std.specs.List.{slice_set}
 use Rattle.sequencer.specs.Lanes.{marks}
-use Rattle.sequencer.specs.Late.{greatest, timely}
-use Rattle.sequencer.proofs.api.Setting.{one_there}
+use Rattle.sequencer.specs.Late.{greatest, timely, lates}
 use Rattle.route_meaning.specs.Holds.{admitted_time}
 use Rattle.interleaving_core.proofs.api.Right.{few}
-use Rattle.archive.proofs.Batches.{marks_taken, times_taken, lates_taken}
+use Rattle.archive.proofs.Batches.{mark_there, marks_taken, times_taken, lates_taken}
 use Rattle.archive.proofs.admit.take_in.Goals as goal
 
 pub take_in-requires-2-clause-admitted : goal.take_in-requires-2-clause-admitted
 take_in-requires-2-clause-admitted c =
-    let n = few admitted_time c.mark.result c.args.batch.now in
-    let e = ap length c.in_ok-kept.ensures in
+    let m = mark_there c.args.sequencer.now c.args.collector c.requires.inside in
+    let times : c.deref.result.now ≡ map admitted_time c.args.batch.now = c.deref.ensures.value ∙ c.in_ok-times.ensures.times in
+    let late = lates_taken m.0 c.args.batch.now c.deref.result.now c.in_ok-sieved.sieved times (c.in_ok-sieved.ensures.sieved m.0 m.1) in
+    let n = few admitted_time m.0 c.args.batch.now in
+    let e = ap length (c.in_ok-kept.ensures.timely m.0 (c.deref-2.ensures.value ∙ late)) in
     omega (arith, n, e, c.reserve.ensures.admitted, c.requires.counted, c.requires.countable)
 
 pub returns-clause-taken : goal.returns-clause-taken
 returns-clause-taken c = λ mark here.
-    let mark_is : c.mark.result ≡ mark = one_there (slice_get (marks c.args.sequencer.now) c.args.collector) c.mark.result mark c.mark.ensures.mark here in
-    let kept : c.in_ok-kept.kept.items ≡ timely admitted_time mark [] c.args.batch.now = c.in_ok-kept.ensures ∙ ap (λ (m : ℕ). timely admitted_time m [] c.args.batch.now) mark_is in
-    let times : c.deref.result.now ≡ map admitted_time c.args.batch.now = c.deref.ensures.value ∙ c.in_ok-times.ensures in
+    let times : c.deref.result.now ≡ map admitted_time c.args.batch.now = c.deref.ensures.value ∙ c.in_ok-times.ensures.times in
     let sieved = c.in_ok-sieved.ensures.sieved mark here in
+    let late : c.in_ok-sieved.sieved.late.items ≡ lates admitted_time mark [] 0 c.args.batch.now = lates_taken mark c.args.batch.now c.deref.result.now c.in_ok-sieved.sieved times sieved in
+    let kept : c.in_ok-kept.kept.items ≡ timely admitted_time mark [] c.args.batch.now = c.in_ok-kept.ensures.timely mark (c.deref-2.ensures.value ∙ late) in
     record {
       marks = marks_taken c.args.sequencer.now c.sieve.new.self c.take_in.new.self c.args.collector mark c.deref.result.now c.in_ok-sieved.sieved c.in_ok-sieved.ensures.same c.take_in.ensures.taken sieved ∙ ap (λ (l : List ℕ). slice_set (marks c.args.sequencer.now) c.args.collector (greatest mark l)) times;
       times = times_taken c.args.sequencer.now c.sieve.new.self c.take_in.new.self c.args.collector mark c.args.batch.now c.deref.result.now c.in_ok-sieved.sieved times c.in_ok-sieved.ensures.same c.take_in.ensures.taken sieved;
@@ -30,5 +32,5 @@ returns-clause-taken c = λ mark here.
       from = c.admitted-from.ensures ∙ c.reserve.ensures.admitted;
       to = c.admitted.ensures;
       counted = c.offered.ensures;
-      late = lates_taken mark c.args.batch.now c.deref.result.now c.in_ok-sieved.sieved times sieved;
+      late = late;
     }

@@ -1,6 +1,6 @@
 use Rattle.std.proofs.Common.{◌≡◌, map, take}
 use Rattle.route_meaning.specs.Holds.{admitted_time}
-use Rattle.archive.proofs.admit.times_of.Given as goal
+use Rattle.sequencer.proofs.batch.times_of.Given as goal
 
 abbrev pub invariant-loop-admission : goal.invariant-loop-admission
 invariant-loop-admission l = l.times.items ≡ map admitted_time (take l.admission-index l.batch)
