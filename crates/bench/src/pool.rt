@@ -60,7 +60,8 @@ pub fn measure_all(rt: &HostRuntime) -> io::Result<()> {
     let Some(pool) = pool(alloc) else {
         return println!(rt; "no pool");
     };
-    let mut tx = Tx::new(alloc, pool, HOMES);
+    let homes = pool.home_pages();
+    let mut tx = Tx::new(alloc, pool, homes);
     let dirty = fill(alloc, &mut tx);
     let mut pool = tx.into_pool();
     for (name, pages, rounds) in [("dirty", DIRTY, 4_000u32), ("all", HOMES, 1_000u32)] {

@@ -62,10 +62,13 @@ pub(crate) fn made(alloc: Global) -> Result<MemErase, JournalError> {
     }
 }
 
+// What is told of a page that isn't read. No page is filled with it.
+pub(crate) const UNREAD: u8 = 255;
+
 // The first octet of each page, where the last one is the same.
 fn shown(alloc: Global, journal: &mut Journal<MemErase>) -> Result<[u8; 4], JournalError> {
     let mut page = Page::new(alloc)?;
-    let mut all = [0u8; 4];
+    let mut all = [UNREAD; 4];
     for (n, octet) in all.iter_mut().enumerate() {
         if (n as u64) < journal.home_pages() {
             journal.read(n as u64, &mut page)?;
@@ -158,10 +161,10 @@ fn the_ninth_post_waits_for_a_checkpoint(rt: HostRuntime) -> Result<(), Fail> {
     let alloc = rt.alloc();
     let mut journal = opened(alloc, made(alloc)?)?;
     for n in 0..8u8 {
-        assert!(rt; journal.closed() == 8 - usize::from(n));
         post_one(alloc, &mut journal, 1, 30 + n)?;
-        assert!(rt; shown(alloc, &mut journal)? == [10, 30 + n, 12, 13]);
-        assert!(rt; journal.unhomed() == 1);
+        let counts = (journal.closed(), journal.unhomed());
+        assert!(rt; counts == (7 - usize::from(n), 1), "{n}");
+        assert!(rt; shown(alloc, &mut journal)? == [10, 30 + n, 12, 13], "{n}");
     }
     assert!(rt; journal.closed() == 0);
     let ninth = post_one(alloc, &mut journal, 2, 40);
@@ -189,7 +192,10 @@ fn the_newest_image_of_a_page_stays(rt: HostRuntime) -> Result<(), Fail> {
         assert!(rt; journal.unhomed() == 1);
         let disk = journal.into_disk();
         for choice in 0..KINDS {
-            assert!(rt; after_crash(alloc, &disk, choice)? == [10, 32, 41, 13]);
+            assert!(rt;
+                after_crash(alloc, &disk, choice)? == [10, 32, 41, 13],
+                "{octet}, {choice}"
+            );
         }
     }
     Ok(())
@@ -245,19 +251,25 @@ fn failure_of_a_run(alloc: Global, n: u64, kind: u8) -> Result<Failure, AllocErr
     }
 }
 
+// Whether a run is stopped by the n-th failure, asks then for recovery, and leaves each post whole.
+fn stops_whole(alloc: Global, n: u64, kind: u8) -> Result<bool, Fail> {
+    let disk = scripted(alloc, made(alloc)?, failure_of_a_run(alloc, n, kind)?)?;
+    let mut journal = opened(alloc, disk)?;
+    let mut done = 0;
+    if run(alloc, &mut journal, &mut done) != Err(JournalError::Fault) {
+        return Ok(false);
+    }
+    if run(alloc, &mut journal, &mut 0) != Err(JournalError::NeedsRecovery) {
+        return Ok(false);
+    }
+    is_left(alloc, &journal.into_disk(), done)
+}
+
 #[test]
 fn a_run_that_is_stopped_leaves_each_post_whole(rt: HostRuntime) -> Result<(), Fail> {
-    let alloc = rt.alloc();
     for n in 0..25u64 {
         for kind in 0..KINDS {
-            let disk = scripted(alloc, made(alloc)?, failure_of_a_run(alloc, n, kind)?)?;
-            let mut journal = opened(alloc, disk)?;
-            let mut done = 0;
-            let stopped = run(alloc, &mut journal, &mut done);
-            let again = run(alloc, &mut journal, &mut 0);
-            assert!(rt; stopped == Err(JournalError::Fault), "{n}, {kind}");
-            assert!(rt; again == Err(JournalError::NeedsRecovery));
-            assert!(rt; is_left(alloc, &journal.into_disk(), done)?, "{n}, {kind}");
+            assert!(rt; stops_whole(rt.alloc(), n, kind)?, "{n}, {kind}");
         }
     }
     Ok(())
@@ -305,11 +317,10 @@ fn a_post_of_32_pages_is_refused(rt: HostRuntime) -> Result<(), Fail> {
         Ok(journal) => journal,
         Err(refused) => return Err(refused.error.into()),
     };
-    let images = numbered(alloc, 32, 32, 9)?;
-    if journal.home_pages() == 32 {
-        let refused = journal.post(alloc, &images);
-        assert!(rt; refused == Err(PostError::TooManyImages));
-    }
+    let images = numbered(alloc, journal.home_pages(), 32, 9)?;
+    assert!(rt; images.len() == 32);
+    let refused = journal.post(alloc, &images);
+    assert!(rt; refused == Err(PostError::TooManyImages));
     assert!(rt; journal.closed() == 8);
     assert!(rt; journal.unhomed() == 0);
     assert!(rt; shown(alloc, &mut journal)? == [0; 4]);
@@ -353,10 +364,13 @@ fn created(alloc: Global, disk: MemErase) -> Result<Journal<MemErase>, JournalEr
 fn a_creation_that_is_stopped_hands_the_disk_back(rt: HostRuntime) -> Result<(), Fail> {
     for n in 0..11u64 {
         let disk = stopped_creation(rt.alloc(), n)?;
-        assert!(rt; disk.faults() == 1);
+        let faults = disk.faults();
         let mut journal = created(rt.alloc(), disk)?;
-        assert!(rt; journal.note() == [0; 11]);
-        assert!(rt; shown(rt.alloc(), &mut journal)? == [0; 4]);
+        let shown = shown(rt.alloc(), &mut journal)?;
+        assert!(rt;
+            (faults, journal.note(), shown) == (1, [0; 11], [0; 4]),
+            "{n}"
+        );
     }
     Ok(())
 }
@@ -575,7 +589,10 @@ fn open_slots_are_laid_by_their_numbers(rt: HostRuntime) -> Result<(), Fail> {
         write_slot(alloc, &mut disk, 0, first, 31)?;
         write_slot(alloc, &mut disk, 5, second, 32)?;
         let mut journal = opened(alloc, disk)?;
-        assert!(rt; shown(alloc, &mut journal)? == [10, last, 12, 13]);
+        assert!(rt;
+            shown(alloc, &mut journal)? == [10, last, 12, 13],
+            "{first}"
+        );
     }
     let mut disk = made(alloc)?;
     write_slot(alloc, &mut disk, 0, 7, 31)?;

@@ -3,11 +3,11 @@ ghost use Rattle.std.specs.Prelude.{IfOk};
 ghost use Rattle.page_journal.specs.Layout.{pages_of};
 ghost use Rattle.page_journal.specs.Recovers.{AreBelow, AreDistinct};
 
-use crate::journal::{OLD, PAGE, filled, made, scripted};
+use crate::journal::{OLD, PAGE, UNREAD, filled, made, scripted};
 use buffer_pool::Pool;
 use disk_memory::{Call, Failure, MemErase};
 use disk_models::Page;
-use page_journal::{Journal, JournalError, PostError};
+use page_journal::{Journal, JournalError};
 use page_tx::{PageError, Pages, Tx};
 use std::alloc::{AllocError, Global};
 use std::num::NonZeroUsize;
@@ -20,6 +20,7 @@ pub(crate) enum Step {
     Set(u64, u8),
     // Lays so many of the first pages, filled with an octet, and tells the first page that was never used.
     Lay(u64, u8, u64),
+    Fetch(u64),
     Fresh,
     Begin(u64),
     Commit,
@@ -34,12 +35,15 @@ pub(crate) fn begun(
     capacity: usize,
 ) -> Result<Tx<MemErase>, Fail> {
     let Some(capacity) = NonZeroUsize::new(capacity) else {
-        return Err(PostError::TooManyImages.into());
+        return Err("no capacity".into());
     };
-    match Pool::new(alloc, journal, capacity) {
-        Ok(pool) => Ok(Tx::new(alloc, pool, 4)),
-        Err(_) => Err(PostError::OutOfMemory.into()),
+    let Ok(pool) = Pool::new(alloc, journal, capacity) else {
+        return Err("no memory".into());
+    };
+    if pool.home_pages() < 4 {
+        return Err("fewer than four pages".into());
     }
+    Ok(Tx::new(alloc, pool, 4))
 }
 
 // The same, of a disk that is opened.
@@ -79,7 +83,7 @@ fn told(refusal: PageError) -> JournalError {
 }
 
 fn set(alloc: Global, tx: &mut Tx<MemErase>, n: u64, octet: u8) -> Result<(), JournalError> {
-    if n >= tx.pool().home_pages() {
+    if n >= tx.home_pages() {
         return Err(JournalError::PagesFull);
     }
     let page = filled(alloc, octet)?;
@@ -93,8 +97,26 @@ fn lay(
     octet: u8,
     unused: u64,
 ) -> Result<(), JournalError> {
-    let images = numbered(alloc, tx.pool().home_pages(), count, octet)?;
+    if unused < tx.next_page() {
+        return Err(JournalError::PagesFull);
+    }
+    let images = numbered(alloc, tx.home_pages(), count, octet)?;
     tx.lay(images, unused).map_err(told)
+}
+
+fn fetch(tx: &mut Tx<MemErase>, n: u64) -> Result<(), PageError> {
+    if n >= tx.home_pages() {
+        return Err(PageError::PagesFull);
+    }
+    tx.fetch(n)
+}
+
+fn begin(tx: &mut Tx<MemErase>, next: u64) -> Result<(), JournalError> {
+    if next > tx.home_pages() {
+        return Err(JournalError::PagesFull);
+    }
+    tx.begin(next);
+    Ok(())
 }
 
 // Takes a step. It answers a fresh page's number, or 1 where a page was flushed, else 0.
@@ -102,8 +124,9 @@ pub(crate) fn play(alloc: Global, tx: &mut Tx<MemErase>, step: Step) -> Result<u
     match step {
         Step::Set(n, octet) => set(alloc, tx, n, octet)?,
         Step::Lay(count, octet, unused) => lay(alloc, tx, count, octet, unused)?,
+        Step::Fetch(n) => fetch(tx, n).map_err(told)?,
         Step::Fresh => return tx.fresh().map_err(told),
-        Step::Begin(next) => tx.begin(next),
+        Step::Begin(next) => begin(tx, next)?,
         Step::Commit => tx.commit()?,
         Step::Flush => return Ok(u64::from(tx.flush_one()?)),
         Step::Checkpoint => tx.checkpoint()?,
@@ -111,15 +134,13 @@ pub(crate) fn play(alloc: Global, tx: &mut Tx<MemErase>, step: Step) -> Result<u
     Ok(0)
 }
 
-// An octet of each of the first pages, as they are shown.
+// An octet of each of the first pages, as they are shown, or of a page that isn't lent another one.
 pub(crate) fn shown(tx: &mut Tx<MemErase>) -> Result<[u8; 4], PageError> {
-    let mut all = [0u8; 4];
+    let mut all = [UNREAD; 4];
     for (n, octet) in all.iter_mut().enumerate() {
-        if (n as u64) < tx.pool().home_pages() {
-            tx.fetch(n as u64)?;
-            if let Some(page) = tx.page(n as u64) {
-                *octet = page.octets()[7];
-            }
+        fetch(tx, n as u64)?;
+        if let Some(page) = tx.page(n as u64) {
+            *octet = page.octets()[7];
         }
     }
     Ok(all)
@@ -193,7 +214,7 @@ fn laid() -> [Row; 8] {
             (8, 0, 31),
         ),
         after(Step::Commit, Ok(0), [63; 4], (7, 31, 0)),
-        after(Step::Lay(2, 65, 3), Ok(0), [65, 65, 63, 63], (7, 31, 2)),
+        after(Step::Lay(2, 65, 40), Ok(0), [65, 65, 63, 63], (7, 31, 2)),
     ]
 }
 
@@ -239,10 +260,57 @@ fn pools_of_each_capacity_show_what_is_written(rt: HostRuntime) -> Result<(), Fa
     let alloc = rt.alloc();
     for capacity in [1, 2, 1000] {
         let wrong = first_wrong(alloc, made(alloc)?, capacity, &written(), [10, 33, 41, 51])?;
-        assert_eq!(rt; wrong, None, "{capacity}");
+        assert!(rt; wrong == None, "{capacity}: {wrong:?}");
         let wrong = first_wrong(alloc, wide(alloc)?, capacity, &laid(), [63; 4])?;
-        assert_eq!(rt; wrong, None, "{capacity}");
+        assert!(rt; wrong == None, "{capacity}: {wrong:?}");
     }
+    Ok(())
+}
+
+// Whether the device fails at the last of these steps, in a pool of this capacity, and at none before. It fails at the n-th
+// read: an opening reads nine times, the identity page and eight gates.
+fn is_read_last(alloc: Global, capacity: usize, n: u64, steps: &[Step]) -> Result<bool, Fail> {
+    let disk = scripted(alloc, made(alloc)?, Failure::Read(n))?;
+    let mut tx = opened(alloc, disk, capacity)?;
+    let mut failed = false;
+    for step in steps {
+        if failed {
+            return Ok(false);
+        }
+        match play(alloc, &mut tx, *step) {
+            Ok(_) => (),
+            Err(JournalError::Fault) => failed = true,
+            Err(refusal) => return Err(refusal.into()),
+        }
+    }
+    Ok(failed)
+}
+
+#[test]
+fn the_clean_pages_that_were_used_last_stay(rt: HostRuntime) -> Result<(), Fail> {
+    let alloc = rt.alloc();
+    // Page 0 is used again before page 2 takes the place of one.
+    let used = [0, 1, 0, 2, 0, 1].map(Step::Fetch);
+    assert!(rt; is_read_last(alloc, 2, 12, &used)?);
+    // A page that is flushed stays.
+    let flushed = [
+        Step::Set(1, 31),
+        Step::Commit,
+        Step::Flush,
+        Step::Fetch(1),
+        Step::Fetch(2),
+    ];
+    assert!(rt; is_read_last(alloc, 2, 9, &flushed)?);
+    // Of two that a checkpoint writes home the later one.
+    let checked = [
+        Step::Set(1, 31),
+        Step::Set(2, 41),
+        Step::Commit,
+        Step::Checkpoint,
+        Step::Fetch(2),
+        Step::Fetch(1),
+    ];
+    assert!(rt; is_read_last(alloc, 1, 9, &checked)?);
     Ok(())
 }
 
@@ -258,27 +326,25 @@ fn calls_of(disk: &MemErase) -> (usize, usize) {
 #[test]
 fn a_page_is_written_home_once_and_lent_from_memory(rt: HostRuntime) -> Result<(), Fail> {
     let alloc = rt.alloc();
-    // The opening reads the identity page and eight gates: the next read is of a page, and fails.
+    // The read behind the opening's nine fails.
     let disk = scripted(alloc, made(alloc)?, Failure::Read(9))?;
     let mut tx = opened(alloc, disk, 4)?;
     for n in 0..8u8 {
         play(alloc, &mut tx, Step::Set(1, 30 + n))?;
         play(alloc, &mut tx, Step::Commit)?;
     }
-    if tx.pool().home_pages() == 4 {
-        assert_eq!(rt; tx.fetch(1), Ok(()));
-        assert_eq!(rt; tx.fetch(2), Err(PageError::Fault));
-    }
+    assert!(rt; fetch(&mut tx, 1) == Ok(()));
+    assert!(rt; fetch(&mut tx, 2) == Err(PageError::Fault));
     play(alloc, &mut tx, Step::Set(2, 40))?;
     let ninth = play(alloc, &mut tx, Step::Commit);
-    assert_eq!(rt; ninth, Err(JournalError::JournalFull));
-    assert_eq!(rt; shown(&mut tx)?, [10, 37, 12, 13]);
-    assert_eq!(rt; play(alloc, &mut tx, Step::Flush), Ok(1));
-    assert_eq!(rt; play(alloc, &mut tx, Step::Flush), Ok(0));
+    assert!(rt; ninth == Err(JournalError::JournalFull));
+    assert!(rt; shown(&mut tx)? == [10, 37, 12, 13]);
+    assert!(rt; play(alloc, &mut tx, Step::Flush) == Ok(1));
+    assert!(rt; play(alloc, &mut tx, Step::Flush) == Ok(0));
     // Four pages and eleven other calls of the creation, the opening's two syncs, eight commits of three pieces and
     // two syncs, and one write home.
     let disk = tx.into_pool().into_disk();
-    assert_eq!(rt; calls_of(&disk), (5, 15 + 2 + 8 * 5 + 1));
+    assert!(rt; calls_of(&disk) == (5, 15 + 2 + 8 * 5 + 1));
     Ok(())
 }
 
@@ -291,12 +357,13 @@ fn the_page_that_was_dirty_longest_is_written_home_first(rt: HostRuntime) -> Res
         play(alloc, &mut tx, Step::Commit)?;
     }
     play(alloc, &mut tx, Step::Flush)?;
-    // Page 1 became dirty first, and was committed last.
+    // Page 1 became dirty first, and was committed last. Four pages were written home by the creation.
     let disk = tx.into_pool().into_disk();
+    assert!(rt; calls_of(&disk) == (5, 15 + 2 + 3 * 5 + 1));
     let home = match disk.calls().last() {
         Some(Call::Write(written)) => (written.at(), written.octets().first().copied()),
         _ => (0, None),
     };
-    assert_eq!(rt; home, (266 * PAGE, Some(32)));
+    assert!(rt; home == (266 * PAGE, Some(32)));
     Ok(())
 }

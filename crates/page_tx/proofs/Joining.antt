@@ -1,5 +1,5 @@
 -- Of which pages images are held, after one or several are laid.
-use Rattle.std.proofs.Common.{◌≡◌, ◌≤◌, ◌+◌, ◌==◌, not, ℕ, true, false, List, [], ◌∷◌, ◌++◌, length, refl, sym, ◌∙◌, ap, arith, ◌⊎◌, inl, inr, ⊎_elim, append_assoc, length-append, filter}
+use Rattle.std.proofs.Common.{◌≡◌, ◌≤◌, ◌+◌, ◌==◌, not, ℕ, true, false, List, [], ◌∷◌, ◌++◌, length, refl, sym, ◌∙◌, ap, subst, arith, ◌⊎◌, inl, inr, ⊎_elim, append_assoc, length-append, filter}
 use Rattle.std.specs.List.{AllByRecursion}
 use Rattle.std.proofs.lemmas.Bool.{cases_eq, cond-true, cond-false, eq-eqb, ne_eqb}
 use Rattle.std.proofs.lemmas.List.{append-nil}
@@ -122,3 +122,11 @@ length_withs (image ∷ rest) held = let ih = length_withs rest (with_image imag
 
 pub listed_among : (n : ℕ) (ns : List ℕ) → IsListed n ns → is_among n ns ≡ true
 listed_among n ns listed = ⊎_elim (λ yes. yes.1) (λ no. absurd (not_listed n ns no.0 listed)) (among_cases n ns)
+
+-- a page that is named stays so where others are joined
+listed_first : (n : ℕ) (ns others : List ℕ) → IsListed n ns → IsListed n (ns ++ others)
+listed_first n [] others listed = absurd listed
+listed_first n (m ∷ ns) others listed = ⊎_elim (λ same. inl same) (λ later. inr (listed_first n ns others later)) listed
+
+pub listed_joined : (n : ℕ) (hs ns now : List ℕ) → now ≡ joined hs ns → IsListed n hs → IsListed n now
+listed_joined n hs ns now is listed = subst (IsListed n) (sym is) (listed_first n hs (without hs ns) listed)

@@ -1,3 +1,4 @@
 pub mod Placing
 pub mod Laid
 pub mod Distinct
+pub mod Held

@@ -15,11 +15,11 @@ pub enum PageError {
     /// An earlier write or sync failed, and the journal wasn't opened again since.
     #[error("the journal must be opened again")]
     NeedsRecovery,
-    /// The transaction holds images of 31 other pages.
+    /// The transaction would hold images of more than 31 pages.
     #[error("a transaction would hold more than 31 pages")]
     TooManyImages,
-    /// No page is left that was never used.
-    #[error("no page is left")]
+    /// Fewer pages are left that were never used than the call needs.
+    #[error("too few pages are left")]
     PagesFull,
     /// A growth was refused.
     #[error("out of memory")]

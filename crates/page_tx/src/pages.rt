@@ -75,15 +75,18 @@ pub trait Pages {
         ensures few { OnOk result (length (joined (named self.old) (n ∷ [])) ≤ 31) }
         ensures refused { IfErr result (SetRefusal (length (joined (named self.old) (n ∷ [])))) }
 
+        ensures resident { (m : ℕ) → resident self.old m → resident self.new m }
         ensures homes { homes self.new ≡ homes self.old }
         ensures next { next self.new ≡ next self.old }
         ensures down { down self.new ≡ down self.old }
         ensures device { KeepsDevice (honest self.old) (honest self.new) (faults self.old) (faults self.new) ⊥ };
 
-    /// Lays images over pages, all of them or none, and tells the first page that was never used afterwards.
+    /// Lays images over pages, all of them or none, and tells the first page that was never used afterwards, which is
+    /// none of before it.
     fn lay(&mut self, images: Vec<(u64, Page)>, unused: u64) -> Result<(), PageError>
         requires below { AreBelow (homes self.old) (pages_of images.items) }
         requires distinct { AreDistinct (pages_of images.items) }
+        requires onward { next self.old ≤ unused }
         ensures ok { OnOk result ((start : Start) (shown : List (List ℕ)) → shows self.old start shown → shows self.new start (laid images.items shown)) }
         ensures err { OnErr result ((start : Start) (shown : List (List ℕ)) → shows self.old start shown → shows self.new start shown) }
         ensures named { OnOk result (named self.new ≡ joined (named self.old) (pages_of images.items)) }
@@ -95,6 +98,7 @@ pub trait Pages {
         ensures few { OnOk result (length (joined (named self.old) (pages_of images.items)) ≤ 31) }
         ensures refused { IfErr result (LayRefusal (homes self.old) unused (length (joined (named self.old) (pages_of images.items)))) }
 
+        ensures resident { (m : ℕ) → resident self.old m → resident self.new m }
         ensures homes { homes self.new ≡ homes self.old }
         ensures down { down self.new ≡ down self.old }
         ensures device { KeepsDevice (honest self.old) (honest self.new) (faults self.old) (faults self.new) ⊥ };
@@ -105,10 +109,15 @@ pub trait Pages {
         ensures full { OnErr result ((homes self.old ≤ next self.old) × (next self.new ≡ next self.old)) }
         ensures refused { IfErr result (λ e. e ≡ PageError.PagesFull) }
         ensures same { (start : Start) (shown : List (List ℕ)) → shows self.old start shown → shows self.new start shown }
+        ensures resident { (m : ℕ) → resident self.old m → resident self.new m }
         ensures homes { homes self.new ≡ homes self.old }
         ensures named { named self.new ≡ named self.old }
         ensures down { down self.new ≡ down self.old }
         ensures device { KeepsDevice (honest self.old) (honest self.new) (faults self.old) (faults self.new) ⊥ };
+
+    /// How many pages there are. They are numbered from 0.
+    fn home_pages(&self) -> u64
+        ensures { result ≡ homes self.now };
 
     /// Of how many pages it holds images: at most 31.
     fn images(&self) -> usize
@@ -123,4 +132,16 @@ pub trait Pages {
 
     /// A page of which an image is held is in memory.
     ghost held: { (pages : Self) (n : ℕ) → IsListed n (named pages) → resident pages n };
+
+    /// Images of at most 31 pages are held.
+    ghost few: { (pages : Self) → length (named pages) ≤ 31 };
+
+    /// No page is named twice.
+    ghost distinct: { (pages : Self) → AreDistinct (named pages) };
+
+    /// Each page that is named is one of those that there are.
+    ghost below: { (pages : Self) → AreBelow (homes pages) (named pages) };
+
+    /// The first page that was never used is one of them, or the one after the last.
+    ghost last: { (pages : Self) → next pages ≤ homes pages };
 }

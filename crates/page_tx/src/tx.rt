@@ -1,14 +1,14 @@
 //! A transaction over a pool.
-ghost use Rattle.std.specs.Prelude.{◌≡◌, ◌≢◌, ◌<◌, ◌≤◌, ◌+◌, ◌-◌, ◌==◌, ◌↔◌, ◌⊎◌, [], ℕ, List, length, filter, not, OnOk, IfOk, OnErr, IfErr, IfSome, IsErrOf, false};
+ghost use Rattle.std.specs.Prelude.{◌≡◌, ◌≢◌, ◌<◌, ◌≤◌, ◌+◌, ◌-◌, ◌==◌, ◌↔◌, ◌⊎◌, [], ℕ, List, length, filter, not, OnOk, IfOk, OnErr, IfErr, IfSome, IsErrOf, false, true};
 ghost use Rattle.std.specs.List.{AllByRecursion-prop};
 ghost use Rattle.std.proofs.Props.{props};
 ghost use Rattle.disk_models.specs.Erase.{Leaves};
-ghost use Rattle.page_journal.specs.Calls.{IsDown, IsIdle, SameButDisk, SameJournal};
+ghost use Rattle.page_journal.specs.Calls.{IsDown, IsIdle, SameJournal};
 ghost use Rattle.page_journal.specs.Journal.{closed_slots, disk_of, home_pages, needs_recovery, note_of, opened_slots, unhomed_pages};
 ghost use Rattle.page_journal.specs.Layout.{pages_of};
-ghost use Rattle.page_journal.specs.Recovers.{AreBelow, AreDistinct, Recovers, RecoversEither};
+ghost use Rattle.page_journal.specs.Recovers.{AreBelow, AreDistinct, IsListed, Recovers, RecoversEither};
 ghost use Rattle.page_journal.specs.Refusals.{PostRefusal, PostsAt, UseRefusal};
-ghost use Rattle.buffer_pool.specs.Pool.{Maps, journal_of, oldest_dirty};
+ghost use Rattle.buffer_pool.specs.Pool.{Maps, WasOnlyRead, journal_of, oldest_dirty};
 ghost use Rattle.page_tx.specs.inner.Distinct.{distinct-prop};
 
 use crate::error::PageError;
@@ -32,6 +32,7 @@ pub struct Tx<D: EraseDisk + Drop> {
     next: u64,
     ghost few: { length images.items ≤ 31 },
     ghost distinct: { AreDistinct (pages_of images.items) } by { distinct-prop (pages_of images.items) },
+    ghost last: { next ≤ home_pages (journal_of pool) },
     ghost below: { AreBelow (home_pages (journal_of pool)) (pages_of images.items) } by { AllByRecursion-prop (λ n. n < home_pages (journal_of pool)) (λ n. Prim.hlevel props) (pages_of images.items) },
 }
 
@@ -42,6 +43,7 @@ impl<D: EraseDisk + Drop> Tx<D> {
 
     /// A transaction without an image over a pool. The first page that was never used is told.
     pub fn new(alloc: Global, pool: Pool<D>, next: u64) -> Tx<D>
+        requires { next ≤ home_pages (journal_of pool) }
         ensures pool { pool_of result ≡ pool }
         ensures named { named_pages result ≡ [] }
         ensures next { next_page result ≡ next }
@@ -58,6 +60,7 @@ impl<D: EraseDisk + Drop> Tx<D> {
 
     /// Begins again without an image: those of before are forgotten.
     pub fn begin(&mut self, next: u64)
+        requires { next ≤ home_pages (journal_of (pool_of self.old)) }
         ensures pool { pool_of self.new ≡ pool_of self.old }
         ensures named { named_pages self.new ≡ [] }
         ensures next { next_page self.new ≡ next }
@@ -106,6 +109,9 @@ impl<D: EraseDisk + Drop> Tx<D> {
             → Shows D.EraseDisk self.new (record { note = start.note; pages = start.pages; clock = (D.model (disk_of (journal_of (pool_of self.new)))).clock }) shown }
 
         ensures idle { OnOk result (IsIdle D.EraseDisk (journal_of (pool_of self.new))) }
+        ensures still { IsIdle D.EraseDisk (journal_of (pool_of self.old)) → journal_of (pool_of self.new) ≡ journal_of (pool_of self.old) }
+        ensures failed { IsErrOf result UseError.Fault → (needs_recovery (journal_of (pool_of self.new)) ≡ true) ⊎ (0 < length (unhomed_pages (journal_of (pool_of self.new)))) }
+        ensures as_dirty { (n : ℕ) → IsListed n (unhomed_pages (journal_of (pool_of self.new))) → IsListed n (unhomed_pages (journal_of (pool_of self.old))) }
         ensures as_opened { OnErr result (opened_slots (journal_of (pool_of self.new)) ≡ opened_slots (journal_of (pool_of self.old))) }
         ensures ok { OnOk result (needs_recovery (journal_of (pool_of self.old)) ≡ false) }
         ensures refused { IfErr result (UseRefusal (needs_recovery (journal_of (pool_of self.old)))) }
@@ -126,13 +132,15 @@ impl<D: EraseDisk + Drop> Tx<D> {
             → Shows D.EraseDisk self.new (record { note = start.note; pages = start.pages; clock = (D.model (disk_of (journal_of (pool_of self.new)))).clock }) shown }
 
         ensures wrote { IfOk result (λ more. (more ≡ false) ↔ (length (unhomed_pages (journal_of (pool_of self.old))) ≡ 0)) }
+        ensures none { length (unhomed_pages (journal_of (pool_of self.old))) ≡ 0 → pool_of self.new ≡ pool_of self.old }
         ensures oldest { OnOk result (IfSome (oldest_dirty (pool_of self.old)) (λ n. unhomed_pages (journal_of (pool_of self.new)) ≡ filter (λ m. not (m == n)) (unhomed_pages (journal_of (pool_of self.old))))) }
         ensures opened { opened_slots (journal_of (pool_of self.new)) ≡ opened_slots (journal_of (pool_of self.old)) }
         ensures as_dirty { OnErr result (unhomed_pages (journal_of (pool_of self.new)) ≡ unhomed_pages (journal_of (pool_of self.old))) }
         ensures fewer { OnOk result (length (unhomed_pages (journal_of (pool_of self.new))) ≤ length (unhomed_pages (journal_of (pool_of self.old))) - 1) }
         ensures ok { OnOk result ((needs_recovery (journal_of (pool_of self.old)) ≡ false) × (needs_recovery (journal_of (pool_of self.new)) ≡ false)) }
         ensures refused { IfErr result (UseRefusal (needs_recovery (journal_of (pool_of self.old)))) }
-        ensures failed { IsErrOf result UseError.Fault → IsDown D.EraseDisk (journal_of (pool_of self.old)) (journal_of (pool_of self.new)) ⊎ SameButDisk D.EraseDisk (journal_of (pool_of self.old)) (journal_of (pool_of self.new)) }
+        ensures failed { IsErrOf result UseError.Fault → IsDown D.EraseDisk (journal_of (pool_of self.old)) (journal_of (pool_of self.new)) ⊎ WasOnlyRead D.EraseDisk (journal_of (pool_of self.old)) (journal_of (pool_of self.new)) }
+        ensures some { IsErrOf result UseError.Fault → 0 < length (unhomed_pages (journal_of (pool_of self.old))) }
         ensures unchanged { IsErrOf result UseError.NeedsRecovery → pool_of self.new ≡ pool_of self.old }
         ensures named { named_pages self.new ≡ named_pages self.old }
         ensures next { next_page self.new ≡ next_page self.old }
@@ -158,6 +166,7 @@ impl<D: EraseDisk + Drop> Tx<D> {
 
 impl<D: EraseDisk + Drop> Pages for Tx<D> {
     ghost use Rattle.page_tx.specs.Tx.{IsThere, Shows, named_pages, next_page, pool_of};
+    ghost use Rattle.page_tx.specs.inner.Held.{held_below, held_distinct, held_few, next_within};
     ghost use Rattle.page_tx.specs.inner.Laid.{shows_count};
     ghost use Rattle.std.proofs.Common.{inl};
 
@@ -180,6 +189,14 @@ impl<D: EraseDisk + Drop> Pages for Tx<D> {
     ghost count = { λ tx start shown shows. shows_count tx start shown shows };
 
     ghost held = { λ tx n listed. inl listed };
+
+    ghost few = { λ tx. held_few tx };
+
+    ghost distinct = { λ tx. held_distinct tx };
+
+    ghost below = { λ tx. held_below tx };
+
+    ghost last = { λ tx. next_within tx };
 
     fn fetch(&mut self, n: u64) -> Result<(), PageError> {
         if place_of(&self.images, n).is_some() {
@@ -221,6 +238,10 @@ impl<D: EraseDisk + Drop> Pages for Tx<D> {
         let n = self.next;
         self.next += 1;
         Ok(n)
+    }
+
+    fn home_pages(&self) -> u64 {
+        self.pool.home_pages()
     }
 
     fn images(&self) -> usize {

@@ -1,4 +1,4 @@
-use Rattle.std.proofs.Common.{◌≡◌, ◌<◌, ◌∙◌, ℕ, List, length, ap, sym, subst, arith, false, Result, Ok, Err}
+use Rattle.std.proofs.Common.{◌≡◌, ◌∙◌, ℕ, List, length, ap, sym, subst, arith, false, Result, Ok, Err}
 use Rattle.std.specs.Result.{OnOk, IfErr}
 use Rattle.disk_models.specs.declared.erase.EraseDisk.{Ghosts}
 use Rattle.disk_models.specs.Erase.{Leaves}

@@ -1,4 +1,4 @@
-use Rattle.std.proofs.Common.{◌≡◌, ◌≤◌, ◌+◌, ◌∙◌, ℕ, List, length, ap, sym, subst, arith, rules, Result, Ok, Err, IfErr}
+use Rattle.std.proofs.Common.{⊎_elim, inl, inr, ◌≡◌, ◌≤◌, ◌+◌, ◌∙◌, ℕ, List, length, ap, sym, subst, arith, rules, Result, Ok, Err, IfErr}
 use Rattle.page_journal.specs.Bookkeeping.{without}
 use Rattle.page_journal.specs.Journal.{home_pages}
 use Rattle.page_journal.specs.Layout.{Image, pages_of}
@@ -8,7 +8,7 @@ use Rattle.page_tx.specs.declared.error.PageError.TheVariants as refusals
 use Rattle.page_tx.specs.Images.{joined}
 use Rattle.page_tx.specs.Refusals.{LayRefusal, SetRefusal}
 use Rattle.page_tx.specs.inner.Placing.{with_images}
-use Rattle.page_tx.proofs.Joining.{below_withs, distinct_withs, laid_withs, length_joined_images, numbers_withs}
+use Rattle.page_tx.proofs.Joining.{below_withs, distinct_withs, laid_withs, length_joined_images, listed_joined, numbers_withs}
 use Rattle.page_tx.proofs.Laying.{length_pages_of}
 use Rattle.page_tx.proofs.tx.TxPages.lay.Goals as goal
 
@@ -65,6 +65,7 @@ invariant_of-self-2 g c =
     record {
       few = omega (arith, count, named, long, few);
       distinct = subst (λ (l : List Image). AreDistinct (pages_of l)) (sym is) (distinct_withs new items self.distinct);
+      last = omega (arith, c.home_pages.ensures.homes, c.if-unused-home_pages.false);
       below = subst (λ (l : List Image). AreBelow (home_pages self.pool.journal) (pages_of l)) (sym is) (below_withs (home_pages self.pool.journal) new items c.requires.below self.below);
     }
 
@@ -96,3 +97,11 @@ returns-clause-few g c =
     let count = counted c.count_new-more.result items c.deref.result.now new c.deref-2.result.now c.deref.ensures.value c.deref-2.ensures.value c.count_new-more.ensures in
     let few = c.in_ok-make_room.ensures.few in
     omega (arith, count, few)
+
+pub returns-clause-resident : goal.returns-clause-resident
+returns-clause-resident g c m there =
+    let items = c.args.self.now.images.items in
+    let new = c.args.images.items in
+    let now = c.lay_all.new.held.items in
+    let is = now_is items new c.make_room.new.held.items now c.lay_all.ensures c.make_room.ensures.items in
+    ⊎_elim (λ listed. inl (listed_joined m (pages_of items) (pages_of new) (pages_of now) (ap pages_of is ∙ numbers_withs new items c.requires.distinct) listed)) (λ below. inr below) there

@@ -1,4 +1,4 @@
-use Rattle.std.proofs.Common.{◌≡◌, ◌+◌, ◌∙◌, ◌∷◌, [], ℕ, List, length, set, ap, sym, subst, arith, rules, IfErr, true≢false}
+use Rattle.std.proofs.Common.{◌≡◌, ◌+◌, ◌∙◌, ◌∷◌, [], ⊎_elim, inl, inr, ℕ, List, length, set, ap, sym, subst, arith, rules, IfErr, true≢false}
 use Rattle.page_journal.specs.Bookkeeping.{without}
 use Rattle.page_journal.specs.Journal.{home_pages}
 use Rattle.page_journal.specs.Layout.{Image, pages_of}
@@ -6,7 +6,7 @@ use Rattle.page_journal.specs.Recovers.{AreBelow, AreDistinct, laid}
 use Rattle.page_tx.specs.Images.{joined}
 use Rattle.page_tx.specs.Refusals.{SetRefusal}
 use Rattle.page_tx.specs.inner.Placing.{with_image}
-use Rattle.page_tx.proofs.Joining.{joined_listed, length_joined_image, numbers_with}
+use Rattle.page_tx.proofs.Joining.{joined_listed, length_joined_image, listed_joined, numbers_with}
 use Rattle.page_tx.proofs.Laying.{below_with, distinct_with, laid_with, length_pages_of}
 use Rattle.page_tx.proofs.tx.TxPages.set.Goals as goal
 
@@ -58,6 +58,7 @@ invariant_of-self-2 g c =
     record {
       few = omega (arith, count, named, long, few);
       distinct = subst (λ (l : List Image). AreDistinct (pages_of l)) (sym is) (distinct_with c.args.n p items self.distinct);
+      last = self.last;
       below = subst (λ (l : List Image). AreBelow (home_pages self.pool.journal) (pages_of l)) (sym is) (below_with (home_pages self.pool.journal) c.args.n p items c.requires self.below);
     }
 
@@ -88,3 +89,11 @@ returns-clause-few g c =
     let count = counted c.args.n c.count_one-more.result items c.deref.result.now c.deref.ensures.value c.count_one-more.ensures in
     let few = c.in_ok-make_room.ensures.few in
     omega (arith, count, few)
+
+pub returns-clause-resident : goal.returns-clause-resident
+returns-clause-resident g c m there =
+    let items = c.args.self.now.images.items in
+    let p = c.args.page in
+    let now = c.lay_one.new.held.items in
+    let is = now_is c.args.n p items c.make_room.new.held.items now c.lay_one.ensures.items c.make_room.ensures.items in
+    ⊎_elim (λ listed. inl (listed_joined m (pages_of items) (c.args.n ∷ []) (pages_of now) (ap pages_of is ∙ numbers_with c.args.n p items) listed)) (λ below. inr below) there
