@@ -1,7 +1,7 @@
 -- A column is read from the header and the entries of a node exactly where these are one.
 use Rattle.std.proofs.Common.{◌≡◌, ℕ, ◌+◌, ◌-◌, ◌*◌, ◌<◌, List, [], ◌∷◌, ◌++◌, length, replicate, Option, Some, None, IsSome, refl, sym, ap, subst, ◌∙◌, arith}
 use Rattle.std.specs.List.{flat_map, AllByRecursion}
-use Rattle.std.specs.Option.{IfSome}
+use Rattle.std.specs.Option.{IfSome, IfNone}
 use Rattle.std.proofs.lemmas.List.{length-append}
 use Rattle.sha2.specs.Sha256.{sha256}
 use Rattle.version_model.specs.declared.bounds.Bounds.{Bounds}
@@ -10,6 +10,7 @@ use Rattle.tsb_node.specs.declared.column.Current.{Current}
 use Rattle.tsb_node.specs.declared.header.Header.{Header}
 use Rattle.tsb_node.specs.Nodes.{body}
 use Rattle.tsb_node.specs.Columns.{ColumnInPage, ColumnInBlock, IsColumn, IsOldColumn, IsColumnPage, IsColumnBlock, IsPartEntry, BeginsAt, starts_of, part_octets, current_octets}
+use Rattle.tsb_node.specs.Parts.{BeginsAsOldColumn}
 use Rattle.tsb_node.specs.inner.Rows.{StartsAt}
 use Rattle.tsb_node.specs.inner.NodeReading.{IsNode, node_body, BeginsAsNode, IsNodePage, IsNodeBlock}
 use Rattle.tsb_node.specs.inner.PartReading.{IsPartBefore, AreParts, IsCurrentOf, IsColumnOf, IsOldColumnOf}
@@ -216,6 +217,21 @@ pub old_of_begun : (h : Header) (es octets : List ℕ) (c : ColumnInBlock) → B
 old_of_begun h es octets c begun valid other =
     let same = nodes_same h (old_header c) es (flat_map part_octets c.parts) octets begun other in
     record { kind = same.kind; level = same.level; bounds = sym same.bounds; count = same.count; valid = valid; spelled = entries_same h (old_header c) es (flat_map part_octets c.parts) octets begun other }
+
+pub old_begins_of : (h : Header) (es octets : List ℕ) (c : ColumnInBlock) → BeginsAsNode h es octets → IsOldColumnOf h es c → BeginsAsOldColumn c octets
+old_begins_of h es octets c is of = record { valid = of.valid; last = is.last; spelled = is.spelled ∙ ap (λ (t : List ℕ). t ++ is.last) (old_body_of h es c of) }
+
+pub of_old_begins : (h : Header) (es octets : List ℕ) (c : ColumnInBlock) → BeginsAsNode h es octets → BeginsAsOldColumn c octets → IsOldColumnOf h es c
+of_old_begins h es octets c is column = old_of_begun h es octets c is column.valid (record { valid = old_node c column.valid; last = column.last; spelled = column.spelled })
+
+-- what is said of a column that is found, and of none
+pub some_column : (o : Option Bounds) (P Q : ColumnInBlock → Type 0) → ((c : ColumnInBlock) → P c → Q c) → IfSome o (λ b. (c : ColumnInBlock) × P c × (c.bounds ≡ b)) → IfSome o (λ b. (c : ColumnInBlock) × Q c × (c.bounds ≡ b))
+some_column None P Q f is = tt
+some_column (Some b) P Q f is = (is.0, f is.0 is.1, is.2)
+
+pub none_column : (o : Option Bounds) (P Q : ColumnInBlock → Type 0) → ((c : ColumnInBlock) → Q c → P c) → IfNone o ((c : ColumnInBlock) → P c → ⊥) → IfNone o ((c : ColumnInBlock) → Q c → ⊥)
+none_column None P Q f never = λ c is. never c (f c is)
+none_column (Some b) P Q f never = tt
 
 pub old_made : (h : Header) (es block : List ℕ) (c : ColumnInBlock) → IsNodeBlock h es block → IsOldColumnOf h es c → IsColumnBlock c block
 old_made h es block c is of =

@@ -68,7 +68,7 @@ key_node_one a b octets p q =
     let level : a.level ≡ b.level = of.level in
     λ i. record { level = level i; bounds = bounds i; children = children i }
 
-leaf_one : (a b : LeafNode) (octets : List ℕ) → BeginsAsLeaf a octets → BeginsAsLeaf b octets → a ≡ b
+pub leaf_one : (a b : LeafNode) (octets : List ℕ) → BeginsAsLeaf a octets → BeginsAsLeaf b octets → a ≡ b
 leaf_one a b octets p q =
     let bounds = begun_one a b octets p q in
     let versions = sym (leaf_versions a octets p) ∙ leaf_versions b octets q in
@@ -80,7 +80,7 @@ column_page c octets is = record { valid = is.valid; last = _; spelled = is.page
 key_page : (k : KeyNodeInPage) (octets : List ℕ) → IsKeyNodePage k octets → BeginsAsKeyNode k octets
 key_page k octets is = record { valid = is.valid; last = _; spelled = is.page.spelled }
 
-old_block : (c : ColumnInBlock) (octets : List ℕ) → IsColumnBlock c octets → BeginsAsOldColumn c octets
+pub old_block : (c : ColumnInBlock) (octets : List ℕ) → IsColumnBlock c octets → BeginsAsOldColumn c octets
 old_block c octets is = record { valid = is.valid; last = _; spelled = is.block.spelled }
 
 kinds : (h g : Header) (es fs octets : List ℕ) → BeginsAsNode h es octets → BeginsAsNode g fs octets → h.kind ≡ g.kind

@@ -44,7 +44,7 @@ fn is_next_start(start: Stamp, last: Option<Stamp>, first: Stamp) -> bool
 }
 
 /// Whether octets are just so many parts that follow one another from a start on, all before an end.
-fn are_parts(bytes: &[u8], count: u16, start: Stamp, end: &Option<Stamp>) -> bool
+pub fn are_parts(bytes: &[u8], count: u16, start: Stamp, end: &Option<Stamp>) -> bool
     ensures { IsTrue result ↔ ((parts : List PartValue) × AreParts start end.now count bytes.now parts) }
 {
     let mut rest = bytes;

@@ -57,7 +57,11 @@ fn column_in(alloc: Global, header: &Header, entries: &[u8]) -> Result<ColumnSai
 }
 
 /// What the column says whose header and entries in a block these are.
-fn old_column_in(alloc: Global, header: &Header, entries: &[u8]) -> Result<OldColumnSaid, ReadFault>
+fn read_old_column(
+    alloc: Global,
+    header: &Header,
+    entries: &[u8],
+) -> Result<OldColumnSaid, ReadFault>
     requires node { IsNode header.now entries.now }
     ensures column { MatchResult result (λ said. IsOldColumnOf header.now entries.now (old_column_said said)) (IsRefusal (IsOldColumnOf header.now entries.now)) }
 {
@@ -93,5 +97,5 @@ pub fn column_of_block(alloc: Global, block: &Block) -> Result<OldColumnSaid, Re
     let Some((header, entries)) = node_of_block(block) else {
         return Err(ReadFault::NotANode);
     };
-    old_column_in(alloc, &header, entries)
+    read_old_column(alloc, &header, entries)
 }

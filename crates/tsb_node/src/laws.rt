@@ -1,6 +1,7 @@
 //! Laws of the definitions, each the contract of a function that does nothing.
 
-ghost use Rattle.std.specs.Prelude.{List, ℕ, ◌≡◌, ◌⊎◌, ◌<◌, ◌+◌, [], length, slice_get, Some};
+ghost use Rattle.std.specs.Prelude.{List, ℕ, ◌≡◌, ◌↔◌, ◌⊎◌, ◌<◌, ◌+◌, [], length, slice_get, Some, IsSome};
+ghost use Rattle.once_store.specs.Digests.{IsWhole};
 ghost use Rattle.version_model.specs.declared.bounds.Bounds.{Bounds};
 ghost use Rattle.version_model.specs.declared.part.Part.{Part};
 ghost use Rattle.version_model.specs.Versions.{Version};
@@ -14,8 +15,8 @@ ghost use Rattle.tsb_node.specs.declared.key_node.Under.{Under};
 ghost use Rattle.tsb_node.specs.declared.column.PartAt.{PartAt};
 ghost use Rattle.tsb_node.specs.declared.column.Spot.TheVariants.{InBlock};
 ghost use Rattle.tsb_node.specs.Headers.{HasHeader, IsHeaderOf};
-ghost use Rattle.tsb_node.specs.Leaves.{LeafNode, IsLeaf, BeginsAsLeaf, entries};
-ghost use Rattle.tsb_node.specs.Columns.{ColumnInPage, ColumnInBlock, IsColumn, IsOldColumn};
+ghost use Rattle.tsb_node.specs.Leaves.{LeafNode, IsLeaf, IsLeafBlock, BeginsAsLeaf, entries};
+ghost use Rattle.tsb_node.specs.Columns.{ColumnInPage, ColumnInBlock, IsColumn, IsOldColumn, IsColumnBlock};
 ghost use Rattle.tsb_node.specs.KeyNodes.{KeyNodeInPage, IsKeyNode};
 ghost use Rattle.tsb_node.specs.Children.{IsUnder, BeginsAsKeyNode};
 ghost use Rattle.tsb_node.specs.Parts.{BeginsAsColumn, BeginsAsOldColumn, IsSpot, IsPartAt};
@@ -41,6 +42,12 @@ pub fn headers_are_of_their_nodes()
         → IsHeaderOf 2 1 (length column.parts) column.bounds header }
     ensures key_node { (node : KeyNodeInPage) (header : Header) (octets : List ℕ) → BeginsAsKeyNode node octets → HasHeader header octets
         → IsHeaderOf 3 node.level (length node.children) node.bounds header }
+{}
+
+/// Octets are the block of a node just where they begin as it does, the node has an end, and they carry their digest.
+pub fn blocks_begin_as_their_nodes()
+    ensures leaves { (leaf : LeafNode) (octets : List ℕ) → IsLeafBlock leaf octets ↔ (BeginsAsLeaf leaf octets × IsSome leaf.bounds.end × IsWhole octets) }
+    ensures columns { (column : ColumnInBlock) (octets : List ℕ) → IsColumnBlock column octets ↔ (BeginsAsOldColumn column octets × IsSome column.bounds.end × IsWhole octets) }
 {}
 
 /// The entries of a leaf take the octets that version_model counts.

@@ -2,6 +2,7 @@
 #![tactic(auto)]
 
 mod column;
+mod column_bounds;
 mod column_reading;
 mod column_said;
 mod column_writing;
@@ -25,6 +26,7 @@ mod numbers;
 mod writing;
 
 pub use column::{Current, PartAt, Spot, part_for, spot_for};
+pub use column_bounds::old_column_in;
 pub use column_said::{ColumnSaid, OldColumnSaid, column_of_block, column_of_page};
 pub use column_writing::{write_column, write_old_column};
 pub use header::{Header, read_header};
@@ -32,7 +34,7 @@ pub use key_node::{Under, child_for};
 pub use key_node_said::{KeyNodeSaid, key_node_of_page};
 pub use key_node_writing::write_key_node;
 pub use laws::{
-    entries_have_their_octets, headers_are_of_their_nodes, nodes_are_one,
+    blocks_begin_as_their_nodes, entries_have_their_octets, headers_are_of_their_nodes, nodes_are_one,
     nodes_say_what_the_tree_asks, sides_are_key_splits,
 };
 pub use leaf::{FoundVersion, NotANode, Value, find, push, start_leaf};

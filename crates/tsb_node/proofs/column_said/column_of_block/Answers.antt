@@ -16,5 +16,5 @@ returns c =
     let node = c.in-Some.ensures.found in
     record {
       column = refusal_along old_column_said (IsOldColumnOf h es) (λ column. IsColumnBlock column c.args.block.now) (λ column of. old_made h es c.args.block.now column node of) (λ column is. old_back h es c.args.block.now column node is)
-          c.old_column_in.result c.old_column_in.ensures.column;
+          c.read_old_column.result c.read_old_column.ensures.column;
     }

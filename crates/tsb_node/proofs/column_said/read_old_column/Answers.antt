@@ -1,7 +1,7 @@
 use Rattle.tsb_node.specs.inner.PartReading.{AreParts, IsOldColumnOf}
 use Rattle.tsb_node.proofs.Refusals.{refusal_map}
 use Rattle.tsb_node.proofs.ColumnReading.{old_column_from, old_column_parts, old_column_some}
-use Rattle.tsb_node.proofs.column_said.old_column_in.Goals as goal
+use Rattle.tsb_node.proofs.column_said.read_old_column.Goals as goal
 
 pub returns-then-header-eq0 : goal.returns-then-header-eq0
 returns-then-header-eq0 c = record { column = λ column of. old_column_some c.args.header.now c.args.entries.now column of c.if-header-eq0.true }
