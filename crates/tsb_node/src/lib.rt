@@ -34,8 +34,8 @@ pub use key_node::{Under, child_for};
 pub use key_node_said::{KeyNodeSaid, key_node_of_page};
 pub use key_node_writing::write_key_node;
 pub use laws::{
-    blocks_begin_as_their_nodes, entries_have_their_octets, headers_are_of_their_nodes, nodes_are_one,
-    nodes_say_what_the_tree_asks, sides_are_key_splits,
+    blocks_begin_as_their_nodes, entries_have_their_octets, headers_are_of_their_nodes,
+    nodes_are_one, nodes_say_what_the_tree_asks, sides_are_key_splits,
 };
 pub use leaf::{FoundVersion, NotANode, Value, find, push, start_leaf};
 pub use leaf_entries::entries_in;
