@@ -1,0 +1,154 @@
+-- What the octets of a block say to a place.
+use Rattle.std.proofs.Common.{◌≡◌, ℕ, suc, ◌<◌, ◌≤◌, inl, inr, List, Option, Some, None, IsSome, slice_get, refl, sym, ◌∙◌, ap, subst, arith}
+use Rattle.version_model.specs.declared.bounds.Bounds.{Bounds}
+use Rattle.version_model.specs.declared.part.Part.{Part}
+use Rattle.version_model.specs.declared.part.PartKind.TheVariants.{LeafBlock, ColumnBlock}
+use Rattle.version_model.specs.declared.part.Place.{Place}
+use Rattle.version_model.specs.Versions.{Version}
+use Rattle.version_model.specs.Ranges.{Range, IsPoint, range_of, high_or, end_or}
+use Rattle.version_model.specs.Blocks.{BlockNode, OldLeaf, OldColumn, IsWider, start_or}
+use Rattle.once_store.specs.Digests.{IsWhole}
+use Rattle.tsb_node.specs.declared.column.PartAt.{PartAt}
+use Rattle.tsb_node.specs.Leaves.{LeafNode, BeginsAsLeaf, IsLeafBlock}
+use Rattle.tsb_node.specs.Columns.{ColumnInBlock, IsColumnBlock}
+use Rattle.tsb_node.specs.Parts.{BeginsAsOldColumn, IsPartAt}
+use Rattle.tsb_node.specs.Views.{BlockSays, says_old_leaf, says_old_column}
+use Rattle.tsb_node.proofs.api.Blocks.{leaf_begins, leaf_made, column_begins, column_made, one_leaf, one_column}
+use Rattle.tsb_walk.specs.Ways.{IsLeafFor, IsColumnFor, IsFit, LeadsTo}
+use Rattle.tsb_walk.specs.inner.Steps.{IsLeafOf, IsEndOf}
+
+pub record SaidLeaf (octets : List ℕ) (wide : Range) (versions : List Version) : Type 0 where
+  pub leaf : LeafNode
+  pub block : IsLeafBlock leaf octets
+  pub range : range_of leaf.bounds ≡ wide
+  pub same : leaf.versions ≡ versions
+
+pub said_leaf : (octets : List ℕ) (node : BlockNode) → BlockSays octets node → (wide : Range) (versions : List Version) → node ≡ OldLeaf wide versions → SaidLeaf octets wide versions
+said_leaf octets _ (says_old_leaf leaf is) wide versions e =
+    let r : range_of leaf.bounds ≡ wide = cc in
+    let v : leaf.versions ≡ versions = cc in
+    record { leaf = leaf; block = is; range = r; same = v }
+said_leaf octets _ (says_old_column column is) wide versions e = absurd (cc)
+
+pub record SaidColumn (octets : List ℕ) (wide : Range) (parts : List Part) : Type 0 where
+  pub column : ColumnInBlock
+  pub block : IsColumnBlock column octets
+  pub range : range_of column.bounds ≡ wide
+  pub same : column.parts ≡ parts
+
+pub said_column : (octets : List ℕ) (node : BlockNode) → BlockSays octets node → (wide : Range) (parts : List Part) → node ≡ OldColumn wide parts → SaidColumn octets wide parts
+said_column octets _ (says_old_leaf leaf is) wide parts e = absurd (cc)
+said_column octets _ (says_old_column column is) wide parts e =
+    let r : range_of column.bounds ≡ wide = cc in
+    let p : column.parts ≡ parts = cc in
+    record { column = column; block = is; range = r; same = p }
+
+-- ---- leaves
+
+pub leaf_for : (place : Place) (octets : List ℕ) (leaf : LeafNode) → place.part.kind ≡ LeafBlock → IsWhole octets → IsLeafOf place.bounds octets leaf → IsLeafFor place octets leaf.versions
+leaf_for place octets leaf kind whole of = record { wide = range_of leaf.bounds; kind = kind; says = says_old_leaf leaf (leaf_made leaf octets of.begins of.ended whole); wider = of.wider }
+
+pub record LeafOf (place : Place) (octets : List ℕ) (versions : List Version) : Type 0 where
+  pub leaf : LeafNode
+  pub of : IsLeafOf place.bounds octets leaf
+  pub same : leaf.versions ≡ versions
+
+pub leaf_of : (place : Place) (octets : List ℕ) (versions : List Version) → IsLeafFor place octets versions → LeafOf place octets versions
+leaf_of place octets versions for =
+    let said = said_leaf octets (OldLeaf for.wide versions) for.says for.wide versions refl in
+    record {
+      leaf = said.leaf;
+      of = record { begins = leaf_begins said.leaf octets said.block; ended = said.block.block.ended; wider = subst (λ (r : Range). IsWider r (range_of place.bounds)) (sym said.range) for.wider };
+      same = said.same;
+    }
+
+-- bounds that are found in octets are those of each leaf with which they begin
+pub found_leaf : (bounds wide : Bounds) (octets : List ℕ) → ((leaf : LeafNode) × BeginsAsLeaf leaf octets × (leaf.bounds ≡ wide)) → (leaf : LeafNode) → IsLeafOf bounds octets leaf → IsSome wide.end × IsWider (range_of wide) (range_of bounds)
+found_leaf bounds wide octets found leaf of =
+    let same : leaf.bounds ≡ wide = ap (λ (l : LeafNode). l.bounds) (one_leaf leaf found.0 octets of.begins found.1) ∙ found.2 in (
+      subst (λ (b : Bounds). IsSome b.end) same of.ended,
+      subst (λ (b : Bounds). IsWider (range_of b) (range_of bounds)) same of.wider,
+    )
+
+pub leaf_found : (bounds wide : Bounds) (octets : List ℕ) → ((leaf : LeafNode) × BeginsAsLeaf leaf octets × (leaf.bounds ≡ wide)) → IsSome wide.end × IsWider (range_of wide) (range_of bounds) → (leaf : LeafNode) × IsLeafOf bounds octets leaf
+leaf_found bounds wide octets found is = (
+  found.0,
+  record {
+    begins = found.1;
+    ended = subst (λ (b : Bounds). IsSome b.end) (sym found.2) is.0;
+    wider = subst (λ (b : Bounds). IsWider (range_of b) (range_of bounds)) (sym found.2) is.1;
+  },
+)
+
+-- ---- columns
+
+some_is : {X : Type 0} (o : Option X) → IsSome o → (x : X) × (o ≡ Some x)
+some_is None is = absurd (cc)
+some_is (Some x) is = (x, refl)
+
+pub record ColumnOf (place : Place) (octets : List ℕ) (parts : List Part) : Type 0 where
+  pub column : ColumnInBlock
+  pub end : ℕ
+  pub of : IsEndOf place.bounds octets column end
+  pub same : column.parts ≡ parts
+
+pub column_of : (place : Place) (octets : List ℕ) (parts : List Part) → IsColumnFor place octets parts → ColumnOf place octets parts
+column_of place octets parts for =
+    let said = said_column octets (OldColumn for.wide parts) for.says for.wide parts refl in
+    let end = some_is said.column.bounds.end said.block.block.ended in
+    record {
+      column = said.column;
+      end = end.0;
+      of = record { begins = column_begins said.column octets said.block; ended = end.1; wider = subst (λ (r : Range). IsWider r (range_of place.bounds)) (sym said.range) for.wider };
+      same = said.same;
+    }
+
+-- the end of a column is one
+pub end_found : (bounds wide : Bounds) (octets : List ℕ) → ((column : ColumnInBlock) × BeginsAsOldColumn column octets × (column.bounds ≡ wide)) → (column : ColumnInBlock) (end : ℕ) → IsEndOf bounds octets column end
+    → IsSome wide.end × IsWider (range_of wide) (range_of bounds)
+end_found bounds wide octets found column end of =
+    let same : column.bounds ≡ wide = ap (λ (c : ColumnInBlock). c.bounds) (one_column column found.0 octets of.begins found.1) ∙ found.2 in
+    let some : IsSome column.bounds.end = subst IsSome (sym of.ended) refl in (
+      subst (λ (b : Bounds). IsSome b.end) same some,
+      subst (λ (b : Bounds). IsWider (range_of b) (range_of bounds)) same of.wider,
+    )
+
+-- a place without a fit block
+pub none_fits : (place : Place) (octets : List ℕ) → place.part.kind ≡ ColumnBlock → ((column : ColumnInBlock) (end : ℕ) → IsEndOf place.bounds octets column end → ⊥) → IsFit place octets → ⊥
+none_fits place octets kind never (inl leaf) = absurd (let k : LeafBlock ≡ ColumnBlock = sym leaf.1.kind ∙ kind in cc)
+none_fits place octets kind never (inr parts) = (let of = column_of place octets parts.0 parts.1 in never of.column of.end of.of)
+
+module _ (place : Place) (octets : List ℕ) (column : ColumnInBlock) (end : ℕ) (of : IsEndOf place.bounds octets column end) where
+  -- a column whose part isn't in a block of a lower number isn't fit
+  pub higher_unfit : (stamp : ℕ) (found : PartAt) → place.part.kind ≡ ColumnBlock → IsPartAt column.parts end stamp found → place.part.block ≤ found.part.block → IsFit place octets → ⊥
+  higher_unfit stamp found kind is above (inl leaf) = absurd (let k : LeafBlock ≡ ColumnBlock = sym leaf.1.kind ∙ kind in cc)
+  higher_unfit stamp found kind is above (inr parts) =
+      let other = column_of place octets parts.0 parts.1 in
+      let same : column.parts ≡ parts.0 = ap (λ (c : ColumnInBlock). c.parts) (one_column column other.column octets of.begins other.of.begins) ∙ other.same in
+      omega (arith, above, parts.2.lower is.place found.part (subst (λ (ps : List Part). slice_get ps is.place ≡ Some found.part) same is.at))
+
+  end_is : end_or place.bounds.end ≡ end
+  end_is = of.wider.end ∙ ap end_or of.ended
+
+  pub stamp_before : (key stamp : ℕ) → IsPoint (range_of place.bounds) key stamp → stamp < end
+  stamp_before key stamp point = subst (λ (n : ℕ). stamp < n) end_is point.end
+
+  pub stamp_from : (key stamp : ℕ) → IsPoint (range_of place.bounds) key stamp → column.bounds.start ≤ stamp
+  stamp_from key stamp point = omega (arith, of.wider.start, point.start)
+
+  abbrev next_at : PartAt → Place
+  next_at found = record { bounds = record { low = place.bounds.low; high = place.bounds.high; start = found.part.start; end = Some found.end }; part = found.part }
+
+  pub part_leads : (key stamp : ℕ) (found : PartAt) → place.part.kind ≡ ColumnBlock → IsWhole octets → IsPartAt column.parts end stamp found → found.part.block < place.part.block → IsPoint (range_of place.bounds) key stamp
+      → (next : Place) → next.bounds ≡ record { low = place.bounds.low; high = place.bounds.high; start = found.part.start; end = Some found.end } → next.part ≡ found.part → LeadsTo place octets key stamp next
+  part_leads key stamp found kind whole is lower point next bounds part =
+      let some : IsSome column.bounds.end = subst IsSome (sym of.ended) refl in
+      let last : start_or (end_or place.bounds.end) (slice_get column.parts (suc is.place)) ≡ found.end = ap (λ (n : ℕ). start_or n (slice_get column.parts (suc is.place))) end_is ∙ sym is.to_end in
+      let leads : LeadsTo place octets key stamp (next_at found) = record {
+        parts = column.parts;
+        column = record { wide = range_of column.bounds; kind = kind; says = says_old_column column (column_made column octets of.begins some whole); wider = of.wider };
+        part = record { place = is.place; at = is.at; range = λ i. record { low = place.bounds.low; high = high_or place.bounds.high; start = found.part.start; end = last i } };
+        lower = lower;
+        point = record { low = point.low; high = point.high; start = is.start; end = is.before };
+      } in
+      subst (λ (n : Place). LeadsTo place octets key stamp n) (λ i. record { bounds = sym bounds i; part = sym part i }) leads

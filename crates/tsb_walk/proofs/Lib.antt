@@ -1,0 +1,4 @@
+pub mod Leaves
+pub mod Blocks
+pub mod Walking
+pub mod Arriving

@@ -1,0 +1,165 @@
+-- Walks through known blocks.
+use Rattle.std.proofs.Common.{◌≡◌, ◌↔◌, ℕ, ◌<◌, ◌⊎◌, inl, inr, List, Option, Some, None, IsSome, refl, sym, ◌∙◌, ap, subst, arith}
+use Rattle.std.proofs.lemmas.Option.{same_Some}
+use Rattle.std.proofs.lemmas.Bool.{cases_lt}
+use Rattle.disk_models.specs.declared.once.OnceDisk.{Ghosts}
+use Rattle.once_store.specs.declared.reader.ShelfReader.{ShelfReader}
+use Rattle.once_store.specs.Readers.{IsKept, KnowsKept, reader_disk}
+use Rattle.once_store.specs.Digests.{IsWhole}
+use Rattle.version_model.specs.declared.part.Part.{Part}
+use Rattle.version_model.specs.declared.part.PartKind.TheVariants.{LeafBlock, ColumnBlock}
+use Rattle.version_model.specs.declared.part.Place.{Place}
+use Rattle.version_model.specs.Versions.{Version}
+use Rattle.version_model.specs.Ranges.{Range, range_of}
+use Rattle.version_model.specs.Shows.{Shows}
+use Rattle.version_model.specs.Blocks.{BlockNode, OldLeaf, OldColumn, PartStands, PlaceStands, by_leaf, by_parts, AreParts, IsWider}
+use Rattle.version_model.proofs.api.Standing.{leaf_stands, column_stands}
+use Rattle.tsb_node.specs.Views.{BlockSays}
+use Rattle.tsb_node.proofs.api.Blocks.{leaf_whole, column_whole, one_said}
+use Rattle.tsb_walk.specs.Knowing.{ReadsWell, IsKnown, AreKnown, StandsKnown}
+use Rattle.tsb_walk.specs.Ways.{IsLeafFor, IsFit, LeadsTo, Way, here, further, ComesTo}
+use Rattle.tsb_walk.specs.inner.Arriving.{HasLeaf}
+use Rattle.tsb_walk.proofs.Blocks.{said_leaf, said_column}
+
+-- a block that is fit carries its digest
+pub fit_whole : (place : Place) (octets : List ℕ) → IsFit place octets → IsWhole octets
+fit_whole place octets (inl leaf) = (let said = said_leaf octets _ leaf.1.says leaf.1.wide leaf.0 refl in leaf_whole said.leaf octets said.block)
+fit_whole place octets (inr parts) = (let said = said_column octets _ parts.1.says parts.1.wide parts.0 refl in column_whole said.column octets said.block)
+
+-- a number is that of a known block, or not
+pub known_or : (known : ℕ → Option (List ℕ)) (count n : ℕ) → ((octets : List ℕ) × IsKnown known count n octets) ⊎ ((octets : List ℕ) → IsKnown known count n octets → ⊥)
+known_or known count n = elim (cases_lt n count) [
+  | inl lt ↦ by_octets (known n) lt refl
+  | inr ge ↦ inr (λ octets is. absurd (omega (arith, is.inside, ge)))
+]
+  where
+    by_octets : (o : Option (List ℕ)) → n < count → known n ≡ o → ((octets : List ℕ) × IsKnown known count n octets) ⊎ ((octets : List ℕ) → IsKnown known count n octets → ⊥)
+    by_octets None lt e = inr (λ octets is. absurd (let d : Some octets ≡ None = sym is.at ∙ e in cc))
+    by_octets (Some octets) lt e = inl (octets, record { inside = lt; at = e })
+
+module _ {O Pen Seen : Type 0} (device : Ghosts O Pen Seen) (old new : ShelfReader O Pen Seen device) (seen seen' : Seen) where
+  -- a reader that has read a known block reads on well
+  pub reads_on : (n : ℕ) (octets : List ℕ) → ReadsWell device old seen → IsKnown (device.known seen) (device.block_count (reader_disk old)) n octets
+      → (device.honest_seen (reader_disk old) seen ↔ device.honest_seen (reader_disk old) seen') → reader_disk new ≡ reader_disk old
+      → (device.honest_seen (reader_disk old) seen → KnowsKept device old seen → IsSome (device.known seen n) → KnowsKept device new seen')
+      → ReadsWell device new seen'
+  reads_on n octets well is honest disk knows = record {
+    honest = subst (λ (d : O). device.honest_seen d seen') (sym disk) (honest.0 well.honest);
+    kept = knows well.honest well.kept (subst IsSome (sym is.at) refl);
+  }
+
+  -- and keeps the known block alone under its number
+  pub only_kept : (n : ℕ) (octets : List ℕ) → ReadsWell device new seen' → device.known seen' ≡ device.known seen → IsKnown (device.known seen) (device.block_count (reader_disk old)) n octets
+      → (block : List ℕ) → IsKept new n block → block ≡ octets
+  only_kept n octets well same is block kept = same_Some block octets (sym (well.kept n block kept) ∙ ap (λ (f : ℕ → Option (List ℕ)). f n) same ∙ is.at)
+
+-- what a block says that may stand for a part
+abbrev pub SuitsPart : Range → Part → BlockNode → Type 0
+SuitsPart r part (OldLeaf wide versions) = (part.kind ≡ LeafBlock) × IsWider wide r
+SuitsPart r part (OldColumn wide parts) = (part.kind ≡ ColumnBlock) × IsWider wide r × AreParts r parts part.block
+
+pub node_of : (blocks : ℕ → Option BlockNode) (all : List Version) (r : Range) (part : Part) → PartStands blocks all r part → (node : BlockNode) × (blocks part.block ≡ Some node) × SuitsPart r part node
+node_of blocks all _ _ (by_leaf r part wide versions kind at wider shows) = (OldLeaf wide versions, at, (kind, wider))
+node_of blocks all _ _ (by_parts r part wide parts kind at wider are stand) = (OldColumn wide parts, at, (kind, wider, are))
+
+fit_of : (place : Place) (octets : List ℕ) (node : BlockNode) → BlockSays octets node → SuitsPart (range_of place.bounds) place.part node → IsFit place octets
+fit_of place octets (OldLeaf wide versions) says suits = inl (versions, record { wide = wide; kind = suits.0; says = says; wider = suits.1 })
+fit_of place octets (OldColumn wide parts) says suits = inr (parts, record { wide = wide; kind = suits.0; says = says; wider = suits.1 }, suits.2)
+
+module _ (known : ℕ → Option (List ℕ)) (count : ℕ) (blocks : ℕ → Option BlockNode) (are : AreKnown known count blocks) (all : List Version) (place : Place) (stands : PlaceStands blocks all place) where
+  -- a place stands by a known block that is fit
+  pub stands_fit : (octets : List ℕ) × IsKnown known count place.part.block octets × IsFit place octets
+  stands_fit =
+      let node = node_of blocks all (range_of place.bounds) place.part stands in
+      let said = are.says place.part.block node.0 node.1 in
+      (said.0, said.1, fit_of place said.0 node.0 said.2 node.2)
+
+  -- what the known block says is what stands there
+  node_is : (octets : List ℕ) (node : BlockNode) → IsKnown known count place.part.block octets → BlockSays octets node → blocks place.part.block ≡ Some node
+  node_is octets node is says =
+      let other = node_of blocks all (range_of place.bounds) place.part stands in
+      let said = are.says place.part.block other.0 other.1 in
+      let same : said.0 ≡ octets = same_Some said.0 octets (sym said.1.at ∙ is.at) in
+      other.1 ∙ ap Some (one_said octets other.0 node (subst (λ (o : List ℕ). BlockSays o other.0) same said.2) says)
+
+  pub leaf_shows : (octets : List ℕ) (versions : List Version) → IsKnown known count place.part.block octets → IsLeafFor place octets versions → Shows all (range_of place.bounds) versions
+  leaf_shows octets versions is leaf = (leaf_stands blocks all (range_of place.bounds) place.part leaf.wide versions (node_is octets (OldLeaf leaf.wide versions) is leaf.says) stands).shows
+
+  pub next_stands : (octets : List ℕ) (key stamp : ℕ) (next : Place) → IsKnown known count place.part.block octets → LeadsTo place octets key stamp next → PlaceStands blocks all next
+  next_stands octets key stamp next is leads =
+      (column_stands blocks all (range_of place.bounds) place.part leads.column.wide leads.parts (node_is octets (OldColumn leads.column.wide leads.parts) is leads.column.says) stands).stand (range_of next.bounds) next.part leads.part
+
+module _ {O Pen Seen : Type 0} (device : Ghosts O Pen Seen) (reader reader' : ShelfReader O Pen Seen device) (seen seen' : Seen) (all : List Version) (place : Place) (stands : StandsKnown device reader seen all place) where
+  -- the place's block is known and fit
+  pub place_fit : (octets : List ℕ) × IsKnown (device.known seen) (device.block_count (reader_disk reader)) place.part.block octets × IsFit place octets
+  place_fit = stands_fit (device.known seen) (device.block_count (reader_disk reader)) stands.blocks stands.known all place stands.stands
+
+  pub stands_on : (key stamp : ℕ) (next : Place) → device.known seen' ≡ device.known seen → reader_disk reader' ≡ reader_disk reader
+      → ((octets : List ℕ) → IsKnown (device.known seen) (device.block_count (reader_disk reader)) place.part.block octets → LeadsTo place octets key stamp next)
+      → ((octets : List ℕ) → IsKnown (device.known seen) (device.block_count (reader_disk reader)) place.part.block octets → ReadsWell device reader' seen')
+      → StandsKnown device reader' seen' all next
+  stands_on key stamp next same disk leads reads =
+      let fit = place_fit in
+      record {
+        well = reads fit.0 fit.1;
+        blocks = stands.blocks;
+        known = subst (λ (d : O). AreKnown (device.known seen') (device.block_count d) stands.blocks) (sym disk)
+            (subst (λ (f : ℕ → Option (List ℕ)). AreKnown f (device.block_count (reader_disk reader)) stands.blocks) (sym same) stands.known);
+        stands = next_stands (device.known seen) (device.block_count (reader_disk reader)) stands.blocks stands.known all place stands.stands fit.0 key stamp next fit.1 (leads fit.0 fit.1);
+      }
+
+  pub has_leaf : device.known seen' ≡ device.known seen
+      → ((octets : List ℕ) → IsKnown (device.known seen) (device.block_count (reader_disk reader)) place.part.block octets → (versions : List Version) × IsLeafFor place octets versions)
+      → ((octets : List ℕ) → IsKnown (device.known seen) (device.block_count (reader_disk reader)) place.part.block octets → ReadsWell device reader' seen')
+      → HasLeaf device reader' all place
+  has_leaf same leaf reads =
+      let fit = place_fit in
+      let for = leaf fit.0 fit.1 in
+      record {
+        octets = fit.0;
+        only = only_kept device reader reader' seen seen' place.part.block fit.0 (reads fit.0 fit.1) same fit.1;
+        versions = for.0;
+        leaf = for.1;
+        shows = leaf_shows (device.known seen) (device.block_count (reader_disk reader)) stands.blocks stands.known all place stands.stands fit.0 for.0 fit.1 for.1;
+      }
+
+module _ {O Pen Seen : Type 0} (device : Ghosts O Pen Seen) (key stamp : ℕ) (first : Place) (reader₀ : ShelfReader O Pen Seen device) (seen₀ : Seen) where
+  -- The walk has come to a place through known blocks, and the reader reads well still; or it has met a block that isn't known.
+  abbrev pub Walked : ShelfReader O Pen Seen device → Seen → Place → Type 0
+  Walked reader seen at = ReadsWell device reader₀ seen₀
+      → (Way (device.known seen₀) (device.block_count (reader_disk reader₀)) key stamp first at × ReadsWell device reader seen)
+      ⊎ ((last : Place) × Way (device.known seen₀) (device.block_count (reader_disk reader₀)) key stamp first last
+      × ((octets : List ℕ) → IsKnown (device.known seen₀) (device.block_count (reader_disk reader₀)) last.part.block octets → ⊥))
+
+  pub walk_starts : Walked reader₀ seen₀ first
+  walk_starts = λ well. inl (here first, well)
+
+  module _ (reader : ShelfReader O Pen Seen device) (seen : Seen) (at : Place) (same : device.honest_seen (reader_disk reader₀) seen₀ → device.known seen ≡ device.known seen₀) (disk : reader_disk reader ≡ reader_disk reader₀) (walked : Walked reader seen at) where
+    along : ReadsWell device reader₀ seen₀ → (n : ℕ) (octets : List ℕ) → IsKnown (device.known seen₀) (device.block_count (reader_disk reader₀)) n octets → IsKnown (device.known seen) (device.block_count (reader_disk reader)) n octets
+    along well n octets is = record { inside = subst (λ (d : O). n < device.block_count d) (sym disk) is.inside; at = ap (λ (f : ℕ → Option (List ℕ)). f n) (same well.honest) ∙ is.at }
+
+    pub walk_on : (reader' : ShelfReader O Pen Seen device) (seen' : Seen) (next : Place)
+        → (ReadsWell device reader seen → (octets : List ℕ) → IsKnown (device.known seen) (device.block_count (reader_disk reader)) at.part.block octets → LeadsTo at octets key stamp next)
+        → (ReadsWell device reader seen → (octets : List ℕ) → IsKnown (device.known seen) (device.block_count (reader_disk reader)) at.part.block octets → ReadsWell device reader' seen')
+        → Walked reader' seen' next
+    walk_on reader' seen' next leads reads = λ well. elim (walked well) [
+      | inl there ↦ elim (known_or (device.known seen₀) (device.block_count (reader_disk reader₀)) at.part.block) [
+        | inl k ↦ inl (further first at next k.0 there.0 k.1 (leads there.1 k.0 (along well at.part.block k.0 k.1)), reads there.1 k.0 (along well at.part.block k.0 k.1))
+        | inr never ↦ inr (at, there.0, never)
+      ]
+      | inr lost ↦ inr lost
+    ]
+
+    pub comes : (IsSo : Place → List ℕ → Type 0) → (ReadsWell device reader seen → (octets : List ℕ) → IsKnown (device.known seen) (device.block_count (reader_disk reader)) at.part.block octets → IsSo at octets)
+        → ReadsWell device reader₀ seen₀ → ComesTo (device.known seen₀) (device.block_count (reader_disk reader₀)) key stamp first IsSo
+    comes IsSo so well = elim (walked well) [
+      | inl there ↦ record { last = at; way = there.0; is = λ octets is. so there.1 octets (along well at.part.block octets is) }
+      | inr lost ↦ record { last = lost.0; way = lost.1; is = λ octets is. absurd (lost.2 octets is) }
+    ]
+
+-- what is seen stays honest, from the first state on
+pub honest_on : {O Seen : Type 0} (H : O → Seen → Type 0) (first disk : O) (s t u : Seen) → disk ≡ first → (H first s ↔ H first t) → (H disk t ↔ H disk u) → (H first s ↔ H first u)
+honest_on H first disk s t u same before step = (
+  λ h. subst (λ d. H d u) same (step.0 (subst (λ d. H d t) (sym same) (before.0 h))),
+  λ h. before.1 (subst (λ d. H d t) same (step.1 (subst (λ d. H d u) (sym same) h))),
+)

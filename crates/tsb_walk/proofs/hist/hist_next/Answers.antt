@@ -1,0 +1,38 @@
+use Rattle.std.proofs.Common.{rules, ◌≡◌, ◌∙◌, ap, Err, refl}
+use Rattle.once_store.specs.declared.error.BlockError.TheVariants.{Damaged}
+use Rattle.version_model.specs.Ranges.{range_of}
+use Rattle.once_store.specs.Readers.{reader_disk}
+use Rattle.tsb_walk.proofs.Arriving.{leaf_kept, to_leaf, no_damage}
+use Rattle.tsb_walk.proofs.hist.hist_next.Goals as goal
+
+pub returns-in_err-last-clause-never : goal.returns-in_err-last-clause-never
+returns-in_err-last-clause-never g c = λ all stands block e.
+    let d : c.leaf_place.result ≡ Err (Damaged block) = search rules in
+    c.leaf_place.ensures.never all stands block d
+
+pub returns-in_default-clause-never : goal.returns-in_default-clause-never
+returns-in_default-clause-never g c = λ all stands block e. c.in_default.ensures.none c.in_ok-last.ensures.kept.0 c.in_ok-last.ensures.kept.1
+
+pub returns-in_default-clause-damaged : goal.returns-in_default-clause-damaged
+returns-in_default-clause-damaged g c = λ well block e. absurd (c.in_default.ensures.none c.in_ok-last.ensures.kept.0 c.in_ok-last.ensures.kept.1)
+
+pub returns-in-Ok-clause-next : goal.returns-in-Ok-clause-next
+returns-in-Ok-clause-next g c = λ all stands.
+    let leaf = leaf_kept g.O.OnceDisk c.leaf_place.new.reader all c.in_ok-last.last (c.in_ok-last.ensures.leaf all stands) c.in-Some.block.now c.octets.result.now c.in-Some.ensures.some c.octets.ensures.value in
+    c.in-Ok.ensures.reached all (range_of c.in_ok-last.last.bounds) leaf.leaf leaf.begins leaf.shows refl c.in_ok-last.ensures.point
+
+pub returns-in-Ok-clause-checked : goal.returns-in-Ok-clause-checked
+returns-in-Ok-clause-checked g c = λ well.
+    to_leaf g.O.OnceDisk c.leaf_place.new.reader (g.O.OnceDisk.known c.args.seen.now) (g.O.OnceDisk.block_count (reader_disk c.args.reader.now)) c.args.from c.args.stamp c.args.place.now c.in_ok-last.last (c.in_ok-last.ensures.arrives well)
+
+pub returns-in-Err-clause-never : goal.returns-in-Err-clause-never
+returns-in-Err-clause-never g c = λ all stands block e.
+    let leaf = leaf_kept g.O.OnceDisk c.leaf_place.new.reader all c.in_ok-last.last (c.in_ok-last.ensures.leaf all stands) c.in-Some.block.now c.octets.result.now c.in-Some.ensures.some c.octets.ensures.value in
+    let d : c.fault_of.result ≡ Damaged block = search rules in
+    c.reached_in.ensures.leaf leaf.leaf leaf.begins (c.in-Err.is ∙ ap Err (c.fault_of.ensures.damaged block d).1)
+
+pub returns-in-Err-clause-damaged : goal.returns-in-Err-clause-damaged
+returns-in-Err-clause-damaged g c = λ well block e.
+    let d : c.fault_of.result ≡ Damaged block = search rules in
+    no_damage g.O.OnceDisk c.leaf_place.new.reader (g.O.OnceDisk.known c.args.seen.now) (g.O.OnceDisk.block_count (reader_disk c.args.reader.now)) c.args.from c.args.stamp c.args.place.now c.in_ok-last.last (c.in_ok-last.ensures.arrives well)
+    c.in-Some.block.now c.octets.result.now c.in-Some.ensures.some c.octets.ensures.value (λ leaf begins. c.reached_in.ensures.leaf leaf begins (c.in-Err.is ∙ ap Err (c.fault_of.ensures.damaged block d).1)) block

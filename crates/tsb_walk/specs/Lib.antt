@@ -1,0 +1,4 @@
+pub mod Answers
+pub mod Knowing
+pub mod Ways
+pub mod inner

@@ -1,0 +1,11 @@
+//! Looks into the tree of versions: for the version of a key as of a stamp, for the next key that has a value, and for
+//! the versions of a key. These go through settled blocks.
+#![tactic(auto)]
+
+mod block;
+mod hist;
+mod looks;
+mod walk;
+
+pub use hist::{hist_find, hist_next, hist_part};
+pub use looks::{Found, KeyVersions, Reached};

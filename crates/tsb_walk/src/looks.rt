@@ -1,0 +1,146 @@
+//! What looks answer, and how the octets of a leaf answer them.
+
+ghost use Rattle.std.specs.Prelude.{◌≡◌, ◌<◌, ◌↔◌, length, IsTrue, IfOk, Err, ℕ, List};
+ghost use Rattle.version_model.specs.Versions.{Version, Answers, IsRising};
+ghost use Rattle.version_model.specs.Ranges.{Range, IsPoint, high_or, end_or};
+ghost use Rattle.version_model.specs.Shows.{Shows};
+ghost use Rattle.version_model.specs.Looks.{IsReached, IsPart, NoneWithin};
+ghost use Rattle.version_model.specs.Entries.{versions_of};
+ghost use Rattle.tsb_node.specs.Leaves.{LeafNode, BeginsAsLeaf};
+ghost use Rattle.tsb_walk.specs.Answers.{found_as, reached_as};
+
+use route_model::Key;
+use std::alloc::Global;
+use tsb_node::{FoundVersion, ReadFault, find, next, part};
+use version_model::{Entry, Stamp};
+
+/// A value, and the stamp from which on its key has it.
+#[derive(Debug, Drop)]
+pub struct Found {
+    pub stamp: Stamp,
+    pub value: Vec<u8>,
+}
+
+/// How far a look for the next key has come.
+#[derive(Debug, Drop)]
+pub enum Reached {
+    /// The next key that has a value, and what it has.
+    At(Key, Found),
+    /// No key below this one has a value.
+    Past(Key),
+    /// No key has a value.
+    End,
+}
+
+/// The versions of a key from a stamp on, ends included, in the order of their stamps: all before the stamp that is told,
+/// or all that there are where none is.
+#[derive(Debug, Drop)]
+pub struct KeyVersions {
+    pub entries: Vec<Entry>,
+    pub told: Option<Stamp>,
+}
+
+/// What the leaf that begins these octets has for a key as of a stamp.
+pub fn found_in(
+    alloc: Global,
+    octets: &[u8],
+    key: Key,
+    stamp: Stamp,
+) -> Result<Option<Found>, ReadFault>
+    requires size { length octets.now ≡ 16384 }
+    ensures found { IfOk result (λ found. (leaf : LeafNode) → BeginsAsLeaf leaf octets.now → Answers leaf.versions key stamp (found_as found)) }
+    ensures leaf { (leaf : LeafNode) → BeginsAsLeaf leaf octets.now → result ≡ Err ReadFault.NotANode → ⊥ }
+{
+    let Ok(version) = find(octets, key, stamp) else {
+        return Err(ReadFault::NotANode);
+    };
+    let Some(version) = version else {
+        return Ok(None);
+    };
+    let FoundVersion { stamp, value } = version;
+    let Some(value) = value else {
+        return Ok(None);
+    };
+    Ok(Some(Found {
+        stamp,
+        value: value.as_slice().to_vec(alloc)?,
+    }))
+}
+
+// Whether a key is below the high key of a leaf, where it has one.
+fn is_below(key: Key, high: Option<Key>) -> bool
+    ensures { IsTrue result ↔ (key < high_or high) }
+{
+    match high {
+        Some(high) => key < high,
+        None => is_key(key),
+    }
+}
+
+// Each key is one.
+fn is_key(key: Key) -> bool
+    ensures { IsTrue result ↔ (key < high_or None) }
+{
+    true
+}
+
+// How far a look has come that found no value below the high key.
+fn past(high: Option<Key>) -> Reached
+    ensures past { (versions : List Version) (from s : ℕ) → from < high_or high → NoneWithin versions s from (high_or high) → IsReached versions s from (reached_as result) }
+{
+    match high {
+        Some(high) => Reached::Past(high),
+        None => Reached::End,
+    }
+}
+
+/// How far a look for the next key from `from` on comes in the leaf that begins these octets, of keys below `high`.
+pub fn reached_in(
+    alloc: Global,
+    octets: &[u8],
+    high: &Option<Key>,
+    from: Key,
+    stamp: Stamp,
+) -> Result<Reached, ReadFault>
+    requires size { length octets.now ≡ 16384 }
+    ensures reached { IfOk result (λ reached. (all : List Version) (r : Range) (leaf : LeafNode) → BeginsAsLeaf leaf octets.now → Shows all r leaf.versions → r.high ≡ high_or high.now → IsPoint r from stamp
+        → IsReached all stamp from (reached_as reached)) }
+    ensures leaf { (leaf : LeafNode) → BeginsAsLeaf leaf octets.now → result ≡ Err ReadFault.NotANode → ⊥ }
+{
+    let Ok(least) = next(octets, from, stamp) else {
+        return Err(ReadFault::NotANode);
+    };
+    let Some(key) = least else {
+        return Ok(past(*high));
+    };
+    if !is_below(key, *high) {
+        return Ok(past(*high));
+    }
+    match found_in(alloc, octets, key, stamp) {
+        Ok(Some(found)) => Ok(Reached::At(key, found)),
+        Ok(None) => Err(ReadFault::NotANode),
+        Err(fault) => Err(fault),
+    }
+}
+
+/// The versions of the key from a stamp on in the leaf that begins these octets, of stamps before `end`.
+pub fn part_in(
+    alloc: Global,
+    octets: &[u8],
+    end: &Option<Stamp>,
+    key: Key,
+    from: Stamp,
+) -> Result<KeyVersions, ReadFault>
+    requires size { length octets.now ≡ 16384 }
+    ensures part { IfOk result (λ part. (all : List Version) (r : Range) (leaf : LeafNode) → BeginsAsLeaf leaf octets.now → Shows all r leaf.versions → IsRising all → r.end ≡ end_or end.now → IsPoint r key from
+        → IsPart all key from (versions_of part.entries.items) part.told) }
+    ensures leaf { (leaf : LeafNode) → BeginsAsLeaf leaf octets.now → result ≡ Err ReadFault.NotANode → ⊥ }
+{
+    match part(alloc, octets, key, from, *end) {
+        Ok(entries) => Ok(KeyVersions {
+            entries,
+            told: *end,
+        }),
+        Err(fault) => Err(fault),
+    }
+}
