@@ -1,0 +1,6 @@
+pub mod Wrapping
+pub mod Pieces
+pub mod Images
+pub mod Entries
+pub mod Filling
+pub mod Untouched

@@ -1,0 +1,85 @@
+use Rattle.std.proofs.Common.{◌≡◌, ◌<◌, ◌≤◌, ◌+◌, ℕ, Bool, Result, Ok, Err, IfErr, List, length, arith, rules, refl, sym, ◌∙◌, ap, subst, length-append}
+use Rattle.std.specs.List.{flat_map}
+use Rattle.std.proofs.lemmas.Grind.{flat_map-append}
+use Rattle.page_journal.specs.Layout.{pages_of}
+use Rattle.page_journal.specs.Recovers.{AreBelow, laid}
+use Rattle.page_tx.specs.declared.error.PageError.{PageError}
+use Rattle.page_tx.specs.declared.error.PageError.TheVariants as refusals
+use Rattle.page_tx.specs.Images.{joined}
+use Rattle.page_tx.specs.Refusals.{LayRefusal}
+use Rattle.intake.specs.declared.error.IntakeError.{IntakeError}
+use Rattle.intake.specs.declared.error.IntakeError.TheVariants as intakes
+use Rattle.intake.specs.declared.ring.Ring.{Ring}
+use Rattle.intake.specs.Ring.{entry, octets_for, StandsIn}
+use Rattle.intake.specs.Calls.{AppendRefusal, most_pages}
+use Rattle.intake.proofs.Entries.{valid_both}
+use Rattle.intake.proofs.Images.{are_below, are_distinct, joined_few, laid_changes}
+use Rattle.intake.proofs.ring.Ring.append.Goals as goal
+
+pub lay-requires-clause-below : goal.lay-requires-clause-below
+lay-requires-clause-below g c =
+    let n = c.in_ok-images.ensures.numbers in
+    let ring = c.args.self.now in
+    are_below ring.low ring.count n.0 (g.P.Pages.homes c.draft.new.pages) (pages_of c.in_ok-images.images.items) n.1 (let i = c.requires.ring.inside in omega (arith, c.draft.ensures.same.homes)) n.2
+
+pub lay-requires-clause-distinct : goal.lay-requires-clause-distinct
+lay-requires-clause-distinct g c =
+    let n = c.in_ok-images.ensures.numbers in
+    let ring = c.args.self.now in
+    are_distinct ring.low ring.count n.0 (pages_of c.in_ok-images.images.items) n.1 n.2
+
+lay_refused : (down : Bool) (homes unused some first count all : ℕ) (refusal : PageError) → some ≡ homes → first ≡ unused → count ≤ all → LayRefusal some first count refusal → AppendRefusal down homes unused all (intakes.Pages refusal)
+lay_refused down homes unused some first count all refusals.Fault h u few told = absurd told
+lay_refused down homes unused some first count all refusals.NeedsRecovery h u few told = absurd told
+lay_refused down homes unused some first count all refusals.TooManyImages h u few told = let t = told.1 in omega arith
+lay_refused down homes unused some first count all refusals.PagesFull h u few told = omega arith
+lay_refused down homes unused some first count all refusals.OutOfMemory h u few told = tt
+
+if_err : {T : Type 0} (r : Result T IntakeError) (e : IntakeError) (P : IntakeError → Type 0) → IfErr r (λ x. x ≡ e) → P e → IfErr r P
+if_err (Ok x) e P is p = tt
+if_err (Err x) e P is p = subst P (sym is) p
+
+pub returns-in_err-lay-clause-refused : goal.returns-in_err-lay-clause-refused
+returns-in_err-lay-clause-refused g c =
+    let same = c.draft.ensures.same in
+    let named = ap length same.named in
+    let few = joined_few (g.P.Pages.named c.draft.new.pages) c.in_ok-images.images.items in
+    let octets = ap most_pages c.in-Some.ensures.octets in
+    let is : IfErr c.from_residual-in_err-lay.result (λ e. e ≡ intakes.Pages c.in_err-lay.field-0.0) = search rules in
+    if_err c.from_residual-in_err-lay.result (intakes.Pages c.in_err-lay.field-0.0)
+    (AppendRefusal (g.P.Pages.down c.args.pages.now) (g.P.Pages.homes c.args.pages.now) (g.P.Pages.next c.args.pages.now) (length (g.P.Pages.named c.args.pages.now) + most_pages (octets_for c.args.batch.now))) is
+    (lay_refused (g.P.Pages.down c.args.pages.now) (g.P.Pages.homes c.args.pages.now) (g.P.Pages.next c.args.pages.now) (g.P.Pages.homes c.draft.new.pages) c.next_page-unused.result
+    (length (joined (g.P.Pages.named c.draft.new.pages) (pages_of c.in_ok-images.images.items))) (length (g.P.Pages.named c.args.pages.now) + most_pages (octets_for c.args.batch.now)) c.in_err-lay.field-0.0
+    same.homes (c.next_page-unused.ensures ∙ same.next) (omega (arith, named, few, octets, c.in_ok-images.ensures.few)) c.in_err-lay.ensures.refused)
+
+pub returns-clause-appended : goal.returns-clause-appended
+returns-clause-appended g c start shown waits are holds =
+    let ring = c.args.self.now in
+    let batch = c.args.batch.now in
+    let items = c.in_ok-images.images.items in
+    let n = c.in_ok-images.ensures.numbers in
+    let both = flat_map-append entry waits batch in
+    let long = length-append (flat_map entry waits) (flat_map entry batch) in
+    let len = ap length both in
+    let size = holds.size in
+    let octets = c.in-Some.ensures.octets in
+    let after : Ring = record ring { used = ring.used + c.in-Some.octets } in
+    record {
+      pages = laid items shown;
+      shown = c.in_ok-lay.ensures.ok start shown (c.draft.ensures.same.shown start shown are);
+      changes = (let ch = laid_changes ring n.0 items shown n.1 n.2 in record { count = ch.count; below = ch.below; above = ch.above });
+      holds = record {
+        valid = valid_both waits batch holds.valid c.in_ok-images.ensures.valid;
+        size = omega arith;
+        octets = subst (λ (l : List ℕ). StandsIn (laid items shown) after l) (sym both) (c.in_ok-images.ensures.stands start shown (flat_map entry waits) are holds.size holds.octets);
+      };
+    }
+
+pub returns-clause-few : goal.returns-clause-few
+returns-clause-few g c =
+    let same = c.draft.ensures.same in
+    let named = ap length same.named in
+    let few = joined_few (g.P.Pages.named c.draft.new.pages) c.in_ok-images.images.items in
+    let octets = ap most_pages c.in-Some.ensures.octets in
+    let now = ap length c.in_ok-lay.ensures.named in
+    omega (arith, named, few, octets, now, c.in_ok-images.ensures.few)

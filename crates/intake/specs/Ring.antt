@@ -1,0 +1,69 @@
+-- A ring: pages, one after another and from the last to the first again, that hold a queue of admissions.
+use Rattle.std.specs.Prelude.{◌≡◌, ◌<◌, ◌≤◌, ℕ, ◌+◌, ◌-◌, ◌*◌, ◌/◌, ◌%◌, ◌^◌, List, [], ◌++◌, length, nat_lt, cond, slice_index, slice_index_or, flat_map}
+use Rattle.std.specs.List.{AllByRecursion}
+use Rattle.std.specs.Int.{w32, to_be_bytes}
+use Rattle.route_model.specs.Admission.{Admitted, IsAdmission, admission_octets}
+use Rattle.intake.specs.declared.ring.Ring.{Ring}
+
+-- the octets of a page of the map
+abbrev pub page_at : List (List ℕ) → ℕ → List ℕ
+page_at pages n = slice_index_or pages n []
+
+-- octets behind their length in four octets
+unfoldable pub sized : List ℕ → List ℕ
+sized octets = to_be_bytes w32 (length octets) ++ octets
+
+-- an admission as it stands in a ring: its one spelling, behind the length
+abbrev pub entry : Admitted → List ℕ
+entry a = sized (admission_octets a)
+
+-- how many octets admissions take in a ring
+abbrev pub octets_for : List Admitted → ℕ
+octets_for admissions = length (flat_map entry admissions)
+
+-- how many octets a ring has
+abbrev pub size_of : Ring → ℕ
+size_of ring = 16384 * ring.count
+
+-- where a place of less than twice the size lies in a ring of this size
+abbrev pub wrapped : ℕ → ℕ → ℕ
+wrapped size at = cond (nat_lt at size) at (at - size)
+
+-- the octet at a place of a ring, counted from its first page's first octet
+abbrev pub ring_octet : List (List ℕ) → ℕ → ℕ → ℕ
+ring_octet pages low at = slice_index (page_at pages (low + at / 16384)) (at % 16384)
+
+-- octets stand from a place of a ring on, which has this octet at each of its places
+abbrev pub Reads : (ℕ → ℕ) → ℕ → ℕ → List ℕ → Type 0
+Reads octet size first octets = (k : ℕ) → k < length octets → octet (wrapped size (first + k)) ≡ slice_index octets k
+
+-- octets stand in the ring from the first one on that is used
+abbrev pub StandsIn : List (List ℕ) → Ring → List ℕ → Type 0
+StandsIn pages ring octets = Reads (ring_octet pages ring.low) (size_of ring) ring.first octets
+
+-- the ring lies in a map of so many pages, has at most 65,535 of them, and uses no more octets than it has
+pub record IsRing (homes : ℕ) (ring : Ring) : Type 0 where
+  pub inside : ring.low + ring.count ≤ homes
+  pub small : ring.low + ring.count < 2 ^ 64
+  pub few : ring.count ≤ 65535
+  pub start : ring.first < size_of ring
+  pub used : ring.used ≤ size_of ring
+
+-- The ring holds these admissions: its used octets are their entries, in their order.
+pub record Holds (pages : List (List ℕ)) (ring : Ring) (admissions : List Admitted) : Type 0 where
+  pub valid : AllByRecursion IsAdmission admissions
+  pub size : octets_for admissions ≡ ring.used
+  pub octets : StandsIn pages ring (flat_map entry admissions)
+
+-- only pages of the ring are changed
+pub record ChangesOnly (ring : Ring) (old new : List (List ℕ)) : Type 0 where
+  pub count : length new ≡ length old
+  pub below : (n : ℕ) → n < ring.low → page_at new n ≡ page_at old n
+  pub above : (n : ℕ) → ring.low + ring.count ≤ n → page_at new n ≡ page_at old n
+
+-- Pages are shown in which the ring holds these admissions, and outside of it they are as they were.
+pub record Gains (shows : List (List ℕ) → Type 0) (old : List (List ℕ)) (ring : Ring) (admissions : List Admitted) : Type 0 where
+  pub pages : List (List ℕ)
+  pub shown : shows pages
+  pub changes : ChangesOnly ring old pages
+  pub holds : Holds pages ring admissions

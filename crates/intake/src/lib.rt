@@ -1,0 +1,12 @@
+//! A ring of pages for each collector: a queue of the admissions that were acknowledged and aren't applied yet, in a
+//! place of known size.
+#![tactic(auto)]
+
+mod appending;
+mod drafting;
+mod error;
+mod reading;
+mod ring;
+
+pub use error::{IntakeError, ReadError};
+pub use ring::Ring;

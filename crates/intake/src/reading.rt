@@ -1,0 +1,116 @@
+//! Octets of a ring, and the admission that they spell.
+ghost use Rattle.std.specs.Prelude.{◌≡◌, ◌<◌, ◌≤◌, ◌+◌, ◌++◌, ℕ, List, length, take, drop, OnOk, IfOk, IfErr, IsErrOf};
+ghost use Rattle.std.specs.Int.{w32, from_be_bytes};
+ghost use Rattle.page_tx.specs.Start.{Start};
+ghost use Rattle.intake.specs.Ring.{IsRing, StandsIn};
+ghost use Rattle.intake.specs.Calls.{OnlyReads, PageRefusal};
+
+use crate::error::ReadError;
+use crate::ring::{PAGE, Ring, wrap};
+use byteorder::{BigEndian, ByteOrder};
+use page_tx::{PageError, Pages};
+use route_model::Admission;
+use std::alloc::Global;
+
+// Reads a first piece of so many octets, which stand in one page from a place behind the first used octet on.
+fn read_piece<P: Pages>(
+    pages: &mut P,
+    ring: Ring,
+    from: u64,
+    most: usize,
+    out: &mut Vec<u8>,
+) -> Result<(), PageError>
+    requires ring { IsRing (P.homes pages.old) ring }
+    requires some { 0 < most }
+    requires inside { from + most ≤ ring.used }
+    ensures read { OnOk result ((n : ℕ) × (0 < n) × (n ≤ most) × (length out.new.items ≡ length out.old.items + n) × ((start : Start) (shown : List (List ℕ)) (stood : List ℕ) → P.shows pages.old start shown → length stood ≡ ring.used → StandsIn shown ring stood → out.new.items ≡ out.old.items ++ take n (drop from stood))) }
+    ensures refused { IfErr result (PageRefusal (P.down pages.old)) }
+    ensures same { OnlyReads P.Pages pages.old pages.new (IsErrOf result PageError.Fault) }
+{
+    let at = wrap(PAGE * ring.count, ring.first + from);
+    let start = (at % PAGE) as usize;
+    let len = most.min(16_384 - start);
+    let number = ring.low + at / PAGE;
+    pages.fetch(number)?;
+    let Some(page) = pages.page(number) else {
+        unreachable!();
+    };
+    let octets = page.octets();
+    out.extend_from_slice(&octets[start..start + len])?;
+    Ok(())
+}
+
+// Reads so many octets from a place behind the first used octet on.
+pub fn read<P: Pages>(
+    alloc: Global,
+    pages: &mut P,
+    ring: Ring,
+    from: u64,
+    len: usize,
+) -> Result<Vec<u8>, PageError>
+    requires ring { IsRing (P.homes pages.old) ring }
+    requires inside { from + len ≤ ring.used }
+    ensures len { IfOk result (λ octets. length octets.items ≡ len) }
+    ensures read { IfOk result (λ octets. (start : Start) (shown : List (List ℕ)) (stood : List ℕ) → P.shows pages.old start shown → length stood ≡ ring.used → StandsIn shown ring stood → octets.items ≡ take len (drop from stood)) }
+    ensures refused { IfErr result (PageRefusal (P.down pages.old)) }
+    ensures same { OnlyReads P.Pages pages.old pages.new (IsErrOf result PageError.Fault) }
+{
+    let mut out = Vec::new(alloc);
+    let mut done = 0;
+    while done < len {
+        read_piece(pages, ring, from + done as u64, len - done, &mut out)?;
+        done = out.len();
+    }
+    Ok(out)
+}
+
+// The number in four octets.
+fn number(octets: &[u8]) -> u32
+    requires { length octets.now ≡ 4 }
+    ensures { result ≡ from_be_bytes w32 octets.now }
+{
+    BigEndian::read_u32(octets)
+}
+
+impl Ring {
+    ghost use Rattle.std.specs.Prelude.{◌≡◌, ◌<◌, ◌≤◌, ◌+◌, ◌/◌, ℕ, List, length, slice_get, IfOk, IfErr, IfSome, Err};
+    ghost use Rattle.page_tx.specs.Start.{Start};
+    ghost use Rattle.route_model.specs.Admission.{Admitted};
+    ghost use Rattle.intake.specs.Ring.{entry, IsRing, Holds};
+    ghost use Rattle.intake.specs.Calls.{OnlyReads, ReadRefusal};
+    ghost use Rattle.page_tx.specs.declared.error.PageError.TheVariants as pages_refusals;
+
+    /// The first admission that waits, none where nothing waits. Where no admission stands first, the page is told on
+    /// which it would begin.
+    pub fn front<P: Pages>(
+        &self,
+        alloc: Global,
+        pages: &mut P,
+    ) -> Result<Option<Admission>, ReadError>
+        requires ring { IsRing (P.homes pages.old) self.now }
+        ensures front { IfOk result (λ front. (start : Start) (shown : List (List ℕ)) (waits : List Admitted) → P.shows pages.old start shown → Holds shown self.now waits → front ≡ slice_get waits 0) }
+        ensures damaged { (page : ℕ) → result ≡ Err (ReadError.BadNode page) → (start : Start) (shown : List (List ℕ)) (waits : List Admitted) → P.shows pages.old start shown → Holds shown self.now waits → ⊥ }
+        ensures begins { (page : ℕ) → result ≡ Err (ReadError.BadNode page) → page ≡ self.now.low + self.now.first / 16384 }
+        ensures fits { IfOk result (λ front. IfSome front (λ a. length (entry a) ≤ self.now.used)) }
+        ensures refused { IfErr result (ReadRefusal (P.down pages.old)) }
+        ensures same { OnlyReads P.Pages pages.old pages.new (result ≡ Err (ReadError.Pages pages_refusals.Fault)) }
+    {
+        let damaged = ReadError::BadNode(self.low + self.first / PAGE);
+        if self.used == 0 {
+            return Ok(None);
+        }
+        if self.used < 4 {
+            return Err(damaged);
+        }
+        let size = read(alloc, pages, *self, 0, 4)?;
+        let len = number(&size);
+        if u64::from(len) > self.used - 4 {
+            return Err(damaged);
+        }
+        let octets = read(alloc, pages, *self, 4, len as usize)?;
+        let Some(admission) = Admission::decode(alloc, &octets)? else {
+            return Err(damaged);
+        };
+        Ok(Some(admission))
+    }
+}
