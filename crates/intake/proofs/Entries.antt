@@ -1,5 +1,5 @@
 -- The entries of a ring, one after another.
-use Rattle.std.proofs.Common.{◌≡◌, ◌<◌, ◌≤◌, ℕ, ◌+◌, ◌-◌, ◌*◌, List, [], ◌∷◌, ◌++◌, length, take, drop, get_or, zero, suc, subst, refl, sym, ◌∙◌, ap, arith, append_assoc, length-append, None}
+use Rattle.std.proofs.Common.{◌≡◌, ◌<◌, ◌≤◌, ℕ, ◌+◌, ◌-◌, List, [], ◌∷◌, ◌++◌, length, take, drop, get_or, suc, subst, refl, sym, ◌∙◌, ap, arith, append_assoc, length-append, None}
 use Rattle.std.proofs.Math.Seq.{take-append_seam, drop-append_seam, take-suc}
 use Rattle.std.proofs.lemmas.Grind.{flat_map-append}
 use Rattle.std.proofs.lemmas.List.{append-nil, take-append-drop}

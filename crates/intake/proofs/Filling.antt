@@ -1,11 +1,11 @@
 -- What is put into images of a ring's pages stands in the ring where they are laid.
-use Rattle.std.proofs.Common.{◌≡◌, ◌⊎◌, ◌<◌, ◌≤◌, ℕ, ◌+◌, ◌-◌, ◌*◌, ◌/◌, ◌%◌, List, [], ◌++◌, length, take, drop, get_or, set, min, cond, sym, ◌∙◌, ap, subst, inl, inr, arith, append_assoc, length-append, Some}
+use Rattle.std.proofs.Common.{◌≡◌, ◌⊎◌, ◌<◌, ◌≤◌, ℕ, ◌+◌, ◌-◌, ◌*◌, ◌/◌, ◌%◌, List, [], ◌++◌, length, take, get_or, set, min, cond, sym, ◌∙◌, ap, subst, inl, inr, arith, append_assoc, length-append, Some}
 use Rattle.std.specs.List.{slice_get}
 use Rattle.std.proofs.lemmas.Bool.{cases_lt, lt-ltb, le-ltb}
 use Rattle.std.proofs.lemmas.List.{length-take}
 use Rattle.std.proofs.lemmas.Option.{slice_get-get_or}
 use Rattle.page_journal.specs.Layout.{Image, pages_of}
-use Rattle.page_journal.specs.Recovers.{laid, AreDistinct}
+use Rattle.page_journal.specs.Recovers.{laid}
 use Rattle.page_tx.specs.inner.Laid.{length_laid}
 use Rattle.page_tx.proofs.api.Laid.{shown_image}
 use Rattle.intake.specs.declared.ring.Ring.{Ring}

@@ -1,5 +1,5 @@
 -- Images of a ring's pages, each under its number.
-use Rattle.std.proofs.Common.{◌≡◌, ◌≢◌, ◌⊎◌, ◌<◌, ◌≤◌, ℕ, zero, suc, ◌+◌, ◌-◌, ◌*◌, ◌/◌, ◌%◌, List, [], ◌∷◌, ◌++◌, length, get_or, set, refl, sym, ◌∙◌, ap, subst, cond, not, arith, inl, inr, Some, length-append, length-set, get_or-set_same, get_or-set_other}
+use Rattle.std.proofs.Common.{◌≡◌, ◌≢◌, ◌⊎◌, ◌<◌, ◌≤◌, ℕ, zero, suc, ◌+◌, ◌-◌, ◌*◌, List, [], ◌∷◌, ◌++◌, length, get_or, set, refl, sym, ◌∙◌, ap, subst, cond, not, arith, inl, inr, Some, length-append}
 use Rattle.std.specs.List.{AllByRecursion, slice_get}
 use Rattle.std.proofs.lemmas.Bool.{cases_lt, lt-ltb, le-ltb}
 use Rattle.std.proofs.lemmas.List.Filters.{length-filter_both}
@@ -8,7 +8,7 @@ use Rattle.page_journal.specs.Layout.{Image, pages_of}
 use Rattle.page_journal.specs.Recovers.{laid, AreBelow, AreDistinct}
 use Rattle.page_tx.specs.Images.{joined}
 use Rattle.page_tx.specs.inner.Laid.{length_laid}
-use Rattle.page_tx.proofs.api.Laid.{laid_apart, shown_image, shown_other}
+use Rattle.page_tx.proofs.api.Laid.{laid_apart, shown_other}
 use Rattle.intake.specs.declared.ring.Ring.{Ring}
 use Rattle.intake.specs.Ring.{page_at, wrapped, ChangesOnly}
 use Rattle.intake.specs.inner.Drafts.{numbers_from, image_of, AreFrom}

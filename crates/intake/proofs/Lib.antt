@@ -4,3 +4,4 @@ pub mod Images
 pub mod Entries
 pub mod Filling
 pub mod Untouched
+pub mod Passing

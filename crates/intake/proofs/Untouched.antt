@@ -1,5 +1,5 @@
 -- Calls that set no page, one after another.
-use Rattle.std.proofs.Common.{◌≡◌, ℕ, ◌+◌, List, refl, ◌∙◌, ap, min}
+use Rattle.std.proofs.Common.{ℕ, ◌+◌, refl, ◌∙◌, ap, min}
 use Rattle.page_tx.specs.declared.pages.Pages.{Ghosts}
 use Rattle.page_tx.specs.Device.{KeepsDevice}
 use Rattle.intake.specs.Calls.{OnlyReads}

@@ -21,6 +21,10 @@ entry a = sized (admission_octets a)
 abbrev pub octets_for : List Admitted → ℕ
 octets_for admissions = length (flat_map entry admissions)
 
+-- when an admission was said
+abbrev pub time_of : Admitted → ℕ
+time_of a = a.time
+
 -- how many octets a ring has
 abbrev pub size_of : Ring → ℕ
 size_of ring = 16384 * ring.count

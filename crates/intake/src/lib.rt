@@ -7,6 +7,7 @@ mod drafting;
 mod error;
 mod reading;
 mod ring;
+mod waiting;
 
 pub use error::{IntakeError, ReadError};
 pub use ring::Ring;

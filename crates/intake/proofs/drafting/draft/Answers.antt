@@ -1,4 +1,4 @@
-use Rattle.std.proofs.Common.{◌≡◌, ◌+◌, ◌*◌, ◌/◌, ◌%◌, ℕ, List, length, arith, sym, ◌∙◌, ap, subst}
+use Rattle.std.proofs.Common.{◌≡◌, ◌/◌, ℕ, List, length, arith, sym, ◌∙◌, ap, subst}
 use Rattle.page_journal.specs.Layout.{pages_of}
 use Rattle.intake.specs.Ring.{octets_for, size_of}
 use Rattle.intake.specs.inner.Drafts.{AreFrom, Covers}

@@ -1,4 +1,4 @@
-use Rattle.std.proofs.Common.{◌≡◌, ◌+◌, ◌++◌, ℕ, List, length, take, arith, sym, ◌∙◌, subst}
+use Rattle.std.proofs.Common.{◌+◌, ℕ, List, length, take, arith, sym, ◌∙◌, subst}
 use Rattle.std.specs.List.{flat_map}
 use Rattle.route_model.specs.Admission.{admission_octets}
 use Rattle.page_journal.specs.Layout.{pages_of}

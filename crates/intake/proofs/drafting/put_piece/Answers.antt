@@ -1,4 +1,4 @@
-use Rattle.std.proofs.Common.{◌≡◌, length, arith}
+use Rattle.std.proofs.Common.{length, arith}
 use Rattle.page_journal.specs.Layout.{pages_of}
 use Rattle.intake.proofs.Filling.{covered, piece_put}
 use Rattle.intake.proofs.Images.{length_pages_of}

@@ -1,4 +1,4 @@
-use Rattle.std.proofs.Common.{◌≡◌, ◌≤◌, ◌+◌, ◌%◌, ◌/◌, ◌<◌, ◌++◌, ℕ, List, [], length, take, drop, arith, sym, ap, ◌∙◌, length-append, length-take, length-drop}
+use Rattle.std.proofs.Common.{◌≡◌, ◌≤◌, ◌+◌, ◌%◌, ◌/◌, ◌<◌, ◌++◌, [], length, take, drop, arith, sym, ap, ◌∙◌, length-append, length-take, length-drop}
 use Rattle.std.proofs.lemmas.Option.{get_or_from_slice_get}
 use Rattle.intake.specs.Ring.{size_of}
 use Rattle.intake.proofs.Wrapping.{wrapped_low}

@@ -1,8 +1,8 @@
-use Rattle.std.proofs.Common.{◌≡◌, ◌<◌, ◌≤◌, ◌+◌, ℕ, Bool, Result, Ok, Err, IfErr, List, length, arith, rules, refl, sym, ◌∙◌, ap, subst, length-append}
+use Rattle.std.proofs.Common.{◌≡◌, ◌≤◌, ◌+◌, ℕ, Bool, Result, Ok, Err, IfErr, List, length, arith, rules, sym, ◌∙◌, ap, subst, length-append}
 use Rattle.std.specs.List.{flat_map}
 use Rattle.std.proofs.lemmas.Grind.{flat_map-append}
 use Rattle.page_journal.specs.Layout.{pages_of}
-use Rattle.page_journal.specs.Recovers.{AreBelow, laid}
+use Rattle.page_journal.specs.Recovers.{laid}
 use Rattle.page_tx.specs.declared.error.PageError.{PageError}
 use Rattle.page_tx.specs.declared.error.PageError.TheVariants as refusals
 use Rattle.page_tx.specs.Images.{joined}

@@ -1,6 +1,5 @@
-use Rattle.std.proofs.Common.{◌≡◌, ◌+◌, ◌∷◌, ◌/◌, ℕ, List, length, arith, sym, ◌∙◌, ap, Some}
+use Rattle.std.proofs.Common.{◌≡◌, List, length, arith, sym, ◌∙◌, ap}
 use Rattle.std.specs.List.{flat_map, slice_get}
-use Rattle.std.specs.Int.{w32, from_be_bytes}
 use Rattle.route_model.specs.Admission.{Admitted, admission_octets}
 use Rattle.intake.specs.Ring.{entry}
 use Rattle.intake.proofs.Entries.{first_there, first_len, first_spelled, length-sized, none_there}

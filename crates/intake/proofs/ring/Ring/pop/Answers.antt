@@ -1,6 +1,5 @@
-use Rattle.std.proofs.Common.{◌≡◌, ◌+◌, ◌-◌, ◌*◌, ◌<◌, length, arith, sym, ◌∙◌, ap, subst}
+use Rattle.std.proofs.Common.{◌≡◌, ◌+◌, ◌-◌, ◌<◌, length, arith, sym, ◌∙◌, ap, subst}
 use Rattle.route_model.specs.Admission.{admission_octets}
-use Rattle.intake.specs.declared.ring.Ring.{Ring}
 use Rattle.intake.specs.Ring.{wrapped, entry, size_of, Holds}
 use Rattle.intake.proofs.Wrapping.{wrapped_low}
 use Rattle.intake.proofs.Entries.{length-sized, holds_later}

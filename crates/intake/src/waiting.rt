@@ -1,0 +1,112 @@
+//! The times of all that waits in a ring.
+ghost use Rattle.std.specs.Prelude.{◌≡◌, ◌<◌, ◌≤◌, ◌+◌, ◌^◌, ◌++◌, ◌∷◌, [], ℕ, List, length, take, drop, OnOk, IfOk, IfErr, Err};
+ghost use Rattle.std.specs.Int.{w32, w64, from_be_bytes};
+ghost use Rattle.page_tx.specs.Start.{Start};
+ghost use Rattle.page_tx.specs.declared.error.PageError.TheVariants as pages_refusals;
+ghost use Rattle.route_model.specs.Admission.{Admitted};
+ghost use Rattle.intake.specs.Ring.{size_of, IsRing, Holds};
+ghost use Rattle.intake.specs.Calls.{OnlyReads, ReadRefusal};
+ghost use Rattle.intake.specs.inner.Passing.{Passed};
+
+use crate::error::ReadError;
+use crate::reading::read;
+use crate::ring::{PAGE, Ring, wrap};
+use byteorder::{BigEndian, ByteOrder};
+use page_tx::Pages;
+use route_model::Moment;
+use std::alloc::{AllocError, Global};
+
+// The length of an entry's spelling, and the time that the spelling begins with.
+fn length_and_time(front: &[u8]) -> (u32, u64)
+    requires { length front.now ≡ 12 }
+    ensures length { result.0 ≡ from_be_bytes w32 (take 4 front.now) }
+    ensures time { result.1 ≡ from_be_bytes w64 (drop 4 front.now) }
+{
+    let (length, time) = front.split_at(4);
+    (BigEndian::read_u32(length), BigEndian::read_u64(time))
+}
+
+// Puts one more time at the end.
+fn add_time(times: &mut Vec<Moment>, time: Moment) -> Result<(), AllocError>
+    ensures { OnOk result (times.new.items ≡ times.old.items ++ time ∷ []) }
+{
+    times.push(time)?;
+    Ok(())
+}
+
+// The page of a place behind the first used octet.
+fn page_of(ring: Ring, at: u64) -> u64
+    requires small { ring.low + ring.count < 2 ^ 64 }
+    requires few { ring.count ≤ 65535 }
+    requires start { ring.first < size_of ring }
+    requires at { at ≤ size_of ring }
+    ensures low { ring.low ≤ result }
+    ensures high { result < ring.low + ring.count }
+{
+    ring.low + wrap(PAGE * ring.count, ring.first + at) / PAGE
+}
+
+// The time of the entry at a place behind the first used octet, and where the next one is.
+fn time_at<P: Pages>(
+    alloc: Global,
+    pages: &mut P,
+    ring: Ring,
+    at: u64,
+) -> Result<(Moment, u64), ReadError>
+    requires ring { IsRing (P.homes pages.old) ring }
+    requires some { at < ring.used }
+    ensures passed { IfOk result (λ found. (start : Start) (shown : List (List ℕ)) (waits : List Admitted) (times : List ℕ) → P.shows pages.old start shown → Holds shown ring waits → Passed waits at times → Passed waits found.1 (times ++ found.0 ∷ [])) }
+    ensures on { IfOk result (λ found. at < found.1) }
+    ensures inside { IfOk result (λ found. found.1 ≤ ring.used) }
+    ensures damaged { (page : ℕ) → result ≡ Err (ReadError.BadNode page) → (start : Start) (shown : List (List ℕ)) (waits : List Admitted) (times : List ℕ) → P.shows pages.old start shown → Holds shown ring waits → Passed waits at times → ⊥ }
+    ensures page { (page : ℕ) → result ≡ Err (ReadError.BadNode page) → (ring.low ≤ page) × (page < ring.low + ring.count) }
+    ensures refused { IfErr result (ReadRefusal (P.down pages.old)) }
+    ensures same { OnlyReads P.Pages pages.old pages.new (result ≡ Err (ReadError.Pages pages_refusals.Fault)) }
+{
+    let damaged = ReadError::BadNode(page_of(ring, at));
+    if ring.used - at < 12 {
+        return Err(damaged);
+    }
+    let front = read(alloc, pages, ring, at, 12)?;
+    let (len, time) = length_and_time(&front);
+    let Some(moment) = Moment::new(time) else {
+        return Err(damaged);
+    };
+    if u64::from(len) > ring.used - at - 4 {
+        return Err(damaged);
+    }
+    Ok((moment, at + 4 + u64::from(len)))
+}
+
+impl Ring {
+    ghost use Rattle.std.specs.Prelude.{◌≡◌, ◌<◌, ◌≤◌, ◌+◌, ℕ, List, map, IfOk, IfErr, Err};
+    ghost use Rattle.page_tx.specs.Start.{Start};
+    ghost use Rattle.page_tx.specs.declared.error.PageError.TheVariants as pages_refusals;
+    ghost use Rattle.route_model.specs.Admission.{Admitted};
+    ghost use Rattle.intake.specs.Ring.{time_of, IsRing, Holds};
+    ghost use Rattle.intake.specs.Calls.{OnlyReads, ReadRefusal};
+
+    /// The times of all that waits, in its order. Of each admission no more is read than its length and its time. Where no
+    /// admission stands, the page is told on which it would begin.
+    pub fn waiting_times<P: Pages>(
+        &self,
+        alloc: Global,
+        pages: &mut P,
+    ) -> Result<Vec<Moment>, ReadError>
+        requires ring { IsRing (P.homes pages.old) self.now }
+        ensures times { IfOk result (λ times. (start : Start) (shown : List (List ℕ)) (waits : List Admitted) → P.shows pages.old start shown → Holds shown self.now waits → times.items ≡ map time_of waits) }
+        ensures damaged { (page : ℕ) → result ≡ Err (ReadError.BadNode page) → (start : Start) (shown : List (List ℕ)) (waits : List Admitted) → P.shows pages.old start shown → Holds shown self.now waits → ⊥ }
+        ensures page { (page : ℕ) → result ≡ Err (ReadError.BadNode page) → (self.now.low ≤ page) × (page < self.now.low + self.now.count) }
+        ensures refused { IfErr result (ReadRefusal (P.down pages.old)) }
+        ensures same { OnlyReads P.Pages pages.old pages.new (result ≡ Err (ReadError.Pages pages_refusals.Fault)) }
+    {
+        let mut times = Vec::new(alloc);
+        let mut at = 0;
+        while at < self.used {
+            let (time, next) = time_at(alloc, pages, *self, at)?;
+            add_time(&mut times, time)?;
+            at = next;
+        }
+        Ok(times)
+    }
+}
