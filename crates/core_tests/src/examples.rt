@@ -66,12 +66,12 @@ const SCRIPTS: [Script; 6] = [
         acts: &[
             (
                 Act::Offer(0, &[(100, &[]), (99, &[]), (100, &[])]),
-                "0: 0..2 of 3, late 1",
+                "0: 0..2 of 3, late 1 at 99 below 100",
             ),
             (Act::Offer(0, &[]), "0: 2..2 of 3"),
             (
                 Act::Offer(0, &[(99, &[]), (100, &[])]),
-                "0: 2..3 of 5, late 0",
+                "0: 2..3 of 5, late 0 at 99 below 100",
             ),
             (Act::Offer(1, &[]), "no collector"),
         ],
@@ -283,5 +283,12 @@ fn a_collector_goes_on_behind_what_it_offered(rt: HostRuntime) -> Result<(), Fai
     assert_eq!(rt; resume.admitted, 2);
     assert_eq!(rt; resume.mark.seconds(), 100);
     assert!(rt; ran.machine.resume(1).is_none());
+    Ok(())
+}
+
+#[test]
+fn a_question_asks_up_to_its_last_moment(rt: HostRuntime) -> Result<(), Fail> {
+    assert!(rt; all_events(9, 0).last_moment() == moment_of(9));
+    assert!(rt; all_rows(7).last_moment() == moment_of(7));
     Ok(())
 }

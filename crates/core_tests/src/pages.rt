@@ -29,9 +29,12 @@ fn all_rows(seconds: u32) -> Step {
 }
 
 /// How many rows a reply tells, and whether more follow.
-fn rows_told(reply: Option<&Reply>) -> Option<(usize, bool)> {
+fn rows_told(reply: Option<&Reply>) -> Option<(usize, bool, Option<u8>)> {
     match reply {
-        Some(Reply::Done(Answer::Rows(rows))) => Some((rows.rows.len(), rows.more)),
+        Some(Reply::Done(Answer::Rows(rows))) => {
+            let last = rows.rows.last().map(|row| row.peer.collector);
+            Some((rows.rows.len(), rows.more, last))
+        }
         _ => None,
     }
 }
@@ -53,7 +56,7 @@ fn an_answer_has_256_rows_at_most(rt: HostRuntime) -> Result<(), Fail> {
     steps.push(Step::Turn(1, Reach::UpTo(spot_of(1, 0))))?;
     let ran = run(alloc, Machine::created(alloc, 2)?, &steps)?;
     assert!(rt; matches!(ran.replies.get(7), Some(Reply::Again)));
-    assert!(rt; rows_told(ran.replies.get(8)) == Some((256, false)));
-    assert!(rt; rows_told(ran.replies.get(9)) == Some((256, true)));
+    assert!(rt; rows_told(ran.replies.get(8)) == Some((256, false, Some(0))));
+    assert!(rt; rows_told(ran.replies.get(9)) == Some((256, true, Some(0))));
     Ok(())
 }

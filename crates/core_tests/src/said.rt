@@ -155,7 +155,12 @@ fn batch_text(alloc: Global, told: &BatchReply) -> Result<String, Fail> {
         receipt.collector, receipt.from, receipt.to, told.offered
     )?;
     for late in &told.late {
-        let one = format!(in alloc; ", late {}", late.index)?;
+        let one = format!(in alloc;
+            ", late {} at {} below {}",
+            late.index,
+            late.time.seconds(),
+            late.mark.seconds()
+        )?;
         text.push_str(&one)?;
     }
     Ok(text)

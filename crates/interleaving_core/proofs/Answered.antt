@@ -35,7 +35,7 @@ use Rattle.interleaving_core.specs.Turns.{added_rows, come_to, added_events, IsD
 use Rattle.interleaving_core.specs.Does.{WhenUp, DoesAdmit, DoesMark, DoesApply, last_moment, IsInProgress, DoesTurn, Does, Runs, IsStep}
 use Rattle.interleaving_core.proofs.NextChanges.{applies_part, applies_whole, nothing}
 use Rattle.interleaving_core.proofs.Wholly.{does_turn}
-use Rattle.interleaving_core.proofs.Sound.{run_fine, created_sound}
+use Rattle.interleaving_core.proofs.Sound.{IsSound, step_fine, created_sound}
 
 -- a list that isn't too long, as a Vec
 abbrev vec : {X : Type 0} (xs : List X) → length xs < 2 ^ 63 → Vec X
@@ -205,7 +205,7 @@ when_up w Says a = elim (cases_Bool w.down) [
   | inr up ↦ (a.0, a.1, inl (up, a.2))
 ]
 
-step_answered : (w : World) (step : Step) → IsHistory w.history → Answered (Does w step)
+pub step_answered : (w : World) (step : Step) → IsHistory w.history → Answered (Does w step)
 step_answered w (Admit c batch) right = when_up w (DoesAdmit w c batch.items) (admit_answered w c batch)
 step_answered w (Mark c mark) right = when_up w (DoesMark w c mark) (mark_answered w c mark)
 step_answered w (Apply more) right = when_up w (DoesApply w more) (apply_answered w more)
@@ -215,5 +215,13 @@ step_answered w (Turn i reach) right = when_up w (DoesTurn w i reach) (turn_of w
 step_answered w Crash right = (Crashed, crashed w, (refl, refl))
 step_answered w Recover right = (Recovered, record { history = w.history; questions = w.questions; down = false }, (refl, refl))
 
-pub run_answered : (collectors : ℕ) (steps : List Step) (replies : List Reply) (w : World) (step : Step) → AllByRecursion IsStep steps → Runs (created collectors) steps replies w → (reply : Reply) × (v : World) × Does w step reply v
-run_answered collectors steps replies w step valid run = step_answered w step (run_fine (created collectors) w steps replies valid (created_sound collectors) run).sound.history
+-- any steps made of values are those of a run
+run_from : (w : World) (steps : List Step) → IsSound w → AllByRecursion IsStep steps → (replies : List Reply) × (last : World) × Runs w steps replies last
+run_from w [] sound valid = ([], w, refl)
+run_from w (step ∷ steps) sound valid =
+    let a = step_answered w step sound.history in
+    let rest = run_from a.1 steps (step_fine w step a.0 a.1 valid.0 sound a.2).sound valid.1 in
+    (a.0 ∷ rest.0, rest.1, (a.1, a.2, rest.2))
+
+pub run_answered : (collectors : ℕ) (steps : List Step) → AllByRecursion IsStep steps → (replies : List Reply) × (last : World) × Runs (created collectors) steps replies last
+run_answered collectors steps valid = run_from (created collectors) steps (created_sound collectors) valid

@@ -59,9 +59,9 @@ pub record AppliesSome (w : World) (more : ℕ) (v : World) : Type 0 where
   pub others : AppliesMore more first last
   pub after : v ≡ with_history w last
 
--- nothing was applied, or fewer changes than so many behind the next one
+-- nothing was applied, or, where all is up, fewer changes than so many behind the next one
 abbrev pub AppliesLess : World → ℕ → World → Type 0
-AppliesLess w more v = (v ≡ w) ⊎ ((fewer : ℕ) × (fewer < more) × AppliesSome w fewer v)
+AppliesLess w more v = (v ≡ w) ⊎ ((w.down ≡ false) × (fewer : ℕ) × (fewer < more) × AppliesSome w fewer v)
 
 -- something is applied exactly where something may be
 abbrev pub DoesApply : World → ℕ → Reply → World → Type 0

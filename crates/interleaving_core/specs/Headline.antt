@@ -82,7 +82,7 @@ IsKept h steps replies (Admit c batch) (Taken told) = Stands h (told_of c steps 
 IsKept h steps replies step reply = Unit {0}
 
 -- What the collector c has is what the steps gave: its list is all that they offered for it that wasn't late, in the order of offering; its
--- mark is the greatest of the times and marks that they told of it.
+-- mark is the greatest of the times and marks that they told of it; and its count is that of all that they offered for it.
 pub record IsGiven (i : Intake) (c : ℕ) (steps : List Step) (replies : List Reply) : Type 0 where
   pub admitted : i.admitted ≡ taken_of c [] steps replies
   pub mark : i.mark ≡ greatest 0 (told_of c steps replies)

@@ -43,7 +43,7 @@ with_batch batch i = record { admitted = i.admitted ++ timely admitted_time i.ma
 abbrev pub given : History → ℕ → List Admitted → History
 given h c batch = record { intakes = changed c (with_batch batch) h.intakes; whole = h.whole; some = h.some }
 
--- so far, all else is the same
+-- so many admissions and changes are applied, and all else is the same
 abbrev pub moved : History → ℕ → ℕ → History
 moved h whole some = record { intakes = h.intakes; whole = whole; some = some }
 

@@ -1,4 +1,4 @@
--- The state of the pure machine: a history, the questions in progress, and whether it is down.
+-- The state of the pure machine: a history, the questions that were begun, and whether it is down.
 use Rattle.std.specs.Prelude.{ℕ, List, [], Bool, true, false, map, length}
 use Rattle.route_meaning.specs.History.{Intake, History}
 use Rattle.interleaving_core.specs.declared.reply.Resume.{Resume}

@@ -70,7 +70,7 @@ impl Machine {
         Some(given.resume())
     }
 
-    /// The collector of this number gives a batch.
+    /// The collector of this number gives a batch. Refused only memory, or a count of offered records that is full.
     pub fn admit(&mut self, collector: u8, batch: &[Admission]) -> Result<Reply, AllocError>
         ensures does { IfOk result (λ reply. WhenUp self.old reply self.new (DoesAdmit self.old collector batch.now reply self.new)) }
         ensures same { OnErr result (self.new ≡ self.old) }

@@ -257,6 +257,7 @@ pub(crate) fn take_turn(
     match question {
         Question::OfRows(so_far) => rows_turn(alloc, applied, so_far, reach),
         Question::OfEvents(so_far) => events_turn(alloc, applied, so_far, reach),
+        // Not met: the question is in progress.
         Question::Ended(_) => Err(AllocError),
     }
 }
