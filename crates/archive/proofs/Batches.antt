@@ -6,12 +6,11 @@ use Rattle.route_model.specs.Admission.{Admitted, admission_octets, IsAdmission}
 use Rattle.route_meaning.specs.Holds.{admitted_time}
 use Rattle.route_meaning.proofs.api.Sorting.{all_append}
 use Rattle.sequencer.specs.declared.late.Sieved.{Sieved}
-use Rattle.sequencer.specs.Late.{greatest, timely, lates}
+use Rattle.sequencer.specs.Late.{greatest, timely}
 use Rattle.sequencer.specs.Lanes.{Waiting, marks, waiting_times, SameLanes}
 use Rattle.sequencer.specs.Taking.{IsSieved, TakesIn}
 use Rattle.sequencer.proofs.api.Setting.{one_there}
 use Rattle.interleaving_core.proofs.api.Right.{timely-map}
-use Rattle.interleaving_core.proofs.api.Batches.{lates-map}
 use Rattle.archive.specs.Limits.{batch_octets}
 
 -- ---- the loops
@@ -60,6 +59,3 @@ times_taken lanes mid new c mark batch times s ts same takes sieved before here 
     takes.times ∙ (ap (λ (l : List (List ℕ)). slice_set l c (takes.lane.times ++ s.timely.items)) same.times
     ∙ (ap (λ (l : List ℕ). slice_set (waiting_times lanes) c (l ++ s.timely.items)) before_is
     ∙ ap (λ (l : List ℕ). slice_set (waiting_times lanes) c (before ++ l)) kept))
-
-pub lates_taken : (mark : ℕ) (batch : List Admitted) (times : List ℕ) (s : Sieved) → times ≡ map admitted_time batch → IsSieved mark times s → s.late.items ≡ lates admitted_time mark [] 0 batch
-lates_taken mark batch times s ts sieved = sieved.late ∙ (ap (lates (λ t. t) mark [] 0) ts ∙ lates-map admitted_time mark [] 0 batch)

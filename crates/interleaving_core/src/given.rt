@@ -1,15 +1,13 @@
 //! What one collector gave.
 
 ghost use Rattle.std.specs.Prelude.{◌≡◌, ◌≤◌, ◌<◌, ◌+◌, [], map, length, true, false, IfOk, OnErr};
-ghost use Rattle.route_meaning.specs.Holds.{admitted_time};
-ghost use Rattle.sequencer.specs.Late.{timely};
 ghost use Rattle.interleaving_core.specs.Steps.{with_batch, with_mark};
 ghost use Rattle.interleaving_core.specs.World.{resume_of};
 ghost use Rattle.interleaving_core.specs.Does.{IsReply};
 
 use crate::reply::{BatchReply, Receipt, Resume};
 use route_model::{Admission, Mark, Moment};
-use sequencer::sieve;
+use sequencer::{sieve, timely_of, times_of};
 use std::alloc::{AllocError, Global};
 use std::marker::Model;
 
@@ -27,32 +25,6 @@ impl Model for Given {
     ghost Value = { Intake };
 
     ghost view = { λ g. record { admitted = g.admitted.items; mark = g.mark; offered = g.offered } };
-}
-
-/// The times of the batch.
-fn times_of(alloc: Global, batch: &[Admission]) -> Result<Vec<Moment>, AllocError>
-    ensures { IfOk result (λ times. times.items ≡ map admitted_time batch.now) }
-{
-    let mut times = Vec::with_capacity(alloc, batch.len())?;
-    for admission in batch {
-        times.push(admission.time())?;
-    }
-    Ok(times)
-}
-
-/// The admissions of the batch that aren't late, where the collector has this mark.
-fn timely_of(alloc: Global, mark: Mark, batch: &[Admission]) -> Result<Vec<Admission>, AllocError>
-    ensures { IfOk result (λ kept. kept.items ≡ timely admitted_time mark [] batch.now) }
-{
-    let mut kept = Vec::new(alloc);
-    let mut reached = mark;
-    for admission in batch {
-        if reached.seconds() <= admission.time().seconds() {
-            kept.push(admission.share(alloc)?)?;
-            reached = Mark::at(admission.time());
-        }
-    }
-    Ok(kept)
 }
 
 impl Given {
@@ -115,7 +87,7 @@ impl Given {
     {
         let times = times_of(alloc, batch)?;
         let sieved = sieve(alloc, self.mark, &times)?;
-        let mut kept = timely_of(alloc, self.mark, batch)?;
+        let mut kept = timely_of(alloc, batch, &sieved.late)?;
         let Some(offered) = self.offered.checked_add(batch.len() as u64) else {
             return Err(AllocError);
         };
