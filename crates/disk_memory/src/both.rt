@@ -1,4 +1,5 @@
-// Both disks after the same crash.
+//! Both disks after the same crash.
+
 ghost use Rattle.std.specs.Prelude.{◌≡◌, ◌++◌, [], ℕ, List, IfOk};
 ghost use Rattle.disk_models.specs.Left.{IsFound, LeftNow};
 ghost use Rattle.disk_memory.specs.Both.{left_of_both};

@@ -1,4 +1,5 @@
-// What a write-once disk in memory remembers of its burns.
+//! What a write-once disk in memory remembers of its burns.
+
 ghost use Rattle.std.specs.Prelude.{◌≡◌, ◌==◌, ◌&&◌, ℕ, List, Bool, true, false, Option, IfOk, length, option_copied, is_some};
 ghost use Rattle.disk_memory.specs.Burning.{Burning, burnt_in, tried_block_in, torn_block, torn_burning};
 ghost use Rattle.disk_memory.specs.inner.Failing.{burning_kept};
@@ -49,7 +50,7 @@ impl Burn {
         self.whole
     }
 
-    // A burn of a block, or what a failure leaves of it.
+    /// A burn of a block, or what a failure leaves of it.
     pub(crate) fn new(
         alloc: Global,
         number: u64,
@@ -64,7 +65,7 @@ impl Burn {
         }
     }
 
-    // A block that was burnt whole.
+    /// A block that was burnt whole.
     fn whole(alloc: Global, number: u64, block: &Block) -> Result<Burn, AllocError>
         ensures { IfOk result (λ burn. burn ≡ record { number = number; block = block.now; whole = true }) }
     {
@@ -75,7 +76,7 @@ impl Burn {
         })
     }
 
-    // What a burn of a block leaves that failed so.
+    /// What a burn of a block leaves that failed so.
     fn failed(alloc: Global, number: u64, block: &Block, torn: &Torn) -> Result<Burn, AllocError>
         ensures { IfOk result (λ burn. burn ≡ record { number = number; block = torn_block torn.now block.now; whole = false }) }
     {
@@ -86,7 +87,7 @@ impl Burn {
         })
     }
 
-    // What a crash leaves of it: it stays whole only where all of it came through.
+    /// What a crash leaves of it: it stays whole only where all of it came through.
     pub(crate) fn left(&self, alloc: Global, torn: Option<&Torn>) -> Result<Burn, AllocError>
         ensures { IfOk result (λ burn. burn ≡ torn_burning (option_copied torn.entry) self.now) }
     {
@@ -110,7 +111,7 @@ impl Clone for Burn {
     }
 }
 
-// A block of zeros over which torn octets were laid.
+/// A block of zeros over which torn octets were laid.
 fn torn_copy(alloc: Global, torn: &Torn, new: &Block) -> Result<Block, AllocError>
     ensures { IfOk result (λ block. block ≡ torn_block torn.now new.now) }
 {
@@ -121,7 +122,7 @@ fn torn_copy(alloc: Global, torn: &Torn, new: &Block) -> Result<Block, AllocErro
     Ok(block)
 }
 
-// The first of these burns that burnt this block whole: what it burnt.
+/// The first of these burns that burnt this block whole: what it burnt.
 pub(crate) fn burnt(burns: &[Burn], number: u64) -> Option<&Block>
     ensures { option_copied result ≡ burnt_in number burns.now }
 {
@@ -133,7 +134,7 @@ pub(crate) fn burnt(burns: &[Burn], number: u64) -> Option<&Block>
     None
 }
 
-// What the first of these burns left that tried this block.
+/// What the first of these burns left that tried this block.
 pub(crate) fn tried(burns: &[Burn], number: u64) -> Option<&Block>
     ensures { option_copied result ≡ tried_block_in number burns.now }
 {
@@ -145,14 +146,14 @@ pub(crate) fn tried(burns: &[Burn], number: u64) -> Option<&Block>
     None
 }
 
-// Whether one of these burns tried this block.
+/// Whether one of these burns tried this block.
 pub(crate) fn is_tried(burns: &[Burn], number: u64) -> bool
     ensures { result ≡ is_some (tried_block_in number burns.now) }
 {
     tried(burns, number).is_some()
 }
 
-// The burns, of which copies share the blocks.
+/// The burns, of which copies share the blocks.
 pub(crate) fn copies(alloc: Global, burns: &[Burn]) -> Result<Vec<Burn>, AllocError>
     ensures { IfOk result (λ copies. copies.items ≡ burns.now) }
 {

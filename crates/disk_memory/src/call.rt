@@ -1,4 +1,5 @@
-// What an erasable disk in memory remembers of its calls.
+//! What an erasable disk in memory remembers of its calls.
+
 ghost use Rattle.std.specs.Prelude.{◌≡◌, ℕ, List, length, IfOk, option_copied, Option};
 ghost use Rattle.disk_memory.specs.Writing.{Writing};
 ghost use Rattle.disk_memory.specs.Torn.{torn_octets};
@@ -57,7 +58,7 @@ impl Written {
         &self.octets
     }
 
-    // A write of these octets, or what a failure leaves of it.
+    /// A write of these octets, or what a failure leaves of it.
     pub(crate) fn new(
         alloc: Global,
         at: u64,
@@ -77,7 +78,7 @@ impl Written {
         })
     }
 
-    // What a crash leaves of it.
+    /// What a crash leaves of it.
     pub(crate) fn torn(&self, alloc: Global, torn: &Torn) -> Result<Written, AllocError>
         ensures { IfOk result (λ write. write ≡ record self.now { octets = torn_octets torn.now self.now.octets }) }
     {

@@ -1,33 +1,6 @@
-// The erasable disk in memory: all its writes and syncs, from which each content that it had can be read.
-ghost use Rattle.std.specs.Prelude.{
-  ◌≡◌,
-  ◌≤◌,
-  ◌<◌,
-  ◌+◌,
-  ◌⊎◌,
-  ◌↔◌,
-  ◌++◌,
-  ◌∷◌,
-  [],
-  ℕ,
-  List,
-  length,
-  min,
-  true,
-  take,
-  drop,
-  map,
-  Option,
-  None,
-  Some,
-  IfOk,
-  OnOk,
-  OnErr,
-  IsErr,
-  IsSome,
-  option_copied,
-  IsTrue,
-};
+//! The erasable disk in memory: all its writes and syncs, from which each content that it had can be read.
+
+ghost use Rattle.std.specs.Prelude.{◌≡◌, ◌≤◌, ◌<◌, ◌+◌, ◌⊎◌, ◌↔◌, ◌++◌, ◌∷◌, [], ℕ, List, length, min, true, take, drop, map, Option, None, Some, IfOk, OnOk, OnErr, IsErr, IsSome, option_copied, IsTrue};
 ghost use Rattle.std.specs.List.{list_any};
 ghost use Rattle.disk_models.specs.Octets.{octets};
 ghost use Rattle.disk_models.specs.Erase.{Counts, Lingers, MayLeave, Stays, Syncs, WritesWithin};
@@ -58,7 +31,7 @@ pub struct MemErase {
     faults: u64,
 }
 
-// The calls, of which copies share the octets.
+/// The calls, of which copies share the octets.
 fn copies(alloc: Global, calls: &[Call]) -> Result<Vec<Call>, AllocError>
     ensures { IfOk result (λ copies. copies.items ≡ calls.now) }
 {
@@ -69,7 +42,7 @@ fn copies(alloc: Global, calls: &[Call]) -> Result<Vec<Call>, AllocError>
     Ok(copies)
 }
 
-// How many calls end with the last sync: those behind it are writes.
+/// How many calls end with the last sync: those behind it are writes.
 fn synced_count(calls: &[Call]) -> usize
     ensures { SplitsAtSync result calls.now }
 {
@@ -83,7 +56,7 @@ fn synced_count(calls: &[Call]) -> usize
     count
 }
 
-// What a crash leaves of a call: of a write what is said, or else the old octets.
+/// What a crash leaves of a call: of a write what is said, or else the old octets.
 fn left(alloc: Global, call: &Call, torn: Option<&Torn>) -> Result<Call, AllocError>
     ensures { IfOk result (λ left. left ≡ torn_call (option_copied torn.entry) call.now) }
 {
@@ -96,7 +69,7 @@ fn left(alloc: Global, call: &Call, torn: Option<&Torn>) -> Result<Call, AllocEr
     }
 }
 
-// Appends what a crash leaves of these calls by a choice.
+/// Appends what a crash leaves of these calls by a choice.
 fn tear(
     alloc: Global,
     into: &mut Vec<Call>,
@@ -113,13 +86,7 @@ fn tear(
 
 impl MemErase {
     ghost use Rattle.disk_memory.specs.inner.Failing.{KeepsScript};
-    ghost use Rattle.disk_memory.specs.Memory.{
-      IsAtCall,
-      calls_of,
-      faults_of,
-      script_of,
-      size_of,
-    };
+    ghost use Rattle.disk_memory.specs.Memory.{IsAtCall, calls_of, faults_of, script_of, size_of};
 
     /// A disk of so many zeros, with no failure to come.
     pub fn new(alloc: Global, size: u64) -> Self
@@ -161,7 +128,7 @@ impl MemErase {
         &self.calls
     }
 
-    // Counts a failure.
+    /// Counts a failure.
     fn fault(&mut self) -> Fault
         ensures { self.new ≡ record self.old { faults = min (self.old.faults + 1) 18446744073709551615 } }
     {
@@ -169,7 +136,7 @@ impl MemErase {
         Fault
     }
 
-    // Counts a read, and says whether it fails.
+    /// Counts a read, and says whether it fails.
     fn read_fails(&mut self) -> bool
         ensures calls { calls_of self.new ≡ calls_of self.old }
         ensures size { size_of self.new ≡ size_of self.old }
@@ -183,7 +150,7 @@ impl MemErase {
         self.script.iter().any(|failure| failure.is_read(number))
     }
 
-    // Counts a sync, and says whether it fails.
+    /// Counts a sync, and says whether it fails.
     fn sync_fails(&mut self) -> bool
         ensures calls { calls_of self.new ≡ calls_of self.old }
         ensures size { size_of self.new ≡ size_of self.old }
@@ -197,7 +164,7 @@ impl MemErase {
         self.script.iter().any(|failure| failure.is_sync(number))
     }
 
-    // Records a call that leaves something, or counts a failure for want of memory.
+    /// Records a call that leaves something, or counts a failure for want of memory.
     fn record(&mut self, call: Call) -> Result<(), Fault>
         ensures ok { OnOk result (calls_of self.new ≡ calls_of self.old ++ call ∷ []) }
         ensures err { OnErr result (calls_of self.new ≡ calls_of self.old) }

@@ -1,4 +1,5 @@
-// Which calls fail.
+//! Which calls fail.
+
 ghost use Rattle.std.specs.Prelude.{◌≡◌, ◌==◌, ℕ, List, Bool, Option, option_copied};
 ghost use Rattle.disk_memory.specs.Failure.{is_read_failure, is_sync_failure, write_failure_at};
 
@@ -16,7 +17,7 @@ pub enum Failure {
 }
 
 impl Failure {
-    // Whether it is of this read.
+    /// Whether it is of this read.
     pub(crate) fn is_read(&self, number: u64) -> bool
         ensures { result ≡ is_read_failure number self.now }
     {
@@ -26,7 +27,7 @@ impl Failure {
         }
     }
 
-    // Whether it is of this sync.
+    /// Whether it is of this sync.
     pub(crate) fn is_sync(&self, number: u64) -> bool
         ensures { result ≡ is_sync_failure number self.now }
     {
@@ -37,7 +38,7 @@ impl Failure {
     }
 }
 
-// What this write leaves, where it is to fail.
+/// What this write leaves, where it is to fail.
 pub(crate) fn write_failure(script: &[Failure], number: u64) -> Option<&Torn>
     ensures { option_copied result ≡ write_failure_at number script.now }
 {

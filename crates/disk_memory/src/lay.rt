@@ -1,4 +1,5 @@
-// Reading by replay.
+//! Reading by replay.
+
 ghost use Rattle.std.specs.Prelude.{◌≡◌, ◌≤◌, ◌<◌, ◌+◌, ◌∷◌, [], ◌++◌, ℕ, List, length, take, drop, IsTrue};
 ghost use Rattle.disk_models.specs.Octets.{Within, octets};
 ghost use Rattle.disk_memory.specs.Replay.{octet_of, written};
@@ -6,7 +7,7 @@ ghost use Rattle.disk_memory.specs.inner.Replaying.{replayed};
 
 use crate::call::{Call, Written};
 
-// Puts octets over those from a place on.
+/// Puts octets over those from a place on.
 fn put(into: &mut [u8], from: usize, octets: &[u8])
     requires { from + length octets.now ≤ length into.old }
     ensures { into.new ≡ take from into.old ++ octets.now ++ drop (from + length octets.now) into.old }
@@ -14,7 +15,7 @@ fn put(into: &mut [u8], from: usize, octets: &[u8])
     into[from..from + octets.len()].copy_from_slice(octets);
 }
 
-// Lays a write over the octets from a place on. It touches what both have in common alone.
+/// Lays a write over the octets from a place on. It touches what both have in common alone.
 fn lay(into: &mut [u8], at: u64, write: &Written)
     requires { at + length into.old < 18446744073709551616 }
     ensures { (f : ℕ → ℕ) → into.old ≡ octets f at (length into.old) → into.new ≡ octets (written write.now f) at (length into.old) }
@@ -32,7 +33,7 @@ fn lay(into: &mut [u8], at: u64, write: &Written)
     }
 }
 
-// Whether a call is a write that covers a range: what it leaves there depends on nothing before it.
+/// Whether a call is a write that covers a range: what it leaves there depends on nothing before it.
 fn covers(call: &Call, at: u64, size: usize) -> bool
     requires { at + size < 18446744073709551616 }
     ensures { IsTrue result → (f g : ℕ → ℕ) (i : ℕ) → Within at size i → replayed (call.now ∷ []) f i ≡ replayed (call.now ∷ []) g i }
@@ -47,7 +48,7 @@ fn covers(call: &Call, at: u64, size: usize) -> bool
     }
 }
 
-// From where on the calls must be replayed to read a range: the last write that covers it, or the first call.
+/// From where on the calls must be replayed to read a range: the last write that covers it, or the first call.
 fn last_cover(calls: &[Call], at: u64, size: usize) -> usize
     requires { at + size < 18446744073709551616 }
     ensures inside { result ≤ length calls.now }
@@ -63,7 +64,7 @@ fn last_cover(calls: &[Call], at: u64, size: usize) -> usize
     0
 }
 
-// Replays one call more.
+/// Replays one call more.
 fn replay_call(into: &mut [u8], at: u64, call: &Call)
     requires { at + length into.old < 18446744073709551616 }
     ensures { (f : ℕ → ℕ) → into.old ≡ octets f at (length into.old) → into.new ≡ octets (replayed (call.now ∷ []) f) at (length into.old) }
@@ -74,7 +75,7 @@ fn replay_call(into: &mut [u8], at: u64, call: &Call)
     }
 }
 
-// What a read gives after these calls, from a place on.
+/// What a read gives after these calls, from a place on.
 pub(crate) fn replay(calls: &[Call], at: u64, into: &mut [u8])
     requires { at + length into.old < 18446744073709551616 }
     ensures { into.new ≡ octets (octet_of calls.now) at (length into.old) }

@@ -1,25 +1,6 @@
-// The write-once disk in memory.
-ghost use Rattle.std.specs.Prelude.{
-  ◌≡◌,
-  ◌<◌,
-  ◌+◌,
-  ◌↔◌,
-  ◌++◌,
-  ◌∷◌,
-  [],
-  ℕ,
-  List,
-  not,
-  true,
-  false,
-  Some,
-  IfOk,
-  OnOk,
-  OnErr,
-  IsErr,
-  IsSome,
-  Contains,
-};
+//! The write-once disk in memory.
+
+ghost use Rattle.std.specs.Prelude.{◌≡◌, ◌<◌, ◌+◌, ◌↔◌, ◌++◌, ◌∷◌, [], ℕ, List, not, true, false, Some, IfOk, OnOk, OnErr, IsErr, IsSome, Contains};
 ghost use Rattle.disk_models.specs.Erase.{Counts};
 ghost use Rattle.disk_models.specs.Once.{Burns, BurnsOnly, SettlesOnly};
 ghost use Rattle.disk_models.specs.Left.{OnceFound};

@@ -1,12 +1,7 @@
-// Which calls of a write-once disk fail.
+//! Which calls of a write-once disk fail.
+
 ghost use Rattle.std.specs.Prelude.{◌≡◌, ◌==◌, ℕ, List, Bool, Option, IfOk, option_copied};
-ghost use Rattle.disk_memory.specs.OnceFailure.{
-  burn_failure_at,
-  is_blank_failure,
-  is_look_failure,
-  is_settle_failure,
-  failing_reads_of,
-};
+ghost use Rattle.disk_memory.specs.OnceFailure.{burn_failure_at, is_blank_failure, is_look_failure, is_settle_failure, failing_reads_of};
 
 use crate::torn::Torn;
 use std::alloc::{AllocError, Global};
@@ -27,7 +22,7 @@ pub enum OnceFailure {
 }
 
 impl OnceFailure {
-    // Whether it is of this look for a blank block.
+    /// Whether it is of this look for a blank block.
     pub(crate) fn is_blank(&self, number: u64) -> bool
         ensures { result ≡ is_blank_failure number self.now }
     {
@@ -37,7 +32,7 @@ impl OnceFailure {
         }
     }
 
-    // Whether it is of this settle.
+    /// Whether it is of this settle.
     pub(crate) fn is_settle(&self, number: u64) -> bool
         ensures { result ≡ is_settle_failure number self.now }
     {
@@ -47,7 +42,7 @@ impl OnceFailure {
         }
     }
 
-    // Whether it is of this look.
+    /// Whether it is of this look.
     pub(crate) fn is_look(&self, number: u64) -> bool
         ensures { result ≡ is_look_failure number self.now }
     {
@@ -58,7 +53,7 @@ impl OnceFailure {
     }
 }
 
-// What this burn leaves, where it is to fail.
+/// What this burn leaves, where it is to fail.
 pub(crate) fn burn_failure(script: &[OnceFailure], number: u64) -> Option<&Torn>
     ensures { option_copied result ≡ burn_failure_at number script.now }
 {
@@ -72,7 +67,7 @@ pub(crate) fn burn_failure(script: &[OnceFailure], number: u64) -> Option<&Torn>
     None
 }
 
-// The numbers of the reads that are to fail.
+/// The numbers of the reads that are to fail.
 pub(crate) fn failing_reads(alloc: Global, script: &[OnceFailure]) -> Result<Vec<u64>, AllocError>
     ensures { IfOk result (λ numbers. numbers.items ≡ failing_reads_of script.now) }
 {

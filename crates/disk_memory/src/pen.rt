@@ -1,39 +1,10 @@
-// The pen of a write-once disk in memory, in which its state is.
-ghost use Rattle.std.specs.Prelude.{
-  ◌≡◌,
-  ◌+◌,
-  ◌++◌,
-  ◌∷◌,
-  ◌⊎◌,
-  [],
-  ℕ,
-  List,
-  length,
-  min,
-  true,
-  Option,
-  None,
-  Some,
-  IfOk,
-  OnOk,
-  OnErr,
-  IsErr,
-  IsSome,
-  option_copied,
-  not,
-  IsTrue,
-  ◌↔◌,
-};
+//! The pen of a write-once disk in memory, in which its state is.
+
+ghost use Rattle.std.specs.Prelude.{◌≡◌, ◌+◌, ◌++◌, ◌∷◌, ◌⊎◌, [], ℕ, List, length, min, true, Option, None, Some, IfOk, OnOk, OnErr, IsErr, IsSome, option_copied, not, IsTrue, ◌↔◌};
 ghost use Rattle.std.specs.List.{list_any};
 ghost use Rattle.disk_models.specs.Erase.{Counts};
 ghost use Rattle.disk_memory.specs.Burning.{Burning, torn_burnings};
-ghost use Rattle.disk_memory.specs.OnceFailure.{
-  burn_failure_at,
-  failing_reads_of,
-  is_blank_failure,
-  is_look_failure,
-  is_settle_failure,
-};
+ghost use Rattle.disk_memory.specs.OnceFailure.{burn_failure_at, failing_reads_of, is_blank_failure, is_look_failure, is_settle_failure};
 
 use crate::burn::{Burn, copies};
 use crate::once_failure::{OnceFailure, failing_reads};
@@ -56,7 +27,7 @@ pub struct MemPen {
     faults: u64,
 }
 
-// What a crash leaves of these burns by a choice, behind those that are there.
+/// What a crash leaves of these burns by a choice, behind those that are there.
 fn tear(
     alloc: Global,
     into: &mut Vec<Burn>,
@@ -72,17 +43,10 @@ fn tear(
 }
 
 impl MemPen {
-    ghost use Rattle.disk_memory.specs.Pen.{
-      IsAtOnceCall,
-      KeepsBurns,
-      once_faults_of,
-      once_script_of,
-      settled_of,
-      waiting_of,
-    };
+    ghost use Rattle.disk_memory.specs.Pen.{IsAtOnceCall, KeepsBurns, once_faults_of, once_script_of, settled_of, waiting_of};
     ghost use Rattle.disk_memory.specs.Seen.{failing_of, known_burns_of, seen_faults_of, seen_reads_of};
 
-    // The pen of a blank disk.
+    /// The pen of a blank disk.
     pub(crate) fn new(alloc: Global) -> Self
         ensures settled { settled_of result ≡ [] }
         ensures waiting { waiting_of result ≡ [] }
@@ -131,14 +95,14 @@ impl MemPen {
         &self.waiting
     }
 
-    // How often it has failed.
+    /// How often it has failed.
     pub(crate) fn faults(&self) -> u64
         ensures { result ≡ once_faults_of self.now }
     {
         self.faults
     }
 
-    // Counts a failure.
+    /// Counts a failure.
     pub(crate) fn fault(&mut self) -> Fault
         ensures { self.new ≡ record self.old { faults = min (self.old.faults + 1) 18446744073709551615 } }
     {
@@ -146,7 +110,7 @@ impl MemPen {
         Fault
     }
 
-    // Counts a look for a blank block, and says whether it fails.
+    /// Counts a look for a blank block, and says whether it fails.
     pub(crate) fn blank_fails(&mut self) -> bool
         ensures scripted { result ≡ list_any (λ failure. is_blank_failure self.old.blanks failure) (once_script_of self.old) }
         ensures next { self.new ≡ record self.old { blanks = min (self.old.blanks + 1) 18446744073709551615 } }
@@ -156,7 +120,7 @@ impl MemPen {
         self.script.iter().any(|failure| failure.is_blank(number))
     }
 
-    // Counts a settle, and says whether it fails.
+    /// Counts a settle, and says whether it fails.
     pub(crate) fn settle_fails(&mut self) -> bool
         ensures scripted { result ≡ list_any (λ failure. is_settle_failure self.old.settles failure) (once_script_of self.old) }
         ensures next { self.new ≡ record self.old { settles = min (self.old.settles + 1) 18446744073709551615 } }
@@ -166,7 +130,7 @@ impl MemPen {
         self.script.iter().any(|failure| failure.is_settle(number))
     }
 
-    // Counts a look, and says whether it fails.
+    /// Counts a look, and says whether it fails.
     pub(crate) fn look_fails(&mut self) -> bool
         ensures scripted { result ≡ list_any (λ failure. is_look_failure self.old.looks failure) (once_script_of self.old) }
         ensures next { self.new ≡ record self.old { looks = min (self.old.looks + 1) 18446744073709551615 } }
@@ -176,7 +140,7 @@ impl MemPen {
         self.script.iter().any(|failure| failure.is_look(number))
     }
 
-    // Remembers a burn, or counts a failure for want of memory.
+    /// Remembers a burn, or counts a failure for want of memory.
     pub(crate) fn record(&mut self, burn: Burn) -> Result<(), Fault>
         ensures ok { OnOk result (waiting_of self.new ≡ waiting_of self.old ++ burn ∷ []) }
         ensures err { OnErr result (waiting_of self.new ≡ waiting_of self.old) }
@@ -191,7 +155,7 @@ impl MemPen {
         }
     }
 
-    // What a reader knows now.
+    /// What a reader knows now.
     pub(crate) fn seen(&self) -> Result<MemSeen, AllocError>
         ensures known { IfOk result (λ seen. known_burns_of seen ≡ settled_of self.now) }
         ensures fresh { IfOk result (λ seen. seen_faults_of seen ≡ 0) }
@@ -203,7 +167,7 @@ impl MemPen {
         Ok(MemSeen::new(burns, failing))
     }
 
-    // The same pen once more, with no failure to come.
+    /// The same pen once more, with no failure to come.
     pub(crate) fn copy(&self) -> Result<MemPen, AllocError>
         ensures burns { IfOk result (λ pen. KeepsBurns self.now pen) }
         ensures faults { IfOk result (λ pen. once_faults_of pen ≡ once_faults_of self.now) }
@@ -216,7 +180,7 @@ impl MemPen {
         Ok(pen)
     }
 
-    // The pen that begins again after a crash.
+    /// The pen that begins again after a crash.
     pub(crate) fn crash(&self, choice: &[Torn]) -> Result<MemPen, AllocError>
         ensures settled { IfOk result (λ pen. settled_of pen ≡ settled_of self.now ++ torn_burnings choice.now (waiting_of self.now)) }
         ensures none { IfOk result (λ pen. waiting_of pen ≡ []) }

@@ -1,4 +1,5 @@
-// What a range holds that a failure or a crash may have changed.
+//! What a range holds that a failure or a crash may have changed.
+
 ghost use Rattle.std.specs.Prelude.{◌≡◌, ◌≤◌, ◌+◌, ◌-◌, ◌/◌, ◌++◌, ℕ, List, length, take, replicate, IfOk};
 ghost use Rattle.disk_memory.specs.Torn.{torn_octets};
 

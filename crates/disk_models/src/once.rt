@@ -1,27 +1,8 @@
-// A write-once disk. It is shared, and its one pen is what burns it.
-ghost use Rattle.std.specs.Prelude.{
-  ◌≡◌,
-  ◌<◌,
-  ◌↔◌,
-  ℕ,
-  List,
-  Bool,
-  Option,
-  Some,
-  not,
-  false,
-  OnOk,
-  OnErr,
-  IfOk,
-};
+//! A write-once disk. It is shared, and its one pen is what burns it.
+
+ghost use Rattle.std.specs.Prelude.{◌≡◌, ◌<◌, ◌↔◌, ℕ, List, Bool, Option, Some, not, false, OnOk, OnErr, IfOk};
 ghost use Rattle.disk_models.specs.Erase.{Counts};
-ghost use Rattle.disk_models.specs.Once.{
-  OnceState,
-  Burns,
-  BurnsOnly,
-  SettlesOnly,
-  IsOnceSound,
-};
+ghost use Rattle.disk_models.specs.Once.{OnceState, Burns, BurnsOnly, SettlesOnly, IsOnceSound};
 
 use crate::fault::Fault;
 use crate::sheet::Block;
