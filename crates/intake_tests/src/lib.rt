@@ -1,0 +1,11 @@
+//! Tests of a ring of admissions, over a transaction over a pool on a disk in memory.
+#![tactic(auto)]
+
+#[cfg(test)]
+mod damaged;
+#[cfg(test)]
+mod fitting;
+#[cfg(test)]
+mod made;
+#[cfg(test)]
+mod queued;

@@ -1,0 +1,148 @@
+//! Rings, admissions, and calls of a ring whose map is asked first.
+use buffer_pool::Pool;
+use disk_memory::MemErase;
+use disk_models::Page;
+use intake::{IntakeError, ReadError, Ring};
+use page_journal::{Journal, PostError};
+use page_tx::{PageError, Pages, Tx};
+use route_model::{Admission, Change, Moment, Peer};
+use std::alloc::Global;
+use std::num::NonZeroUsize;
+use std::test::Fail;
+
+pub(crate) const PAGE: u64 = 16_384;
+
+// The home pages: page 0 and the last one belong to no ring.
+pub(crate) const HOMES: u64 = 11;
+
+// An admission of one announcement, by hand: its spelling has 67 octets, and its time is 1704067200.
+const ONE: [u8; 67] = [
+    0, 0, 0, 0, 0x65, 0x92, 0, 0x80, 0, 1, 0, 4, 192, 0, 2, 1, 0, 0, 0, 0, 0, 0, 0, 0, 0, 0, 0, 0,
+    0, 0, 0xfd, 0xe9, 0, 1, 0, 21, 0, 0, 1, 2, 2, 0, 0, 0xfd, 0xe9, 0, 0, 0xfd, 0xea, 4, 192, 0, 2,
+    1, 0, 0, 0, 0, 1, 1, 0, 0, 4, 8, 10, 0, 0,
+];
+
+// Its peer.
+const PEER: [u8; 22] = [
+    0, 4, 192, 0, 2, 1, 0, 0, 0, 0, 0, 0, 0, 0, 0, 0, 0, 0, 0, 0, 0xfd, 0xe9,
+];
+
+pub(crate) fn one(alloc: Global) -> Result<Admission, Fail> {
+    match Admission::decode(alloc, &ONE)? {
+        Some(admission) => Ok(admission),
+        None => Err(ReadError::BadNode(0).into()),
+    }
+}
+
+// So many times the same admission.
+pub(crate) fn many(alloc: Global, count: usize) -> Result<Vec<Admission>, Fail> {
+    let admission = one(alloc)?;
+    let mut batch = Vec::new(alloc);
+    for _ in 0..count {
+        batch.push(admission.share(alloc)?)?;
+    }
+    Ok(batch)
+}
+
+// An admission of so many ends of a session, at most 43,678: its spelling has 36 octets and 3 for each, and 14 without one.
+pub(crate) fn ends(alloc: Global, seconds: u32, count: usize) -> Result<Admission, Fail> {
+    let Some(peer) = Peer::decode(&PEER) else {
+        return Err(ReadError::BadNode(0).into());
+    };
+    let mut changes = Vec::new(alloc);
+    for _ in 0..count {
+        changes.push(Change::Down(peer))?;
+    }
+    Ok(Admission::new(Moment::from(seconds), changes)?)
+}
+
+fn filled(alloc: Global, octet: u8) -> Result<Page, Fail> {
+    let mut page = Page::new(alloc)?;
+    page.octets_mut().fill(octet);
+    Ok(page)
+}
+
+fn fill(alloc: Global, tx: &mut Tx<MemErase>, n: u64) -> Result<(), Fail> {
+    let page = filled(alloc, 90)?;
+    if n < tx.pool().home_pages() {
+        tx.set(n, page)?;
+    }
+    Ok(())
+}
+
+// A transaction over home pages that are filled with the octet 90.
+pub(crate) fn begun(alloc: Global) -> Result<Tx<MemErase>, Fail> {
+    let disk = MemErase::new(alloc, (265 + HOMES) * PAGE);
+    let journal = match Journal::create(alloc, disk, HOMES) {
+        Ok(journal) => journal,
+        Err(refused) => return Err(refused.error.into()),
+    };
+    let Some(capacity) = NonZeroUsize::new(4) else {
+        return Err(PostError::TooManyImages.into());
+    };
+    let Ok(pool) = Pool::new(alloc, journal, capacity) else {
+        return Err(PostError::OutOfMemory.into());
+    };
+    let mut tx = Tx::new(alloc, pool, HOMES);
+    for n in 0..HOMES {
+        fill(alloc, &mut tx, n)?;
+    }
+    tx.commit()?;
+    tx.checkpoint()?;
+    Ok(tx)
+}
+
+// Whether a page is as it was at the start.
+pub(crate) fn is_untouched(tx: &mut Tx<MemErase>, n: u64) -> Result<bool, Fail> {
+    if n >= tx.pool().home_pages() {
+        return Ok(false);
+    }
+    tx.fetch(n)?;
+    match tx.page(n) {
+        Some(page) => Ok(page.octets().iter().all(|octet| *octet == 90)),
+        None => Ok(false),
+    }
+}
+
+pub(crate) fn append(
+    alloc: Global,
+    tx: &mut Tx<MemErase>,
+    ring: &mut Ring,
+    batch: &[Admission],
+) -> Result<(), IntakeError> {
+    if !ring.is_within(tx.pool().home_pages()) {
+        return Err(IntakeError::Pages(PageError::PagesFull));
+    }
+    ring.append(alloc, tx, batch)
+}
+
+pub(crate) fn front(
+    alloc: Global,
+    tx: &mut Tx<MemErase>,
+    ring: &Ring,
+) -> Result<Option<Admission>, ReadError> {
+    if !ring.is_within(tx.pool().home_pages()) {
+        return Err(ReadError::Pages(PageError::PagesFull));
+    }
+    ring.front(alloc, tx)
+}
+
+pub(crate) fn waiting_times(
+    alloc: Global,
+    tx: &mut Tx<MemErase>,
+    ring: &Ring,
+) -> Result<Vec<Moment>, ReadError> {
+    if !ring.is_within(tx.pool().home_pages()) {
+        return Err(ReadError::Pages(PageError::PagesFull));
+    }
+    ring.waiting_times(alloc, tx)
+}
+
+// Takes the first admission out, and tells whether it could be.
+pub(crate) fn pop(tx: &Tx<MemErase>, ring: &mut Ring, admission: &Admission) -> bool {
+    if !ring.is_within(tx.pool().home_pages()) || !ring.can_pop(admission) {
+        return false;
+    }
+    ring.pop(admission);
+    true
+}
