@@ -8,6 +8,7 @@ use service::{
     FeedCounts, Output, Refusal, RequestError, read_query, write_admitted, write_counts,
     write_error, write_reason, write_refusal, write_refused_record, write_settled,
 };
+use std::alloc::Global;
 use std::test::Fail;
 
 /// Lines that ask nothing.
@@ -69,27 +70,9 @@ rha: 12 BadText
 rha: --mark: none
 ";
 
-#[test]
-fn lines_are_written(rt: HostRuntime) -> Result<(), Fail> {
-    let alloc = rt.alloc();
-    let mut out: Vec<u8> = Vec::new(alloc);
-    let mut late = Vec::new(alloc);
-    late.push(Late {
-        index: 1,
-        time: Moment::from(99),
-        mark: Mark::at(Moment::from(100)),
-    })?;
-    let admitted = Admitted {
-        receipt: Receipt {
-            collector: 0,
-            from: 0,
-            to: 2,
-        },
-        offered: 3,
-        late,
-    };
-    let mut told = Output::new(&mut out);
-    write_admitted(&mut told, &admitted);
+/// Writes each of the lines once.
+fn write_all(told: &mut Output<&mut Vec<u8>>, admitted: &Admitted) {
+    write_admitted(told, admitted);
     let counts = FeedCounts {
         records: 5,
         admitted: 1,
@@ -97,12 +80,37 @@ fn lines_are_written(rt: HostRuntime) -> Result<(), Fail> {
         refused: 3,
         skipped: 4,
     };
-    write_counts(&mut told, &counts);
-    write_settled(&mut told, Mark::at(Moment::from(7)));
-    write_refusal(&mut told, &Refusal::BadRequest);
-    write_refused_record(&mut told, &Refusal::TooLong, 8);
-    write_error(&mut told, &Refusal::BadText);
-    write_reason(&mut told, "--mark", "none");
+    write_counts(told, &counts);
+    write_settled(told, Mark::at(Moment::from(7)));
+    write_refusal(told, &Refusal::BadRequest);
+    write_refused_record(told, &Refusal::TooLong, 8);
+    write_error(told, &Refusal::BadText);
+    write_reason(told, "--mark", "none");
+}
+
+/// A batch of three records, of which the second came late.
+fn admitted(alloc: Global) -> Result<Admitted, Fail> {
+    let late = Late {
+        index: 1,
+        time: Moment::from(99),
+        mark: Mark::at(Moment::from(100)),
+    };
+    Ok(Admitted {
+        receipt: Receipt {
+            collector: 0,
+            from: 0,
+            to: 2,
+        },
+        offered: 3,
+        late: vec![in alloc; late]?,
+    })
+}
+
+#[test]
+fn lines_are_written(rt: HostRuntime) -> Result<(), Fail> {
+    let alloc = rt.alloc();
+    let mut out: Vec<u8> = Vec::new(alloc);
+    write_all(&mut Output::new(&mut out), &admitted(alloc)?);
     assert!(rt; out.as_slice() == LINES.as_bytes());
     Ok(())
 }
