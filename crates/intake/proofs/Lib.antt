@@ -5,3 +5,4 @@ pub mod Entries
 pub mod Filling
 pub mod Untouched
 pub mod Passing
+pub mod api

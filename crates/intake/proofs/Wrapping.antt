@@ -82,9 +82,6 @@ reads_later f size first front rest lt fits reads k below =
           ]
         ]
 
-pub reads_front : (f : ℕ → ℕ) (size first : ℕ) (front rest : List ℕ) → Reads f size first (front ++ rest) → Reads f size first front
-reads_front f size first front rest reads k below = reads k (omega (arith, length-append front rest)) ∙ get_or_append_left front rest 0 k below
-
 pub reads_same : (f g : ℕ → ℕ) (size first : ℕ) (octets : List ℕ) → first < size → length octets ≤ size → ((i : ℕ) → i < size → g i ≡ f i) → Reads f size first octets → Reads g size first octets
 reads_same f g size first octets lt few same reads k below = same (wrapped size (first + k)) (low size first k lt (omega arith)) ∙ reads k below
   where

@@ -5,9 +5,11 @@
 mod appending;
 mod drafting;
 mod error;
+mod laws;
 mod reading;
 mod ring;
 mod waiting;
 
 pub use error::{IntakeError, ReadError};
+pub use laws::rings_keep_what_they_hold;
 pub use ring::Ring;
