@@ -46,3 +46,4 @@ pub use leaf_said::{LeafSaid, leaf_of_block, leaf_of_page};
 pub use leaf_sealing::seal_leaf;
 pub use leaf_splitting::copy_side;
 pub use leaf_writing::write_leaf;
+pub use numbers::{key_fits, stamp_fits};
