@@ -2,7 +2,6 @@
 use Rattle.std.proofs.Common.{◌≡◌, ◌≢◌, ◌<◌, ◌≤◌, ◌+◌, ◌==◌, not, filter, ◌⊎◌, inl, inr, ⊎_elim, ℕ, zero, suc, Bool, true, false, List, [], ◌∷◌, length, set, Some, Contains, IfSome, Option, None, Bor, Result, Ok, Err, OnOk, OnErr, IsSome, cond, true≢false, nat_eq, refl, sym, ◌∙◌, ap, subst, arith}
 use Rattle.std.specs.List.{slice_get}
 use Rattle.std.specs.Option.{is_some, option_copied, option_map_or}
-use Rattle.std.specs.Result.{is_ok}
 use Rattle.std.specs.Cmp.{nat_eq_equiv}
 use Rattle.std.specs.Map.{lookup, lookup_entry, remove_entry}
 use Rattle.std.proofs.lemmas.Bool.{cases_eq, cond-true, cond-false}
@@ -131,9 +130,8 @@ pub kept_shown : {T E : Type 0} (r : Result T E) (old new : LruCache ℕ (List �
 kept_shown (Ok x) old new n page map put same shown is m q there = put_shown old n page map shown is m q (subst (λ (l : LruCache ℕ (List ℕ)). Contains l.entries (m, q)) put there)
 kept_shown (Err e) old new n page map put same shown is m q there = shown m q (subst (λ (l : LruCache ℕ (List ℕ)). Contains l.entries (m, q)) same there)
 
-pub kept_found : {T E : Type 0} (r : Result T E) (b : Bool) (old new : LruCache ℕ (List ℕ)) (n : ℕ) (page : List ℕ) → b ≡ is_ok r → OnOk r (new ≡ lru_cache (put_entries nat_eq old n page) old.cap) → b ≡ true → IsSome (lookup (nat_eq n) new.entries)
-kept_found (Ok x) b old new n page is put holds = subst (λ (l : LruCache ℕ (List ℕ)). IsSome (lookup (nat_eq n) l.entries)) (sym put) (subst (λ (o : Option (List ℕ)). IsSome o) (sym (lookup-put_entries nat_eq old n page nat_eq_equiv)) refl)
-kept_found (Err e) b old new n page is put holds = absurd (true≢false (sym holds ∙ is))
+pub kept_found : (old new : LruCache ℕ (List ℕ)) (n : ℕ) (page : List ℕ) → new ≡ lru_cache (put_entries nat_eq old n page) old.cap → IsSome (lookup (nat_eq n) new.entries)
+kept_found old new n page put = subst (λ (l : LruCache ℕ (List ℕ)). IsSome (lookup (nat_eq n) l.entries)) (sym put) (subst (λ (o : Option (List ℕ)). IsSome o) (sym (lookup-put_entries nat_eq old n page nat_eq_equiv)) refl)
 
 unless : (b : Bool) (o : Option (List ℕ)) (P : List ℕ → Type 0) → IfSome o P → IfSome (cond b None o) P
 unless true o P p = tt

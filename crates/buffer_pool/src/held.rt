@@ -1,5 +1,5 @@
 //! Pages in memory under their numbers.
-ghost use Rattle.std.specs.Prelude.{◌≡◌, ◌<◌, ◌↔◌, ◌⊎◌, ℕ, List, Some, IfSome, IsSome, IsTrue, length, nat_eq, slice_get, slice_set};
+ghost use Rattle.std.specs.Prelude.{◌≡◌, ◌<◌, ◌↔◌, ◌⊎◌, ℕ, List, Some, IfSome, IsSome, IsTrue, OnErr, OnOk, length, nat_eq, slice_get, slice_set};
 ghost use Rattle.std.specs.Ordering.{nat_cmp};
 ghost use Rattle.std.specs.BTreeMap.{get};
 ghost use Rattle.std.specs.Map.{lookup};
@@ -10,6 +10,7 @@ ghost use Rattle.buffer_pool.specs.inner.Taking.{Has, IsDropped};
 
 use disk_models::Page;
 use lru::LruCache;
+use std::alloc::AllocError;
 use std::collections::BTreeMap;
 
 // Takes a page in under its number, in the place of an older one. Where no memory is left, there is none afterwards.
@@ -30,13 +31,15 @@ fn drop_page(pages: &mut LruCache<u64, Page>, n: u64)
     pages.pop(&n);
 }
 
-// Keeps a page of the map where there is memory, and tells whether there was.
-pub fn keep(pages: &mut LruCache<u64, Page>, n: u64, page: Page) -> bool
-    ensures kept { IsTrue result → IsSome (lookup (nat_eq n) pages.new.entries) }
+// Keeps a page of the map. For want of memory the pages stay as they were.
+pub fn keep(pages: &mut LruCache<u64, Page>, n: u64, page: Page) -> Result<(), AllocError>
+    ensures kept { OnOk result (IsSome (lookup (nat_eq n) pages.new.entries)) }
+    ensures unchanged { OnErr result (pages.new ≡ pages.old) }
     ensures shown { (map : List (List ℕ)) → AreShown pages.old map → slice_get map n ≡ Some page → AreShown pages.new map }
     ensures capacity { pages.new.cap ≡ pages.old.cap }
 {
-    pages.put(n, page).is_ok()
+    pages.put(n, page)?;
+    Ok(())
 }
 
 // Makes a page the last one that was used, and tells whether it is there.

@@ -163,9 +163,7 @@ impl<D: EraseDisk + Drop> Pool<D> {
             return Ok(());
         }
         let page = read_page(alloc, &mut self.journal, n)?;
-        if !held::keep(&mut self.cached, n, page) {
-            return Err(FetchError::OutOfMemory);
-        }
+        held::keep(&mut self.cached, n, page)?;
         Ok(())
     }
 
@@ -246,7 +244,7 @@ impl<D: EraseDisk + Drop> Pool<D> {
         match self.committed.remove(&n) {
             Some(page) => {
                 self.journal.home(n, &page)?;
-                held::keep(&mut self.cached, n, page);
+                held::keep(&mut self.cached, n, page).ok();
             }
             None => {
                 self.journal.read(n, &mut self.spare)?;

@@ -9,8 +9,8 @@ returns-in_err-page-clause-maps g c h pages m = record {
   held = record { committed = m.held.committed; cached = c.promote.ensures.shown pages m.held.cached };
 }
 
-pub returns-then-not-keep-clause-maps : goal.returns-then-not-keep-clause-maps
-returns-then-not-keep-clause-maps g c h pages m = record {
+pub returns-in_err-keep-clause-maps : goal.returns-in_err-keep-clause-maps
+returns-in_err-keep-clause-maps g c h pages m = record {
   keeps = c.read_page.ensures.keeps h pages m.keeps;
   held = record { committed = m.held.committed; cached = c.keep.ensures.shown pages (c.promote.ensures.shown pages m.held.cached) (c.in_ok-page.ensures.page h pages m.keeps) };
 }
