@@ -23,8 +23,8 @@ use std::num::NonZeroUsize;
 
 /// The pages of a journal, some of which are kept in memory.
 ///
-/// A page that was committed stays in memory until it is written home, and no longer, as far as there is memory: one that
-/// doesn't is read from its image. Of the others the last ones that were used stay.
+/// A page that was committed waits in memory until it is written home, as far as there is memory: one that doesn't is read
+/// from its image. Of the others, those that were just written home among them, the last ones that were used stay.
 #[derive(Drop)]
 pub struct Pool<D: EraseDisk + Drop> {
     journal: Journal<D>,

@@ -556,7 +556,7 @@ fn a_read_that_fails_keeps_all(rt: HostRuntime) -> Result<(), Fail> {
             Ok(all) => assert!(rt; all == NEW),
             Err(error) => {
                 assert!(rt; error == JournalError::Fault);
-                faults = 1;
+                faults += 1;
             }
         }
     }

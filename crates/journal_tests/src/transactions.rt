@@ -69,7 +69,9 @@ fn stops(alloc: Global, disk: &MemErase, run: &Run<'_>, kind: u8) -> Result<Opti
         let mut done = 0;
         let disk = played(alloc, disk, run.steps, &mut done)?;
         if disk.faults() == 0 {
-            return Ok(Some(n));
+            let last = run.states.len().saturating_sub(1);
+            let is_left = is_left(alloc, &disk, run, last)?;
+            return Ok(if is_left { Some(n) } else { None });
         }
         if !is_left(alloc, &disk, run, done)? {
             return Ok(None);

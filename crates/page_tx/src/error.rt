@@ -1,4 +1,4 @@
-//! Why a transaction doesn't read or set a page.
+//! Why a transaction doesn't read, set or give a page.
 ghost use Rattle.std.specs.Prelude.{◌≡◌};
 ghost use Rattle.page_tx.specs.declared.error.PageError.TheVariants as refusals;
 
@@ -6,7 +6,7 @@ use buffer_pool::FetchError;
 use std::alloc::AllocError;
 use thiserror::Error;
 
-/// Why a transaction doesn't read or set a page.
+/// Why a transaction doesn't read, set or give a page.
 #[derive(Clone, Copy, Debug, PartialEq, Eq, Error)]
 pub enum PageError {
     /// The device failed. The transaction goes on.

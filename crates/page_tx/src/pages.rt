@@ -81,8 +81,8 @@ pub trait Pages {
         ensures down { down self.new ≡ down self.old }
         ensures device { KeepsDevice (honest self.old) (honest self.new) (faults self.old) (faults self.new) ⊥ };
 
-    /// Lays images over pages, all of them or none, and tells the first page that was never used afterwards, which is
-    /// none of before it.
+    /// Lays images over pages, all of them or none, and moves the first page that was never used on to `unused`, which isn't
+    /// before it.
     fn lay(&mut self, images: Vec<(u64, Page)>, unused: u64) -> Result<(), PageError>
         requires below { AreBelow (homes self.old) (pages_of images.items) }
         requires distinct { AreDistinct (pages_of images.items) }

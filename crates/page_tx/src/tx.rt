@@ -71,7 +71,8 @@ impl<D: EraseDisk + Drop> Tx<D> {
         self.next = next;
     }
 
-    /// Makes the pages that are shown those of the pool, all of them or none. The transaction is then without an image.
+    /// Makes the pages that are shown those of the pool, all of them or none. The transaction is then without an image,
+    /// after a refusal too.
     pub fn commit(&mut self) -> Result<(), PostError>
         ensures crash { (start : Start) (shown : List (List ℕ)) → Shows D.EraseDisk self.old start shown
             → Leaves (D.model (disk_of (journal_of (pool_of self.old)))) (D.model (disk_of (journal_of (pool_of self.new))))
