@@ -64,7 +64,7 @@ impl<W: Write> Output<W> {
         self.failure.as_ref()
     }
 
-    /// Writes some of the octets, of which there are some: how many, or none where the write failed.
+    /// Writes at least one of the octets: how many, or none where the write failed.
     fn write_some(&mut self, octets: &[u8]) -> Option<usize>
         ensures some { IfSome result (λ count. 0 < count) }
         ensures fits { IfSome result (λ count. count ≤ length octets.now) }
