@@ -550,13 +550,13 @@ fn a_read_that_fails_keeps_all(rt: HostRuntime) -> Result<(), Fail> {
     post(alloc, &mut journal, 21, 22)?;
     let disk = scripted(alloc, journal.into_disk(), Failure::Read(40))?;
     let mut journal = opened(alloc, disk)?;
-    let mut faults = 0;
+    let mut faults = 0u32;
     for _ in 0..10 {
         match shown(alloc, &mut journal) {
             Ok(all) => assert!(rt; all == NEW),
             Err(error) => {
                 assert!(rt; error == JournalError::Fault);
-                faults += 1;
+                faults = faults.saturating_add(1);
             }
         }
     }
