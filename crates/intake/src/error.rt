@@ -30,7 +30,7 @@ impl From<PageError> for IntakeError {
 /// Why what waits in a ring isn't read.
 #[derive(Clone, Copy, Debug, PartialEq, Eq, Error)]
 pub enum ReadError {
-    /// From this page on stands nothing that was put into the ring.
+    /// No entry begins on this page where one has to.
     #[error("page {0} is damaged")]
     BadNode(u64),
     /// Pages aren't read, or a growth was refused.

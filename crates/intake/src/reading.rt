@@ -9,7 +9,7 @@ use crate::error::ReadError;
 use crate::ring::{PAGE, Ring, wrap};
 use byteorder::{BigEndian, ByteOrder};
 use page_tx::{PageError, Pages};
-use route_model::Admission;
+use route_model::{Admission, MAX_ADMISSION_LEN};
 use std::alloc::Global;
 
 // Reads a first piece of so many octets, which stand in one page from a place behind the first used octet on.
@@ -104,7 +104,7 @@ impl Ring {
         }
         let size = read(alloc, pages, *self, 0, 4)?;
         let len = number(&size);
-        if u64::from(len) > self.used - 4 {
+        if u64::from(len) > (self.used - 4).min(MAX_ADMISSION_LEN as u64) {
             return Err(damaged);
         }
         let octets = read(alloc, pages, *self, 4, len as usize)?;

@@ -13,7 +13,7 @@ use crate::reading::read;
 use crate::ring::{PAGE, Ring, wrap};
 use byteorder::{BigEndian, ByteOrder};
 use page_tx::Pages;
-use route_model::Moment;
+use route_model::{MAX_ADMISSION_LEN, Moment};
 use std::alloc::{AllocError, Global};
 
 // The length of an entry's spelling, and the time that the spelling begins with.
@@ -72,7 +72,10 @@ fn time_at<P: Pages>(
     let Some(moment) = Moment::new(time) else {
         return Err(damaged);
     };
-    if u64::from(len) > ring.used - at - 4 {
+    if len < 8 {
+        return Err(damaged);
+    }
+    if u64::from(len) > (ring.used - at - 4).min(MAX_ADMISSION_LEN as u64) {
         return Err(damaged);
     }
     Ok((moment, at + 4 + u64::from(len)))
@@ -87,7 +90,7 @@ impl Ring {
     ghost use Rattle.intake.specs.Calls.{OnlyReads, ReadRefusal};
 
     /// The times of all that waits, in its order. Of each admission no more is read than its length and its time. Where no
-    /// admission stands, the page is told on which it would begin.
+    /// length with a time behind it stands, the page is told on which it would begin. Changes aren't looked at.
     pub fn waiting_times<P: Pages>(
         &self,
         alloc: Global,

@@ -25,13 +25,22 @@ returns-in_default-clause-damaged g c page is start shown waits times are holds 
     let low = n.valid.time in
     absurd (not_none c.new.result (c.length_and_time-len.result.1 ≤ 4294967295) c.length_and_time-len.result.1 c.new.ensures.moment c.in_default.not-Some (omega (arith, time)))
 
-pub returns-then-from-ring-clause-damaged : goal.returns-then-from-ring-clause-damaged
-returns-then-from-ring-clause-damaged g c page is start shown waits times are holds passed =
+pub returns-then-len-lt8-clause-damaged : goal.returns-then-len-lt8-clause-damaged
+returns-then-len-lt8-clause-damaged g c page is start shown waits times are holds passed =
+    let n = next_there shown c.args.ring waits c.args.at times c.requires.some holds passed in
+    let front = c.deref.ensures.value ∙ c.in_ok-front.ensures.read start shown (flat_map entry waits) are holds.size holds.octets in
+    let len : c.length_and_time-len.result.0 ≡ length (admission_octets n.a) = c.length_and_time-len.ensures.length ∙ next_len c.args.ring waits c.args.at times c.deref.result.now n front in
+    let long = n.long in
+    absurd (omega (arith, c.if-len-lt8.true, len))
+
+pub returns-then-from-min-clause-damaged : goal.returns-then-from-min-clause-damaged
+returns-then-from-min-clause-damaged g c page is start shown waits times are holds passed =
     let n = next_there shown c.args.ring waits c.args.at times c.requires.some holds passed in
     let front = c.deref.ensures.value ∙ c.in_ok-front.ensures.read start shown (flat_map entry waits) are holds.size holds.octets in
     let len : c.length_and_time-len.result.0 ≡ length (admission_octets n.a) = c.length_and_time-len.ensures.length ∙ next_len c.args.ring waits c.args.at times c.deref.result.now n front in
     let fits = n.fits in
-    absurd (omega (arith, c.if-from-ring.true, c.from.ensures, len, c.if-ring-at-lt12.false))
+    let small = n.valid.small in
+    absurd (omega (arith, c.if-from-min.true, c.min.ensures, c.from.ensures, len, c.if-ring-at-lt12.false))
 
 pub returns-clause-passed : goal.returns-clause-passed
 returns-clause-passed g c start shown waits times are holds passed =

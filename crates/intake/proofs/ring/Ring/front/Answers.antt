@@ -15,14 +15,15 @@ returns-then-self-lt4-clause-damaged g c page is start shown waits are holds =
     let fits = f.fits in
     absurd (omega (arith, c.if-self-lt4.true))
 
-pub returns-then-from-self-clause-damaged : goal.returns-then-from-self-clause-damaged
-returns-then-from-self-clause-damaged g c page is start shown waits are holds =
+pub returns-then-from-min-clause-damaged : goal.returns-then-from-min-clause-damaged
+returns-then-from-min-clause-damaged g c page is start shown waits are holds =
     let ne = c.if-self-eq0.false in
     let f = first_there shown c.args.self.now waits (omega (arith, ne)) holds in
     let fits = f.fits in
     let len : c.number-len.result ≡ length (admission_octets f.a) =
     c.number-len.ensures ∙ first_len c.args.self.now waits c.deref.result.now f (c.deref.ensures.value ∙ c.in_ok-size.ensures.read start shown (flat_map entry waits) are holds.size holds.octets) in
-    absurd (omega (arith, c.if-from-self.true, c.from.ensures, len))
+    let small = f.valid.small in
+    absurd (omega (arith, c.if-from-min.true, c.min.ensures, c.from.ensures, len))
 
 pub returns-in_default-clause-damaged : goal.returns-in_default-clause-damaged
 returns-in_default-clause-damaged g c page is start shown waits are holds =
@@ -50,4 +51,4 @@ pub returns-clause-fits : goal.returns-clause-fits
 returns-clause-fits g c =
     let spelled = rw c.in-Some.is at c.in_ok-admission.ensures.found in
     let len = ap length (sym c.deref-2.ensures.value ∙ spelled.spelled) in
-    omega (arith, len, c.in_ok-octets.ensures.len, c.if-from-self.false, c.from.ensures, c.if-self-lt4.false, length-sized (admission_octets c.in-Some.admission))
+    omega (arith, len, c.in_ok-octets.ensures.len, c.if-from-min.false, c.min.ensures, c.from.ensures, c.if-self-lt4.false, length-sized (admission_octets c.in-Some.admission))
