@@ -73,7 +73,7 @@ fn number(octets: &[u8]) -> u32
 }
 
 impl Ring {
-    ghost use Rattle.std.specs.Prelude.{◌≡◌, ◌<◌, ◌≤◌, ◌+◌, ◌/◌, ℕ, List, length, slice_get, IfOk, IfErr, IfSome, Err};
+    ghost use Rattle.std.specs.Prelude.{◌≡◌, ◌<◌, ◌≤◌, ◌+◌, ◌/◌, ℕ, List, length, slice_get, IfOk, IfErr, IfSome, IfNone, Err};
     ghost use Rattle.page_tx.specs.Start.{Start};
     ghost use Rattle.route_model.specs.Admission.{Admitted};
     ghost use Rattle.intake.specs.Ring.{entry, IsRing, Holds};
@@ -89,6 +89,7 @@ impl Ring {
     ) -> Result<Option<Admission>, ReadError>
         requires ring { IsRing (P.homes pages.old) self.now }
         ensures front { IfOk result (λ front. (start : Start) (shown : List (List ℕ)) (waits : List Admitted) → P.shows pages.old start shown → Holds shown self.now waits → front ≡ slice_get waits 0) }
+        ensures none { IfOk result (λ front. IfNone front (self.now.used ≡ 0)) }
         ensures damaged { (page : ℕ) → result ≡ Err (ReadError.BadNode page) → (start : Start) (shown : List (List ℕ)) (waits : List Admitted) → P.shows pages.old start shown → Holds shown self.now waits → ⊥ }
         ensures begins { (page : ℕ) → result ≡ Err (ReadError.BadNode page) → page ≡ self.now.low + self.now.first / 16384 }
         ensures fits { IfOk result (λ front. IfSome front (λ a. length (entry a) ≤ self.now.used)) }
