@@ -1,9 +1,10 @@
 //! A ring of which an octet isn't what was put there.
-use crate::made::{append, begun, ends, front, one, waiting_times};
+use crate::made::{ONE, append, begun, ends, front, one, waiting_times};
 use disk_memory::MemErase;
 use disk_models::Page;
 use intake::{ReadError, Ring};
 use page_tx::{Pages, Tx};
+use route_model::Moment;
 use std::alloc::Global;
 use std::test::Fail;
 
@@ -38,6 +39,16 @@ fn refused(alloc: Global, tx: &mut Tx<MemErase>, ring: &Ring) -> Option<(bool, b
     Some((first, times))
 }
 
+// Whether the two admissions' first and both times are read as they were put.
+fn is_as_before(alloc: Global, tx: &mut Tx<MemErase>, ring: &Ring) -> Result<bool, Fail> {
+    let Some(first) = front(alloc, tx, ring)? else {
+        return Ok(false);
+    };
+    let times = waiting_times(alloc, tx, ring)?;
+    let put = [Moment::from(1_704_067_200u32), Moment::from(7u32)];
+    Ok(first.encode(alloc)?.as_slice() == ONE.as_slice() && times.as_slice() == put.as_slice())
+}
+
 #[test]
 fn a_damaged_octet_gives_an_answer_or_is_told(rt: HostRuntime) -> Result<(), Fail> {
     let alloc = rt.alloc();
@@ -66,10 +77,13 @@ fn a_damaged_octet_gives_an_answer_or_is_told(rt: HostRuntime) -> Result<(), Fai
     // The second length, of which the first octet is the place 16,371.
     spoil(alloc, &mut tx, &page, 16_371)?;
     assert!(rt; refused(alloc, &mut tx, &ring) == Some((false, true)));
+    // The entries end before the place 39. What isn't theirs changes nothing.
     for at in 0..16_384usize {
-        if at < 100 || at >= 16_300 {
-            spoil(alloc, &mut tx, &page, at)?;
+        spoil(alloc, &mut tx, &page, at)?;
+        if at < 39 || at >= 16_300 {
             assert!(rt; refused(alloc, &mut tx, &ring).is_some(), "{at}");
+        } else {
+            assert!(rt; is_as_before(alloc, &mut tx, &ring)?, "{at}");
         }
     }
     Ok(())

@@ -1,5 +1,8 @@
 //! How much a ring of nine pages takes.
-use crate::made::{append, begun, ends, front, is_untouched, many, one, pop, waiting_times};
+use crate::made::{
+    HOMES, ONE, PAGE, SHORTEST, append, begun, ends, free, front, is_untouched, many, octets_of,
+    one, pop, waiting_times,
+};
 use disk_memory::MemErase;
 use intake::{IntakeError, Ring};
 use page_tx::{Pages, Tx};
@@ -39,10 +42,14 @@ fn a_ring_takes_what_fits_and_no_more(rt: HostRuntime) -> Result<(), Fail> {
     assert!(rt; filled(alloc, &mut tx, &mut ring, 1000)? == (71_000, 5));
     assert!(rt; filled(alloc, &mut tx, &mut ring, 1000)? == (142_000, 9));
     assert!(rt; filled(alloc, &mut tx, &mut ring, 76)? == (147_396, 9));
+    assert!(rt; free(&tx, &ring) == Some(60));
     let before = ring;
+    let octets = octets_of(alloc, &mut tx, 0, HOMES)?;
     let full = append(alloc, &mut tx, &mut ring, &[one(alloc)?]);
     assert!(rt; full == Err(IntakeError::IntakeFull));
     assert!(rt; ring == before);
+    assert!(rt; tx.images() == 9);
+    assert!(rt; octets_of(alloc, &mut tx, 0, HOMES)? == octets);
     // Three of 18 octets fit still.
     let last = [ends(alloc, 7, 0)?, ends(alloc, 8, 0)?, ends(alloc, 9, 0)?];
     append(alloc, &mut tx, &mut ring, &last)?;
@@ -59,9 +66,7 @@ fn what_was_put_comes_out_in_its_order(rt: HostRuntime) -> Result<(), Fail> {
     let alloc = rt.alloc();
     let mut tx = begun(alloc)?;
     let mut ring = Ring::empty(1, 9);
-    let first = one(alloc)?;
-    let spelling = first.encode(alloc)?;
-    let batch = [first, ends(alloc, 7, 1)?, ends(alloc, 8, 0)?];
+    let batch = [one(alloc)?, ends(alloc, 7, 1)?, ends(alloc, 8, 0)?];
     append(alloc, &mut tx, &mut ring, &batch)?;
     for admission in &batch {
         let Some(found) = front(alloc, &mut tx, &ring)? else {
@@ -69,7 +74,7 @@ fn what_was_put_comes_out_in_its_order(rt: HostRuntime) -> Result<(), Fail> {
         };
         assert!(rt; found.time() == admission.time());
         if found.encoded_len() == 67 {
-            assert!(rt; found.encode(alloc)? == spelling);
+            assert!(rt; found.encode(alloc)?.as_slice() == ONE.as_slice());
         }
         assert!(rt; pop(&tx, &mut ring, &found));
     }
@@ -82,5 +87,63 @@ fn what_was_put_comes_out_in_its_order(rt: HostRuntime) -> Result<(), Fail> {
         }
     );
     assert!(rt; front(alloc, &mut tx, &ring)?.is_none());
+    Ok(())
+}
+
+#[test]
+fn an_entry_is_laid_from_the_last_octets_to_the_first(rt: HostRuntime) -> Result<(), Fail> {
+    let alloc = rt.alloc();
+    let mut tx = begun(alloc)?;
+    let mut ring = Ring::empty(3, 1);
+    ring.first = PAGE - 4;
+    append(alloc, &mut tx, &mut ring, &[ends(alloc, 7, 0)?])?;
+    let octets = octets_of(alloc, &mut tx, 3, 1)?;
+    let octets = octets.as_slice();
+    assert!(rt; octets.get(16_380..) == Some(&[0, 0, 0, 14]));
+    assert!(rt; octets.get(..14) == Some(&SHORTEST));
+    let rest = octets.get(14..16_380).unwrap_or(&[]);
+    assert!(rt; rest.len() == 16_366 && rest.iter().all(|octet| *octet == 90));
+    Ok(())
+}
+
+#[test]
+fn numbers_that_are_no_ring_are_told(rt: HostRuntime) -> Result<(), Fail> {
+    let ring = Ring::empty(1, 9);
+    assert!(rt; ring.is_within(10) && !ring.is_within(9));
+    let others = [
+        Ring { low: 11, ..ring },
+        Ring {
+            low: u64::MAX,
+            ..ring
+        },
+        Ring { count: 0, ..ring },
+        Ring {
+            first: 147_456,
+            ..ring
+        },
+        Ring {
+            used: 147_457,
+            ..ring
+        },
+    ];
+    for other in &others {
+        assert!(rt; !other.is_within(11));
+    }
+    let all = Ring {
+        low: 0,
+        count: 65_535,
+        ..ring
+    };
+    assert!(rt; all.is_within(70_000));
+    let more = Ring {
+        count: 65_536,
+        ..all
+    };
+    assert!(rt; !more.is_within(70_000));
+    let shortest = ends(rt.alloc(), 7, 0)?;
+    let just = Ring { used: 18, ..ring };
+    assert!(rt; just.can_pop(&shortest));
+    let less = Ring { used: 17, ..ring };
+    assert!(rt; !less.can_pop(&shortest));
     Ok(())
 }

@@ -16,13 +16,16 @@ pub(crate) const PAGE: u64 = 16_384;
 pub(crate) const HOMES: u64 = 11;
 
 // An admission of one announcement, by hand: its spelling has 67 octets, and its time is 1704067200.
-const ONE: [u8; 67] = [
+pub(crate) const ONE: [u8; 67] = [
     0, 0, 0, 0, 0x65, 0x92, 0, 0x80, 0, 1, 0, 4, 192, 0, 2, 1, 0, 0, 0, 0, 0, 0, 0, 0, 0, 0, 0, 0,
     0, 0, 0xfd, 0xe9, 0, 1, 0, 21, 0, 0, 1, 2, 2, 0, 0, 0xfd, 0xe9, 0, 0, 0xfd, 0xea, 4, 192, 0, 2,
     1, 0, 0, 0, 0, 1, 1, 0, 0, 4, 8, 10, 0, 0,
 ];
 
-// Its peer.
+// The shortest admission, without a change, at second 7.
+pub(crate) const SHORTEST: [u8; 14] = [0, 0, 0, 0, 0, 0, 0, 7, 0, 0, 0, 0, 0, 0];
+
+// The peer of the first.
 const PEER: [u8; 22] = [
     0, 4, 192, 0, 2, 1, 0, 0, 0, 0, 0, 0, 0, 0, 0, 0, 0, 0, 0, 0, 0xfd, 0xe9,
 ];
@@ -104,6 +107,25 @@ pub(crate) fn is_untouched(tx: &mut Tx<MemErase>, n: u64) -> Result<bool, Fail> 
     }
 }
 
+// The octets of so many pages, from one on.
+pub(crate) fn octets_of(
+    alloc: Global,
+    tx: &mut Tx<MemErase>,
+    low: u64,
+    count: u64,
+) -> Result<Vec<u8>, Fail> {
+    let mut octets = Vec::new(alloc);
+    for n in low..low.saturating_add(count) {
+        if n < tx.pool().home_pages() {
+            tx.fetch(n)?;
+            if let Some(page) = tx.page(n) {
+                octets.extend_from_slice(page.octets())?;
+            }
+        }
+    }
+    Ok(octets)
+}
+
 pub(crate) fn append(
     alloc: Global,
     tx: &mut Tx<MemErase>,
@@ -145,4 +167,13 @@ pub(crate) fn pop(tx: &Tx<MemErase>, ring: &mut Ring, admission: &Admission) -> 
     }
     ring.pop(admission);
     true
+}
+
+// The free octets, none where it isn't a ring of the map.
+pub(crate) fn free(tx: &Tx<MemErase>, ring: &Ring) -> Option<u64> {
+    if ring.is_within(tx.pool().home_pages()) {
+        Some(ring.free())
+    } else {
+        None
+    }
 }

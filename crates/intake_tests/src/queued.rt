@@ -1,7 +1,9 @@
 //! A ring beside a plain queue.
-use crate::made::{HOMES, append, begun, ends, front, is_untouched, pop, waiting_times};
+use crate::made::{
+    HOMES, PAGE, SHORTEST, append, begun, ends, front, is_untouched, pop, waiting_times,
+};
 use disk_memory::MemErase;
-use intake::{IntakeError, Ring};
+use intake::{IntakeError, ReadError, Ring};
 use page_tx::Tx;
 use route_model::Admission;
 use std::alloc::Global;
@@ -29,12 +31,12 @@ struct Both {
     octets: u64,
 }
 
-// How many changes: mostly few, now and then up to 42,999, whose spelling has 129,033 octets.
+// How many changes: mostly few, seldom up to 43,678, whose spelling has 131,070 octets.
 fn count(numbers: &mut Numbers) -> usize {
-    let most = match numbers.below(8) {
-        0 => 43_000,
-        1 | 2 => 6_000,
-        _ => 40,
+    let most = match numbers.below(2_048) {
+        0 => 43_679,
+        1..=4 => 2_000,
+        _ => 8,
     };
     numbers.below(most) as usize
 }
@@ -47,7 +49,7 @@ fn put(
     numbers: &mut Numbers,
     step: u32,
 ) -> Result<bool, Fail> {
-    let size = numbers.below(4);
+    let size = numbers.below(5);
     let mut batch = Vec::new(alloc);
     let mut octets = 0u64;
     for _ in 0..size {
@@ -86,6 +88,18 @@ fn take(alloc: Global, tx: &mut Tx<MemErase>, both: &mut Both) -> Result<bool, F
     }
 }
 
+// Whether the times of all that waits in the ring are those of the plain queue.
+fn have_the_times(alloc: Global, tx: &mut Tx<MemErase>, both: &Both) -> Result<bool, Fail> {
+    let times = waiting_times(alloc, tx, &both.ring)?;
+    Ok(
+        times.len() == both.plain.len()
+            && times
+                .iter()
+                .zip(both.plain.iter())
+                .all(|(time, admission)| *time == admission.time()),
+    )
+}
+
 #[test]
 fn a_ring_is_a_queue(rt: HostRuntime) -> Result<(), Fail> {
     let alloc = rt.alloc();
@@ -96,8 +110,8 @@ fn a_ring_is_a_queue(rt: HostRuntime) -> Result<(), Fail> {
         octets: 0,
     };
     let mut numbers = Numbers { last: 20_240_101 };
-    for step in 0..120u32 {
-        if numbers.below(5) < 2 {
+    for step in 0..10_000u32 {
+        if numbers.below(2) == 0 {
             assert!(rt;
                 put(alloc, &mut tx, &mut both, &mut numbers, step)?,
                 "{step}"
@@ -106,14 +120,40 @@ fn a_ring_is_a_queue(rt: HostRuntime) -> Result<(), Fail> {
             assert!(rt; take(alloc, &mut tx, &mut both)?, "{step}");
         }
         assert!(rt; both.ring.used == both.octets);
-        if step % 40 == 39 {
-            let times = waiting_times(alloc, &mut tx, &both.ring)?;
-            assert!(rt; times.len() == both.plain.len());
+        if step % 500 == 499 {
+            assert!(rt; have_the_times(alloc, &mut tx, &both)?);
             tx.commit()?;
             tx.checkpoint()?;
         }
     }
     assert!(rt; is_untouched(&mut tx, 0)?);
     assert!(rt; is_untouched(&mut tx, HOMES - 1)?);
+    Ok(())
+}
+
+#[test]
+fn an_entry_wraps_at_each_of_its_octets(rt: HostRuntime) -> Result<(), Fail> {
+    let alloc = rt.alloc();
+    let mut tx = begun(alloc)?;
+    let admission = [ends(alloc, 7, 0)?];
+    for before in 0..=18u64 {
+        let mut ring = Ring {
+            first: (PAGE - before) % PAGE,
+            ..Ring::empty(3, 1)
+        };
+        append(alloc, &mut tx, &mut ring, &admission)?;
+        let Some(found) = front(alloc, &mut tx, &ring)? else {
+            return Err(ReadError::BadNode(before).into());
+        };
+        assert!(rt;
+            found.encode(alloc)?.as_slice() == SHORTEST.as_slice(),
+            "{before}"
+        );
+        assert!(rt; pop(&tx, &mut ring, &found));
+        assert!(rt;
+            ring.used == 0 && ring.first == (PAGE + 18 - before) % PAGE,
+            "{before}"
+        );
+    }
     Ok(())
 }
