@@ -31,9 +31,9 @@ struct Both {
     octets: u64,
 }
 
-// How many changes: mostly few, seldom up to 43,678, whose spelling has 131,070 octets.
+// How many changes: mostly few, one time in 64 up to 43,678, whose spelling has 131,070 octets.
 fn count(numbers: &mut Numbers) -> usize {
-    let most = match numbers.below(2_048) {
+    let most = match numbers.below(64) {
         0 => 43_679,
         1..=4 => 2_000,
         _ => 8,
