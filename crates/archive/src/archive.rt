@@ -138,6 +138,7 @@ impl Archive {
             Err(_) => Err(MarkRefusal::MarkBack),
         }
     }
+
     /// Admits the records of a collector, in their order, but for those that come late: whose time is below the
     /// collector's mark or below an earlier time of the batch. Each of these is told. The mark is raised to the
     /// greatest of these times. A refusal changes nothing. The batch has at most [`crate::MAX_BATCH_LEN`] octets.
@@ -165,6 +166,7 @@ impl Archive {
             Err(_) => Err(AdmitRefusal::OutOfMemory),
         }
     }
+
     /// Applies the next change of the first admission that waits, where that admission is below every mark; an
     /// admission without changes is applied at once. With its last change an admission is wholly applied.
     pub fn apply_step(&mut self) -> Result<Step, AllocError>
@@ -198,6 +200,7 @@ impl Archive {
         self.begun = 0;
         Ok(Step::Applied)
     }
+
     /// A step of flushing. All of the plain archive is in memory, so no page ever waits.
     pub fn flush_step(&mut self) -> Flush
         ensures clean { result ≡ Flush.Clean }

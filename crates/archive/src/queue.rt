@@ -52,6 +52,7 @@ impl Queue {
     {
         self.offered
     }
+
     /// Whether so many more offered records can be counted.
     pub(crate) fn can_count(&self, more: usize) -> bool
         ensures { IsTrue result ↔ self.now.offered + more < 18446744073709551616 }
@@ -96,6 +97,7 @@ impl Queue {
         self.admitted += admitted;
         self.offered += offered as u64;
     }
+
     /// How many changes the first admission that waits has.
     pub(crate) fn first_changes(&self) -> usize
         ensures { (first : Admitted) (rest : List Admitted) → self.now.waiting ≡ first ∷ rest → result ≡ length first.changes }

@@ -8,8 +8,8 @@ use archive::{Answer, Archive, Query, Turn};
 use route_meaning::{RowsQuestion, Select};
 use route_model::{Mark, Moment};
 use service::{
-    Attempt, End, FeedStop, Input, LoadSettings, Output, Status, ask, feed, load, reply, try_file,
-    write_answer,
+    Attempt, End, FeedStop, Input, LoadSettings, Output, Status, ask, feed, load, reply,
+    tell_failures, tell_outside, try_file, write_answer,
 };
 use std::alloc::Global;
 use std::io::{BufWriter, Error, ErrorKind, Read, Write};
@@ -753,6 +753,28 @@ fn is_too_long(alloc: Global) -> Result<bool, Fail> {
     Ok(asked == Status::Failed && told.as_slice() == "rha: 29 Outside\n".as_bytes())
 }
 
+/// Whether the system's reasons are told behind a refusal: of a file that isn't there, of one that can't be read on, and
+/// of a standard output that takes no more.
+fn are_reasons_told(alloc: Global) -> Result<bool, Fail> {
+    let mut archive = Archive::plain(alloc, 1)?;
+    let mut file = Input::new(Failing { octets: &[] });
+    let mut small = [0u8; 4];
+    let full: &mut [u8] = &mut small;
+    let mut full = Output::new(full);
+    feed_to(alloc, &mut archive, 0, &mut file, &mut full);
+    let missing = Error::from(ErrorKind::NotFound);
+    let mut err: Vec<u8> = Vec::new(alloc);
+    let mut told = Output::new(&mut err);
+    let code = tell_outside(alloc, &mut told, "a.mrt", &missing);
+    tell_failures(alloc, "a.mrt", &file, &full, &mut told);
+    let lines = "rha: 29 Outside
+rha: a.mrt: entity not found
+rha: a.mrt: broken pipe
+rha: standard output: write zero
+";
+    Ok(code == 1 && err.as_slice() == lines.as_bytes())
+}
+
 #[test]
 fn failures_outside_are_told(rt: HostRuntime) -> Result<(), Fail> {
     let alloc = rt.alloc();
@@ -760,5 +782,6 @@ fn failures_outside_are_told(rt: HostRuntime) -> Result<(), Fail> {
     assert!(rt; is_given_up(alloc)?);
     assert!(rt; is_failed(alloc)?);
     assert!(rt; is_too_long(alloc)?);
+    assert!(rt; are_reasons_told(alloc)?);
     Ok(())
 }

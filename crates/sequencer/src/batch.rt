@@ -28,7 +28,7 @@ fn is_told(late: &[Late], passed: usize, index: usize) -> bool
 }
 
 /// The admissions of a batch that aren't among its late ones, in its order. Their routes are shared. Which are late was
-/// decided when their times were sieved.
+/// decided when their times were sieved: `late` is what that told; of another list nothing is said.
 pub fn timely_of(
     alloc: Global,
     batch: &[Admission],
