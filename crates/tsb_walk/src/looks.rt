@@ -26,9 +26,9 @@ pub struct Found {
 pub enum Reached {
     /// The next key that has a value, and what it has.
     At(Key, Found),
-    /// No key below this one has a value.
+    /// No key from the one asked for on and below this one has a value.
     Past(Key),
-    /// No key has a value.
+    /// No key from the one asked for on has a value.
     End,
 }
 
