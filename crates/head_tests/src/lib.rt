@@ -1,0 +1,5 @@
+//! Tests of the head of an archive, over pages laid by hand: each number at its place, as docs/FORMATS.md has them.
+#![tactic(auto)]
+
+#[cfg(test)]
+mod pages;
