@@ -1,4 +1,5 @@
 pub mod Answers
 pub mod Knowing
+pub mod Looked
 pub mod Ways
 pub mod inner

@@ -8,4 +8,4 @@ mod looks;
 mod walk;
 
 pub use hist::{hist_find, hist_next, hist_part};
-pub use looks::{Found, KeyVersions, Reached};
+pub use looks::{Descended, Found, KeyVersions, Looked, Parted, Reached};

@@ -12,7 +12,7 @@ ghost use Rattle.tsb_walk.specs.Answers.{found_as, reached_as};
 use route_model::Key;
 use std::alloc::Global;
 use tsb_node::{FoundVersion, ReadFault, find, next, part};
-use version_model::{Entry, Stamp};
+use version_model::{Entry, Place, Stamp};
 
 /// A value, and the stamp from which on its key has it.
 #[derive(Debug, Drop)]
@@ -38,6 +38,30 @@ pub enum Reached {
 pub struct KeyVersions {
     pub entries: Vec<Entry>,
     pub told: Option<Stamp>,
+}
+
+/// What a look for the next key answers where it begins at current pages: how far it has come, or the place in the past where
+/// it goes on, for the same key and stamp.
+#[derive(Debug, Drop)]
+pub enum Looked {
+    Here(Reached),
+    InBlock(Place),
+}
+
+/// What a look for the versions of a key answers where it begins at current pages: the versions, or the place in the past where
+/// it goes on, for the same key and stamp.
+#[derive(Debug, Drop)]
+pub enum Parted {
+    Here(KeyVersions),
+    InBlock(Place),
+}
+
+/// What a look for a key answers where it begins at current pages: what the key has, none where it has no value; or the place in
+/// the past where it goes on, for the same key and stamp.
+#[derive(Debug, Drop)]
+pub enum Descended {
+    Here(Option<Found>),
+    InBlock(Place),
 }
 
 /// What the leaf that begins these octets has for a key as of a stamp.
