@@ -20,6 +20,7 @@ pub mod RowLaws
 pub mod NodeLaws
 pub mod LeafReading
 pub mod PartLaws
+pub mod Founds
 pub mod Refusals
 pub mod ColumnReading
 pub mod ChildLaws

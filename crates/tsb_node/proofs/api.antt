@@ -1,2 +1,3 @@
-pub mod Writing
 pub mod Blocks
+pub mod Pages
+pub mod Writing

@@ -12,5 +12,6 @@ pub mod Parts
 pub mod Splitting
 pub mod Holding
 pub mod Saying
+pub mod Heads
 pub mod Views
 pub mod inner

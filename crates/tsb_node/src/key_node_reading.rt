@@ -45,7 +45,7 @@ fn is_next_low(low: Key, last: Option<Key>, first: Key) -> bool
 }
 
 /// Whether octets are just so many children that follow one another from the lowest key of these bounds on.
-fn are_children(bytes: &[u8], count: u16, bounds: &Bounds) -> bool
+pub fn are_children(bytes: &[u8], count: u16, bounds: &Bounds) -> bool
     ensures { IsTrue result ↔ ((children : List ChildValue) × AreChildrenOf bounds.now count bytes.now children) }
 {
     let mut rest = bytes;

@@ -24,7 +24,7 @@ pub struct KeyNodeSaid {
 }
 
 /// Whether a header is of a key node's kind, of one of its levels, 2 to 7, and counts children.
-fn is_of_key_nodes(header: &Header) -> bool
+pub fn is_of_key_nodes(header: &Header) -> bool
     ensures { IsTrue result ↔ ((header.now.kind ≡ 3) × (2 ≤ header.now.level) × (header.now.level ≤ 7) × (0 < header.now.count)) }
 {
     header.kind == 3 && header.level >= 2 && header.level <= 7 && header.count > 0

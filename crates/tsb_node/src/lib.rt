@@ -23,6 +23,7 @@ mod leaf_splitting;
 mod leaf_writing;
 mod node_reading;
 mod numbers;
+mod page_reading;
 mod writing;
 
 pub use column::{Current, PartAt, Spot, part_for, spot_for};
@@ -47,3 +48,4 @@ pub use leaf_sealing::seal_leaf;
 pub use leaf_splitting::copy_side;
 pub use leaf_writing::write_leaf;
 pub use numbers::{key_fits, stamp_fits};
+pub use page_reading::{ColumnHead, KeyNodeHead, read_column, read_key_node};
