@@ -1,5 +1,9 @@
 pub mod Answers
 pub mod Knowing
 pub mod Looked
+pub mod PageLooks
+pub mod PageWays
+pub mod Refusals
+pub mod Shown
 pub mod Ways
 pub mod inner

@@ -3,9 +3,16 @@
 #![tactic(auto)]
 
 mod block;
+mod error;
 mod hist;
+mod locating;
 mod looks;
+mod page_place;
+mod page_steps;
 mod walk;
 
+pub use error::NodeError;
 pub use hist::{hist_find, hist_next, hist_part};
+pub use locating::locate;
 pub use looks::{Descended, Found, KeyVersions, Looked, Parted, Reached};
+pub use page_place::PagePlace;

@@ -1,0 +1,48 @@
+-- The ways of keys through the pages of a tree.
+use Rattle.std.specs.Prelude.{◌≡◌, ℕ, suc, ◌<◌, List}
+use Rattle.tsb_walk.specs.declared.page_place.PagePlace.{PagePlace}
+use Rattle.tsb_walk.specs.Shown.{Says, keys_at, HasKey}
+use Rattle.version_model.specs.declared.part.Part.{Part}
+use Rattle.version_model.specs.declared.child.Child.{Child}
+use Rattle.version_model.specs.Versions.{Version}
+use Rattle.version_model.specs.Pages.{CurrentLeaf, ColumnNode, KeyNode, IsChildOf}
+
+-- the page says a key node of just its level and its keys; the other place is its child that has the key, one level below, of just the child's keys
+pub record IsLower (shown : List (List ℕ)) (key : ℕ) (place next : PagePlace) : Type 0 where
+  pub children : List Child
+  pub says : Says shown place.page (KeyNode place.level (keys_at place) children)
+  pub child : IsChildOf (keys_at place) children (keys_at next) (record { low = next.low; page = next.page })
+  pub level : suc next.level ≡ place.level
+  pub has : HasKey next key
+
+-- the way of a key from one page down to another
+pub data PageWay (shown : List (List ℕ)) (key : ℕ) : PagePlace → PagePlace → Type 0 where
+  here : (place : PagePlace) → PageWay shown key place place
+  further : (first place next : PagePlace) → PageWay shown key first place → IsLower shown key place next → PageWay shown key first next
+
+-- the page doesn't say a key node of its level and its keys
+abbrev pub IsNoKeyNode : List (List ℕ) → PagePlace → Type 0
+IsNoKeyNode shown place = (children : List Child) → Says shown place.page (KeyNode place.level (keys_at place) children) → ⊥
+
+-- the page doesn't say a column of its keys
+abbrev pub IsNoColumn : List (List ℕ) → PagePlace → Type 0
+IsNoColumn shown place = (parts : List Part) (start current : ℕ) → Says shown place.page (ColumnNode (keys_at place) parts start current) → ⊥
+
+-- the page doesn't say the current leaf of the column's keys from this start on
+abbrev pub IsNoLeaf : List (List ℕ) → PagePlace → ℕ → ℕ → Type 0
+IsNoLeaf shown column start page = (versions : List Version) → Says shown page (CurrentLeaf (keys_at column) start versions) → ⊥
+
+-- the way of the key comes to a column of its keys: with these parts, and a current leaf of this start on this page
+pub record ComesToColumn (shown : List (List ℕ)) (root : PagePlace) (key : ℕ) (column : PagePlace) (parts : List Part) (start current : ℕ) : Type 0 where
+  pub way : PageWay shown key root column
+  pub lowest : column.level ≡ 1
+  pub has : HasKey column key
+  pub says : Says shown column.page (ColumnNode (keys_at column) parts start current)
+
+-- the way of the key comes to this page, which isn't the key node that it is to be
+pub record IsBadKeyNode (shown : List (List ℕ)) (root : PagePlace) (key page : ℕ) : Type 0 where
+  pub last : PagePlace
+  pub way : PageWay shown key root last
+  pub above : 1 < last.level
+  pub is : last.page ≡ page
+  pub bad : IsNoKeyNode shown last
