@@ -1,0 +1,4 @@
+pub mod Refusals
+pub mod Settled
+pub mod Shelves
+pub mod Columns
