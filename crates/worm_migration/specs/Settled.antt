@@ -22,9 +22,10 @@ pub record AreSettled (o : OnceState) (count : ℕ) (blocks : ℕ → Option Blo
 abbrev pub with_block : ℕ → BlockNode → (ℕ → Option BlockNode) → ℕ → Option BlockNode
 with_block n node blocks m = cond (nat_eq m n) (Some node) (blocks m)
 
--- the same of the disk of a shelf
+-- on the disk of a shelf the block with this number is settled, and its octets say this node
 abbrev pub HasSettledAs : {O Pen Seen : Type 0} (device : Ghosts O Pen Seen) → Shelf O Pen Seen → ℕ → BlockNode → Type 0
 HasSettledAs device shelf n node = IsSettledAs (device.model (pen_of shelf)) (device.block_count (disk_of shelf)) n node
 
+-- on the disk of a shelf each block that says something is settled, and its octets say that
 abbrev pub ShelfSays : {O Pen Seen : Type 0} (device : Ghosts O Pen Seen) → Shelf O Pen Seen → (ℕ → Option BlockNode) → Type 0
 ShelfSays device shelf blocks = AreSettled (device.model (pen_of shelf)) (device.block_count (disk_of shelf)) blocks

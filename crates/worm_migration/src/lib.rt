@@ -6,9 +6,11 @@ mod column;
 mod error;
 mod laws;
 mod leaf;
+mod past;
 mod settling;
 
 pub use column::migrate_column;
 pub use error::MigrationError;
 pub use laws::columns_have_whole_pasts;
 pub use leaf::{MigratedLeaf, migrate_leaf, settle_leaf, settle_leaf_page};
+pub use past::settle_part;
