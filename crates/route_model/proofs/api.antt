@@ -5,3 +5,4 @@ pub mod Keys
 pub mod Fronts
 pub mod PrefixFields
 pub mod KeyNumbers
+pub mod PeerKeys

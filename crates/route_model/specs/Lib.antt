@@ -11,3 +11,4 @@ pub mod KeyWords
 pub mod Widths
 pub mod PrefixFields
 pub mod inner
+pub mod PeerKeys

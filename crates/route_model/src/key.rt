@@ -65,8 +65,9 @@ pub enum KeyParts {
 }
 
 impl Key {
-    ghost use Rattle.std.specs.Prelude.{IfSome, Some, ◌≡◌, length};
+    ghost use Rattle.std.specs.Prelude.{IfSome, Some, None, suc, ◌≡◌, ◌↔◌, ◌+◌, ◌-◌, ◌%◌, ◌^◌, length};
     ghost use Rattle.route_model.specs.Octets.{AreOctets};
+    ghost use Rattle.route_model.specs.PeerKeys.{first_key, last_key, tail};
     ghost use Rattle.route_model.specs.Keys.{number_of, key_number, session_number, key_of, IsKeyParts};
     ghost use Rattle.route_model.specs.declared.key.KeyParts.{KeyParts};
 
@@ -135,6 +136,114 @@ impl Key {
         } else {
             None
         }
+    }
+
+    /// The first key of the peer among whose keys this one stands: that of its session.
+    pub fn first_of_peer(self) -> Key
+        ensures key { result ≡ first_key self }
+    {
+        Key {
+            first: self.first,
+            second: self.second,
+            third: self.third - self.third % 65_536,
+            fourth: 0,
+            fifth: 0,
+        }
+    }
+
+    /// The last key of that peer.
+    pub fn last_of_peer(self) -> Key
+        ensures key { result ≡ last_key self }
+    {
+        Key {
+            first: self.first,
+            second: self.second,
+            third: self.third - self.third % 65_536 + 65_535,
+            fourth: 18_446_744_073_709_551_615,
+            fifth: 18_446_744_073_709_551_615,
+        }
+    }
+
+    /// The key of a prefix of that peer.
+    pub fn of_prefix(self, prefix: &Prefix) -> Key
+        ensures key { result ≡ first_key self + tail prefix.now }
+    {
+        let whole = self.to_octets();
+        let mut octets = [0u8; 40];
+        octets[39] = prefix.length();
+        octets[23..39].copy_from_slice(&prefix.address().wide());
+        octets[22] = prefix.address().family();
+        octets[..22].copy_from_slice(&whole[..22]);
+        Key::from_octets(&octets)
+    }
+
+    /// The key behind this one, or none where this is the last of all.
+    pub fn next(self) -> Option<Key>
+        ensures next { IfSome result (λ next. next ≡ suc self) }
+        ensures last { (result ≡ None) ↔ (suc self ≡ 2 ^ 320) }
+    {
+        let Some(fifth) = self.fifth.checked_add(1) else {
+            return self.next_of_four();
+        };
+        Some(Key { fifth, ..self })
+    }
+
+    // The same where the fifth word is the last.
+    fn next_of_four(self) -> Option<Key>
+        requires full { self % 2 ^ 64 ≡ 2 ^ 64 - 1 }
+        ensures next { IfSome result (λ next. next ≡ suc self) }
+        ensures last { (result ≡ None) ↔ (suc self ≡ 2 ^ 320) }
+    {
+        let Some(fourth) = self.fourth.checked_add(1) else {
+            return self.next_of_three();
+        };
+        Some(Key {
+            fourth,
+            fifth: 0,
+            ..self
+        })
+    }
+
+    // The same where the last two words are the last.
+    fn next_of_three(self) -> Option<Key>
+        requires full { self % 2 ^ 128 ≡ 2 ^ 128 - 1 }
+        ensures next { IfSome result (λ next. next ≡ suc self) }
+        ensures last { (result ≡ None) ↔ (suc self ≡ 2 ^ 320) }
+    {
+        let Some(third) = self.third.checked_add(1) else {
+            return self.next_of_two();
+        };
+        Some(Key {
+            third,
+            fourth: 0,
+            fifth: 0,
+            ..self
+        })
+    }
+
+    // The same where the last three words are the last.
+    fn next_of_two(self) -> Option<Key>
+        requires full { self % 2 ^ 192 ≡ 2 ^ 192 - 1 }
+        ensures next { IfSome result (λ next. next ≡ suc self) }
+        ensures last { (result ≡ None) ↔ (suc self ≡ 2 ^ 320) }
+    {
+        if self.second < u64::MAX {
+            return Some(Key {
+                first: self.first,
+                second: self.second + 1,
+                third: 0,
+                fourth: 0,
+                fifth: 0,
+            });
+        }
+        let first = self.first.checked_add(1)?;
+        Some(Key {
+            first,
+            second: 0,
+            third: 0,
+            fourth: 0,
+            fifth: 0,
+        })
     }
 }
 
