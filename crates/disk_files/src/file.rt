@@ -1,0 +1,95 @@
+//! A file, as the disks use it.
+
+ghost use Rattle.std.specs.Prelude.{◌≡◌, ◌↔◌, ◌≤◌, ℕ, length, take, true, IfOk, OnOk};
+ghost use Rattle.disk_models.specs.Octets.{octets};
+ghost use Rattle.disk_models.specs.Erase.{DiskState, Lingers, Stays, Syncs, WritesWithin};
+
+use std::io;
+
+/// Which file of the system it is, whatever its name.
+#[derive(Clone, Copy, Debug, PartialEq, Eq)]
+pub struct FileIdentity {
+    /// The device on which it lies.
+    pub device: u64,
+    /// Its number there.
+    pub number: u64,
+}
+
+/// What the system says of an open file.
+#[derive(Clone, Copy, Debug)]
+pub struct FileFacts {
+    /// It is a regular file: no folder, pipe or device.
+    pub is_regular: bool,
+    /// How many octets it has.
+    pub size: u64,
+    /// Which file it is.
+    pub identity: FileIdentity,
+}
+
+/// An open file of octets, which are read and written at places. Each call may do less than it was asked for.
+///
+/// What a call promises of octets, of the size and of the lock, it promises of a file that follows its model. One of the
+/// system never does, as far as a contract knows.
+pub trait OctetFile {
+    /// It does what its model says. Each call keeps this both ways.
+    ghost follows: { Self → Type 0 };
+
+    /// What a read gives, which places are unsynced, and what a crash may have left.
+    ghost model: { Self → DiskState };
+
+    /// How many octets it has.
+    ghost octet_count: { Self → ℕ };
+
+    /// No one else holds it.
+    ghost is_held: { Self → Type 0 };
+
+    /// What it is.
+    fn facts(&self) -> io::Result<FileFacts>
+        ensures size { follows self.now → IfOk result (λ facts. facts.size ≡ octet_count self.now) };
+
+    /// Takes its lock, which is let go when the file is closed. Answers whether it was free, and waits for no one.
+    fn hold(&mut self) -> io::Result<bool>
+        ensures follows { follows self.old ↔ follows self.new }
+        ensures size { follows self.old → octet_count self.new ≡ octet_count self.old }
+        ensures held { follows self.old → IfOk result (λ free. free ≡ true → is_held self.new) }
+        ensures stays { follows self.old → Stays (model self.old) (model self.new) };
+
+    /// Gives it a size. What is added is zeros.
+    fn resize(&mut self, size: u64) -> io::Result<()>
+        ensures follows { follows self.old ↔ follows self.new }
+        ensures size { follows self.old → OnOk result (octet_count self.new ≡ size) }
+        ensures held { is_held self.old → is_held self.new };
+
+    /// Brings it to the device with all that is needed to find it again, and has later reads come from the device.
+    fn settle(&mut self) -> io::Result<()>
+        ensures follows { follows self.old ↔ follows self.new }
+        ensures size { follows self.old → octet_count self.new ≡ octet_count self.old }
+        ensures held { is_held self.old → is_held self.new }
+        ensures settled { follows self.old → OnOk result ((i : ℕ) → ¬ (model self.new).unsynced i) }
+        ensures lingers { follows self.old → Lingers (model self.old) (model self.new) };
+
+    /// Reads octets from a place on. Answers how many there are in `into` then: none behind the file's end.
+    fn read_some(&mut self, at: u64, into: &mut [u8]) -> io::Result<usize>
+        ensures bound { IfOk result (λ n. n ≤ length into.old) }
+        ensures follows { follows self.old ↔ follows self.new }
+        ensures octets { follows self.old → IfOk result (λ n. take n into.new ≡ octets (model self.old).octet at n) }
+        ensures stays { follows self.old → Stays (model self.old) (model self.new) };
+
+    /// Writes octets from a place on. Answers how many of them.
+    fn write_some(&mut self, at: u64, from: &[u8]) -> io::Result<usize>
+        ensures bound { IfOk result (λ n. n ≤ length from.now) }
+        ensures follows { follows self.old ↔ follows self.new }
+        ensures octets { follows self.old → IfOk result (λ n. octets (model self.new).octet at n ≡ take n from.now) }
+        ensures within { follows self.old → WritesWithin at (length from.now) (model self.old) (model self.new) };
+
+    /// Brings what was written to the device.
+    fn sync(&mut self) -> io::Result<()>
+        ensures follows { follows self.old ↔ follows self.new }
+        ensures syncs { follows self.old → OnOk result (Syncs (model self.old) (model self.new)) }
+        ensures lingers { follows self.old → Lingers (model self.old) (model self.new) };
+
+    /// The same file, opened once more for a reader.
+    fn twin(&self) -> io::Result<Self>
+    where
+        Self: Sized;
+}

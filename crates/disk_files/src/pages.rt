@@ -1,0 +1,245 @@
+//! The erasable disk over a file.
+
+ghost use Rattle.std.specs.Prelude.{◌≡◌, ◌≤◌, ◌<◌, ◌+◌, ◌↔◌, ℕ, length, min, true, false, IfOk, IfErr, IsErr, Err, OnOk, OnErr};
+ghost use Rattle.disk_models.specs.Octets.{octets};
+ghost use Rattle.disk_models.specs.Erase.{Counts, Lingers, Stays, Syncs, WritesWithin};
+ghost use Rattle.disk_files.specs.Sizes.{ArePages};
+ghost use Rattle.disk_files.specs.Nothing.{no_octets};
+ghost use Rattle.disk_files.specs.Refusals.{IsOfSize};
+
+use crate::error::{FileError, Part};
+use crate::file::OctetFile;
+use crate::folder;
+use crate::opening::{open, prepare};
+use crate::size::are_pages;
+use crate::transfer::{read_whole, sync_whole, write_whole};
+use disk_models::{EraseDisk, Fault};
+use std::alloc::Global;
+use std::fs::File;
+use std::rt::Files;
+
+/// An erasable disk over a file.
+///
+/// After a write or a sync that failed each call fails, until the disk is opened again: what the system gives then may
+/// never have reached the device.
+#[derive(Drop)]
+pub struct FileErase<F = File> {
+    file: F,
+    size: u64,
+    faults: u64,
+    is_broken: bool,
+}
+
+impl<F: OctetFile> FileErase<F> {
+    ghost use Rattle.disk_files.specs.Pages.{IsFresh, file_of, is_broken, size_of};
+
+    /// A disk over this file, which has this size.
+    fn over(file: F, size: u64) -> Self
+        ensures file { file_of result ≡ file }
+        ensures size { size_of result ≡ size }
+        ensures fresh { IsFresh result }
+    {
+        FileErase {
+            file,
+            size,
+            faults: 0,
+            is_broken: false,
+        }
+    }
+
+    /// Makes a new file that is at hand a disk of so many octets: a positive multiple of 16,384, below 2^63. It is locked.
+    /// Where it is refused, what it then holds is left to the caller.
+    pub fn create_on(mut file: F, size: u64) -> Result<Self, FileError>
+    where
+        F: Drop,
+        ensures size { IfOk result (λ disk. size_of disk ≡ size) }
+        ensures fresh { IfOk result IsFresh }
+        ensures held { F.follows file → IfOk result (λ disk. F.is_held (file_of disk)) }
+        ensures whole { F.follows file → IfOk result (λ disk. F.octet_count (file_of disk) ≡ size) }
+        ensures settled { F.follows file → IfOk result (λ disk. (i : ℕ) → ¬ (F.model (file_of disk)).unsynced i) }
+        ensures refused { ¬ ArePages size → result ≡ Err (FileError.Size Part.Pages) }
+        ensures right_size { ArePages size → IfErr result (λ e. ¬ IsOfSize e) }
+    {
+        if !are_pages(size) {
+            return Err(FileError::Size(Part::Pages));
+        }
+        prepare(&mut file, size, Part::Pages)?;
+        Ok(FileErase::over(file, size))
+    }
+
+    /// The disk that a file at hand holds. It is locked, and brought to the device.
+    pub fn open_on(mut file: F) -> Result<Self, FileError>
+    where
+        F: Drop,
+        ensures size { F.follows file → IfOk result (λ disk. size_of disk ≡ F.octet_count file) }
+        ensures whole { F.follows file → IfOk result (λ disk. F.octet_count (file_of disk) ≡ F.octet_count file) }
+        ensures pages { IfOk result (λ disk. ArePages (size_of disk)) }
+        ensures fresh { IfOk result IsFresh }
+        ensures held { F.follows file → IfOk result (λ disk. F.is_held (file_of disk)) }
+        ensures settled { F.follows file → IfOk result (λ disk. (i : ℕ) → ¬ (F.model (file_of disk)).unsynced i) }
+        ensures lingers { F.follows file → IfOk result (λ disk. Lingers (F.model file) (F.model (file_of disk))) }
+        ensures right_size { F.follows file → ArePages (F.octet_count file) → IfErr result (λ e. ¬ IsOfSize e) }
+    {
+        let size = open(&mut file, Part::Pages)?;
+        if !are_pages(size) {
+            return Err(FileError::Size(Part::Pages));
+        }
+        Ok(FileErase::over(file, size))
+    }
+
+    /// Counts a failure.
+    fn fault(&mut self) -> Fault
+        ensures { self.new ≡ record self.old { faults = min (self.old.faults + 1) 18446744073709551615 } }
+    {
+        self.faults = self.faults.saturating_add(1);
+        Fault
+    }
+
+    /// Counts a failure, after which each call fails.
+    fn break_down(&mut self) -> Fault
+        ensures { self.new ≡ record self.old { faults = min (self.old.faults + 1) 18446744073709551615; is_broken = true } }
+    {
+        self.is_broken = true;
+        self.fault()
+    }
+}
+
+impl FileErase {
+    ghost use Rattle.disk_files.specs.Pages.{IsFresh, size_of};
+
+    /// Makes `pages.rha` in a folder, of so many octets: a positive multiple of 16,384, below 2^63. It costs no room on the
+    /// device before it is written to.
+    ///
+    /// Where it is refused it leaves nothing in the folder that it made, and nothing else is touched.
+    pub fn create<R: Files<File = File>>(
+        alloc: Global,
+        files: &R,
+        folder: &str,
+        size: u64,
+    ) -> Result<Self, FileError>
+        ensures size { IfOk result (λ disk. size_of disk ≡ size) }
+        ensures fresh { IfOk result IsFresh }
+        ensures refused { ¬ ArePages size → result ≡ Err (FileError.Size Part.Pages) }
+        ensures right_size { ArePages size → IfErr result (λ e. ¬ IsOfSize e) }
+    {
+        if !are_pages(size) {
+            return Err(FileError::Size(Part::Pages));
+        }
+        let file = folder::create(alloc, files, folder, size, Part::Pages)?;
+        Ok(FileErase::over(file, size))
+    }
+
+    /// Opens `pages.rha` of a folder. No one else may hold it, and no one else can while it is open.
+    pub fn open<R: Files<File = File>>(
+        alloc: Global,
+        files: &R,
+        folder: &str,
+    ) -> Result<Self, FileError>
+        ensures pages { IfOk result (λ disk. ArePages (size_of disk)) }
+        ensures fresh { IfOk result IsFresh }
+    {
+        let (file, size) = folder::open(alloc, files, folder, Part::Pages)?;
+        if !are_pages(size) {
+            return Err(FileError::Size(Part::Pages));
+        }
+        Ok(FileErase::over(file, size))
+    }
+
+    /// Takes its file out of the folder, where it still stands there under its name.
+    pub fn remove<R: Files<File = File>>(
+        self,
+        alloc: Global,
+        files: &R,
+        folder: &str,
+    ) -> Result<(), FileError> {
+        folder::remove(alloc, files, folder, &self.file, Part::Pages)
+    }
+}
+
+impl<F: OctetFile> EraseDisk for FileErase<F> {
+    ghost use Rattle.disk_files.specs.Pages.{faults_of, file_of, is_broken, size_of};
+
+    ghost octet_count = { λ disk. disk.size };
+
+    ghost fault_count = { λ disk. disk.faults };
+
+    ghost honest = { λ _. ⊥ };
+
+    ghost model = { λ _. no_octets };
+
+    ghost sound = { λ _ never. absurd never };
+
+    fn size(&self) -> u64 {
+        self.size
+    }
+
+    fn faults(&self) -> u64 {
+        self.faults
+    }
+
+    /// Beside the trait's clauses: it fails where the disk is broken, and what it reads of a file that follows its model.
+    fn read(&mut self, at: u64, into: &mut [u8]) -> Result<(), Fault>
+        requires { at + length into.old ≤ size_of self.old }
+        ensures size { size_of self.new ≡ size_of self.old }
+        ensures counts { Counts (faults_of self.old) (faults_of self.new) result }
+        ensures stopped { is_broken self.old ≡ true → IsErr result × (file_of self.new ≡ file_of self.old) }
+        ensures state { is_broken self.new ≡ is_broken self.old }
+        ensures follows { F.follows (file_of self.old) ↔ F.follows (file_of self.new) }
+        ensures octets { F.follows (file_of self.old) → OnOk result (into.new ≡ octets (F.model (file_of self.old)).octet at (length into.old)) }
+        ensures stays { F.follows (file_of self.old) → Stays (F.model (file_of self.old)) (F.model (file_of self.new)) }
+    {
+        let _size = self.size;
+        if self.is_broken {
+            return Err(self.fault());
+        }
+        match read_whole(&mut self.file, at, into) {
+            Ok(()) => Ok(()),
+            Err(_) => Err(self.fault()),
+        }
+    }
+
+    /// Beside the trait's clauses: where it fails the disk is broken, and fails from then on. What it writes to a file that
+    /// follows its model, and that it writes nothing to one that was cut.
+    fn write_at(&mut self, at: u64, from: &[u8]) -> Result<(), Fault>
+        requires { at + length from.now ≤ size_of self.old }
+        ensures size { size_of self.new ≡ size_of self.old }
+        ensures counts { Counts (faults_of self.old) (faults_of self.new) result }
+        ensures stopped { is_broken self.old ≡ true → IsErr result × (file_of self.new ≡ file_of self.old) }
+        ensures whole { OnOk result (is_broken self.new ≡ false) }
+        ensures broken { OnErr result (is_broken self.new ≡ true) }
+        ensures follows { F.follows (file_of self.old) ↔ F.follows (file_of self.new) }
+        ensures octets { F.follows (file_of self.old) → OnOk result (octets (F.model (file_of self.new)).octet at (length from.now) ≡ from.now) }
+        ensures within { F.follows (file_of self.old) → WritesWithin at (length from.now) (F.model (file_of self.old)) (F.model (file_of self.new)) }
+        ensures cut { F.follows (file_of self.old) → F.octet_count (file_of self.old) < size_of self.old → IsErr result × (file_of self.new ≡ file_of self.old) }
+    {
+        if self.is_broken {
+            return Err(self.fault());
+        }
+        match write_whole(&mut self.file, self.size, at, from) {
+            Ok(()) => Ok(()),
+            Err(_) => Err(self.break_down()),
+        }
+    }
+
+    /// Beside the trait's clauses: where it fails the disk is broken, and fails from then on. What it does with a file that
+    /// follows its model, and that it fails where it was cut.
+    fn sync(&mut self) -> Result<(), Fault>
+        ensures size { size_of self.new ≡ size_of self.old }
+        ensures counts { Counts (faults_of self.old) (faults_of self.new) result }
+        ensures stopped { is_broken self.old ≡ true → IsErr result × (file_of self.new ≡ file_of self.old) }
+        ensures whole { OnOk result (is_broken self.new ≡ false) }
+        ensures broken { OnErr result (is_broken self.new ≡ true) }
+        ensures follows { F.follows (file_of self.old) ↔ F.follows (file_of self.new) }
+        ensures syncs { F.follows (file_of self.old) → OnOk result (Syncs (F.model (file_of self.old)) (F.model (file_of self.new))) }
+        ensures lingers { F.follows (file_of self.old) → is_broken self.old ≡ false → Lingers (F.model (file_of self.old)) (F.model (file_of self.new)) }
+        ensures cut { F.follows (file_of self.old) → F.octet_count (file_of self.old) < size_of self.old → IsErr result }
+    {
+        if self.is_broken {
+            return Err(self.fault());
+        }
+        match sync_whole(&mut self.file, self.size) {
+            Ok(()) => Ok(()),
+            Err(_) => Err(self.break_down()),
+        }
+    }
+}

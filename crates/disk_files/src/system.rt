@@ -1,0 +1,80 @@
+//! Files of the system.
+
+ghost use Rattle.disk_models.specs.Erase.{DiskState};
+ghost use Rattle.disk_files.specs.Nothing.{no_octets};
+
+use crate::file::{FileFacts, FileIdentity, OctetFile};
+use std::fs::{File, Metadata, TryLockError};
+use std::io;
+use std::os::fd::AsRawFd;
+use std::os::unix::fs::{FileExt, MetadataExt};
+
+/// What is on the device alone may be read: pages of the system's cache may count as clean and never have got there,
+/// after a sync that failed.
+fn forget_cached(file: &File) -> io::Result<()> {
+    match libc::posix_fadvise(file.as_raw_fd(), 0, 0, libc::POSIX_FADV_DONTNEED) {
+        0 => Ok(()),
+        error => Err(io::Error::from_raw_os_error(error)),
+    }
+}
+
+/// Which file this is said of.
+pub(crate) fn identity(metadata: &Metadata) -> FileIdentity {
+    FileIdentity {
+        device: metadata.dev(),
+        number: metadata.ino(),
+    }
+}
+
+// Nothing is promised of what a file of the system does.
+impl OctetFile for File {
+    ghost follows = { λ _. ⊥ };
+
+    ghost model = { λ _. no_octets };
+
+    ghost octet_count = { λ _. 0 };
+
+    ghost is_held = { λ _. Unit {0} };
+
+    fn facts(&self) -> io::Result<FileFacts> {
+        let metadata = self.metadata()?;
+        Ok(FileFacts {
+            is_regular: metadata.is_file(),
+            size: metadata.len(),
+            identity: identity(&metadata),
+        })
+    }
+
+    fn hold(&mut self) -> io::Result<bool> {
+        match self.try_lock() {
+            Ok(()) => Ok(true),
+            Err(TryLockError::WouldBlock) => Ok(false),
+            Err(TryLockError::Error(error)) => Err(error),
+        }
+    }
+
+    fn resize(&mut self, size: u64) -> io::Result<()> {
+        self.set_len(size)
+    }
+
+    fn settle(&mut self) -> io::Result<()> {
+        self.sync_all()?;
+        forget_cached(self)
+    }
+
+    fn read_some(&mut self, at: u64, into: &mut [u8]) -> io::Result<usize> {
+        self.read_at(into, at)
+    }
+
+    fn write_some(&mut self, at: u64, from: &[u8]) -> io::Result<usize> {
+        self.write_at(from, at)
+    }
+
+    fn sync(&mut self) -> io::Result<()> {
+        self.sync_data()
+    }
+
+    fn twin(&self) -> io::Result<File> {
+        self.try_clone()
+    }
+}
