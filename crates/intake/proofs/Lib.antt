@@ -4,5 +4,7 @@ pub mod Images
 pub mod Entries
 pub mod Filling
 pub mod Untouched
+pub mod Spanning
+pub mod Unique
 pub mod Passing
 pub mod api

@@ -1,7 +1,8 @@
 -- A ring: pages, one after another and from the last to the first again, that hold a queue of admissions.
-use Rattle.std.specs.Prelude.{◌≡◌, ◌<◌, ◌≤◌, ℕ, ◌+◌, ◌-◌, ◌*◌, ◌/◌, ◌%◌, ◌^◌, List, [], ◌++◌, length, nat_lt, cond, slice_index, slice_index_or, flat_map}
+use Rattle.std.specs.Prelude.{◌≡◌, ◌<◌, ◌≤◌, ◌⊎◌, ◌↔◌, ℕ, ◌+◌, ◌-◌, ◌*◌, ◌/◌, ◌%◌, ◌^◌, List, [], ◌++◌, length, nat_lt, cond, slice_index, slice_index_or, flat_map}
 use Rattle.std.specs.List.{AllByRecursion}
 use Rattle.std.specs.Int.{w32, to_be_bytes}
+use Rattle.page_journal.specs.Recovers.{AreDistinct, IsListed}
 use Rattle.route_model.specs.Admission.{Admitted, IsAdmission, admission_octets}
 use Rattle.intake.specs.declared.ring.Ring.{Ring}
 
@@ -16,6 +17,10 @@ sized octets = to_be_bytes w32 (length octets) ++ octets
 -- an admission as it stands in a ring: its one spelling, behind the length
 abbrev pub entry : Admitted → List ℕ
 entry a = sized (admission_octets a)
+
+-- how many octets an admission takes in a ring, and counts in a batch: 4, and those of its spelling
+abbrev pub entry_octets : Admitted → ℕ
+entry_octets a = 4 + length (admission_octets a)
 
 -- how many octets admissions take in a ring
 abbrev pub octets_for : List Admitted → ℕ
@@ -59,15 +64,36 @@ pub record Holds (pages : List (List ℕ)) (ring : Ring) (admissions : List Admi
   pub size : octets_for admissions ≡ ring.used
   pub octets : StandsIn pages ring (flat_map entry admissions)
 
+-- The page holds an octet of so many that stand behind the used ones.
+abbrev pub HoldsBehind : Ring → ℕ → ℕ → Type 0
+HoldsBehind ring octets n = (k : ℕ) × (k < octets) × (n ≡ ring.low + wrapped (size_of ring) (ring.first + (ring.used + k)) / 16384)
+
+-- a page is listed where it was, or holds such an octet, and no other page is
+abbrev pub ListsBehind : Ring → ℕ → List ℕ → List ℕ → Type 0
+ListsBehind ring octets old new = (n : ℕ) → IsListed n new ↔ (IsListed n old ⊎ HoldsBehind ring octets n)
+
+-- The listed pages, with those that hold so many octets behind the used ones, are more than 31.
+pub record Crowds (ring : Ring) (octets : ℕ) (listed : List ℕ) : Type 0 where
+  pub all : List ℕ
+  pub distinct : AreDistinct all
+  pub lists : ListsBehind ring octets listed all
+  pub many : 31 < length all
+
+-- The ring stands on these pages: it is a ring of theirs, and of all lists of admissions it holds this one alone.
+pub record Stands (pages : List (List ℕ)) (ring : Ring) (admissions : List Admitted) : Type 0 where
+  pub place : IsRing (length pages) ring
+  pub holds : Holds pages ring admissions
+  pub only : (others : List Admitted) → Holds pages ring others → others ≡ admissions
+
 -- only pages of the ring are changed
 pub record ChangesOnly (ring : Ring) (old new : List (List ℕ)) : Type 0 where
   pub count : length new ≡ length old
   pub below : (n : ℕ) → n < ring.low → page_at new n ≡ page_at old n
   pub above : (n : ℕ) → ring.low + ring.count ≤ n → page_at new n ≡ page_at old n
 
--- Pages are shown in which the ring holds these admissions, and outside of it they are as they were.
+-- Pages are shown on which the ring stands with these admissions, and outside of it they are as they were.
 pub record Gains (shows : List (List ℕ) → Type 0) (old : List (List ℕ)) (ring : Ring) (admissions : List Admitted) : Type 0 where
   pub pages : List (List ℕ)
   pub shown : shows pages
   pub changes : ChangesOnly ring old pages
-  pub holds : Holds pages ring admissions
+  pub stands : Stands pages ring admissions

@@ -1,11 +1,11 @@
 //! Images of a ring's pages, into which a batch is spelled before they are laid.
-ghost use Rattle.std.specs.Prelude.{◌≡◌, ◌<◌, ◌≤◌, ◌+◌, ◌*◌, ◌/◌, ◌++◌, ◌∷◌, [], ℕ, List, length, take, drop, flat_map, slice_get, slice_set, OnOk, IfOk, IfErr, IsErrOf, Some};
+ghost use Rattle.std.specs.Prelude.{◌≡◌, ◌<◌, ◌≤◌, ◌↔◌, ◌+◌, ◌*◌, ◌/◌, ◌++◌, ◌∷◌, [], ℕ, List, length, take, drop, flat_map, slice_get, slice_set, OnOk, IfOk, IfErr, IsErrOf, Some};
 ghost use Rattle.std.specs.List.{AllByRecursion};
 ghost use Rattle.route_model.specs.Admission.{IsAdmission};
 ghost use Rattle.page_journal.specs.Layout.{Image, pages_of};
-ghost use Rattle.page_journal.specs.Recovers.{laid};
+ghost use Rattle.page_journal.specs.Recovers.{laid, IsListed};
 ghost use Rattle.page_tx.specs.Start.{Start};
-ghost use Rattle.intake.specs.Ring.{page_at, wrapped, entry, octets_for, size_of, IsRing, StandsIn};
+ghost use Rattle.intake.specs.Ring.{page_at, wrapped, entry, octets_for, size_of, IsRing, StandsIn, HoldsBehind};
 ghost use Rattle.intake.specs.Calls.{OnlyReads, PageRefusal, most_pages};
 ghost use Rattle.intake.specs.inner.Drafts.{numbers_from, image_of, AreFrom, Covers, Writes};
 
@@ -190,6 +190,8 @@ fn page_count(from: u64, octets: u64) -> u64
     requires from { from < 16384 }
     requires few { octets ≤ 16384 * 65535 }
     ensures all { 0 < octets → from + octets ≤ 16384 * result }
+    ensures least { 0 < octets → 16384 * result < 16384 + (from + octets) }
+    ensures none { octets ≡ 0 → result ≡ 0 }
     ensures few { result ≤ most_pages octets }
 {
     if octets == 0 {
@@ -211,6 +213,7 @@ pub fn draft<P: Pages>(
     requires octets { octets ≡ octets_for batch.now }
     requires room { ring.used + octets ≤ size_of ring }
     ensures numbers { IfOk result (λ images. (begun : ℕ) × (begun < ring.count) × AreFrom ring.low ring.count begun (pages_of images.items)) }
+    ensures behind { IfOk result (λ images. (n : ℕ) → IsListed n (pages_of images.items) ↔ HoldsBehind ring octets n) }
     ensures few { IfOk result (λ images. length images.items ≤ most_pages octets) }
     ensures stands { IfOk result (λ images. (start : Start) (shown : List (List ℕ)) (stood : List ℕ) → P.shows pages.old start shown → length stood ≡ ring.used → StandsIn shown ring stood → StandsIn (laid images.items shown) ring (stood ++ flat_map entry batch.now)) }
     ensures valid { OnOk result (AllByRecursion IsAdmission batch.now) }

@@ -1,9 +1,11 @@
 //! Laws of rings.
 
-ghost use Rattle.std.specs.Prelude.{◌≡◌, ◌<◌, ◌≤◌, ◌+◌, ◌⊎◌, ℕ, List};
+ghost use Rattle.std.specs.Prelude.{◌≡◌, ◌<◌, ◌≤◌, ◌+◌, ◌⊎◌, ℕ, List, sum_by};
 ghost use Rattle.route_model.specs.Admission.{Admitted};
 ghost use Rattle.intake.specs.declared.ring.Ring.{Ring};
-ghost use Rattle.intake.specs.Ring.{page_at, ChangesOnly, Holds, IsRing};
+ghost use Rattle.intake.specs.Ring.{page_at, entry_octets, octets_for, ChangesOnly, Holds, IsRing};
+
+use route_model::spellings_are_one;
 
 /// What a ring holds stays where its pages stay, as they do while only pages of another ring, before or behind it, are
 /// changed.
@@ -11,3 +13,11 @@ pub fn rings_keep_what_they_hold()
     ensures pages { (homes : ℕ) (ring : Ring) (old new : List (List ℕ)) (waits : List Admitted) → IsRing homes ring → ((n : ℕ) → ring.low ≤ n → n < ring.low + ring.count → page_at new n ≡ page_at old n) → Holds old ring waits → Holds new ring waits }
     ensures apart { (homes : ℕ) (one other : Ring) (old new : List (List ℕ)) (waits : List Admitted) → IsRing homes other → (other.low + other.count ≤ one.low) ⊎ (one.low + one.count ≤ other.low) → ChangesOnly one old new → Holds old other waits → Holds new other waits }
 {}
+
+/// A ring holds one list at most, and what a list takes there is the sum of what its admissions take.
+pub fn rings_hold_one_list()
+    ensures one { (ring : Ring) (pages : List (List ℕ)) (one other : List Admitted) → Holds pages ring one → Holds pages ring other → one ≡ other }
+    ensures octets { (batch : List Admitted) → octets_for batch ≡ sum_by entry_octets batch }
+{
+    spellings_are_one();
+}

@@ -101,16 +101,16 @@ impl Ring {
             return Ok(None);
         }
         if self.used < 4 {
-            return Err(damaged);
+            return Err(damaged); // no length
         }
         let size = read(alloc, pages, *self, 0, 4)?;
         let len = number(&size);
         if u64::from(len) > (self.used - 4).min(MAX_ADMISSION_LEN as u64) {
-            return Err(damaged);
+            return Err(damaged); // a length that no admission here can have
         }
         let octets = read(alloc, pages, *self, 4, len as usize)?;
         let Some(admission) = Admission::decode(alloc, &octets)? else {
-            return Err(damaged);
+            return Err(damaged); // octets that spell no admission
         };
         Ok(Some(admission))
     }

@@ -1,5 +1,5 @@
 //! A ring of which an octet isn't what was put there.
-use crate::made::{ONE, append, begun, ends, front, one, waiting_times};
+use crate::made::{ONE, PAGE, append, begun, ends, front, one, waiting_times};
 use disk_memory::MemErase;
 use disk_models::Page;
 use intake::{ReadError, Ring};
@@ -8,83 +8,188 @@ use route_model::Moment;
 use std::alloc::Global;
 use std::test::Fail;
 
-// The page of the ring.
-const RING_PAGE: u64 = 3;
+// What is read: the spelling of the first admission, or the times; or the page that is told as damaged.
+type Reading<T> = Result<T, u64>;
 
-// The page with one octet changed.
-fn spoil(alloc: Global, tx: &mut Tx<MemErase>, page: &Page, at: usize) -> Result<(), Fail> {
+// The times of the two admissions.
+const TIMES: [u32; 2] = [1_704_067_200, 7];
+
+// The octets of the first spelling that may have any value: the time's last four, the collector, the peer's address and
+// AS number, the two AS numbers of the path, the next hop, and the address octet of a prefix of eight bits.
+const FREE: [(usize, usize); 8] = [
+    (4, 8),
+    (10, 11),
+    (12, 16),
+    (28, 32),
+    (41, 45),
+    (45, 49),
+    (50, 54),
+    (64, 65),
+];
+
+// Changes one octet at a place of the ring. Done twice, it is as before.
+fn spoil(alloc: Global, tx: &mut Tx<MemErase>, ring: &Ring, place: u64) -> Result<(), Fail> {
+    let number = ring.low.saturating_add(place / PAGE);
+    if number >= tx.pool().home_pages() {
+        return Ok(());
+    }
+    tx.fetch(number)?;
     let mut spoiled = Page::new(alloc)?;
-    spoiled.copy_from(page);
-    if let Some(octet) = spoiled.octets_mut().get_mut(at) {
+    if let Some(shown) = tx.page(number) {
+        spoiled.copy_from(shown);
+    }
+    if let Some(octet) = spoiled.octets_mut().get_mut((place % PAGE) as usize) {
         *octet ^= 0x81;
     }
-    if RING_PAGE < tx.pool().home_pages() {
-        tx.set(RING_PAGE, spoiled)?;
+    tx.set(number, spoiled)?;
+    Ok(())
+}
+
+// The spelling of the first admission, empty where there is none.
+fn first_read(alloc: Global, tx: &mut Tx<MemErase>, ring: &Ring) -> Result<Reading<Vec<u8>>, Fail> {
+    match front(alloc, tx, ring) {
+        Ok(Some(admission)) => Ok(Ok(admission.encode(alloc)?)),
+        Ok(None) => Ok(Ok(Vec::new(alloc))),
+        Err(ReadError::BadNode(page)) => Ok(Err(page)),
+        Err(other) => Err(other.into()),
+    }
+}
+
+// Whether this is read as the first admission's spelling.
+fn is_first(
+    alloc: Global,
+    tx: &mut Tx<MemErase>,
+    ring: &Ring,
+    wanted: Reading<&[u8]>,
+) -> Result<bool, Fail> {
+    let read = first_read(alloc, tx, ring)?;
+    Ok(match (&read, wanted) {
+        (Ok(octets), Ok(spelled)) => octets.as_slice() == spelled,
+        (Err(page), Err(told)) => *page == told,
+        _ => false,
+    })
+}
+
+// Whether these are read as the times.
+fn are_times(
+    alloc: Global,
+    tx: &mut Tx<MemErase>,
+    ring: &Ring,
+    wanted: Reading<[u32; 2]>,
+) -> Result<bool, Fail> {
+    Ok(match (waiting_times(alloc, tx, ring), wanted) {
+        (Ok(times), Ok([one, two])) => times.as_slice()
+            == [Moment::from(one), Moment::from(two)].as_slice(),
+        (Err(ReadError::BadNode(page)), Err(told)) => page == told,
+        _ => false,
+    })
+}
+
+// The time with one of its last four octets changed, of which the first is the octet 4 of a spelling.
+fn changed(time: u32, octet: usize) -> u32 {
+    match octet {
+        4 => time ^ 0x8100_0000,
+        5 => time ^ 0x0081_0000,
+        6 => time ^ 0x0000_8100,
+        _ => time ^ 0x0000_0081,
+    }
+}
+
+// What is read where the octet k of the first entry is changed: of the length or of the spelling behind it. The entry
+// begins on this page.
+fn first_changed(k: usize, page: u64, spelled: &mut [u8; 67]) -> (bool, Reading<[u32; 2]>) {
+    if k < 4 {
+        return (false, Err(page));
+    }
+    let at = k - 4;
+    if let Some(octet) = spelled.get_mut(at) {
+        *octet ^= 0x81;
+    }
+    let times = if at < 4 {
+        Err(page)
+    } else if at < 8 {
+        Ok([changed(TIMES[0], at), TIMES[1]])
+    } else {
+        Ok(TIMES)
+    };
+    (
+        FREE.iter().any(|(low, high)| *low <= at && at < *high),
+        times,
+    )
+}
+
+// The times where the octet k of the second entry is changed, which begins on this page.
+fn second_changed(k: usize, page: u64) -> Reading<[u32; 2]> {
+    if k < 8 {
+        Err(page)
+    } else if k < 12 {
+        Ok([TIMES[0], changed(TIMES[1], k - 4)])
+    } else {
+        Ok(TIMES)
+    }
+}
+
+#[test]
+fn a_changed_octet_is_told_with_the_page_on_which_its_entry_begins(
+    rt: HostRuntime,
+) -> Result<(), Fail> {
+    let alloc = rt.alloc();
+    let mut tx = begun(alloc)?;
+    let mut ring = Ring::empty(3, 3);
+    // The first entry, of 71 octets, begins on the page 4 and ends on the page 5, on which the second begins.
+    ring.first = 2 * PAGE - 40;
+    let first = ring.first;
+    append(
+        alloc,
+        &mut tx,
+        &mut ring,
+        &[one(alloc)?, ends(alloc, 7, 4)?],
+    )?;
+    assert!(rt; ring.used == 71 + 52);
+    assert!(rt; is_first(alloc, &mut tx, &ring, Ok(&ONE))?);
+    assert!(rt; are_times(alloc, &mut tx, &ring, Ok(TIMES))?);
+    for k in 0..71usize {
+        spoil(alloc, &mut tx, &ring, first + k as u64)?;
+        let mut spelled = ONE;
+        let (answers, times) = first_changed(k, 4, &mut spelled);
+        let wanted = if answers {
+            Ok(spelled.as_slice())
+        } else {
+            Err(4)
+        };
+        assert!(rt; is_first(alloc, &mut tx, &ring, wanted)?, "{k}");
+        assert!(rt; are_times(alloc, &mut tx, &ring, times)?, "{k}");
+        spoil(alloc, &mut tx, &ring, first + k as u64)?;
+    }
+    for k in 0..52usize {
+        spoil(alloc, &mut tx, &ring, first + 71 + k as u64)?;
+        assert!(rt; is_first(alloc, &mut tx, &ring, Ok(&ONE))?, "{k}");
+        assert!(rt;
+            are_times(alloc, &mut tx, &ring, second_changed(k, 5))?,
+            "{k}"
+        );
+        spoil(alloc, &mut tx, &ring, first + 71 + k as u64)?;
     }
     Ok(())
 }
 
-// Which of the two readings are refused with the ring's page. Nothing where another error comes.
-fn refused(alloc: Global, tx: &mut Tx<MemErase>, ring: &Ring) -> Option<(bool, bool)> {
-    let first = match front(alloc, tx, ring) {
-        Ok(_) => false,
-        Err(ReadError::BadNode(RING_PAGE)) => true,
-        Err(_) => return None,
-    };
-    let times = match waiting_times(alloc, tx, ring) {
-        Ok(_) => false,
-        Err(ReadError::BadNode(RING_PAGE)) => true,
-        Err(_) => return None,
-    };
-    Some((first, times))
-}
-
-// Whether the two admissions' first and both times are read as they were put.
-fn is_as_before(alloc: Global, tx: &mut Tx<MemErase>, ring: &Ring) -> Result<bool, Fail> {
-    let Some(first) = front(alloc, tx, ring)? else {
-        return Ok(false);
-    };
-    let times = waiting_times(alloc, tx, ring)?;
-    let put = [Moment::from(1_704_067_200u32), Moment::from(7u32)];
-    Ok(first.encode(alloc)?.as_slice() == ONE.as_slice() && times.as_slice() == put.as_slice())
-}
-
 #[test]
-fn a_damaged_octet_gives_an_answer_or_is_told(rt: HostRuntime) -> Result<(), Fail> {
+fn octets_that_are_not_used_change_nothing(rt: HostRuntime) -> Result<(), Fail> {
     let alloc = rt.alloc();
     let mut tx = begun(alloc)?;
-    let mut ring = Ring::empty(RING_PAGE, 1);
-    // The second admission wraps.
+    let mut ring = Ring::empty(3, 1);
+    // The second entry wraps, and ends before the place 39.
     ring.first = 16_300;
-    let batch = [one(alloc)?, ends(alloc, 7, 4)?];
-    append(alloc, &mut tx, &mut ring, &batch)?;
-    let mut page = Page::new(alloc)?;
-    if let Some(shown) = tx.page(RING_PAGE) {
-        page.copy_from(shown);
-    }
-    // An octet behind the used ones changes nothing.
-    spoil(alloc, &mut tx, &page, 9_000)?;
-    assert!(rt; refused(alloc, &mut tx, &ring) == Some((false, false)));
-    // The highest octet of the first length.
-    spoil(alloc, &mut tx, &page, 16_300)?;
-    assert!(rt; refused(alloc, &mut tx, &ring) == Some((true, true)));
-    // The highest octet of the first time.
-    spoil(alloc, &mut tx, &page, 16_304)?;
-    assert!(rt; refused(alloc, &mut tx, &ring) == Some((true, true)));
-    // The kind of the first admission's change.
-    spoil(alloc, &mut tx, &page, 16_300 + 63)?;
-    assert!(rt; refused(alloc, &mut tx, &ring) == Some((true, false)));
-    // The second length, of which the first octet is the place 16,371.
-    spoil(alloc, &mut tx, &page, 16_371)?;
-    assert!(rt; refused(alloc, &mut tx, &ring) == Some((false, true)));
-    // The entries end before the place 39. What isn't theirs changes nothing.
-    for at in 0..16_384usize {
-        spoil(alloc, &mut tx, &page, at)?;
-        if at < 39 || at >= 16_300 {
-            assert!(rt; refused(alloc, &mut tx, &ring).is_some(), "{at}");
-        } else {
-            assert!(rt; is_as_before(alloc, &mut tx, &ring)?, "{at}");
-        }
+    append(
+        alloc,
+        &mut tx,
+        &mut ring,
+        &[one(alloc)?, ends(alloc, 7, 4)?],
+    )?;
+    for place in 39..16_300u64 {
+        spoil(alloc, &mut tx, &ring, place)?;
+        assert!(rt; is_first(alloc, &mut tx, &ring, Ok(&ONE))?, "{place}");
+        assert!(rt; are_times(alloc, &mut tx, &ring, Ok(TIMES))?, "{place}");
     }
     Ok(())
 }

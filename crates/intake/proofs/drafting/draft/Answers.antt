@@ -1,10 +1,12 @@
-use Rattle.std.proofs.Common.{◌≡◌, ◌/◌, ℕ, List, length, arith, sym, ◌∙◌, ap, subst}
+use Rattle.std.proofs.Common.{◌≡◌, ◌↔◌, ◌/◌, ℕ, List, length, arith, sym, ◌∙◌, ap, subst}
 use Rattle.page_journal.specs.Layout.{pages_of}
-use Rattle.intake.specs.Ring.{octets_for, size_of}
+use Rattle.page_journal.specs.Recovers.{IsListed}
+use Rattle.intake.specs.Ring.{octets_for, size_of, HoldsBehind}
 use Rattle.intake.specs.inner.Drafts.{AreFrom, Covers}
 use Rattle.intake.proofs.Wrapping.{wrapped_low}
 use Rattle.intake.proofs.Images.{are_from, length_numbers, length_pages_of}
 use Rattle.intake.proofs.Filling.{covers_all}
+use Rattle.intake.proofs.Spanning.{holds_there}
 use Rattle.intake.proofs.drafting.draft.Goals as goal
 
 pub put_batch-requires-clause-numbers : goal.put_batch-requires-clause-numbers
@@ -38,3 +40,11 @@ returns-clause-few g c =
     let n : length (pages_of c.in_ok-images.images.items) ≡ c.min-count.result = ap length c.in_ok-images.ensures.numbers ∙ length_numbers ring.low ring.count begun c.min-count.result in
     let same = ap length c.in_ok-put_batch.ensures.numbers in
     omega (arith, n, same, length_pages_of c.put_batch.new.images.items, c.page_count.ensures.few, c.min-count.ensures)
+
+pub returns-clause-behind : goal.returns-clause-behind
+returns-clause-behind g c n =
+    let ring = c.args.ring in
+    let begun = c.wrap-at.result / 16384 in
+    let all = covers_all ring c.wrap-at.result c.args.octets c.page_count.result c.min-count.result c.requires.ring.start c.requires.room c.wrap-at.ensures c.page_count.ensures.all c.min-count.ensures in
+    subst (λ (ns : List ℕ). IsListed n ns ↔ HoldsBehind ring c.args.octets n) (sym (c.in_ok-put_batch.ensures.numbers ∙ c.in_ok-images.ensures.numbers))
+    (holds_there ring c.wrap-at.result c.args.octets c.page_count.result c.min-count.result c.requires.ring.start c.requires.room c.wrap-at.ensures c.min-count.ensures c.page_count.ensures.least c.page_count.ensures.none all n)

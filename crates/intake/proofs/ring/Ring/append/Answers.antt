@@ -1,5 +1,5 @@
-use Rattle.std.proofs.Common.{◌≡◌, ◌≤◌, ◌+◌, ℕ, Bool, Result, Ok, Err, IfErr, List, length, arith, rules, sym, ◌∙◌, ap, subst, length-append}
-use Rattle.std.specs.List.{flat_map}
+use Rattle.std.proofs.Common.{◌≡◌, ◌≤◌, ◌+◌, ◌<◌, ◌++◌, ℕ, Bool, Result, Ok, Err, IfErr, List, length, arith, rules, refl, sym, ◌∙◌, ap, subst, length-append}
+use Rattle.std.specs.List.{flat_map, sum_by}
 use Rattle.std.proofs.lemmas.Grind.{flat_map-append}
 use Rattle.page_journal.specs.Layout.{pages_of}
 use Rattle.page_journal.specs.Recovers.{laid}
@@ -7,13 +7,17 @@ use Rattle.page_tx.specs.declared.error.PageError.{PageError}
 use Rattle.page_tx.specs.declared.error.PageError.TheVariants as refusals
 use Rattle.page_tx.specs.Images.{joined}
 use Rattle.page_tx.specs.Refusals.{LayRefusal}
+use Rattle.page_tx.specs.inner.Laid.{length_laid}
+use Rattle.route_model.specs.Admission.{Admitted}
 use Rattle.intake.specs.declared.error.IntakeError.{IntakeError}
 use Rattle.intake.specs.declared.error.IntakeError.TheVariants as intakes
 use Rattle.intake.specs.declared.ring.Ring.{Ring}
-use Rattle.intake.specs.Ring.{entry, octets_for, StandsIn}
+use Rattle.intake.specs.Ring.{entry, entry_octets, octets_for, StandsIn, Holds}
 use Rattle.intake.specs.Calls.{AppendRefusal, most_pages}
 use Rattle.intake.proofs.Entries.{valid_both}
 use Rattle.intake.proofs.Images.{are_below, are_distinct, joined_few, laid_changes}
+use Rattle.intake.proofs.Spanning.{lists_behind, distinct_joined}
+use Rattle.intake.proofs.Unique.{octets_sum}
 use Rattle.intake.proofs.ring.Ring.append.Goals as goal
 
 pub lay-requires-clause-below : goal.lay-requires-clause-below
@@ -64,15 +68,21 @@ returns-clause-appended g c start shown waits are holds =
     let size = holds.size in
     let octets = c.in-Some.ensures.octets in
     let after : Ring = record ring { used = ring.used + c.in-Some.octets } in
+    let now : Holds (laid items shown) after (waits ++ batch) =
+    record {
+      valid = valid_both waits batch holds.valid c.in_ok-images.ensures.valid;
+      size = omega arith;
+      octets = subst (λ (l : List ℕ). StandsIn (laid items shown) after l) (sym both) (c.in_ok-images.ensures.stands start shown (flat_map entry waits) are holds.size holds.octets);
+    } in
     record {
       pages = laid items shown;
       shown = c.in_ok-lay.ensures.ok start shown (c.draft.ensures.same.shown start shown are);
       changes = (let ch = laid_changes ring n.0 items shown n.1 n.2 in record { count = ch.count; below = ch.below; above = ch.above });
-      holds = record {
-        valid = valid_both waits batch holds.valid c.in_ok-images.ensures.valid;
-        size = omega arith;
-        octets = subst (λ (l : List ℕ). StandsIn (laid items shown) after l) (sym both) (c.in_ok-images.ensures.stands start shown (flat_map entry waits) are holds.size holds.octets);
-      };
+      stands = (let count = g.met.P.Pages.count c.args.pages.now start shown are in let length = length_laid items shown in let r = c.requires.ring in let room = c.in-Some.ensures.some in record {
+        place = record { inside = (let i = r.inside in omega arith); small = r.small; few = r.few; start = r.start; used = (let u = r.used in omega (arith, c.free.ensures)) };
+        holds = now;
+        only = λ others other. c.rings_hold_one_list.ensures.one after (laid items shown) others (waits ++ batch) other now;
+      });
     }
 
 pub returns-clause-few : goal.returns-clause-few
@@ -83,3 +93,52 @@ returns-clause-few g c =
     let octets = ap most_pages c.in-Some.ensures.octets in
     let now = ap length c.in_ok-lay.ensures.named in
     omega (arith, named, few, octets, now, c.in_ok-images.ensures.few)
+
+pub returns-clause-set : goal.returns-clause-set
+returns-clause-set g c =
+    lists_behind c.args.self.now c.in-Some.octets (octets_for c.args.batch.now) (g.P.Pages.named c.draft.new.pages) (g.P.Pages.named c.args.pages.now) (g.P.Pages.named c.lay.new.self) (pages_of c.in_ok-images.images.items) c.draft.ensures.same.named c.in_ok-lay.ensures.named c.in-Some.ensures.octets c.in_ok-images.ensures.behind
+
+within : (batch : List Admitted) (octets : ℕ) → octets_for batch ≡ octets → octets ≤ 262144 → most_pages (octets_for batch) ≤ 17
+within batch octets is small = omega arith
+
+pub returns-clause-few_of_batch : goal.returns-clause-few_of_batch
+returns-clause-few_of_batch g c small =
+    let same = c.draft.ensures.same in
+    let named = ap length same.named in
+    let few = joined_few (g.P.Pages.named c.draft.new.pages) c.in_ok-images.images.items in
+    let octets = ap most_pages c.in-Some.ensures.octets in
+    let now = ap length c.in_ok-lay.ensures.named in
+    let most = within c.args.batch.now (sum_by entry_octets c.args.batch.now) (octets_sum c.args.batch.now) small in
+    omega (arith, named, few, octets, now, c.in_ok-images.ensures.few)
+
+too_many : {T : Type 0} (r : Result T IntakeError) (x : PageError) → IfErr r (λ e. e ≡ intakes.Pages x) → r ≡ Err (intakes.Pages refusals.TooManyImages) → x ≡ refusals.TooManyImages
+too_many {T} r x is e = let same : intakes.Pages refusals.TooManyImages ≡ intakes.Pages x = subst (λ (s : Result T IntakeError). IfErr s (λ y. y ≡ intakes.Pages x)) e is in cc
+
+many : (homes first count : ℕ) (x : PageError) → x ≡ refusals.TooManyImages → LayRefusal homes first count x → 31 < count
+many homes first count x e told = (subst (LayRefusal homes first count) e told).1
+
+pub returns-in_err-lay-clause-room : goal.returns-in_err-lay-clause-room
+returns-in_err-lay-clause-room g c too =
+    let items = c.in_ok-images.images.items in
+    let held = g.P.Pages.named c.draft.new.pages in
+    let old = g.P.Pages.named c.args.pages.now in
+    let n = c.in_ok-images.ensures.numbers in
+    let ring = c.args.self.now in
+    let is : IfErr c.from_residual-in_err-lay.result (λ e. e ≡ intakes.Pages c.in_err-lay.field-0.0) = search rules in
+    record {
+      all = joined held (pages_of items);
+      distinct = distinct_joined held (pages_of items) (g.met.P.Pages.distinct c.draft.new.pages) (are_distinct ring.low ring.count n.0 (pages_of items) n.1 n.2);
+      lists = lists_behind ring c.in-Some.octets (octets_for c.args.batch.now) held old (joined held (pages_of items)) (pages_of items) c.draft.ensures.same.named refl c.in-Some.ensures.octets c.in_ok-images.ensures.behind;
+      many = many _ _ _ c.in_err-lay.field-0.0 (too_many c.from_residual-in_err-lay.result c.in_err-lay.field-0.0 is too) c.in_err-lay.ensures.refused;
+    }
+
+pub returns-in_err-lay-clause-room_of_batch : goal.returns-in_err-lay-clause-room_of_batch
+returns-in_err-lay-clause-room_of_batch g c small few too =
+    let held = g.P.Pages.named c.draft.new.pages in
+    let named = ap length c.draft.ensures.same.named in
+    let joint = joined_few held c.in_ok-images.images.items in
+    let octets = ap most_pages c.in-Some.ensures.octets in
+    let most = within c.args.batch.now (sum_by entry_octets c.args.batch.now) (octets_sum c.args.batch.now) small in
+    let is : IfErr c.from_residual-in_err-lay.result (λ e. e ≡ intakes.Pages c.in_err-lay.field-0.0) = search rules in
+    let over = many _ _ _ c.in_err-lay.field-0.0 (too_many c.from_residual-in_err-lay.result c.in_err-lay.field-0.0 is too) c.in_err-lay.ensures.refused in
+    absurd (omega (arith, named, joint, octets, most, over, few, c.in_ok-images.ensures.few))
