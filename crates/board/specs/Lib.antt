@@ -1,0 +1,5 @@
+pub mod Past
+pub mod Views
+pub mod Words
+pub mod Opened
+pub mod inner
