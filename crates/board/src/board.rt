@@ -124,9 +124,10 @@ impl Opened {
 }
 
 impl<N: Named> Board<N> {
-    /// How many collectors it is for.
+    /// How many collectors it is for. It has a word more.
     pub fn collectors(&self) -> u8
-        ensures { result ≡ self.now }
+        ensures collectors { result ≡ self.now }
+        ensures words { N.table.words ≡ result + 1 }
     {
         self.collectors
     }
