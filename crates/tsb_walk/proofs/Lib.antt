@@ -3,5 +3,8 @@ pub mod Blocks
 pub mod Walking
 pub mod Arriving
 pub mod OnePage
+pub mod OneLeaf
+pub mod Ons
 pub mod Untouched
 pub mod PageWalking
+pub mod PageStanding

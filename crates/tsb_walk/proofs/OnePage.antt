@@ -1,11 +1,11 @@
 -- What the octets of one page say to a key and a stamp.
-use Rattle.std.proofs.Common.{◌≡◌, ℕ, suc, ◌+◌, ◌-◌, ◌<◌, ◌≤◌, List, Option, Some, None, IfSome, refl, sym, ◌∙◌, ap, subst, arith}
+use Rattle.std.proofs.Common.{◌≡◌, ℕ, suc, ◌<◌, List, Option, Some, None, IfSome, sym, ◌∙◌, ap, subst, arith}
 use Rattle.version_model.specs.declared.bounds.Bounds.{Bounds}
 use Rattle.version_model.specs.declared.part.Part.{Part}
 use Rattle.version_model.specs.declared.part.Place.{Place}
 use Rattle.version_model.specs.declared.child.Child.{Child}
 use Rattle.version_model.specs.Versions.{Version}
-use Rattle.version_model.specs.Ranges.{Range, IsPoint, range_of, high_or, end_or, key_end}
+use Rattle.version_model.specs.Ranges.{IsPoint, range_of, high_or, key_end}
 use Rattle.version_model.specs.Blocks.{IsPartOf}
 use Rattle.version_model.specs.Pages.{Keys, PageNode, CurrentLeaf, ColumnNode, KeyNode, IsChildOf, past_range}
 use Rattle.tsb_node.specs.declared.column.PartAt.{PartAt}

@@ -1,4 +1,5 @@
 pub mod Answers
+pub mod Borders
 pub mod Knowing
 pub mod Looked
 pub mod PageLooks

@@ -1,5 +1,5 @@
 -- What looks answer that begin at current pages.
-use Rattle.std.specs.Prelude.{ℕ, ◌<◌, ◌≤◌, List, Option}
+use Rattle.std.specs.Prelude.{◌≡◌, ℕ, ◌<◌, ◌≤◌, List, Option, None}
 use Rattle.tsb_walk.specs.declared.looks.Descended.{Descended}
 use Rattle.tsb_walk.specs.declared.looks.Descended.TheVariants as descended
 use Rattle.tsb_walk.specs.declared.looks.KeyVersions.{KeyVersions}
@@ -37,12 +37,37 @@ abbrev pub IsDescended : (ℕ → Option BlockNode) → List Version → ℕ →
 IsDescended blocks all key stamp (descended.Here found) = Answers all key stamp (found_as found)
 IsDescended blocks all key stamp (descended.InBlock place) = GoesOnIn blocks all key stamp place
 
--- how far a look has come is not before the key where it began: what it passed is not empty
+-- how far a look has come is not before the key where it began, and a key up to which none has a value is above it
 abbrev pub GoesOnFrom : ℕ → Reached → Type 0
 GoesOnFrom key (At found value) = key ≤ found
 GoesOnFrom key (Past high) = key < high
 GoesOnFrom key End = Unit {0}
 
--- up to after the stamp where it began a look tells versions
+-- versions are told up to a stamp above the one where the look began
 abbrev pub TellsFrom : ℕ → KeyVersions → Type 0
 TellsFrom stamp part = stamp < end_or part.told
+
+-- where a look tells of keys, it goes on from this one
+abbrev pub LooksOn : ℕ → Looked → Type 0
+LooksOn key (looked.Here reached) = GoesOnFrom key reached
+LooksOn key (looked.InBlock place) = Unit {0}
+
+-- where a look tells of a place in the past, it has the key and the stamp
+abbrev pub LooksAt : ℕ → ℕ → Looked → Type 0
+LooksAt key stamp (looked.Here reached) = Unit {0}
+LooksAt key stamp (looked.InBlock place) = IsPoint (range_of place.bounds) key stamp
+
+-- the same of a look for versions
+abbrev pub PartsAt : ℕ → ℕ → Parted → Type 0
+PartsAt key stamp (parted.Here part) = Unit {0}
+PartsAt key stamp (parted.InBlock place) = IsPoint (range_of place.bounds) key stamp
+
+-- the same of a look for a key
+abbrev pub DescendsAt : ℕ → ℕ → Descended → Type 0
+DescendsAt key stamp (descended.Here found) = Unit {0}
+DescendsAt key stamp (descended.InBlock place) = IsPoint (range_of place.bounds) key stamp
+
+-- where a look tells versions, it tells all that there are from its stamp on
+abbrev pub TellsAll : Parted → Type 0
+TellsAll (parted.Here part) = part.told ≡ None
+TellsAll (parted.InBlock place) = Unit {0}

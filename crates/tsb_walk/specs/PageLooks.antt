@@ -1,22 +1,20 @@
 -- What looks through the pages of a tree answer, and which page they call bad.
-use Rattle.std.specs.Prelude.{◌≡◌, ℕ, ◌<◌, ◌≤◌, List, Option, None, Some, filter}
-use Rattle.tsb_walk.specs.declared.looks.Found.{Found}
+use Rattle.std.specs.Prelude.{◌≡◌, ℕ, ◌<◌, ◌≤◌, List, None, filter}
 use Rattle.tsb_walk.specs.declared.looks.Descended.{Descended}
 use Rattle.tsb_walk.specs.declared.looks.Descended.TheVariants as descended
 use Rattle.tsb_walk.specs.declared.looks.Looked.{Looked}
 use Rattle.tsb_walk.specs.declared.looks.Looked.TheVariants as looked
 use Rattle.tsb_walk.specs.declared.looks.Parted.{Parted}
 use Rattle.tsb_walk.specs.declared.looks.Parted.TheVariants as parted
-use Rattle.tsb_walk.specs.declared.looks.Reached.{Reached}
-use Rattle.tsb_walk.specs.declared.looks.Reached.TheVariants.{At, Past, End}
 use Rattle.tsb_walk.specs.declared.page_place.PagePlace.{PagePlace}
 use Rattle.tsb_walk.specs.Answers.{found_as, reached_as}
+use Rattle.tsb_walk.specs.Borders.{ReachesTo}
 use Rattle.tsb_walk.specs.Shown.{Says, keys_at}
 use Rattle.tsb_walk.specs.PageWays.{PageWay, ComesToColumn, IsNoKeyNode, IsNoColumn, IsNoLeaf}
 use Rattle.version_model.specs.declared.part.Part.{Part}
 use Rattle.version_model.specs.declared.part.Place.{Place}
 use Rattle.version_model.specs.Versions.{Version, Answers}
-use Rattle.version_model.specs.Ranges.{IsPoint, range_of, high_or, key_end, stamp_end}
+use Rattle.version_model.specs.Ranges.{IsPoint, range_of, high_or, stamp_end}
 use Rattle.version_model.specs.Looks.{IsReached, is_of}
 use Rattle.version_model.specs.Entries.{versions_of}
 use Rattle.version_model.specs.Pages.{CurrentLeaf, past_range}
@@ -40,12 +38,6 @@ pub record InPastOf (shown : List (List ℕ)) (root : PagePlace) (key stamp : �
   pub comes : ComesToColumn shown root key column parts start current
   pub part : IsPartOf (past_range (keys_at column) start) parts (range_of place.bounds) place.part
   pub point : IsPoint (range_of place.bounds) key stamp
-
--- how far a look has come is a key below this one, or just up to it
-abbrev pub ReachesTo : ℕ → Reached → Type 0
-ReachesTo high (At key found) = key < high
-ReachesTo high (Past to) = to ≡ high
-ReachesTo high End = high ≡ key_end
 
 -- what is told of the next key is what the current leaf has that has the key and the stamp, up to the column's high key; or the place in the column's past is told
 abbrev pub IsLookOf : List (List ℕ) → PagePlace → ℕ → ℕ → Looked → Type 0

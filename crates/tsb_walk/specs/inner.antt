@@ -1,3 +1,4 @@
 pub mod Steps
 pub mod PageSteps
+pub mod ColumnSpots
 pub mod Arriving

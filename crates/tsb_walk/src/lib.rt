@@ -5,8 +5,10 @@
 mod block;
 mod error;
 mod hist;
+mod leaf_looks;
 mod locating;
 mod looks;
+mod page_looks;
 mod page_place;
 mod page_steps;
 mod walk;
@@ -15,4 +17,5 @@ pub use error::NodeError;
 pub use hist::{hist_find, hist_next, hist_part};
 pub use locating::locate;
 pub use looks::{Descended, Found, KeyVersions, Looked, Parted, Reached};
+pub use page_looks::{descend, next, part};
 pub use page_place::PagePlace;

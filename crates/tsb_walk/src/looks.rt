@@ -8,6 +8,7 @@ ghost use Rattle.version_model.specs.Looks.{IsReached, IsPart, NoneWithin};
 ghost use Rattle.version_model.specs.Entries.{versions_of};
 ghost use Rattle.tsb_node.specs.Leaves.{LeafNode, BeginsAsLeaf};
 ghost use Rattle.tsb_walk.specs.Answers.{found_as, reached_as};
+ghost use Rattle.tsb_walk.specs.Borders.{ReachesTo};
 
 use route_model::Key;
 use std::alloc::Global;
@@ -110,6 +111,7 @@ fn is_key(key: Key) -> bool
 
 // How far a look has come that found no value below the high key.
 fn past(high: Option<Key>) -> Reached
+    ensures border { ReachesTo (high_or high) result }
     ensures past { (versions : List Version) (from s : ℕ) → from < high_or high → NoneWithin versions s from (high_or high) → IsReached versions s from (reached_as result) }
 {
     match high {
@@ -129,6 +131,7 @@ pub fn reached_in(
     requires size { length octets.now ≡ 16384 }
     ensures reached { IfOk result (λ reached. (all : List Version) (r : Range) (leaf : LeafNode) → BeginsAsLeaf leaf octets.now → Shows all r leaf.versions → r.high ≡ high_or high.now → IsPoint r from stamp
         → IsReached all stamp from (reached_as reached)) }
+    ensures border { IfOk result (ReachesTo (high_or high.now)) }
     ensures leaf { (leaf : LeafNode) → BeginsAsLeaf leaf octets.now → result ≡ Err ReadFault.NotANode → ⊥ }
 {
     let Ok(least) = next(octets, from, stamp) else {
@@ -158,6 +161,7 @@ pub fn part_in(
     requires size { length octets.now ≡ 16384 }
     ensures part { IfOk result (λ part. (all : List Version) (r : Range) (leaf : LeafNode) → BeginsAsLeaf leaf octets.now → Shows all r leaf.versions → IsRising all → r.end ≡ end_or end.now → IsPoint r key from
         → IsPart all key from (versions_of part.entries.items) part.told) }
+    ensures told { IfOk result (λ part. part.told ≡ end.now) }
     ensures leaf { (leaf : LeafNode) → BeginsAsLeaf leaf octets.now → result ≡ Err ReadFault.NotANode → ⊥ }
 {
     match part(alloc, octets, key, from, *end) {

@@ -1,9 +1,9 @@
-use Rattle.std.proofs.Common.{rules, ◌≡◌, ◌<◌, ◌≤◌, ℕ, List, Err, IfErr, Result, refl, sym, ◌∙◌, subst, arith}
+use Rattle.std.proofs.Common.{rules, ◌≡◌, Err, IfErr, Result, sym, subst, arith}
 use Rattle.page_journal.specs.Recovers.{IsListed}
 use Rattle.tsb_walk.specs.declared.error.NodeError.{NodeError}
-use Rattle.tsb_walk.specs.declared.error.NodeError.TheVariants.{BadNode, Fault}
+use Rattle.tsb_walk.specs.declared.error.NodeError.TheVariants.{BadNode}
 use Rattle.tsb_walk.specs.declared.page_place.PagePlace.{PagePlace}
-use Rattle.tsb_walk.specs.PageWays.{PageWay, here, further}
+use Rattle.tsb_walk.specs.PageWays.{here, further}
 use Rattle.tsb_walk.specs.Refusals.{IsDamage}
 use Rattle.tsb_walk.proofs.Untouched.{reads_none, reads_then, reads_as}
 use Rattle.tsb_walk.proofs.locating.locate.Goals as goal

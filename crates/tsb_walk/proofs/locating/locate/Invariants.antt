@@ -1,4 +1,4 @@
-use Rattle.std.proofs.Common.{◌≡◌, ◌≤◌, ℕ, List}
+use Rattle.std.proofs.Common.{◌≤◌, ℕ, List}
 use Rattle.page_tx.specs.Start.{Start}
 use Rattle.tsb_walk.specs.Shown.{HasKey}
 use Rattle.tsb_walk.specs.PageWays.{PageWay}

@@ -1,4 +1,4 @@
-use Rattle.std.proofs.Common.{◌≡◌, ap, arith, sym, subst, ◌∙◌, refl}
+use Rattle.std.proofs.Common.{ap, arith, sym, subst, ◌∙◌}
 use Rattle.tsb_node.specs.Children.{BeginsAsKeyNode}
 use Rattle.tsb_node.specs.Views.{keys_between}
 use Rattle.tsb_node.proofs.api.Pages.{key_node_begins}

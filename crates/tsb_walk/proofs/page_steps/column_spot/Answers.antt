@@ -1,4 +1,4 @@
-use Rattle.std.proofs.Common.{◌≡◌, ℕ, ap, arith, sym, subst, ◌∙◌, refl}
+use Rattle.std.proofs.Common.{ap, subst}
 use Rattle.tsb_node.specs.declared.column.Current.{Current}
 use Rattle.tsb_node.specs.Parts.{IsSpot}
 use Rattle.tsb_walk.proofs.OnePage.{past_is}

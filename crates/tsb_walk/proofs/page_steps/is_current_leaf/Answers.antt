@@ -1,4 +1,4 @@
-use Rattle.std.proofs.Common.{◌≡◌, arith, sym, subst, ◌∙◌, refl}
+use Rattle.std.proofs.Common.{sym, ◌∙◌}
 use Rattle.std.proofs.lemmas.Bool.{eqb-true, eq-eqb}
 use Rattle.tsb_walk.specs.Shown.{keys_at}
 use Rattle.tsb_walk.proofs.OnePage.{leaf_for_page, leaf_same}

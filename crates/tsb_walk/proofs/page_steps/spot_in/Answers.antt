@@ -1,5 +1,5 @@
-use Rattle.std.proofs.Common.{◌≡◌, ap, arith, sym, subst, ◌∙◌, refl}
-use Rattle.tsb_node.specs.Parts.{BeginsAsColumn, IsSpot}
+use Rattle.std.proofs.Common.{ap, sym, subst, ◌∙◌}
+use Rattle.tsb_node.specs.Parts.{BeginsAsColumn}
 use Rattle.tsb_node.specs.Views.{keys_between}
 use Rattle.tsb_node.proofs.api.Pages.{column_begins}
 use Rattle.tsb_walk.specs.Shown.{keys_at}

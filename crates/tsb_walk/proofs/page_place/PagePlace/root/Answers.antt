@@ -1,6 +1,5 @@
-use Rattle.std.proofs.Common.{◌≡◌, ℕ, ◌∙◌, ap, refl}
+use Rattle.std.proofs.Common.{ℕ, ◌∙◌, ap, refl}
 use Rattle.version_model.specs.Ranges.{key_end}
-use Rattle.version_model.specs.Pages.{Keys}
 use Rattle.route_model.specs.Keys.{number_of}
 use Rattle.tsb_walk.proofs.page_place.PagePlace.root.Goals as goal
 

@@ -1,0 +1,39 @@
+use Rattle.std.proofs.Common.{rules, ◌≡◌, ◌<◌, Err, arith}
+use Rattle.version_model.specs.Ranges.{stamp_end}
+use Rattle.tsb_walk.specs.declared.error.NodeError.TheVariants.{BadNode}
+use Rattle.tsb_walk.specs.declared.looks.Descended.TheVariants as descended
+use Rattle.tsb_walk.proofs.PageWalking.{in_leaf, in_past, bad_here}
+use Rattle.tsb_walk.proofs.PageStanding.{descended_stands, none_bad}
+use Rattle.tsb_walk.proofs.page_looks.descend.Goals as goal
+
+pub returns-in_err-at-clause-blames : goal.returns-in_err-at-clause-blames
+returns-in_err-at-clause-blames g c = λ start shown shows s all st page e.
+    let d : c.column_at.result ≡ Err (BadNode page) = search rules in
+    none_bad shown s all c.args.root.now c.args.key c.args.stamp page (c.column_at.ensures.bad start shown shows page d) st
+
+pub returns-in_err-answer-in-InLeaf-clause-bad : goal.returns-in_err-answer-in-InLeaf-clause-bad
+returns-in_err-answer-in-InLeaf-clause-bad g c = λ start shown shows page e.
+    let d : c.found_here.result ≡ Err (BadNode page) = search rules in
+    let b = c.found_here.ensures.bad start shown (c.column_at.ensures.same.shown start shown shows) page d in
+    bad_here shown c.args.root.now c.args.key c.args.stamp c.in_ok-at.at (c.in_ok-at.ensures.there start shown shows) c.in-InLeaf.current page c.in-InLeaf.is b.0 b.1
+
+pub returns-in_err-answer-in-InLeaf-clause-blames : goal.returns-in_err-answer-in-InLeaf-clause-blames
+returns-in_err-answer-in-InLeaf-clause-blames g c = λ start shown shows s all st page e.
+    let d : c.found_here.result ≡ Err (BadNode page) = search rules in
+    let b = c.found_here.ensures.bad start shown (c.column_at.ensures.same.shown start shown shows) page d in
+    let bad = bad_here shown c.args.root.now c.args.key c.args.stamp c.in_ok-at.at (c.in_ok-at.ensures.there start shown shows) c.in-InLeaf.current page c.in-InLeaf.is b.0 b.1 in
+    none_bad shown s all c.args.root.now c.args.key c.args.stamp page bad st
+
+pub returns-in_ok-answer-in-InLeaf-clause-descended : goal.returns-in_ok-answer-in-InLeaf-clause-descended
+returns-in_ok-answer-in-InLeaf-clause-descended g c = λ start shown shows s all st.
+    let at = c.in_ok-at.at in
+    let h = c.in_ok-answer-in-InLeaf.ensures.found start shown (c.column_at.ensures.same.shown start shown shows) in
+    let leaf = in_leaf shown c.args.root.now c.args.key c.args.stamp at (c.in_ok-at.ensures.there start shown shows) c.in-InLeaf.current c.in-InLeaf.is h.0 h.1 in
+    let fits : c.args.stamp < stamp_end = omega (arith, c.stamp_fits.ensures.fits) in
+    descended_stands shown s all c.args.root.now c.args.key c.args.stamp (descended.Here c.in_ok-answer-in-InLeaf.answer) fits (at.column, h.0, leaf, h.2) st
+
+pub returns-in-InPast-clause-descended : goal.returns-in-InPast-clause-descended
+returns-in-InPast-clause-descended g c = λ start shown shows s all st.
+    let fits : c.args.stamp < stamp_end = omega (arith, c.stamp_fits.ensures.fits) in
+    let past = in_past shown c.args.root.now c.args.key c.args.stamp c.in_ok-at.at (c.in_ok-at.ensures.there start shown shows) c.in-InPast.place c.in-InPast.is in
+    descended_stands shown s all c.args.root.now c.args.key c.args.stamp (descended.InBlock c.in-InPast.place) fits past st

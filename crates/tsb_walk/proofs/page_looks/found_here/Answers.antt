@@ -1,0 +1,4 @@
+use Rattle.tsb_walk.proofs.page_looks.found_here.Goals as goal
+
+pub returns-in-Err-clause-refused : goal.returns-in-Err-clause-refused
+returns-in-Err-clause-refused g c = c.leaf_refusal.ensures.refused (g.P.Pages.down c.args.pages.now)
