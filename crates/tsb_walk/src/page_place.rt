@@ -20,9 +20,9 @@ pub struct PagePlace {
 }
 
 impl PagePlace {
-    ghost use Rattle.std.specs.Prelude.{◌≡◌};
+    ghost use Rattle.std.specs.Prelude.{◌≡◌, ◌↔◌, IsTrue};
     ghost use Rattle.version_model.specs.Pages.{all_keys};
-    ghost use Rattle.tsb_walk.specs.Shown.{keys_at};
+    ghost use Rattle.tsb_walk.specs.Shown.{keys_at, HasKey};
 
     /// The root of a tree, of this level: it has all keys.
     pub fn root(page: u64, level: u8) -> PagePlace
@@ -36,6 +36,18 @@ impl PagePlace {
             low: Key::from_octets(&[0; 40]),
             high: None,
         }
+    }
+
+    /// Whether a key is one of the keys that the page is to have.
+    pub fn has(&self, key: Key) -> bool
+        ensures { IsTrue result ↔ HasKey self.now key }
+    {
+        key_fits(key);
+        self.low <= key
+            && match self.high {
+                Some(high) => key < high,
+                None => true,
+            }
     }
 }
 
