@@ -1,0 +1,159 @@
+//! Turns of a question of a history, and errands of two looks.
+
+ghost use Rattle.std.specs.Prelude.{◌≡◌, ◌↔◌, ◌+◌, ℕ, List, Option, Some, None, IfOk, OnOk, OnErr, Err};
+ghost use Rattle.route_model.specs.Admission.{Admitted};
+ghost use Rattle.route_model.specs.Keys.{key_number, session_number};
+ghost use Rattle.route_meaning.specs.Merged.{Placed};
+ghost use Rattle.version_model.specs.Versions.{Version, IsRising};
+ghost use Rattle.version_model.specs.Looks.{IsPart};
+ghost use Rattle.version_model.specs.Entries.{versions_of};
+ghost use Rattle.once_store.specs.Readers.{capacity_of, reader_disk};
+ghost use Rattle.tsb_walk.specs.Knowing.{ReadsWell};
+ghost use Rattle.route_history.specs.Walks.{Rose};
+ghost use Rattle.route_history.specs.Spans.{TellsEvents, HasToldSo, IsSameTelling};
+ghost use Rattle.route_history.specs.Points.{PartsAt};
+ghost use Rattle.route_history.specs.EventTurns.{HasFit, IsKnownPart, AreKnownParts, IsEventsTurn, IsEventsErrandOf, IsToldSo};
+
+use crate::events::EventsCursor;
+use crate::versions::{LookError, Versions};
+use disk_models::OnceDisk;
+use once_store::{BlockError, ShelfReader};
+use route_meaning::EventsAnswer;
+use route_model::Key;
+use std::alloc::Global;
+use std::mem;
+use tsb_walk::{KeyVersions, Parted, hist_part};
+use version_model::Stamp;
+
+/// What is to be looked for in the past, from one stamp on: the versions of the prefix or of the session, or of both.
+#[derive(Debug, Drop)]
+pub struct EventsErrand {
+    pub from: Stamp,
+    pub route: Parted,
+    pub session: Parted,
+}
+
+/// What a turn of a question of a history gave.
+#[derive(Debug, Drop)]
+pub enum EventsTurn {
+    /// The whole answer. The cursor is spent.
+    Done(EventsAnswer),
+    /// The walk has come further.
+    Again,
+    /// The walk goes on in the past.
+    Historical(EventsErrand),
+}
+
+impl EventsCursor {
+    // The answer.
+    fn tell(&mut self, alloc: Global) -> EventsAnswer
+        ensures events { result.events.items ≡ self.old.told.items }
+        ensures more { result.more ≡ self.old.more }
+        ensures question { self.new.question ≡ self.old.question }
+    {
+        EventsAnswer {
+            events: mem::replace(&mut self.told, Vec::new(alloc)),
+            more: self.more,
+        }
+    }
+
+    // The answer, where the walk is over, or else that it goes on.
+    fn told(&mut self, alloc: Global) -> EventsTurn
+        ensures told { IsToldSo self.old self.new result }
+        ensures question { self.new.question ≡ self.old.question }
+    {
+        match self.at {
+            None => EventsTurn::Done(self.tell(alloc)),
+            Some(_) => EventsTurn::Again,
+        }
+    }
+}
+
+/// One turn: the versions of the prefix and of the session from one stamp on. Where some lie in the past, the errand goes on
+/// there without the store. A refusal leaves all as it was told.
+pub fn take_events_turn<V: Versions>(
+    versions: &mut V,
+    alloc: Global,
+    cursor: &mut EventsCursor,
+) -> Result<EventsTurn, LookError>
+    ensures turn { IfOk result (λ turn. (all : List Version) (ps : List (Placed Admitted)) → V.stands versions.old all → TellsEvents all ps cursor.old.question → HasToldSo all ps cursor.old → IsEventsTurn (V.blocks versions.old) all ps cursor.old cursor.new turn) }
+    ensures fits { IfOk result (λ turn. HasFit cursor.new turn) }
+    ensures refused { OnErr result (IsSameTelling cursor.old cursor.new) }
+    ensures question { cursor.new.question ≡ cursor.old.question }
+    ensures kept { (all : List Version) → V.stands versions.old all → V.stands versions.new all }
+    ensures same { V.blocks versions.new ≡ V.blocks versions.old }
+{
+    let Some(at) = cursor.at else {
+        return Ok(EventsTurn::Done(cursor.tell(alloc)));
+    };
+    let route_key = Key::prefix(&cursor.question.peer, &cursor.question.prefix);
+    let session_key = Key::session(&cursor.question.peer);
+    let route = versions.part(route_key, at)?;
+    let session = versions.part(session_key, at)?;
+    match (route, session) {
+        (Parted::Here(route), Parted::Here(session)) => {
+            cursor.take(alloc, at, &route, &session)?;
+            Ok(cursor.told(alloc))
+        }
+        (route, session) => Ok(EventsTurn::Historical(EventsErrand {
+            from: at,
+            route,
+            session,
+        })),
+    }
+}
+
+// The versions, from a block where they are there.
+fn part_of<O: OnceDisk + Drop>(
+    reader: &mut ShelfReader<O>,
+    seen: &mut O::Seen,
+    alloc: Global,
+    parted: Parted,
+    key: Key,
+    from: Stamp,
+) -> Result<KeyVersions, BlockError>
+    requires point { PartsAt key from parted }
+    ensures part { (all : List Version) → IsRising all → IsKnownPart O.OnceDisk reader.old seen.old all key from parted → IfOk result (λ part. IsPart all key from (versions_of part.entries.items) part.told) }
+    ensures reads { (all : List Version) → IsKnownPart O.OnceDisk reader.old seen.old all key from parted → ReadsWell O.OnceDisk reader.new seen.new }
+    ensures never { (all : List Version) → IsKnownPart O.OnceDisk reader.old seen.old all key from parted → (block : ℕ) → result ≡ Err (BlockError.Damaged block) → ⊥ }
+    ensures same { O.honest_seen (reader_disk reader.old) seen.old → O.known seen.new ≡ O.known seen.old }
+    ensures disk { reader_disk reader.new ≡ reader_disk reader.old }
+    ensures capacity { capacity_of reader.new ≡ capacity_of reader.old }
+    ensures honest { O.honest_seen (reader_disk reader.old) seen.old ↔ O.honest_seen (reader_disk reader.old) seen.new }
+{
+    match parted {
+        Parted::Here(part) => Ok(part),
+        Parted::InBlock(place) => hist_part(reader, seen, alloc, &place, key, from),
+    }
+}
+
+impl EventsErrand {
+    /// Finishes the turn in the past: the cursor has then told as much as the turn would have, and its stamp has risen. It is the
+    /// cursor as its turn left it. A refusal leaves it so. It takes no lock, and waits for nothing but the disk.
+    pub fn finish<O: OnceDisk + Drop>(
+        self,
+        reader: &mut ShelfReader<O>,
+        seen: &mut O::Seen,
+        alloc: Global,
+        cursor: &mut EventsCursor,
+    ) -> Result<(), BlockError>
+        requires fits { IsEventsErrandOf cursor.old self }
+        ensures finished { (all : List Version) (ps : List (Placed Admitted)) → AreKnownParts O.OnceDisk reader.old seen.old all cursor.old self → TellsEvents all ps cursor.old.question → HasToldSo all ps cursor.old → OnOk result (HasToldSo all ps cursor.new × Rose cursor.old.at cursor.new.at) }
+        ensures question { cursor.new.question ≡ cursor.old.question }
+        ensures refused { OnErr result (IsSameTelling cursor.old cursor.new) }
+        ensures reads { (all : List Version) → AreKnownParts O.OnceDisk reader.old seen.old all cursor.old self → ReadsWell O.OnceDisk reader.new seen.new }
+        ensures never { (all : List Version) → AreKnownParts O.OnceDisk reader.old seen.old all cursor.old self → (block : ℕ) → result ≡ Err (BlockError.Damaged block) → ⊥ }
+        ensures same { O.honest_seen (reader_disk reader.old) seen.old → O.known seen.new ≡ O.known seen.old }
+        ensures disk { reader_disk reader.new ≡ reader_disk reader.old }
+        ensures capacity { capacity_of reader.new ≡ capacity_of reader.old }
+        ensures honest { O.honest_seen (reader_disk reader.old) seen.old ↔ O.honest_seen (reader_disk reader.old) seen.new }
+    {
+        let route_key = Key::prefix(&cursor.question.peer, &cursor.question.prefix);
+        let session_key = Key::session(&cursor.question.peer);
+        let from = self.from;
+        let route = part_of(reader, seen, alloc, self.route, route_key, from)?;
+        let session = part_of(reader, seen, alloc, self.session, session_key, from)?;
+        cursor.take(alloc, from, &route, &session)?;
+        Ok(())
+    }
+}

@@ -1,0 +1,37 @@
+//! Laws of applied changes as versions, and of what cursors have gathered: each the contract of a function that does nothing.
+
+ghost use Rattle.std.specs.Prelude.{◌≡◌, ◌↔◌, ℕ, List};
+ghost use Rattle.std.specs.List.{AllZip};
+ghost use Rattle.route_model.specs.Admission.{Admitted};
+ghost use Rattle.route_model.specs.Prefix.{IsPrefix};
+ghost use Rattle.route_model.specs.Spelling.{IsPeer};
+ghost use Rattle.route_meaning.specs.declared.question.EventsQuestion.{EventsQuestion};
+ghost use Rattle.route_meaning.specs.Merged.{Placed, IsRising};
+ghost use Rattle.route_meaning.specs.Holds.{time_of};
+ghost use Rattle.version_model.specs.Versions.{Version, IsRising as AreStampsInOrder};
+ghost use Rattle.route_history.specs.declared.rows.RowsCursor.{RowsCursor};
+ghost use Rattle.route_history.specs.declared.events.EventsCursor.{EventsCursor};
+ghost use Rattle.route_history.specs.Kept.{Kept};
+ghost use Rattle.route_history.specs.Walks.{Tells, Gathered, GoesOn, IsSameVersion};
+ghost use Rattle.route_history.specs.Spans.{TellsEvents, HasToldSo, EventsGoOn};
+
+/// What versions tell that are those of the applied changes, of which the times never fall: which route holds at a moment is what
+/// two look-ups at its greatest stamp tell, compared by stamp; the events of a span are the versions of the two keys in it; and
+/// the stamps rise.
+pub fn versions_tell()
+    ensures rows { (ps : List (Placed Admitted)) (all : List Version) (moment : ℕ) → IsRising time_of ps → Kept ps all → Tells all ps moment }
+    ensures events { (ps : List (Placed Admitted)) (all : List Version) (q : EventsQuestion) → IsRising time_of ps → Kept ps all → IsPeer q.peer → IsPrefix q.prefix → TellsEvents all ps q }
+    ensures stamps { (ps : List (Placed Admitted)) (all : List Version) → IsRising time_of ps → Kept ps all → AreStampsInOrder all }
+{}
+
+/// What a cursor has gathered stays right where more changes are applied, none of which counts at its moment, or in its span.
+pub fn gathered_goes_on()
+    ensures rows { (all new : List Version) (ps qs : List (Placed Admitted)) (c : RowsCursor) → GoesOn all new ps qs c.question.moment → Gathered all ps c → Gathered new qs c }
+    ensures events { (all new : List Version) (ps qs : List (Placed Admitted)) (c : EventsCursor) → EventsGoOn all new ps qs c.question → HasToldSo all ps c → HasToldSo new qs c }
+{}
+
+/// What a cursor has gathered doesn't rest on which values the ends of sessions have: it is the same of all versions that have the
+/// same keys, stamps and ends.
+pub fn gathered_alike()
+    ensures { (vs ws : List Version) (ps : List (Placed Admitted)) (c : RowsCursor) → AllZip IsSameVersion vs ws → Gathered vs ps c → Gathered ws ps c }
+{}
