@@ -2,7 +2,7 @@
 ghost use Rattle.std.specs.Prelude.{◌≡◌, ℕ, suc, ◌+◌, ◌<◌, ◌≤◌, length, [], IfOk, slice_index};
 ghost use Rattle.route_meaning.specs.History.{IsHistory};
 ghost use Rattle.board.specs.Past.{Past, GoesOnAs, reach};
-ghost use Rattle.board.specs.Views.{View, with_seen, with_past_of, watermark_of, durable_of, IsFrontOf, BeginsView};
+ghost use Rattle.board.specs.Views.{View, with_seen, with_past_of, watermark_of, durable_of, IsCaughtUp, IsFrontOf, BeginsView};
 ghost use Rattle.board.specs.Words.{place_of, IsWord};
 ghost use Rattle.board.specs.Opened.{name_of};
 
@@ -162,6 +162,7 @@ impl<N: Named> Board<N> {
         ensures pass { pass.new ≡ with_past_of pass.old writer.old }
         ensures begins { BeginsView pass.old pass.new }
         ensures front { IsFrontOf writer.old.past pass.old }
+        ensures caught_up { IsCaughtUp writer.old → IsCaughtUp pass.new }
     {
         let shared = &self.table.shared;
         let asked = shared.split_seat::<Same>(&mut pass.seat);

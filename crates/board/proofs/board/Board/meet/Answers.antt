@@ -1,9 +1,11 @@
-use Rattle.std.proofs.Common.{◌≡◌, ℕ, List, Option, sym, ap, ◌∙◌, subst, arith}
-use Rattle.board.specs.Past.{Past, GoesOnAs}
-use Rattle.board.specs.Views.{View, Within, greatest}
-use Rattle.board.specs.inner.Rule.{Starts, past_or}
+use Rattle.std.specs.Prelude.{slice_index}
+use Rattle.std.proofs.Common.{◌≡◌, ◌≤◌, le_trans, ℕ, List, Option, sym, ap, ◌∙◌, subst, arith}
+use Rattle.board.specs.Past.{Past, GoesOnAs, reach}
+use Rattle.board.specs.Views.{View, Within, IsCaughtUp, greatest}
+use Rattle.board.specs.inner.Rule.{Known, Starts, past_or}
+use Rattle.board.specs.inner.Steps.{both_of}
 use Rattle.board.proofs.Reaching.{starts_there}
-use Rattle.board.proofs.Numbers.{greatest_left}
+use Rattle.board.proofs.Numbers.{greatest_left, greatest_right}
 use Rattle.board.proofs.Moves.{splits_allowed, hears_allowed, compares_at, takes_allowed}
 use Rattle.board.proofs.board.Board.meet.Goals as goal
 
@@ -55,3 +57,18 @@ returns-clause-begins g c =
       numbers = subst (λ (v : View). Within v.numbers c.join_seat-2.new.seat.me.0.knows.numbers) c.pass.view_is
           (subst (λ (ns : List ℕ). Within c.pass.inside.seat.me.0.knows.numbers ns) (sym numbers) (greatest_left c.pass.inside.seat.me.0.knows.numbers c.split_seat-told.result.me.0.knows.numbers));
     }
+
+pub returns-clause-caught_up : goal.returns-clause-caught_up
+returns-clause-caught_up g c up i =
+    let a = c.split_seat-asked.ensures in
+    let j = c.join_seat.ensures in
+    let l = c.load.ensures in
+    let t = c.split_seat-told.ensures in
+    let k = c.join_seat-2.ensures in
+    let w = c.writer.inside.seat.me.0.knows in
+    let p = c.pass.inside.seat.me.0.knows in
+    let told : c.split_seat-told.result.me.0.knows ≡ w = ap (λ m. m.0.knows) t.4 ∙ (ap (λ v. v.knows) l.2.0 ∙ ap (λ m. m.0.knows) j.2) in
+    let after : c.join_seat-2.new.seat.me.0.knows ≡ both_of p w =
+    ap (λ m. m.0.knows) k.2 ∙ (ap (λ m. both_of m.0.knows c.split_seat-told.result.me.0.knows) a.2 ∙ ap (both_of p) told) in
+    let low : reach (past_or w.past).history i ≤ slice_index w.numbers i = subst (λ (v : View). IsCaughtUp v) (sym c.writer.view_is) up i in
+    subst (λ (n : Known). reach (past_or n.past).history i ≤ slice_index n.numbers i) (sym after) (le_trans low (greatest_right p.numbers w.numbers i))

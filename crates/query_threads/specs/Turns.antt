@@ -1,0 +1,26 @@
+-- What a turn of a question gives.
+use Rattle.std.specs.Prelude.{◌≡◌, ◌≤◌, ⊤, ℕ}
+use Rattle.route_meaning.specs.History.{History, settled}
+use Rattle.interleaving_core.specs.declared.query.Query.{Query}
+use Rattle.interleaving_core.specs.declared.query.Answer.{Answer}
+use Rattle.interleaving_core.specs.Does.{last_moment}
+use Rattle.query_threads.specs.declared.refusal.Turn.{Turn}
+use Rattle.query_threads.specs.declared.refusal.Turn.TheVariants.{Done, Again, Historical}
+use Rattle.query_threads.specs.declared.refusal.AskError.{AskError}
+use Rattle.query_threads.specs.declared.refusal.AskError.TheVariants.{AboveWatermark, Trouble as Troubled}
+
+-- a fact for each kind of turn
+abbrev pub TurnGives : {E : Type 0} → (E → Type 0) → Type 0 → (Answer → Type 0) → Turn E → Type 0
+TurnGives historical again answered (Done answer) = answered answer
+TurnGives historical again answered Again = again
+TurnGives historical again answered (Historical errand) = historical errand
+
+-- a question is refused as above the watermark only where it is, and the watermark is told
+abbrev pub IsTold : AskError → History → Query → Type 0
+IsTold (AboveWatermark mark) h query = (mark ≡ settled h) × (settled h ≤ last_moment query)
+IsTold (Troubled trouble) h query = ⊤
+
+-- the question was refused as above the watermark
+abbrev pub IsAbove : AskError → Type 0
+IsAbove (AboveWatermark mark) = ⊤
+IsAbove (Troubled trouble) = ⊥

@@ -1,0 +1,178 @@
+//! What lies under the lock: the archive, and the writing seat, which knows its past.
+ghost use Rattle.std.specs.Prelude.{◌≡◌, ℕ, ◌+◌, ◌<◌, ◌≤◌, List, [], length, OnOk, IfOk, IfErr};
+ghost use Rattle.std.specs.List.{AllByRecursion};
+ghost use Rattle.board.specs.Past.{Past, Among, GoesOnAs, reach};
+ghost use Rattle.board.specs.Views.{View, Within, Reached, IsCaughtUp, IsFrontOf, BeginsView};
+ghost use Rattle.query_threads.specs.Steps.{DoesAdmit, DoesMark, DoesApply, DoesFlush};
+ghost use Rattle.query_threads.specs.Seeing.{Sees};
+
+use crate::refusal::{AdmitError, Flush, MarkError, Step, Trouble};
+use crate::store::Store;
+use board::{Board, Named, Pass, Target, Word, Writer};
+use interleaving_core::BatchReply;
+use route_model::{Admission, Mark};
+use std::marker::{Brand, Model};
+
+/// Contracts see what the writing seat knows.
+pub struct Desk<A: Store, N: Named> {
+    archive: A,
+    writer: Writer<N>,
+}
+
+impl<A: Store, N: Named> Model for Desk<A, N> {
+    ghost use Rattle.std.specs.Prelude.{◌≡◌, ◌+◌, length};
+    ghost use Rattle.board.specs.Views.{View, IsCaughtUp};
+
+    ghost Value = { View };
+
+    ghost view = { λ d. d.writer };
+
+    ghost invariant = { λ d. A.carries d.archive d.writer.past × (N.table.words ≡ length d.writer.past.history.intakes + 1) × IsCaughtUp d.writer };
+}
+
+// Raises each word to what the past of the writing seat reaches, which the archive carries.
+pub(crate) fn catch_up<A: Store, N: Named>(board: &Board<N>, writer: &mut Writer<N>, archive: &A)
+    requires carried { A.carries archive.now writer.old.past }
+    requires words { N.table.words ≡ length writer.old.past.history.intakes + 1 }
+    ensures past { writer.new.past ≡ writer.old.past }
+    ensures caught_up { IsCaughtUp writer.new }
+    ensures rises { Within writer.old.numbers writer.new.numbers }
+{
+    board.raise(writer, Word::Watermark, archive.settled().seconds());
+    for c in 0..board.collectors() {
+        board.raise(writer, Word::Durable(c), archive.admitted(c));
+    }
+}
+
+// The writing seat goes on to a past that fits, which the archive carries, and all words are raised to it. What it is
+// about is for the caller's choice of `X`.
+fn follow<X: Target, A: Store, N: Named, T>(
+    board: &Board<N>,
+    writer: &mut Writer<N>,
+    archive: &A,
+    _about: &T,
+)
+    requires past { (q : Past) × GoesOnAs writer.old.past q × A.carries archive.now q × X.fits q }
+    requires words { N.table.words ≡ length writer.old.past.history.intakes + 1 }
+    ensures fits { X.fits writer.new.past }
+    ensures goes_on { GoesOnAs writer.old.past writer.new.past }
+    ensures carried { A.carries archive.now writer.new.past }
+    ensures words { N.table.words ≡ length writer.new.past.history.intakes + 1 }
+    ensures caught_up { IsCaughtUp writer.new }
+    ensures rises { Within writer.old.numbers writer.new.numbers }
+{
+    board.advance::<Brand, A>(writer, archive);
+    catch_up(board, writer, archive);
+}
+
+impl<A: Store, N: Named> Desk<A, N> {
+    /// An archive with its writing seat, which knows its past and has raised all words.
+    pub(crate) fn new(archive: A, writer: Writer<N>) -> Desk<A, N>
+        requires carried { A.carries archive writer.past }
+        requires words { N.table.words ≡ length writer.past.history.intakes + 1 }
+        requires caught_up { IsCaughtUp writer }
+        ensures { result ≡ writer }
+    {
+        Desk { archive, writer }
+    }
+
+    /// The pass learns what is known here, which what it knew begins.
+    fn greet(&mut self, board: &Board<N>, pass: &mut Pass<N>)
+        ensures same { self.new ≡ self.old }
+        ensures past { pass.new.past ≡ self.old.past }
+        ensures front { IsFrontOf self.old.past pass.old }
+        ensures begins { BeginsView pass.old pass.new }
+        ensures caught_up { IsCaughtUp pass.new }
+    {
+        board.meet(&mut self.writer, pass);
+    }
+
+    /// Admits a batch. The pass then knows the history after it.
+    pub fn admit(
+        &mut self,
+        board: &Board<N>,
+        pass: &mut Pass<N>,
+        collector: u8,
+        batch: &[Admission],
+    ) -> Result<BatchReply, AdmitError>
+        ensures sees { Sees (DoesAdmit collector batch.now result) pass.old pass.new }
+    {
+        self.greet(board, pass);
+        let told = self.archive.admit(collector, batch);
+        follow::<Brand, A, N, (u8, &[Admission], &Result<BatchReply, AdmitError>)>(
+            board,
+            &mut self.writer,
+            &self.archive,
+            &(collector, batch, &told),
+        );
+        self.greet(board, pass);
+        told
+    }
+
+    /// Raises the mark of a collector. The pass then knows the history after it.
+    pub fn mark(
+        &mut self,
+        board: &Board<N>,
+        pass: &mut Pass<N>,
+        collector: u8,
+        mark: Mark,
+    ) -> Result<(), MarkError>
+        ensures sees { Sees (DoesMark collector mark result) pass.old pass.new }
+    {
+        self.greet(board, pass);
+        let told = self.archive.mark(collector, mark);
+        follow::<Brand, A, N, (u8, Mark, &Result<(), MarkError>)>(
+            board,
+            &mut self.writer,
+            &self.archive,
+            &(collector, mark, &told),
+        );
+        self.greet(board, pass);
+        told
+    }
+
+    /// Applies what is next. The pass then knows the history after it.
+    pub fn apply(&mut self, board: &Board<N>, pass: &mut Pass<N>) -> Result<Step, Trouble>
+        ensures sees { Sees (DoesApply result) pass.old pass.new }
+    {
+        self.greet(board, pass);
+        let told = self.archive.apply_step();
+        follow::<Brand, A, N, Result<Step, Trouble>>(board, &mut self.writer, &self.archive, &told);
+        self.greet(board, pass);
+        told
+    }
+
+    /// Writes a page home that waits. The pass then knows the history.
+    pub fn flush(&mut self, board: &Board<N>, pass: &mut Pass<N>) -> Result<Flush, Trouble>
+        ensures sees { Sees (DoesFlush result) pass.old pass.new }
+    {
+        self.greet(board, pass);
+        let told = self.archive.flush_step();
+        follow::<Brand, A, N, Result<Flush, Trouble>>(
+            board,
+            &mut self.writer,
+            &self.archive,
+            &told,
+        );
+        self.greet(board, pass);
+        told
+    }
+
+    /// A reader of this archive's blocks, which keeps none yet.
+    pub fn reader(&self, capacity: usize) -> Result<A::Reader, Trouble>
+        ensures empty { IfOk result (λ r. A.kept r ≡ []) }
+    {
+        self.archive.reader(capacity)
+    }
+
+    /// The archive, once the threads are done. What each of these passes knew begins its past.
+    pub fn close(mut self, board: &Board<N>, mut passes: Vec<Pass<N>>) -> A
+        ensures { (p : Past) × A.carries result p × AllByRecursion (IsFrontOf p) passes.items }
+    {
+        while let Some(mut pass) = passes.pop() {
+            self.greet(board, &mut pass);
+        }
+        let Desk { archive, writer: _ } = self;
+        archive
+    }
+}

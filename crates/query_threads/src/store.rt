@@ -1,0 +1,133 @@
+//! What threads ask of an archive.
+ghost use Rattle.std.specs.Prelude.{◌≡◌, ◌<◌, ◌≤◌, ℕ, List, [], length, OnOk, IfOk, IfErr, Err};
+ghost use Rattle.route_model.specs.Admission.{Admitted};
+ghost use Rattle.route_meaning.specs.History.{History, IsHistory, Begins, applied, settled};
+ghost use Rattle.interleaving_core.specs.declared.query.Query.{Query};
+ghost use Rattle.interleaving_core.specs.Does.{last_moment};
+ghost use Rattle.interleaving_core.specs.Headline.{IsAnswered};
+ghost use Rattle.interleaving_core.specs.Steps.{IsCollector};
+ghost use Rattle.board.specs.Past.{Past, Among, GoesOnAs, count_of};
+ghost use Rattle.query_threads.specs.Steps.{IsCrowded, DoesAdmit, DoesMark, DoesApply, DoesFlush};
+ghost use Rattle.query_threads.specs.Turns.{TurnGives, IsTold};
+
+use crate::refusal::{AdmitError, AskError, Flush, MarkError, Step, Trouble, Turn};
+use interleaving_core::{BatchReply, Query};
+use route_model::{Admission, Mark};
+
+/// An archive, as threads use it.
+pub trait Store {
+    /// Blocks that a reader keeps.
+    type Reader: Send;
+
+    /// A look that found blocks settled.
+    type Seen: Drop + Send;
+
+    /// What is left to read of blocks for a turn.
+    type Errand: Drop + Send;
+
+    /// A question in progress.
+    type Cursor: Drop + Send;
+
+    /// What is stored stands for this past; after a failed write or sync, what is found when it is opened again stands
+    /// for one that this begins.
+    ghost carries: { Self → Past → Type 0 };
+
+    /// The pages of each ring.
+    ghost pages: { Self → ℕ };
+
+    /// The blocks that a reader keeps, with their octets.
+    ghost kept: { Self.Reader → List (ℕ × List ℕ) };
+
+    /// The blocks that a look found settled, with their octets.
+    ghost known: { Self.Seen → List (ℕ × List ℕ) };
+
+    /// The question.
+    ghost asks: { Self.Cursor → Query };
+
+    /// What the question has gathered is so over this history.
+    ghost gathered: { Self.Cursor → History → Type 0 };
+
+    /// With the blocks of this past, finishing the errand gathers what comes next.
+    ghost lies: { Self.Errand → Self.Cursor → Past → Type 0 };
+
+    /// How many collectors there are.
+    fn collectors(&self) -> u8
+        ensures collectors { (p : Past) → carries self.now p → result ≡ length p.history.intakes };
+
+    /// How many pages each ring has.
+    fn ring(&self) -> u16
+        ensures pages { result ≡ pages self.now };
+
+    /// The settled watermark.
+    fn settled(&self) -> Mark
+        ensures settled { (p : Past) → carries self.now p → result ≡ settled p.history };
+
+    /// How many admissions of a collector there are, 0 of one that there isn't.
+    fn admitted(&self, collector: u8) -> u64
+        ensures count { (p : Past) → carries self.now p → result ≡ count_of p.history collector };
+
+    /// Admits a batch.
+    fn admit(&mut self, collector: u8, batch: &[Admission]) -> Result<BatchReply, AdmitError>
+        ensures done { (p : Past) → carries self.old p → (q : Past) × GoesOnAs p q × carries self.new q × DoesAdmit collector batch.now result p.history q.history }
+        ensures full { (p : Past) → carries self.old p → result ≡ Err AdmitError.IntakeFull → IsCrowded (pages self.old) p.history collector batch.now }
+        ensures pages { pages self.new ≡ pages self.old };
+
+    /// Raises the mark of a collector.
+    fn mark(&mut self, collector: u8, mark: Mark) -> Result<(), MarkError>
+        ensures done { (p : Past) → carries self.old p → (q : Past) × GoesOnAs p q × carries self.new q × DoesMark collector mark result p.history q.history }
+        ensures pages { pages self.new ≡ pages self.old };
+
+    /// Applies what is next.
+    fn apply_step(&mut self) -> Result<Step, Trouble>
+        ensures done { (p : Past) → carries self.old p → (q : Past) × GoesOnAs p q × carries self.new q × DoesApply result p.history q.history }
+        ensures pages { pages self.new ≡ pages self.old };
+
+    /// Writes a page home that waits.
+    fn flush_step(&mut self) -> Result<Flush, Trouble>
+        ensures done { (p : Past) → carries self.old p → (q : Past) × GoesOnAs p q × carries self.new q × DoesFlush result p.history q.history }
+        ensures pages { pages self.new ≡ pages self.old };
+
+    /// The start of a question.
+    fn start(query: Query) -> Self::Cursor
+        ensures asks { asks result ≡ query }
+        ensures gathered { (h : History) → gathered result h };
+
+    /// A turn of a question.
+    fn descend(&mut self, cursor: &mut Self::Cursor) -> Result<Turn<Self::Errand>, AskError>
+        ensures carries { (p : Past) → carries self.old p → carries self.new p }
+        ensures asks { asks cursor.new ≡ asks cursor.old }
+        ensures settled { (p : Past) → carries self.old p → OnOk result (last_moment (asks cursor.old) < settled p.history) }
+        ensures gives { (p : Past) → carries self.old p → gathered cursor.old p.history → IfOk result (λ turn. TurnGives (λ errand. lies errand cursor.new p) (gathered cursor.new p.history) (λ answer. IsAnswered (applied p.history) (asks cursor.old) answer) turn) }
+        ensures told { (p : Past) → carries self.old p → IfErr result (λ e. IsTold e p.history (asks cursor.old)) }
+        ensures pages { pages self.new ≡ pages self.old };
+
+    /// A look at which blocks are settled.
+    fn seen(&mut self) -> Result<Self::Seen, Trouble>
+        ensures carries { (p : Past) → carries self.old p → carries self.new p }
+        ensures among { (p : Past) → carries self.old p → IfOk result (λ s. Among (known s) p.blocks) }
+        ensures all { (p : Past) → carries self.old p → IfOk result (λ s. Among p.blocks (known s)) }
+        ensures pages { pages self.new ≡ pages self.old };
+
+    /// A reader that keeps up to so many blocks, and none yet.
+    fn reader(&self, capacity: usize) -> Result<Self::Reader, Trouble>
+        ensures empty { IfOk result (λ r. kept r ≡ []) };
+
+    /// Reads the blocks of an errand without the archive.
+    fn finish(
+        reader: &mut Self::Reader,
+        seen: &mut Self::Seen,
+        errand: Self::Errand,
+        cursor: &mut Self::Cursor,
+    ) -> Result<(), Trouble>
+        requires kept { Among (kept reader.old) (known seen.old) }
+        requires stands { (p : Past) × lies errand cursor.old p × Among p.blocks (known seen.old) }
+        ensures kept { Among (kept reader.new) (known seen.old) }
+        ensures asks { asks cursor.new ≡ asks cursor.old }
+        ensures gathered { OnOk result ((p : Past) → lies errand cursor.old p → Among p.blocks (known seen.old) → gathered cursor.new p.history) };
+
+    /// A past that is stored is right.
+    ghost right: { (store : Self) (p : Past) → carries store p → IsHistory p.history };
+
+    /// What was gathered of a settled moment stays so.
+    ghost stays: { (cursor : Self.Cursor) (h g : History) → IsHistory h → Begins h g → last_moment (asks cursor) < settled h → gathered cursor h → gathered cursor g };
+}
