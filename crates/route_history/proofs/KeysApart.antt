@@ -32,22 +32,22 @@ never_true false f = refl
 pub prefix-prefix : (p q : Peer) (x y : IpPrefix) → IsPeer p → IsPeer q → IsPrefix x → IsPrefix y → eqb (key_number p x) (key_number q y) ≡ (same_peer p q && same_prefix x y)
 prefix-prefix p q x y hp hq hx hy = same_bool (eqb (key_number p x) (key_number q y)) (same_peer p q && same_prefix x y)
     (λ e. (
-        let parts : OfPrefix p x ≡ OfPrefix q y = keys_one (OfPrefix p x) (OfPrefix q y) (hp, hx) (hq, hy) (eqb-true _ _ e) in
-        let peers : p ≡ q = cc in
-        let prefixes : x ≡ y = cc in
-        all_true _ _ (subst (λ (r : Peer). same_peer p r ≡ true) peers (same_peer-itself p)) (subst (λ (z : IpPrefix). same_prefix x z ≡ true) prefixes (same_prefix-itself x))))
+    let parts : OfPrefix p x ≡ OfPrefix q y = keys_one (OfPrefix p x) (OfPrefix q y) (hp, hx) (hq, hy) (eqb-true _ _ e) in
+    let peers : p ≡ q = cc in
+    let prefixes : x ≡ y = cc in
+    all_true _ _ (subst (λ (r : Peer). same_peer p r ≡ true) peers (same_peer-itself p)) (subst (λ (z : IpPrefix). same_prefix x z ≡ true) prefixes (same_prefix-itself x))))
     (λ e. (
-        let h = both _ _ e in
-        let peers : p ≡ q = same_peer-true p q h.0 in
-        let prefixes : x ≡ y = same_prefix-true x y h.1 in
-        eq-eqb _ _ (λ i. key_number (peers i) (prefixes i))))
+    let h = both _ _ e in
+    let peers : p ≡ q = same_peer-true p q h.0 in
+    let prefixes : x ≡ y = same_prefix-true x y h.1 in
+    eq-eqb _ _ (λ i. key_number (peers i) (prefixes i))))
 
 pub session-session : (p q : Peer) → IsPeer p → IsPeer q → eqb (session_number p) (session_number q) ≡ same_peer p q
 session-session p q hp hq = same_bool (eqb (session_number p) (session_number q)) (same_peer p q)
     (λ e. (
-        let parts : Session p ≡ Session q = keys_one (Session p) (Session q) hp hq (eqb-true _ _ e) in
-        let peers : p ≡ q = cc in
-        subst (λ (r : Peer). same_peer p r ≡ true) peers (same_peer-itself p)))
+    let parts : Session p ≡ Session q = keys_one (Session p) (Session q) hp hq (eqb-true _ _ e) in
+    let peers : p ≡ q = cc in
+    subst (λ (r : Peer). same_peer p r ≡ true) peers (same_peer-itself p)))
     (λ e. eq-eqb _ _ (ap session_number (same_peer-true p q e)))
 
 apart : (p q : Peer) (y : IpPrefix) → IsPeer p → IsPeer q → IsPrefix y → session_number p ≡ key_number q y → ⊥

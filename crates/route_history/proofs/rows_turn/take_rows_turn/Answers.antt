@@ -60,8 +60,7 @@ returns-in-InBlock-clause-turn g c = λ all ps stands t gathered.
     let q = c.leap.new.self.question in
     let h = subst (HasLeapt c.args.cursor.now c.leap.new.self) c.in-Some.is c.leap.ensures.leapt in
     let at : c.in-Some-first.from ≡ number_at c.in-Some.front = subst (λ (o : Option ℕ). IfSome o (λ k. k ≡ number_at c.in-Some.front)) c.in-Some-first.is c.first.ensures.key in
-    let looked : GoesOnIn (g.V.Versions.blocks c.args.versions.now) all c.in-Some-first.from c.last_stamp.result c.in-InBlock.place = subst (IsLooked (g.V.Versions.blocks c.args.versions.now) all c.in-Some-first.from c.last_stamp.result) c.in-InBlock.is (c.in_ok-reached.ensures.next all stands) in
-    (
+    let looked : GoesOnIn (g.V.Versions.blocks c.args.versions.now) all c.in-Some-first.from c.last_stamp.result c.in-InBlock.place = subst (IsLooked (g.V.Versions.blocks c.args.versions.now) all c.in-Some-first.from c.last_stamp.result) c.in-InBlock.is (c.in_ok-reached.ensures.next all stands) in (
       leapt_gathered all ps c.args.cursor.now c.leap.new.self t gathered c.in-Some.front h,
       h.0,
       record { here = ap front_number h.4 ∙ ap (λ (n : ℕ). Some n) (sym at); point = subst (λ (s : ℕ). IsPoint (range_of c.in-InBlock.place.bounds) c.in-Some-first.from s) c.last_stamp.ensures looked.point },
