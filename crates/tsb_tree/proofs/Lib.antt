@@ -1,0 +1,11 @@
+pub mod Laying
+pub mod Taking
+pub mod Splitting
+pub mod KeySplit
+pub mod Puts
+pub mod Growing
+pub mod Saying
+pub mod Shaping
+pub mod Shelving
+pub mod Telling
+pub mod Creating

@@ -1,0 +1,38 @@
+-- A tree, and the versions that it stands for.
+use Rattle.std.specs.Prelude.{◌≡◌, ℕ, ◌+◌, ◌<◌, ◌≤◌, List, [], Option, length, slice_set}
+use Rattle.page_journal.specs.Layout.{Image, pages_of}
+use Rattle.page_journal.specs.Recovers.{laid, AreBelow, AreDistinct}
+use Rattle.page_tx.specs.declared.pages.Pages.{Ghosts}
+use Rattle.page_tx.specs.Start.{Start}
+use Rattle.version_model.specs.Versions.{Version, Has}
+use Rattle.version_model.specs.Ranges.{key_end}
+use Rattle.version_model.specs.Blocks.{BlockNode}
+use Rattle.version_model.specs.Pages.{PageNode, CurrentLeaf, ColumnNode, Store, TreeStands, IsNextStamp, all_keys}
+use Rattle.tsb_node.specs.Views.{PageSays}
+use Rattle.tsb_tree.specs.Stores.{Tells}
+
+-- The tree with this root stands for these versions. The highest key of all is none of theirs, since as the bound of a node it
+-- stands for no bound; and `least` is the least stamp that a version to come may have.
+pub record TreeHas (s : Store) (all : List Version) (root level least : ℕ) : Type 0 where
+  pub stands : TreeStands s all root level
+  pub bounded : (v : Version) → Has all v → v.key + 1 < key_end
+  pub next_stamp : IsNextStamp all least
+
+-- images of two pages, a column without a past and its current leaf without a version, of all keys
+pub record AreFirst (page : ℕ) (images : List Image) : Type 0 where
+  pub distinct : AreDistinct (pages_of images)
+  pub below : (homes : ℕ) → page + 1 < homes → AreBelow homes (pages_of images)
+  pub few : length images ≤ 2
+  pub column : List ℕ
+  pub leaf : List ℕ
+  pub laid_are : (shown : List (List ℕ)) → laid images shown ≡ slice_set (slice_set shown page column) (page + 1) leaf
+  pub says_column : PageSays column (ColumnNode all_keys [] 0 (page + 1))
+  pub says_leaf : PageSays leaf (CurrentLeaf all_keys 0 [])
+
+-- The pages of a transaction show a tree of no version, whatever blocks say. No page but its own is told of.
+pub record ShowsTree {P : Type 0} (pages : Ghosts P) (held : P) (start : Start) (root level least : ℕ) : Type 0 where
+  pub shown : List (List ℕ)
+  pub shows : pages.shows held start shown
+  pub nodes : ℕ → Option PageNode
+  pub tells : Tells shown nodes
+  pub has : (blocks : ℕ → Option BlockNode) (next : ℕ) → TreeHas (record { nodes = nodes; limit = pages.next held; blocks = blocks; next = next }) [] root level least
