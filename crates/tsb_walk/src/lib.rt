@@ -1,10 +1,11 @@
 //! Looks into the tree of versions: for the version of a key as of a stamp, for the next key that has a value, and for
-//! the versions of a key. These go through settled blocks.
+//! the versions of a key. They begin at current pages, and go on in settled blocks.
 #![tactic(auto)]
 
 mod block;
 mod error;
 mod hist;
+mod laws;
 mod leaf_looks;
 mod locating;
 mod looks;
@@ -15,6 +16,7 @@ mod walk;
 
 pub use error::NodeError;
 pub use hist::{hist_find, hist_next, hist_part};
+pub use laws::looks_are_true_where_the_root_stands;
 pub use locating::locate;
 pub use looks::{Descended, Found, KeyVersions, Looked, Parted, Reached};
 pub use page_looks::{descend, next, part};

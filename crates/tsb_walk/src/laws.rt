@@ -1,0 +1,26 @@
+//! Laws of the definitions, each the contract of a function that does nothing.
+
+ghost use Rattle.std.specs.Prelude.{◌<◌, ℕ, List};
+ghost use Rattle.version_model.specs.Versions.{Version, IsRising};
+ghost use Rattle.version_model.specs.Ranges.{stamp_end};
+ghost use Rattle.version_model.specs.Pages.{Store};
+ghost use Rattle.tsb_walk.specs.declared.looks.Descended.{Descended as DescendedValue};
+ghost use Rattle.tsb_walk.specs.declared.looks.Looked.{Looked as LookedValue};
+ghost use Rattle.tsb_walk.specs.declared.looks.Parted.{Parted as PartedValue};
+ghost use Rattle.tsb_walk.specs.declared.page_place.PagePlace.{PagePlace as PagePlaceValue};
+ghost use Rattle.tsb_walk.specs.Looked.{IsLooked, IsParted, IsDescended};
+ghost use Rattle.tsb_walk.specs.Shown.{StandsShown};
+ghost use Rattle.tsb_walk.specs.PageLooks.{IsLookOf, IsPartLookOf, IsFoundLookOf, IsBadLook};
+
+/// Where the root stands, what a look is made of is true of the versions, and no page on the way of a key is bad: so an answer and a
+/// bad page exclude each other there.
+pub fn looks_are_true_where_the_root_stands()
+    ensures next { (shown : List (List ℕ)) (s : Store) (all : List Version) (root : PagePlaceValue) (key stamp : ℕ) (answer : LookedValue) → stamp < stamp_end
+        → StandsShown shown s all root → IsLookOf shown root key stamp answer → IsLooked s.blocks all key stamp answer }
+    ensures part { (shown : List (List ℕ)) (s : Store) (all : List Version) (root : PagePlaceValue) (key stamp : ℕ) (answer : PartedValue) → stamp < stamp_end → IsRising all
+        → StandsShown shown s all root → IsPartLookOf shown root key stamp answer → IsParted s.blocks all key stamp answer }
+    ensures descended { (shown : List (List ℕ)) (s : Store) (all : List Version) (root : PagePlaceValue) (key stamp : ℕ) (answer : DescendedValue) → stamp < stamp_end
+        → StandsShown shown s all root → IsFoundLookOf shown root key stamp answer → IsDescended s.blocks all key stamp answer }
+    ensures good { (shown : List (List ℕ)) (s : Store) (all : List Version) (root : PagePlaceValue) (key stamp page : ℕ) → StandsShown shown s all root
+        → IsBadLook shown root key stamp page → ⊥ }
+{}
