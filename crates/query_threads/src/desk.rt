@@ -1,12 +1,16 @@
 //! What lies under the lock: the archive, and the writing seat, which knows its past.
 ghost use Rattle.std.specs.Prelude.{◌≡◌, ℕ, ◌+◌, ◌<◌, ◌≤◌, List, [], length, OnOk, IfOk, IfErr};
 ghost use Rattle.std.specs.List.{AllByRecursion};
+ghost use Rattle.route_meaning.specs.History.{IsHistory, applied, settled};
+ghost use Rattle.interleaving_core.specs.Does.{last_moment};
+ghost use Rattle.interleaving_core.specs.Headline.{IsAnswered};
 ghost use Rattle.board.specs.Past.{Past, Among, GoesOnAs, reach};
 ghost use Rattle.board.specs.Views.{View, Within, Reached, IsCaughtUp, IsFrontOf, BeginsView};
 ghost use Rattle.query_threads.specs.Steps.{DoesAdmit, DoesMark, DoesApply, DoesFlush};
+ghost use Rattle.query_threads.specs.Turns.{TurnGives, IsTold};
 ghost use Rattle.query_threads.specs.Seeing.{Sees};
 
-use crate::refusal::{AdmitError, Flush, MarkError, Step, Trouble};
+use crate::refusal::{AdmitError, AskError, Flush, MarkError, Step, Trouble, Turn};
 use crate::store::Store;
 use board::{Board, Named, Pass, Target, Word, Writer};
 use interleaving_core::BatchReply;
@@ -156,6 +160,33 @@ impl<A: Store, N: Named> Desk<A, N> {
         );
         self.greet(board, pass);
         told
+    }
+
+    /// A turn of a question. The pass then knows the history over which it was made.
+    pub fn turn(
+        &mut self,
+        board: &Board<N>,
+        pass: &mut Pass<N>,
+        cursor: &mut A::Cursor,
+    ) -> Result<Turn<(A::Errand, A::Seen)>, AskError>
+        ensures begins { BeginsView pass.old pass.new }
+        ensures caught_up { IsCaughtUp pass.new }
+        ensures reached { Reached pass.old.numbers pass.new.past.history }
+        ensures right { IsHistory pass.new.past.history }
+        ensures asks { A.asks cursor.new ≡ A.asks cursor.old }
+        ensures settled { OnOk result (last_moment (A.asks cursor.old) < settled pass.new.past.history) }
+        ensures gives { A.gathered cursor.old pass.new.past.history → IfOk result (λ turn. TurnGives (λ e. A.lies e.0 cursor.new pass.new.past × Among (A.known e.1) pass.new.past.blocks × Among pass.new.past.blocks (A.known e.1)) (A.gathered cursor.new pass.new.past.history) (λ answer. IsAnswered (applied pass.new.past.history) (A.asks cursor.old) answer) turn) }
+        ensures told { IfErr result (λ e. IsTold e pass.new.past.history (A.asks cursor.old)) }
+    {
+        self.greet(board, pass);
+        match self.archive.descend(cursor)? {
+            Turn::Done(answer) => Ok(Turn::Done(answer)),
+            Turn::Again => Ok(Turn::Again),
+            Turn::Historical(errand) => {
+                let seen = self.archive.seen()?;
+                Ok(Turn::Historical((errand, seen)))
+            }
+        }
     }
 
     /// A reader of this archive's blocks, which keeps none yet.

@@ -1,18 +1,22 @@
 //! An archive that threads share, behind one lock, with its board beside it.
 ghost use Rattle.std.specs.Prelude.{◌≡◌, ◌<◌, ◌≤◌, ℕ, suc, List, [], length, OnOk, IfOk, IfErr};
 ghost use Rattle.std.specs.List.{AllByRecursion};
+ghost use Rattle.route_meaning.specs.History.{IsHistory, applied, settled};
+ghost use Rattle.interleaving_core.specs.Does.{last_moment};
+ghost use Rattle.interleaving_core.specs.Headline.{IsAnswered};
 ghost use Rattle.board.specs.Past.{Past, Among};
 ghost use Rattle.board.specs.Views.{View, Reached, IsCaughtUp, IsFrontOf, BeginsView, with_seen, watermark_of, durable_of};
 ghost use Rattle.board.specs.Opened.{name_of};
 ghost use Rattle.query_threads.specs.Steps.{DoesAdmit, DoesMark, DoesApply, DoesFlush};
+ghost use Rattle.query_threads.specs.Turns.{TurnGives, IsTold, IsAbove};
 ghost use Rattle.query_threads.specs.Seeing.{Sees};
 
 use crate::desk::{Desk, catch_up};
 use crate::gate::Gate;
-use crate::refusal::{AdmitError, Flush, MarkError, Step, Trouble};
+use crate::refusal::{AdmitError, AskError, Flush, MarkError, Step, Trouble, Turn};
 use crate::store::Store;
 use board::{Board, Named, Opened, Pass};
-use interleaving_core::BatchReply;
+use interleaving_core::{Answer, BatchReply, Query};
 use route_model::{Admission, Mark};
 use std::marker::{Brand, Model};
 use std::sync::{Mutex, Wait};
@@ -58,6 +62,22 @@ impl<A: Store> Reader<A> {
     {
         let blocks = shared.desk.lock(rt).reader(capacity)?;
         Ok(Reader { blocks })
+    }
+
+    // Reads the blocks of an errand. No lock is held.
+    fn finish(
+        &mut self,
+        seen: &mut A::Seen,
+        errand: A::Errand,
+        cursor: &mut A::Cursor,
+    ) -> Result<(), Trouble>
+        requires kept { Among self.old (A.known seen.old) }
+        requires stands { (p : Past) × A.lies errand cursor.old p × Among p.blocks (A.known seen.old) }
+        ensures kept { Among self.new (A.known seen.old) }
+        ensures asks { A.asks cursor.new ≡ A.asks cursor.old }
+        ensures gathered { OnOk result ((p : Past) → A.lies errand cursor.old p → Among p.blocks (A.known seen.old) → A.gathered cursor.new p.history) }
+    {
+        A::finish(&mut self.blocks, seen, errand, cursor)
     }
 }
 
@@ -167,6 +187,63 @@ impl<A: Store, N: Named, G: Gate + Drop> Shared<A, N, G> {
         ensures sees { Sees (DoesFlush result) pass.old pass.new }
     {
         self.desk.lock(rt).flush(&self.board, pass)
+    }
+
+    // A turn of a question. The lock is free again at its end.
+    fn turn(
+        &self,
+        rt: &impl Wait,
+        pass: &mut Pass<N>,
+        cursor: &mut A::Cursor,
+        query: &Query,
+    ) -> Result<Turn<(A::Errand, A::Seen)>, AskError>
+        requires asks { A.asks cursor.old ≡ query.now }
+        ensures begins { BeginsView pass.old pass.new }
+        ensures right { IsHistory pass.new.past.history }
+        ensures asks { A.asks cursor.new ≡ query.now }
+        ensures settled { OnOk result (last_moment query.now < settled pass.new.past.history) }
+        ensures gives { A.gathered cursor.old pass.new.past.history → IfOk result (λ turn. TurnGives (λ e. A.lies e.0 cursor.new pass.new.past × Among (A.known e.1) pass.new.past.blocks × Among pass.new.past.blocks (A.known e.1)) (A.gathered cursor.new pass.new.past.history) (λ answer. IsAnswered (applied pass.new.past.history) query.now answer) turn) }
+        ensures told { IfErr result (λ e. IsTold e pass.new.past.history query.now) }
+        ensures not_refused { IfErr result (λ e. IsAbove e → watermark_of pass.old ≤ last_moment query.now) }
+    {
+        self.desk.lock(rt).turn(&self.board, pass, cursor)
+    }
+
+    /// Answers a question over a history that what the pass had seen begins, and that the pass then knows. The lock is
+    /// taken for each descent alone; blocks are read without it. The reader is new, or was used with this pass alone. The
+    /// question is never refused as above the watermark below one that the pass has seen.
+    pub fn ask(
+        &self,
+        rt: &impl Wait,
+        pass: &mut Pass<N>,
+        reader: &mut Reader<A>,
+        request: u64,
+        query: Query,
+    ) -> Result<Answer, AskError>
+        requires reader { Among reader.old pass.old.past.blocks }
+        ensures reader { Among reader.new pass.new.past.blocks }
+        ensures begins { BeginsView pass.old pass.new }
+        ensures answer { IfOk result (λ answer. IsAnswered (applied pass.new.past.history) query answer) }
+        ensures settled { OnOk result (last_moment query < settled pass.new.past.history) }
+        ensures told { IfErr result (λ e. IsTold e pass.new.past.history query) }
+        ensures not_refused { IfErr result (λ e. IsAbove e → watermark_of pass.old ≤ last_moment query) }
+    {
+        let mut cursor = A::start(&query);
+        for _ in rt.forever() {
+            let turn = self.turn(rt, pass, &mut cursor, &query)?;
+            self.gate.descended(request);
+            match turn {
+                Turn::Done(answer) => {
+                    self.gate.answered(request);
+                    return Ok(answer);
+                }
+                Turn::Again => {}
+                Turn::Historical((errand, mut seen)) => {
+                    reader.finish(&mut seen, errand, &mut cursor)?;
+                }
+            }
+        }
+        unreachable!()
     }
 
     /// The archive, once the threads are done. What each of these passes knew begins its past.

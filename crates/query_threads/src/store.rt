@@ -88,8 +88,8 @@ pub trait Store {
         ensures pages { pages self.new ≡ pages self.old };
 
     /// The start of a question.
-    fn start(query: Query) -> Self::Cursor
-        ensures asks { asks result ≡ query }
+    fn start(query: &Query) -> Self::Cursor
+        ensures asks { asks result ≡ query.now }
         ensures gathered { (h : History) → gathered result h };
 
     /// A turn of a question.
