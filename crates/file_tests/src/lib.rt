@@ -1,0 +1,16 @@
+//! Tests of the disks over files: real folders, files that are cut, held or made by another, and files that do less than
+//! they are asked for.
+#![tactic(auto)]
+
+#[cfg(test)]
+mod blocks;
+#[cfg(test)]
+mod folders;
+#[cfg(test)]
+mod layers;
+#[cfg(test)]
+mod pages;
+#[cfg(test)]
+mod scripted;
+#[cfg(test)]
+mod slow;
