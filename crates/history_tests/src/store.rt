@@ -163,7 +163,7 @@ impl ListStore {
                     &stamp_octets(entry.stamp),
                 )?;
                 if let Some(value) = &entry.value {
-                    let len = value.len() as u16;
+                    let len = value.len().min(65_535) as u16;
                     put(&mut block, at.saturating_add(56), &[1])?;
                     put(&mut block, at.saturating_add(57), &len.to_be_bytes())?;
                     put(&mut block, at.saturating_add(59), value.as_slice())?;
@@ -176,7 +176,7 @@ impl ListStore {
                 count = count.saturating_add(1);
             }
         }
-        let used = at.saturating_sub(120) as u16;
+        let used = at.saturating_sub(120).min(65_535) as u16;
         put(&mut block, 0, &[1])?;
         put(&mut block, 4, &count.to_be_bytes())?;
         put(&mut block, 6, &used.to_be_bytes())?;
@@ -240,6 +240,9 @@ impl Past {
         place: &Place,
         capacity: usize,
     ) -> Result<Past, Fail> {
+        if capacity == 0 || capacity > 1024 {
+            return Err(Fail::from("no such capacity"));
+        }
         let (disk, pen) = MemOnce::new(alloc, 2);
         let mut shelf = match Shelf::open(Arc::new(alloc, disk)?, pen, 0) {
             Ok(shelf) => shelf,

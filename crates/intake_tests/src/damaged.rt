@@ -70,6 +70,29 @@ fn is_first(
     })
 }
 
+// Whether these two times were wanted.
+fn are_wanted(times: &[Moment], wanted: Reading<[u32; 2]>) -> bool {
+    match wanted {
+        Ok(two) => {
+            times.len() == 2
+                && times[0].seconds() == u64::from(two[0])
+                && times[1].seconds() == u64::from(two[1])
+        }
+        Err(_) => false,
+    }
+}
+
+// Whether it was wanted that this is told.
+fn is_wanted(refusal: ReadError, wanted: Reading<[u32; 2]>) -> bool {
+    let ReadError::BadNode(page) = refusal else {
+        return false;
+    };
+    match wanted {
+        Err(told) => told == page,
+        Ok(_) => false,
+    }
+}
+
 // Whether these are read as the times.
 fn are_times(
     alloc: Global,
@@ -77,12 +100,10 @@ fn are_times(
     ring: &Ring,
     wanted: Reading<[u32; 2]>,
 ) -> Result<bool, Fail> {
-    Ok(match (waiting_times(alloc, tx, ring), wanted) {
-        (Ok(times), Ok([one, two])) => times.as_slice()
-            == [Moment::from(one), Moment::from(two)].as_slice(),
-        (Err(ReadError::BadNode(page)), Err(told)) => page == told,
-        _ => false,
-    })
+    match waiting_times(alloc, tx, ring) {
+        Ok(times) => Ok(are_wanted(&times, wanted)),
+        Err(refusal) => Ok(is_wanted(refusal, wanted)),
+    }
 }
 
 // The time with one of its last four octets changed, of which the first is the octet 4 of a spelling.
