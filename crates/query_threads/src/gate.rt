@@ -2,10 +2,10 @@
 
 /// Is told of the questions of a shared archive, while no lock is held.
 pub trait Gate {
-    /// A turn of the request descended.
+    /// The request's first turn has come back. It is told once a request, also where that turn was refused.
     fn descended(&self, request: u64);
 
-    /// The request is answered.
+    /// The request's reply is made. It is told once a request, also where the reply is a refusal.
     fn answered(&self, request: u64);
 }
 

@@ -189,13 +189,21 @@ impl<A: Store, N: Named, G: Gate + Drop> Shared<A, N, G> {
         self.desk.lock(rt).flush(&self.board, pass)
     }
 
-    // A turn of a question. The lock is free again at its end.
+    // Tells once of a request that it has descended.
+    fn descended(&self, untold: &mut Option<u64>) {
+        if let Some(request) = untold.take() {
+            self.gate.descended(request);
+        }
+    }
+
+    // A turn of a question. The lock is free again at its end, and of the first turn is told.
     fn turn(
         &self,
         rt: &impl Wait,
         pass: &mut Pass<N>,
         cursor: &mut A::Cursor,
         query: &Query,
+        untold: &mut Option<u64>,
     ) -> Result<Turn<(A::Errand, A::Seen)>, AskError>
         requires asks { A.asks cursor.old ≡ query.now }
         ensures begins { BeginsView pass.old pass.new }
@@ -206,7 +214,43 @@ impl<A: Store, N: Named, G: Gate + Drop> Shared<A, N, G> {
         ensures told { IfErr result (λ e. IsTold e pass.new.past.history query.now) }
         ensures not_refused { IfErr result (λ e. IsAbove e → watermark_of pass.old ≤ last_moment query.now) }
     {
-        self.desk.lock(rt).turn(&self.board, pass, cursor)
+        let told = self.desk.lock(rt).turn(&self.board, pass, cursor);
+        self.descended(untold);
+        told
+    }
+
+    // The turns of a question, to their end.
+    fn answer_of(
+        &self,
+        rt: &impl Wait,
+        pass: &mut Pass<N>,
+        reader: &mut Reader<A>,
+        request: u64,
+        query: Query,
+    ) -> Result<Answer, AskError>
+        requires reader { Among reader.old pass.old.past.blocks }
+        ensures reader { Among reader.new pass.new.past.blocks }
+        ensures begins { BeginsView pass.old pass.new }
+        ensures answer { IfOk result (λ answer. IsAnswered (applied pass.new.past.history) query answer) }
+        ensures settled { OnOk result (last_moment query < settled pass.new.past.history) }
+        ensures told { IfErr result (λ e. IsTold e pass.new.past.history query) }
+        ensures not_refused { IfErr result (λ e. IsAbove e → watermark_of pass.old ≤ last_moment query) }
+    {
+        let mut cursor = A::start(&query);
+        let mut untold = Some(request);
+        for _ in rt.forever() {
+            let turn = self.turn(rt, pass, &mut cursor, &query, &mut untold)?;
+            match turn {
+                Turn::Done(answer) => {
+                    return Ok(answer);
+                }
+                Turn::Again => {}
+                Turn::Historical((errand, mut seen)) => {
+                    reader.finish(&mut seen, errand, &mut cursor)?;
+                }
+            }
+        }
+        unreachable!()
     }
 
     /// Answers a question over a history that what the pass had seen begins, and that the pass then knows. The lock is
@@ -228,22 +272,9 @@ impl<A: Store, N: Named, G: Gate + Drop> Shared<A, N, G> {
         ensures told { IfErr result (λ e. IsTold e pass.new.past.history query) }
         ensures not_refused { IfErr result (λ e. IsAbove e → watermark_of pass.old ≤ last_moment query) }
     {
-        let mut cursor = A::start(&query);
-        for _ in rt.forever() {
-            let turn = self.turn(rt, pass, &mut cursor, &query)?;
-            self.gate.descended(request);
-            match turn {
-                Turn::Done(answer) => {
-                    self.gate.answered(request);
-                    return Ok(answer);
-                }
-                Turn::Again => {}
-                Turn::Historical((errand, mut seen)) => {
-                    reader.finish(&mut seen, errand, &mut cursor)?;
-                }
-            }
-        }
-        unreachable!()
+        let told = self.answer_of(rt, pass, reader, request, query);
+        self.gate.answered(request);
+        told
     }
 
     /// The archive, once the threads are done. What each of these passes knew begins its past.

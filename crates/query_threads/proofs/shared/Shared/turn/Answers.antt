@@ -15,22 +15,22 @@ each_err (Ok x) P Q is f = tt
 each_err (Err e) P Q is f = f e is
 
 pub returns-clause-asks : goal.returns-clause-asks
-returns-clause-asks g c = c.turn.ensures.asks ∙ c.requires.asks
+returns-clause-asks g c = c.turn-told.ensures.asks ∙ c.requires.asks
 
 pub returns-clause-settled : goal.returns-clause-settled
-returns-clause-settled g c = subst (λ (q : Query). OnOk c.turn.result (last_moment q < settled c.turn.new.pass.past.history)) c.requires.asks c.turn.ensures.settled
+returns-clause-settled g c = subst (λ (q : Query). OnOk c.turn-told.result (last_moment q < settled c.turn-told.new.pass.past.history)) c.requires.asks c.turn-told.ensures.settled
 
 pub returns-clause-gives : goal.returns-clause-gives
 returns-clause-gives g c gathered =
-    let p = c.turn.new.pass.past in
-    subst (λ (q : Query). IfOk c.turn.result (λ turn. TurnGives (λ e. g.A.Store.lies e.0 c.turn.new.cursor p × Among (g.A.Store.known e.1) p.blocks × Among p.blocks (g.A.Store.known e.1)) (g.A.Store.gathered c.turn.new.cursor p.history) (λ answer. IsAnswered (applied p.history) q answer) turn))
-    c.requires.asks (c.turn.ensures.gives gathered)
+    let p = c.turn-told.new.pass.past in
+    subst (λ (q : Query). IfOk c.turn-told.result (λ turn. TurnGives (λ e. g.A.Store.lies e.0 c.turn-told.new.cursor p × Among (g.A.Store.known e.1) p.blocks × Among p.blocks (g.A.Store.known e.1)) (g.A.Store.gathered c.turn-told.new.cursor p.history) (λ answer. IsAnswered (applied p.history) q answer) turn))
+    c.requires.asks (c.turn-told.ensures.gives gathered)
 
 pub returns-clause-told : goal.returns-clause-told
-returns-clause-told g c = subst (λ (q : Query). IfErr c.turn.result (λ e. IsTold e c.turn.new.pass.past.history q)) c.requires.asks c.turn.ensures.told
+returns-clause-told g c = subst (λ (q : Query). IfErr c.turn-told.result (λ e. IsTold e c.turn-told.new.pass.past.history q)) c.requires.asks c.turn-told.ensures.told
 
 pub returns-clause-not_refused : goal.returns-clause-not_refused
 returns-clause-not_refused g c =
-    let h = c.turn.new.pass.past.history in
-    let told = subst (λ (q : Query). IfErr c.turn.result (λ e. IsTold e h q)) c.requires.asks c.turn.ensures.told in
-    each_err c.turn.result (λ e. IsTold e h c.args.query.now) (λ e. IsAbove e → watermark_of c.args.pass.now ≤ last_moment c.args.query.now) told (λ e t above. told_low e h c.args.query.now (watermark_of c.args.pass.now) t (c.turn.ensures.reached 0) above)
+    let h = c.turn-told.new.pass.past.history in
+    let told = subst (λ (q : Query). IfErr c.turn-told.result (λ e. IsTold e h q)) c.requires.asks c.turn-told.ensures.told in
+    each_err c.turn-told.result (λ e. IsTold e h c.args.query.now) (λ e. IsAbove e → watermark_of c.args.pass.now ≤ last_moment c.args.query.now) told (λ e t above. told_low e h c.args.query.now (watermark_of c.args.pass.now) t (c.turn-told.ensures.reached 0) above)

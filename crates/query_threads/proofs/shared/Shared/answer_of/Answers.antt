@@ -5,7 +5,7 @@ use Rattle.interleaving_core.specs.Headline.{IsAnswered}
 use Rattle.board.specs.Past.{Among}
 use Rattle.query_threads.specs.Turns.{TurnGives}
 use Rattle.query_threads.proofs.Seen.{since_then}
-use Rattle.query_threads.proofs.shared.Shared.ask.Goals as goal
+use Rattle.query_threads.proofs.shared.Shared.answer_of.Goals as goal
 
 pub returns-in_err-turn-clause-reader : goal.returns-in_err-turn-clause-reader
 returns-in_err-turn-clause-reader g c n octets is = c.turn.ensures.begins.past.blocks n octets (c.loop.invariant.reader n octets is)

@@ -2,7 +2,7 @@ use Rattle.std.proofs.Common.{◌≡◌}
 use Rattle.route_meaning.specs.History.{History, Begins}
 use Rattle.board.specs.Past.{Among}
 use Rattle.query_threads.specs.Seeing.{Since}
-use Rattle.query_threads.proofs.shared.Shared.ask.Given as goal
+use Rattle.query_threads.proofs.shared.Shared.answer_of.Given as goal
 
 abbrev pub invariant-loop : goal.invariant-loop
 invariant-loop g l = record {
