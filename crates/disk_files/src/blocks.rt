@@ -155,11 +155,13 @@ impl FileOnce {
         if !are_blocks(count) {
             return Err(FileError::Size(Part::Map));
         }
+        // The name is had before anything is made, so that want of memory can't keep the map from being taken away.
+        let path = folder::path(alloc, folder, Part::Map)?;
         let map = folder::create(alloc, files, folder, count, Part::Map)?;
         match create_beside(alloc, files, folder, &map, count) {
             Ok((blocks, identity)) => Ok(FileOnce::over(map, blocks, count, identity)),
             Err(e) => {
-                let _ = folder::remove(alloc, files, folder, &map, Part::Map);
+                let _ = folder::take_away(files, path.as_str(), &map, Part::Map);
                 Err(e)
             }
         }
@@ -185,15 +187,17 @@ impl FileOnce {
 }
 
 impl FilePen {
-    /// Takes the two files out of the folder, where they still stand there under their names.
+    /// Takes the two files out of the folder, where they still stand there under their names. Both are tried.
     pub fn remove<R: Files<File = File>>(
         self,
         alloc: Global,
         files: &R,
         folder: &str,
     ) -> Result<(), FileError> {
-        folder::remove(alloc, files, folder, &self.blocks, Part::Blocks)?;
-        folder::remove(alloc, files, folder, &self.map, Part::Map)
+        let blocks = folder::remove(alloc, files, folder, &self.blocks, Part::Blocks);
+        let map = folder::remove(alloc, files, folder, &self.map, Part::Map);
+        blocks?;
+        map
     }
 }
 

@@ -14,7 +14,7 @@ use std::io::ErrorKind;
 use std::rt::Files;
 
 /// The name of a file, with that of its folder.
-fn path(alloc: Global, folder: &str, part: Part) -> Result<String, FileError>
+pub(crate) fn path(alloc: Global, folder: &str, part: Part) -> Result<String, FileError>
     ensures refused { IfErr result (λ e. ¬ IsOfSize e) }
 {
     match format!(in alloc; "{folder}/{part}") {
@@ -97,7 +97,7 @@ fn is_there<R: Files<File = File>>(files: &R, path: &str, file: &File) -> bool {
 }
 
 /// Takes a file's name out of its folder, where it is still this file's.
-fn take_away<R: Files<File = File>>(
+pub(crate) fn take_away<R: Files<File = File>>(
     files: &R,
     path: &str,
     file: &File,
