@@ -1,6 +1,6 @@
 //! The erasable disk over a file.
 
-ghost use Rattle.std.specs.Prelude.{◌≡◌, ◌≤◌, ◌<◌, ◌+◌, ◌↔◌, ℕ, length, min, true, false, IfOk, IfErr, IsErr, Err, OnOk, OnErr};
+ghost use Rattle.std.specs.Prelude.{◌≡◌, ◌≤◌, ◌<◌, ◌+◌, ◌↔◌, ℕ, length, min, true, false, IfOk, IfErr, IsErr, IsOk, Err, OnOk, OnErr};
 ghost use Rattle.disk_models.specs.Octets.{octets};
 ghost use Rattle.disk_models.specs.Erase.{Counts, Lingers, Stays, Syncs, WritesWithin};
 ghost use Rattle.disk_files.specs.Sizes.{ArePages};
@@ -48,7 +48,7 @@ impl<F: OctetFile> FileErase<F> {
     }
 
     /// Makes a new file that is at hand a disk of so many octets: a positive multiple of 16,384, below 2^63. It is locked.
-    /// Where it is refused, what it then holds is left to the caller.
+    /// One that has octets is refused, and keeps them; else, where it is refused, what it then holds is left to the caller.
     pub fn create_on(mut file: F, size: u64) -> Result<Self, FileError>
     where
         F: Drop,
@@ -57,6 +57,7 @@ impl<F: OctetFile> FileErase<F> {
         ensures held { F.follows file → IfOk result (λ disk. F.is_held (file_of disk)) }
         ensures whole { F.follows file → IfOk result (λ disk. F.octet_count (file_of disk) ≡ size) }
         ensures settled { F.follows file → IfOk result (λ disk. (i : ℕ) → ¬ (F.model (file_of disk)).unsynced i) }
+        ensures empty { F.follows file → IsOk result → F.octet_count file ≡ 0 }
         ensures refused { ¬ ArePages size → result ≡ Err (FileError.Size Part.Pages) }
         ensures right_size { ArePages size → IfErr result (λ e. ¬ IsOfSize e) }
     {

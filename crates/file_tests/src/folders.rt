@@ -1,4 +1,5 @@
 // Folders for tests, and what is in a file.
+use crate::answers::Answer;
 use disk_models::{Block, Page};
 use std::alloc::Global;
 use std::fs::{File, OpenOptions};
@@ -53,9 +54,14 @@ pub(crate) fn octet_of(
 }
 
 // Gives a file another size.
-pub(crate) fn cut(rt: &HostRuntime, folder: &str, name: &str, size: u64) -> Result<(), Fail> {
-    beside(rt, folder, name)?.set_len(size)?;
-    Ok(())
+pub(crate) fn cut(rt: &HostRuntime, folder: &str, name: &str, size: u64) -> Answer {
+    let Ok(path) = format!(in rt.alloc(); "{folder}/{name}") else {
+        return Answer::Harness;
+    };
+    match OpenOptions::new().write(true).open(rt, path.as_str()) {
+        Ok(file) if file.set_len(size).is_ok() => Answer::Yes,
+        _ => Answer::Harness,
+    }
 }
 
 // Whether a folder has a file of this name.

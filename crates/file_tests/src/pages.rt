@@ -1,41 +1,76 @@
 // The erasable disk over a real file.
+use crate::answers::Answer::{self, Fault, Yes};
 use crate::folders::{
     PAGE, are_all, beside, cut, folder, has, holds, inside, octet_of, page_of, size_of,
 };
 use disk_files::{FileErase, FileError, Part};
-use disk_models::{EraseDisk, Fault};
+use disk_models::EraseDisk;
 use std::fs;
 use std::os::fd::AsRawFd;
 use std::os::unix::fs::symlink;
 use std::test::Fail;
 
-// Writes a page filled with an octet, where the disk has it.
-fn write<D: EraseDisk>(disk: &mut D, n: u64, octet: u8) -> Result<(), Fault> {
-    let octets = [octet; 16_384];
-    let at = n.saturating_mul(PAGE);
-    if at > disk.size() || disk.size() - at < PAGE {
-        return Err(Fault);
-    }
-    disk.write_at(at, &octets)
+// A step over a disk of pages.
+#[derive(Clone, Copy)]
+enum Step {
+    // A page is filled with an octet.
+    Write(u64, u8),
+    // A page is read: is it filled with this octet?
+    Is(u64, u8),
+    Sync,
+    // Its file is given another size.
+    Cut(u64),
 }
 
-// Whether a page is all one octet.
-fn is_filled<D: EraseDisk>(disk: &mut D, n: u64, octet: u8) -> Result<bool, Fault> {
-    let mut octets = [99; 16_384];
+use Step::{Cut, Is, Sync, Write};
+
+fn fill<D: EraseDisk>(disk: &mut D, n: u64, octet: u8) -> Answer {
     let at = n.saturating_mul(PAGE);
     if at > disk.size() || disk.size() - at < PAGE {
-        return Err(Fault);
+        return Answer::Harness;
     }
-    disk.read(at, &mut octets)?;
-    Ok(are_all(&octets, octet))
+    Answer::of(disk.write_at(at, &[octet; 16_384]))
+}
+
+fn is_filled<D: EraseDisk>(disk: &mut D, n: u64, octet: u8) -> Answer {
+    let at = n.saturating_mul(PAGE);
+    if at > disk.size() || disk.size() - at < PAGE {
+        return Answer::Harness;
+    }
+    let mut octets = [99; 16_384];
+    match disk.read(at, &mut octets) {
+        Ok(()) => Answer::is(are_all(&octets, octet)),
+        Err(_) => Fault,
+    }
+}
+
+// The first step that answers something else than the table says.
+fn first_wrong(
+    rt: &HostRuntime,
+    folder: &str,
+    disk: &mut FileErase,
+    table: &[(Step, Answer)],
+) -> Option<usize> {
+    for (k, (step, wanted)) in table.iter().enumerate() {
+        let found = match *step {
+            Write(n, octet) => fill(disk, n, octet),
+            Is(n, octet) => is_filled(disk, n, octet),
+            Sync => Answer::of(disk.sync()),
+            Cut(size) => cut(rt, folder, "pages.rha", size),
+        };
+        if found != *wanted {
+            return Some(k);
+        }
+    }
+    None
 }
 
 #[test]
 fn pages_stand_at_their_places_in_the_file(rt: HostRuntime) -> Result<(), Fail> {
     let folder = folder(&rt, "places")?;
     let mut disk = FileErase::create(rt.alloc(), &rt, folder.as_str(), 3 * PAGE)?;
-    write(&mut disk, 1, 7)?;
-    write(&mut disk, 2, 9)?;
+    let table = [(Write(1, 7), Yes), (Write(2, 9), Yes)];
+    assert_eq!(rt; first_wrong(&rt, folder.as_str(), &mut disk, &table), None);
     let wanted = [
         (16_383, Some(0)),
         (16_384, Some(7)),
@@ -53,14 +88,13 @@ fn pages_stand_at_their_places_in_the_file(rt: HostRuntime) -> Result<(), Fail> 
 fn pages_are_there_after_the_disk_is_opened_again(rt: HostRuntime) -> Result<(), Fail> {
     let folder = folder(&rt, "pages")?;
     let mut disk = FileErase::create(rt.alloc(), &rt, folder.as_str(), 2 * PAGE)?;
-    write(&mut disk, 1, 7)?;
-    disk.sync()?;
+    let table = [(Write(1, 7), Yes), (Sync, Yes)];
+    assert_eq!(rt; first_wrong(&rt, folder.as_str(), &mut disk, &table), None);
     drop(disk);
     let mut disk = FileErase::open(rt.alloc(), &rt, folder.as_str())?;
-    assert_eq!(rt; disk.size(), 32_768);
-    assert!(rt; is_filled(&mut disk, 0, 0)?);
-    assert!(rt; is_filled(&mut disk, 1, 7)?);
-    assert_eq!(rt; disk.faults(), 0);
+    let table = [(Is(0, 0), Yes), (Is(1, 7), Yes)];
+    assert_eq!(rt; first_wrong(&rt, folder.as_str(), &mut disk, &table), None);
+    assert_eq!(rt; (disk.size(), disk.faults()), (32_768, 0));
     fs::remove_dir_all(&rt, folder.as_str())?;
     Ok(())
 }
@@ -78,13 +112,13 @@ fn refusals(rt: &HostRuntime, folder: &str) -> (Option<FileError>, Option<FileEr
 fn two_processes_in_one_archive_are_one_too_many(rt: HostRuntime) -> Result<(), Fail> {
     let folder = folder(&rt, "held")?;
     let mut disk = FileErase::create(rt.alloc(), &rt, folder.as_str(), 2 * PAGE)?;
-    write(&mut disk, 0, 5)?;
+    let table = [(Write(0, 5), Yes)];
+    assert_eq!(rt; first_wrong(&rt, folder.as_str(), &mut disk, &table), None);
     let in_use = Some(FileError::InUse(Part::Pages));
     assert_eq!(rt; refusals(&rt, folder.as_str()), (in_use, in_use));
     // Nothing was harmed.
-    assert!(rt; is_filled(&mut disk, 0, 5)?);
-    write(&mut disk, 1, 6)?;
-    disk.sync()?;
+    let table = [(Is(0, 5), Yes), (Write(1, 6), Yes), (Sync, Yes)];
+    assert_eq!(rt; first_wrong(&rt, folder.as_str(), &mut disk, &table), None);
     fs::remove_dir_all(&rt, folder.as_str())?;
     Ok(())
 }
@@ -156,55 +190,57 @@ fn a_file_of_another_size_is_refused(rt: HostRuntime) -> Result<(), Fail> {
         (16_385, size),
         (PAGE, None),
     ] {
-        cut(&rt, folder.as_str(), "pages.rha", octets)?;
-        assert_eq!(rt; refusals(&rt, folder.as_str()).0, wanted);
+        let was_cut = cut(&rt, folder.as_str(), "pages.rha", octets);
+        assert_eq!(rt; (was_cut, refusals(&rt, folder.as_str()).0), (Yes, wanted));
     }
     fs::remove_dir_all(&rt, folder.as_str())?;
     Ok(())
 }
 
-// A disk of four pages, the first of which is filled, whose file is cut within the second one.
-fn cut_disk(rt: &HostRuntime, folder: &str) -> Result<FileErase, Fail> {
-    let mut disk = FileErase::create(rt.alloc(), rt, folder, 4 * PAGE)?;
-    write(&mut disk, 0, 3)?;
-    cut(rt, folder, "pages.rha", PAGE + 100)?;
-    Ok(disk)
-}
-
+// What a disk of four pages does whose file is cut within the second one, and how often it fails.
 #[test]
-fn what_was_cut_is_not_read_as_zeros(rt: HostRuntime) -> Result<(), Fail> {
-    let folder = folder(&rt, "short")?;
-    let mut disk = cut_disk(&rt, folder.as_str())?;
-    assert!(rt; is_filled(&mut disk, 0, 3)?);
-    assert_eq!(rt; is_filled(&mut disk, 1, 0), Err(Fault));
-    assert_eq!(rt; is_filled(&mut disk, 3, 0), Err(Fault));
-    assert!(rt; is_filled(&mut disk, 0, 3)?);
-    assert_eq!(rt; disk.faults(), 2);
-    fs::remove_dir_all(&rt, folder.as_str())?;
+fn a_file_that_was_cut_is_met(rt: HostRuntime) -> Result<(), Fail> {
+    let start = [(Write(0, 3), Yes), (Cut(PAGE + 100), Yes)];
+    // What was cut isn't read as zeros.
+    let reads = [
+        (Is(0, 3), Yes),
+        (Is(1, 0), Fault),
+        (Is(3, 0), Fault),
+        (Is(0, 3), Yes),
+    ];
+    // A write behind the cut fails, and then nothing succeeds, also where the file has its size again.
+    let writes = [
+        (Write(3, 8), Fault),
+        (Cut(4 * PAGE), Yes),
+        (Is(0, 3), Fault),
+        (Write(0, 8), Fault),
+        (Sync, Fault),
+    ];
+    // A cut that only a sync meets is a failure, too.
+    let syncs = [(Sync, Fault)];
+    let tables = [
+        (reads.as_slice(), 2),
+        (writes.as_slice(), 4),
+        (syncs.as_slice(), 1),
+    ];
+    for (table, faults) in tables {
+        let folder = folder(&rt, "cut")?;
+        let mut disk = FileErase::create(rt.alloc(), &rt, folder.as_str(), 4 * PAGE)?;
+        assert_eq!(rt; first_wrong(&rt, folder.as_str(), &mut disk, &start), None);
+        assert_eq!(rt; first_wrong(&rt, folder.as_str(), &mut disk, table), None);
+        assert_eq!(rt; disk.faults(), faults);
+        fs::remove_dir_all(&rt, folder.as_str())?;
+    }
     Ok(())
 }
 
 #[test]
-fn a_write_behind_a_cut_fails_and_the_file_does_not_grow(rt: HostRuntime) -> Result<(), Fail> {
-    let folder = folder(&rt, "cut")?;
-    let mut disk = cut_disk(&rt, folder.as_str())?;
-    assert_eq!(rt; write(&mut disk, 3, 8), Err(Fault));
+fn a_write_behind_a_cut_does_not_make_the_file_grow(rt: HostRuntime) -> Result<(), Fail> {
+    let folder = folder(&rt, "grow")?;
+    let mut disk = FileErase::create(rt.alloc(), &rt, folder.as_str(), 4 * PAGE)?;
+    let table = [(Cut(PAGE + 100), Yes), (Write(3, 8), Fault)];
+    assert_eq!(rt; first_wrong(&rt, folder.as_str(), &mut disk, &table), None);
     assert_eq!(rt; size_of(&rt, folder.as_str(), "pages.rha")?, 16_484);
-    // From then on nothing succeeds, also where the file has its size again.
-    cut(&rt, folder.as_str(), "pages.rha", 4 * PAGE)?;
-    assert_eq!(rt; is_filled(&mut disk, 0, 3), Err(Fault));
-    assert_eq!(rt; write(&mut disk, 0, 8), Err(Fault));
-    assert_eq!(rt; disk.sync(), Err(Fault));
-    assert_eq!(rt; disk.faults(), 4);
-    fs::remove_dir_all(&rt, folder.as_str())?;
-    Ok(())
-}
-
-#[test]
-fn a_cut_that_only_a_sync_meets_is_a_failure(rt: HostRuntime) -> Result<(), Fail> {
-    let folder = folder(&rt, "sync")?;
-    let mut disk = cut_disk(&rt, folder.as_str())?;
-    assert_eq!(rt; disk.sync(), Err(Fault));
     fs::remove_dir_all(&rt, folder.as_str())?;
     Ok(())
 }

@@ -78,6 +78,11 @@ fn what_stands_against_an_opening_is_told(rt: HostRuntime) -> Result<(), Fail> {
     }
     let opened = FileErase::open_on(SlowFile::new(rt.alloc(), 99, Wrong::Nothing));
     assert_eq!(rt; opened.err(), Some(FileError::Size(Part::Pages)));
+    // What has octets isn't made anew.
+    let mut file = SlowFile::new(rt.alloc(), 99, Wrong::Nothing);
+    file.octets.push(7)?;
+    let made = FileErase::create_on(file, PAGE);
+    assert_eq!(rt; made.err(), Some(FileError::Exists(Part::Pages)));
     Ok(())
 }
 
