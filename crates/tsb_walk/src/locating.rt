@@ -49,8 +49,9 @@ pub fn bring<P: Pages>(pages: &mut P, n: u64) -> Result<(), NodeError>
     }
 }
 
-// Goes down from a key node to its child that has the key.
-fn down<P: Pages>(pages: &mut P, place: &PagePlace, key: Key) -> Result<PagePlace, NodeError>
+/// Goes down from a key node to its child that has the key: one level below, of just the keys that the key node gives it. A page that
+/// isn't a key node of just the place's level and keys is called bad. Pages are only read.
+pub fn down<P: Pages>(pages: &mut P, place: &PagePlace, key: Key) -> Result<PagePlace, NodeError>
     requires has { HasKey place.now key }
     ensures has { IfOk result (λ next. HasKey next key) }
     ensures level { IfOk result (λ next. suc next.level ≡ place.now.level) }
