@@ -1,5 +1,5 @@
 -- A tree of no version.
-use Rattle.std.proofs.Common.{◌≡◌, ◌==◌, ℕ, ◌+◌, ◌<◌, ◌≤◌, Bool, true, false, not, List, [], ◌∷◌, length, Option, None, refl, sym, ◌∙◌, ap, subst, arith}
+use Rattle.std.proofs.Common.{◌≡◌, ℕ, ◌+◌, ◌≤◌, Bool, true, false, not, List, [], length, None, refl, ◌∙◌, ap, subst, arith}
 use Rattle.std.proofs.lemmas.List.Filters.{length-filter_both}
 use Rattle.page_journal.specs.Bookkeeping.{is_among, without}
 use Rattle.page_tx.specs.Images.{joined}
@@ -9,12 +9,11 @@ use Rattle.page_tx.specs.declared.error.PageError.TheVariants.{Fault, NeedsRecov
 use Rattle.page_tx.proofs.Joining.{length_joined}
 use Rattle.page_tx.proofs.Laying.{length_pages_of}
 use Rattle.page_journal.specs.Layout.{Image, pages_of}
-use Rattle.version_model.specs.Pages.{PageNode, ColumnNode, CurrentLeaf, all_keys}
+use Rattle.version_model.specs.Pages.{ColumnNode, CurrentLeaf, all_keys}
 use Rattle.version_model.specs.Ranges.{high_or}
 use Rattle.tsb_node.specs.Views.{PageSays}
-use Rattle.tsb_tree.specs.declared.error.TreeError.TheVariants as errors
 use Rattle.tsb_tree.specs.declared.whole.Whole.{Whole}
-use Rattle.tsb_tree.specs.Stores.{CreateRefusal}
+use Rattle.tsb_tree.specs.Refusals.{CreateRefusal, of_page}
 use Rattle.tsb_tree.specs.Wholes.{keys, column_node, leaf_node, keys_of_whole}
 
 not_not : (b : Bool) → b ≡ not (not b)
@@ -25,7 +24,7 @@ without_few : (ns old : List ℕ) → length (without ns old) ≤ length old
 without_few ns old = let both = length-filter_both (λ n. not (is_among n ns)) (λ n. is_among n ns) (λ n. not_not (is_among n ns)) old in omega (arith, both)
 
 -- a refusal to lay two images
-pub lay_refused : (e : PageError) (homes next : ℕ) (named : List ℕ) (images : List Image) → length images ≤ 2 → next + 2 ≤ homes → LayRefusal homes (next + 2) (length (joined named (pages_of images))) e → CreateRefusal homes next (length named) (errors.Pages e)
+pub lay_refused : (e : PageError) (homes next : ℕ) (named : List ℕ) (images : List Image) → length images ≤ 2 → next + 2 ≤ homes → LayRefusal homes (next + 2) (length (joined named (pages_of images))) e → CreateRefusal homes next (length named) (of_page e)
 lay_refused Fault homes next named images few fits is = is
 lay_refused NeedsRecovery homes next named images few fits is = is
 lay_refused TooManyImages homes next named images few fits is = (fits, omega (arith, is.1, length_joined named (pages_of images), without_few named (pages_of images), length_pages_of images, few))

@@ -1,14 +1,14 @@
 -- The tree takes a version.
-use Rattle.std.proofs.Common.{◌≡◌, ℕ, suc, ◌+◌, ◌-◌, ◌<◌, ◌≤◌, ◌⊎◌, inl, inr, List, [], ◌∷◌, ◌++◌, Option, Some, None, slice_get, refl, sym, ◌∙◌, ap, subst, arith}
+use Rattle.std.proofs.Common.{◌≡◌, ℕ, suc, ◌+◌, ◌<◌, ◌≤◌, inl, inr, List, [], ◌∷◌, ◌++◌, Option, Some, None, refl, ◌∙◌, ap, arith}
 use Rattle.std.proofs.lemmas.Option.{none-some}
 use Rattle.version_model.specs.declared.child.Child.{Child}
-use Rattle.version_model.specs.Versions.{Version, Has, IsAbove, IsRising}
-use Rattle.version_model.specs.Ranges.{Range, IsKeyOf, key_end, stamp_end}
+use Rattle.version_model.specs.Versions.{Version, Has, IsAbove}
+use Rattle.version_model.specs.Ranges.{Range, key_end, stamp_end}
 use Rattle.version_model.specs.Shows.{Shows}
 use Rattle.version_model.specs.Blocks.{BlockNode, Grows}
-use Rattle.version_model.specs.Pages.{PageNode, CurrentLeaf, ColumnNode, KeyNode, Stands, column, Store, StandsIn, TreeStands, IsNextStamp, all_keys, current_range}
+use Rattle.version_model.specs.Pages.{PageNode, CurrentLeaf, ColumnNode, KeyNode, column, Store, StandsIn, all_keys, current_range}
 use Rattle.version_model.specs.Inserts.{Splits, Became}
-use Rattle.version_model.proofs.api.Pushed.{Has-push_cases, Has-push_new, Has-push_old, IsRising-push, Adds-push}
+use Rattle.version_model.proofs.api.Pushed.{Has-push_cases, Has-push_new, IsRising-push, Adds-push}
 use Rattle.version_model.proofs.api.Grown.{Stands-grows}
 use Rattle.tsb_tree.specs.Trees.{TreeHas}
 use Rattle.tsb_tree.proofs.Laying.{put, put_same, put_other}

@@ -1,13 +1,11 @@
 -- A key node is split into two, and a tree grows by a root.
-use Rattle.std.proofs.Common.{◌≡◌, ◌≢◌, ℕ, zero, suc, ◌+◌, ◌-◌, ◌<◌, ◌≤◌, ◌⊎◌, inl, inr, List, [], ◌∷◌, Option, Some, None, slice_get, length, take, drop, refl, sym, ◌∙◌, ap, subst, arith}
-use Rattle.std.proofs.lemmas.Option.{same_Some, none-some, slice_get_within}
-use Rattle.std.proofs.lemmas.Bool.{cases_eq, cases_order}
+use Rattle.std.proofs.Common.{◌≡◌, ℕ, zero, suc, ◌+◌, ◌<◌, ◌≤◌, ◌⊎◌, inl, inr, List, [], ◌∷◌, Some, None, slice_get, take, drop, refl, sym, ◌∙◌, ap, subst, arith}
+use Rattle.std.proofs.lemmas.Option.{same_Some, none-some}
+use Rattle.std.proofs.lemmas.Bool.{cases_eq}
 use Rattle.version_model.specs.declared.child.Child.{Child}
-use Rattle.version_model.specs.Versions.{Version, Has, IsAbove, Adds}
-use Rattle.version_model.specs.Ranges.{IsKeyOf}
-use Rattle.version_model.specs.Blocks.{BlockNode, Grows}
-use Rattle.version_model.specs.Pages.{Keys, PageNode, KeyNode, Stands, Store, StandsIn, IsChildOf, AreChildren, child_keys, low_or, current_range}
-use Rattle.version_model.specs.Inserts.{LiesUnder, Splits, Became, KeepsOthers}
+use Rattle.version_model.specs.Versions.{Version}
+use Rattle.version_model.specs.Pages.{Keys, PageNode, KeyNode, Store, StandsIn, IsChildOf, AreChildren, child_keys, low_or}
+use Rattle.version_model.specs.Inserts.{LiesUnder, Splits, Became}
 use Rattle.version_model.proofs.api.Children.{key_stands, KeyStands, disjoint}
 use Rattle.version_model.proofs.api.ChildrenTwo.{front_child, key_node_written, get-take}
 

@@ -9,3 +9,9 @@ pub mod Shaping
 pub mod Shelving
 pub mod Telling
 pub mod Creating
+pub mod Halving
+pub mod Rooms
+pub mod Planning
+pub mod KeyLists
+pub mod KeyNodes
+pub mod KeyPlans

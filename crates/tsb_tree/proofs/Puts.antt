@@ -1,11 +1,10 @@
 -- A key node takes the new half of a child.
-use Rattle.std.proofs.Common.{◌≡◌, ℕ, suc, ◌+◌, ◌<◌, ◌≤◌, List, [], ◌∷◌, ◌++◌, Option, Some, None, slice_get, length, take, drop, refl, sym, ◌∙◌, ap, subst, arith}
+use Rattle.std.proofs.Common.{◌≡◌, ℕ, suc, ◌+◌, ◌<◌, ◌≤◌, List, Some, None, slice_get, take, drop, refl, sym, ◌∙◌, ap, arith}
 use Rattle.std.specs.List.{insert}
 use Rattle.version_model.specs.declared.child.Child.{Child}
 use Rattle.version_model.specs.Versions.{Version}
-use Rattle.version_model.specs.Blocks.{BlockNode}
 use Rattle.version_model.specs.Pages.{Keys, PageNode, KeyNode, Store}
-use Rattle.version_model.specs.Inserts.{Splits, Writes}
+use Rattle.version_model.specs.Inserts.{Splits}
 use Rattle.version_model.proofs.api.Put.{Splits-put}
 use Rattle.tsb_tree.specs.Wholes.{keys}
 use Rattle.tsb_tree.proofs.Laying.{put, put_same, put_other}

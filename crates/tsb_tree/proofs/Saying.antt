@@ -1,29 +1,25 @@
 -- What pages say is what is read from them.
-use Rattle.std.proofs.Common.{◌≡◌, ℕ, zero, suc, ◌<◌, ◌≤◌, ◌^◌, ◌⊎◌, inl, inr, List, [], ◌∷◌, Option, Some, None, IfSome, slice_get, replicate, refl, sym, ◌∙◌, ap, subst, arith}
+use Rattle.std.proofs.Common.{◌≡◌, ℕ, zero, suc, ◌+◌, List, [], ◌∷◌, Some, Result, Err, min, slice_get, replicate, refl, sym, ◌∙◌, ap, subst}
 use Rattle.std.specs.List.{AllByRecursion}
 use Rattle.std.proofs.lemmas.Option.{same_Some, none-some}
-use Rattle.tsb_node.specs.declared.column.Current.{Current}
-use Rattle.tsb_node.specs.declared.column.PartAt.{PartAt}
-use Rattle.tsb_node.specs.declared.column.Spot.{Spot}
-use Rattle.tsb_node.specs.declared.column.Spot.TheVariants.{InPage, InBlock}
-use Rattle.tsb_node.proofs.ViewLaws.{spot_part, column_parts_are}
-use Rattle.version_model.proofs.api.TreeKept.{no_part}
 use Rattle.version_model.specs.declared.part.Part.{Part}
 use Rattle.version_model.specs.declared.child.Child.{Child}
 use Rattle.version_model.specs.Versions.{Version}
 use Rattle.version_model.specs.Pages.{Keys, PageNode, CurrentLeaf, ColumnNode, KeyNode}
 use Rattle.tsb_node.specs.Views.{PageSays, says_leaf, says_column, says_key_node, keys_between}
-use Rattle.tsb_node.specs.Leaves.{LeafNode, IsLeafPage, BeginsAsLeaf}
-use Rattle.tsb_node.specs.Columns.{ColumnInPage, IsColumnPage, IsPartEntry}
+use Rattle.tsb_node.specs.Leaves.{LeafNode, IsLeafPage}
+use Rattle.tsb_node.specs.Columns.{ColumnInPage, IsColumnPage}
 use Rattle.tsb_node.specs.KeyNodes.{KeyNodeInPage, IsKeyNodePage}
-use Rattle.tsb_node.specs.Parts.{BeginsAsColumn, IsSpot}
-use Rattle.tsb_node.specs.Children.{BeginsAsKeyNode, IsUnder, IsKeyWithin, high_of}
-use Rattle.tsb_node.specs.declared.key_node.Under.{Under}
-use Rattle.version_model.specs.declared.bounds.Bounds.{Bounds}
-use Rattle.version_model.specs.Ranges.{high_or}
+use Rattle.tsb_node.specs.Parts.{BeginsAsColumn}
+use Rattle.tsb_node.specs.Children.{BeginsAsKeyNode}
 use Rattle.page_tx.specs.declared.pages.Pages.{Ghosts}
-use Rattle.page_tx.specs.Device.{KeepsDevice}
-use Rattle.tsb_tree.specs.Stores.{OnlyReads, IsFor}
+use Rattle.page_tx.specs.declared.error.PageError.TheVariants as refusals
+use Rattle.tsb_walk.specs.Refusals.{OnlyReads}
+use Rattle.tsb_walk.specs.declared.error.NodeError.{NodeError}
+use Rattle.tsb_walk.specs.declared.error.NodeError.TheVariants as walks
+use Rattle.tsb_tree.specs.declared.error.TreeError.{TreeError}
+use Rattle.tsb_tree.specs.declared.error.TreeError.TheVariants as errors
+use Rattle.tsb_tree.specs.Refusals.{of_node}
 
 pub record ColumnOf (octets : List ℕ) (k : Keys) (parts : List Part) (start current : ℕ) : Type 0 where
   pub column : ColumnInPage
@@ -57,62 +53,55 @@ key_node_of_page octets _ level k children e (says_leaf leaf p) = absurd (cc)
 key_node_of_page octets _ level k children e (says_column column p) = absurd (cc)
 key_node_of_page octets _ level k children e (says_key_node node p) = record { node = node; page = p; begins = record { valid = p.valid; last = replicate 32 0; spelled = p.page.spelled }; is = e }
 
--- a call that failed neither way
-pub reads_on : {P : Type 0} (pages : Ghosts P) (old new : P) (F G : Type 0) → OnlyReads pages old new F → (F → ⊥) → (G → ⊥) → OnlyReads pages old new G
-reads_on pages old new F G reads nf ng = record {
-  shown = reads.shown;
-  homes = reads.homes;
-  next = reads.next;
-  named = reads.named;
-  down = reads.down;
-  device = record { honest = reads.device.honest; quiet = λ _. reads.device.quiet nf; counted = λ g. absurd (ng g) };
-}
-
 pub each_get : {X : Type 0} (P : X → Type 0) (xs : List X) (i : ℕ) (x : X) → AllByRecursion P xs → slice_get xs i ≡ Some x → P x
 each_get P [] i x all at = absurd (none-some x at)
 each_get P (y ∷ xs) zero x all at = subst P (same_Some y x at) all.0
 each_get P (y ∷ xs) (suc i) x all at = each_get P xs i x all.1 at
 
-pub spot_page : (octets : List ℕ) (k : Keys) (parts : List Part) (start current : ℕ) (o : ColumnOf octets k parts start current) (page : Current) (stamp : ℕ) → IsSpot o.column stamp (InPage page) → page.page ≡ current
-spot_page octets k parts start current o page stamp spot =
-    let is = o.is in
-    let there : o.column.current.page ≡ current = cc in
-    ap (λ (x : Current). x.page) spot.0 ∙ there
+-- the same calls, of failures that are the same ones
+pub reads_as : {P : Type 0} (pages : Ghosts P) (old new : P) (F G : Type 0) → OnlyReads pages old new F → (F → G) → (G → F) → OnlyReads pages old new G
+reads_as pages old new F G reads to from = record {
+  shown = reads.shown;
+  homes = reads.homes;
+  next = reads.next;
+  named = reads.named;
+  down = reads.down;
+  device = record { honest = reads.device.honest; quiet = λ none. reads.device.quiet (λ is. none (to is)); counted = λ is. reads.device.counted (from is) };
+}
 
-pub spot_not : (octets : List ℕ) (k : Keys) (parts : List Part) (start current : ℕ) (o : ColumnOf octets k parts start current) (found : PartAt) (stamp : ℕ) → start ≤ stamp → IsSpot o.column stamp (InBlock found) → ⊥
-spot_not octets k parts start current o found stamp le spot =
-    let is = o.is in
-    let from : o.column.current.start ≡ start = cc in
-    let valid = o.page.valid in
-    let of = spot_part o.column stamp found spot in
-    elim (column_parts_are o.column (256 ^ 8) valid (λ i p at. (each_get IsPartEntry o.column.parts i p valid.each at).block)) [
-      | inl none ↦ absurd (no_part o.column.parts found.part spot.place none.0 spot.at)
-      | inr are ↦ omega (arith, (are.inside _ _ of).1, spot.before, from, le)
-    ]
+-- one call after another, of which the first one failed not
+pub reads_then : {P : Type 0} (pages : Ghosts P) (a b c : P) (F G : Type 0) → OnlyReads pages a b F → (F → ⊥) → OnlyReads pages b c G → OnlyReads pages a c G
+reads_then pages a b c F G one nf two = record {
+  shown = λ start shown is. two.shown start shown (one.shown start shown is);
+  homes = two.homes ∙ one.homes;
+  next = two.next ∙ one.next;
+  named = two.named ∙ one.named;
+  down = two.down ∙ one.down;
+  device = record {
+    honest = (λ h. two.device.honest.0 (one.device.honest.0 h), λ h. one.device.honest.1 (two.device.honest.1 h));
+    quiet = λ none. two.device.quiet none ∙ one.device.quiet nf;
+    counted = λ is. two.device.counted is ∙ ap (λ k. min (k + 1) 18446744073709551615) (one.device.quiet nf);
+  };
+}
 
-key_between : (b : Bounds) (key : ℕ) → b.low ≤ key → key < high_or b.high → (o : Option ℕ) → b.high ≡ o → IsKeyWithin b key
-key_between b key low high None is = record { low = low; high = rw is tt }
-key_between b key low high (Some n) is = record { low = low; high = rw is (let h : high_or b.high ≡ n = ap high_or is in omega (arith, high, h)) }
+pub same_Err : {A E : Type 0} (m n : E) → ◌≡◌ {A = Result A E} (Err m) (Err n) → m ≡ n
+same_Err m n e = cc
 
-pub key_within : (octets : List ℕ) (level : ℕ) (k : Keys) (children : List Child) (o : KeyNodeOf octets level k children) (key : ℕ) → k.low ≤ key → key < k.high → IsKeyWithin o.node.bounds key
-key_within octets level k children o key low high =
-    let is = o.is in
-    let same : keys_between o.node.bounds ≡ k = cc in
-    key_between o.node.bounds key (omega (arith, ap (λ (x : Keys). x.low) same, low)) (omega (arith, ap (λ (x : Keys). x.high) same, high)) o.node.bounds.high refl
+-- the device failed in a walk just where the tree tells that
+pub fault_of : (e : NodeError) → of_node e ≡ errors.Pages refusals.Fault → e ≡ walks.Fault
+fault_of (walks.BadNode page) is = cc
+fault_of (walks.Damaged block) is = cc
+fault_of walks.Fault is = refl
+fault_of walks.OnceFault is = cc
+fault_of walks.NeedsRecovery is = cc
+fault_of walks.OutOfMemory is = cc
 
-next_above : (high : Option ℕ) (key : ℕ) (here : Option Child) → IfSome (high_of high here) (λ n. key < n) → (next : Child) → here ≡ Some next → key < next.low
-next_above high key None h next at = cc
-next_above high key (Some c) h next at = let e : c ≡ next = same_Some c next at in omega (arith, h, ap (λ (x : Child). x.low) e)
+pub fault_to : {A B : Type 0} (e : NodeError) (t : TreeError) → t ≡ of_node e → ◌≡◌ {A = Result A NodeError} (Err e) (Err walks.Fault) → ◌≡◌ {A = Result B TreeError} (Err t) (Err (errors.Pages refusals.Fault))
+fault_to {A} e t of is = ap Err (of ∙ ap of_node (same_Err {A = A} e walks.Fault is))
 
-pub is_for : (octets : List ℕ) (level : ℕ) (k : Keys) (children : List Child) (o : KeyNodeOf octets level k children) (key : ℕ) (under : Under) → IsUnder o.node key under → IsFor children key under.page
-is_for octets level k children o key under is =
-    let e = o.is in
-    let same : o.node.children ≡ children = cc in
-    rw (← same) (record {
-      place = is.place;
-      child = record { low = under.low; page = under.page };
-      at = is.at;
-      is = refl;
-      from = is.low;
-      up_to = λ next at. next_above o.node.bounds.high key (slice_get o.node.children (suc is.place)) (subst (λ h. IfSome h (λ n. key < n)) is.to_high is.high) next at;
-    })
+pub fault_from : {A B : Type 0} (e : NodeError) (t : TreeError) → t ≡ of_node e → ◌≡◌ {A = Result B TreeError} (Err t) (Err (errors.Pages refusals.Fault)) → ◌≡◌ {A = Result A NodeError} (Err e) (Err walks.Fault)
+fault_from {A} {B} e t of is = ap Err (fault_of e (sym of ∙ same_Err {A = B} t (errors.Pages refusals.Fault) is))
+
+-- a refusal that isn't the device's, behind calls that read alone
+pub reads_no : {P A : Type 0} (pages : Ghosts P) (old new : P) (F : Type 0) (e : TreeError) → (◌≡◌ {A = Result A TreeError} (Err e) (Err (errors.Pages refusals.Fault)) → ⊥) → (F → ⊥) → OnlyReads pages old new F → OnlyReads pages old new (◌≡◌ {A = Result A TreeError} (Err e) (Err (errors.Pages refusals.Fault)))
+reads_no pages old new F e not nf reads = reads_as pages old new F _ reads (λ f. absurd (nf f)) (λ is. absurd (not is))

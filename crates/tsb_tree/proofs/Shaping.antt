@@ -1,18 +1,18 @@
 -- Columns in memory fit into their pages.
-use Rattle.std.proofs.Common.{◌≡◌, ℕ, zero, suc, ◌+◌, ◌*◌, ◌^◌, ◌<◌, ◌≤◌, ◌⊎◌, inl, inr, List, [], ◌∷◌, ◌++◌, length, map, Option, Some, None, IfSome, slice_get, length-append, refl, sym, ◌∙◌, ap, subst, arith}
+use Rattle.std.proofs.Common.{◌≡◌, ℕ, suc, ◌+◌, ◌^◌, ◌<◌, ◌≤◌, inl, inr, List, [], ◌∷◌, ◌++◌, length, Option, Some, None, IfSome, length-append, refl, sym, ◌∙◌, ap, subst, arith}
 use Rattle.std.specs.List.{AllByRecursion}
 use Rattle.version_model.specs.declared.part.Part.{Part}
-use Rattle.version_model.specs.declared.part.PartKind.TheVariants.{LeafBlock, ColumnBlock}
+use Rattle.version_model.specs.declared.part.PartKind.TheVariants.{ColumnBlock}
 use Rattle.version_model.specs.Versions.{Version, Has, IsRising}
 use Rattle.version_model.specs.Ranges.{high_or}
 use Rattle.version_model.specs.Sizes.{octets, entry_octets, AreSmall}
 use Rattle.version_model.proofs.api.Pushed.{Has-push_cases}
 use Rattle.tsb_node.specs.Nodes.{AreInOrder}
-use Rattle.tsb_node.specs.Leaves.{LeafNode, CanBeLeaf, IsLeaf, IsLeafPage, IsShortOf}
-use Rattle.tsb_node.specs.Columns.{ColumnInPage, CanBeColumn, IsColumnPage, PartsFollow, AreAscending, BeginsAt, starts_of}
+use Rattle.tsb_node.specs.Leaves.{CanBeLeaf, IsLeafPage, IsShortOf}
+use Rattle.tsb_node.specs.Columns.{CanBeColumn, IsColumnPage, AreAscending, BeginsAt, starts_of}
 use Rattle.tsb_node.specs.Views.{PageSays, says_leaf, says_column}
 use Rattle.tsb_node.proofs.ViewLaws.{entries-octets}
-use Rattle.worm_migration.specs.Columns.{AreWholePast, up_to}
+use Rattle.worm_migration.specs.Columns.{AreWholePast}
 use Rattle.tsb_tree.specs.declared.whole.Whole.{Whole}
 use Rattle.tsb_tree.specs.Wholes.{column_node, leaf_node}
 use Rattle.tsb_tree.specs.Shapes.{IsWhole, IsSameButParts, bounds_from, leaf_in_page, column_in_page}

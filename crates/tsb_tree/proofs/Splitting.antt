@@ -1,12 +1,12 @@
 -- A column takes a version, and is one or two after it.
-use Rattle.std.proofs.Common.{◌≡◌, ◌≢◌, ℕ, suc, ◌+◌, ◌<◌, ◌≤◌, ◌⊎◌, inl, inr, List, [], ◌∷◌, ◌++◌, Option, Some, None, refl, sym, ◌∙◌, ap, subst, arith}
+use Rattle.std.proofs.Common.{◌≡◌, ℕ, suc, ◌<◌, ◌≤◌, List, Some, None, refl, sym, ◌∙◌, ap, subst, arith}
 use Rattle.std.proofs.lemmas.Option.{same_Some}
 use Rattle.version_model.specs.declared.child.Child.{Child}
-use Rattle.version_model.specs.Versions.{Version, Has, IsAbove, Adds}
-use Rattle.version_model.specs.Ranges.{IsKeyOf, high_or}
-use Rattle.version_model.specs.Blocks.{BlockNode, Grows}
-use Rattle.version_model.specs.Pages.{Keys, PageNode, CurrentLeaf, ColumnNode, KeyNode, Stands, column, key_node, ColumnStands, Store, StandsIn, current_range}
-use Rattle.version_model.specs.Inserts.{LiesUnder, Splits, Became, KeepsOthers}
+use Rattle.version_model.specs.Versions.{Version}
+use Rattle.version_model.specs.Ranges.{high_or}
+use Rattle.version_model.specs.Blocks.{Grows}
+use Rattle.version_model.specs.Pages.{Keys, CurrentLeaf, ColumnNode, KeyNode, Stands, column, key_node, Store, StandsIn}
+use Rattle.version_model.specs.Inserts.{LiesUnder, Splits, KeepsOthers}
 use Rattle.tsb_tree.specs.declared.whole.Whole.{Whole}
 use Rattle.tsb_tree.specs.Wholes.{keys, WholeHas, IsAt, Takes, AreHalves, keys_of_whole, column_node, leaf_node}
 

@@ -1,23 +1,23 @@
 -- A column in memory takes a version, and is split by key.
-use Rattle.std.proofs.Common.{◌≡◌, ℕ, suc, ◌+◌, ◌-◌, ◌<◌, ◌≤◌, ◌⊎◌, inl, inr, List, [], ◌∷◌, ◌++◌, length, Option, Some, None, slice_get, refl, sym, ◌∙◌, ap, subst, arith}
+use Rattle.std.proofs.Common.{◌≡◌, ℕ, ◌+◌, ◌<◌, ◌≤◌, ◌⊎◌, inl, inr, List, [], ◌∷◌, ◌++◌, Option, Some, None, refl, sym, ap, subst, arith}
 use Rattle.version_model.specs.declared.part.Part.{Part}
 use Rattle.version_model.specs.declared.part.PartKind.TheVariants.{LeafBlock}
 use Rattle.version_model.specs.Versions.{Version, Has, IsAbove, IsRising, Adds}
-use Rattle.version_model.specs.Ranges.{Range, high_or, stamp_end}
-use Rattle.version_model.specs.Shows.{Shows, IsFrom, IsBelow, IsFromKey}
+use Rattle.version_model.specs.Ranges.{high_or, stamp_end}
+use Rattle.version_model.specs.Shows.{IsFrom, IsBelow, IsFromKey}
 use Rattle.version_model.specs.Blocks.{BlockNode, OldLeaf, Grows}
 use Rattle.version_model.specs.Pages.{Keys, PastStands, current_range}
-use Rattle.version_model.specs.Sizes.{octets, octets_below, entry_octets, IsSingle}
-use Rattle.version_model.proofs.api.Pushed.{Has-push_cases, Has-push_old, Has-push_new, Adds-push, IsRising-push}
+use Rattle.version_model.specs.Sizes.{octets, entry_octets, IsSingle}
+use Rattle.version_model.proofs.api.Pushed.{Has-push_cases, Adds-push}
 use Rattle.version_model.proofs.api.Shown.{Shows-from, Shows-adds, Shows-below, Shows-from_key}
 use Rattle.version_model.proofs.api.TreeKept.{past_kept}
 use Rattle.version_model.proofs.api.ColumnSplit.{PastStands-cut, past_takes_leaf}
-use Rattle.version_model.proofs.api.Sizing.{total-push, below_some, IsFrom-single}
+use Rattle.version_model.proofs.api.Sizing.{total-push, IsFrom-single}
 use Rattle.tsb_tree.specs.declared.whole.Whole.{Whole}
-use Rattle.tsb_tree.specs.Wholes.{keys, WholeHas, Takes, AreHalves, keys_of_whole}
+use Rattle.tsb_tree.specs.Wholes.{keys, Takes, AreHalves, keys_of_whole}
 
 -- the past is as it was when a later version comes
-past_later : (blocks : ℕ → Option BlockNode) (next : ℕ) (all after : List Version) (v : Version) (k : Keys) (start : ℕ) (parts : List Part) → IsAbove all v.stamp → Adds all v after → (start < v.stamp) ⊎ (start ≡ 0) → PastStands blocks next all k start parts → PastStands blocks next after k start parts
+pub past_later : (blocks : ℕ → Option BlockNode) (next : ℕ) (all after : List Version) (v : Version) (k : Keys) (start : ℕ) (parts : List Part) → IsAbove all v.stamp → Adds all v after → (start < v.stamp) ⊎ (start ≡ 0) → PastStands blocks next all k start parts → PastStands blocks next after k start parts
 past_later blocks next all after v k start parts above adds started past =
     past_kept (λ _. None) (λ _. None) 0 0 blocks blocks next next all after v
     (record { adds = adds; above = above; grows = λ n node h. h; next_grows = omega arith; limit_grows = omega arith })
@@ -71,6 +71,11 @@ last_above leaf v w above h = elim (Has-push_cases leaf v w h) [
 
 pub single_since : (leaf newer : List Version) (v : Version) → IsAbove leaf v.stamp → IsFrom (leaf ++ v ∷ []) v.stamp newer → IsRising newer → IsSingle newer
 single_since leaf newer v above from rising = IsFrom-single (leaf ++ v ∷ []) newer v.stamp from rising (λ w h. last_above leaf v w above h)
+
+-- the same of the leaf that was split, and of what goes on
+pub single_of : (leaf front newer : List Version) (v : Version) (at : ℕ) → leaf ≡ front ++ v ∷ [] → v.stamp ≡ at → IsAbove front at → IsFrom leaf at newer → IsRising newer → IsSingle newer
+single_of leaf front newer v at is stamp above from rising =
+    single_since front newer v (subst (λ s. IsAbove front s) (sym stamp) above) (subst (λ l. IsFrom l v.stamp newer) is (subst (λ s. IsFrom leaf s newer) (sym stamp) from)) rising
 
 pub octets-push : (leaf : List Version) (v : Version) → octets (leaf ++ v ∷ []) ≡ octets leaf + entry_octets v
 octets-push leaf v = total-push entry_octets leaf v

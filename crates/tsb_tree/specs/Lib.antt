@@ -1,6 +1,10 @@
 pub mod Stores
 pub mod Wholes
+pub mod Refusals
 pub mod Shelves
 pub mod Shapes
+pub mod Layouts
 pub mod Plans
 pub mod Trees
+pub mod KeyNodes
+pub mod Puts

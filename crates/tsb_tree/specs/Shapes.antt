@@ -1,7 +1,8 @@
 -- Columns in memory that fit into their pages.
-use Rattle.std.specs.Prelude.{◌≡◌, ℕ, ◌+◌, ◌≤◌, List, Option, None}
+use Rattle.std.specs.Prelude.{◌≡◌, ℕ, ◌-◌, ◌/◌, ◌<◌, ◌≤◌, List, Option, None}
 use Rattle.version_model.specs.declared.bounds.Bounds.{Bounds}
 use Rattle.version_model.specs.Versions.{Version, Has}
+use Rattle.version_model.specs.Sizes.{octets, IsSingle, AreSmall}
 use Rattle.tsb_node.specs.Nodes.{AreInOrder}
 use Rattle.tsb_node.specs.Leaves.{LeafNode, IsShortOf}
 use Rattle.tsb_node.specs.Columns.{ColumnInPage, PartsFollow}
@@ -32,3 +33,19 @@ pub record IsSameButParts (w' w : Whole) : Type 0 where
   pub high : w'.high ≡ w.high
   pub start : w'.start ≡ w.start
   pub leaf : w'.leaf ≡ w.leaf
+
+-- A leaf that is split by key: each key has one version of at most 3,131 octets, and together they take more than two thirds of a page, and
+-- no more than a page and one of them.
+pub record IsFull (leaf : List Version) : Type 0 where
+  pub single : IsSingle leaf
+  pub small : AreSmall leaf 3131
+  pub much : 10821 < octets leaf
+  pub most : octets leaf ≤ 19363
+
+-- The octets below the key at which it is split, at least: with one entry more they are half of what it takes and of the largest entry.
+abbrev pub least_of : List Version → ℕ
+least_of leaf = (octets leaf - 3131) / 2
+
+-- the column with another leaf
+abbrev pub with_leaf : Whole → List Version → Whole
+with_leaf w leaf = record w { leaf = leaf }

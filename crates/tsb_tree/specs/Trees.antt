@@ -9,7 +9,10 @@ use Rattle.version_model.specs.Ranges.{key_end}
 use Rattle.version_model.specs.Blocks.{BlockNode}
 use Rattle.version_model.specs.Pages.{PageNode, CurrentLeaf, ColumnNode, Store, TreeStands, IsNextStamp, all_keys}
 use Rattle.tsb_node.specs.Views.{PageSays}
-use Rattle.tsb_tree.specs.Stores.{Tells}
+use Rattle.tsb_walk.specs.Shown.{AreShown}
+use Rattle.disk_models.specs.declared.once.OnceDisk.{Ghosts as OnceGhosts}
+use Rattle.once_store.specs.declared.shelf.Shelf.{Shelf}
+use Rattle.tsb_tree.specs.Stores.{IsStore}
 
 -- The tree with this root stands for these versions. The highest key of all is none of theirs, since as the bound of a node it
 -- stands for no bound; and `least` is the least stamp that a version to come may have.
@@ -34,5 +37,12 @@ pub record ShowsTree {P : Type 0} (pages : Ghosts P) (held : P) (start : Start) 
   pub shown : List (List ℕ)
   pub shows : pages.shows held start shown
   pub nodes : ℕ → Option PageNode
-  pub tells : Tells shown nodes
+  pub tells : AreShown shown nodes
   pub has : (blocks : ℕ → Option BlockNode) (next : ℕ) → TreeHas (record { nodes = nodes; limit = pages.next held; blocks = blocks; next = next }) [] root level least
+
+-- The pages of a transaction and the settled blocks of a shelf show the tree with this root, and it stands for these versions. The pages
+-- that are said are those of the tree alone.
+pub record TreeShown {P : Type 0} (pages : Ghosts P) (held : P) {O Pen Seen : Type 0} (device : OnceGhosts O Pen Seen) (shelf : Shelf O Pen Seen) (start : Start) (shown : List (List ℕ)) (all : List Version) (root level least : ℕ) : Type 0 where
+  pub store : Store
+  pub is : IsStore pages held device shelf start shown store
+  pub has : TreeHas store all root level least

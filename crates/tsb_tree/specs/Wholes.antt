@@ -1,6 +1,5 @@
 -- A column with its current leaf, in memory: what it stands for, and what becomes of it.
-use Rattle.std.specs.Prelude.{◌≡◌, ℕ, ◌<◌, ◌≤◌, ◌⊎◌, List, Option, Some, None}
-use Rattle.version_model.specs.declared.child.Child.{Child}
+use Rattle.std.specs.Prelude.{◌≡◌, ℕ, ◌<◌, ◌⊎◌, List, Option, Some}
 use Rattle.version_model.specs.Versions.{Version, Has, IsAbove, Adds}
 use Rattle.version_model.specs.Ranges.{high_or}
 use Rattle.version_model.specs.Blocks.{BlockNode}

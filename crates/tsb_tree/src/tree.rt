@@ -1,8 +1,8 @@
 //! Trees.
 ghost use Rattle.std.specs.Prelude.{◌≡◌, ◌↔◌, ◌<◌, ◌≤◌, ◌+◌, ◌*◌, ◌^◌, ℕ, List, length, OnErr, IfOk, IfErr, Err};
 ghost use Rattle.page_tx.specs.Start.{Start};
-ghost use Rattle.page_tx.specs.declared.error.PageError.TheVariants as refusals;
-ghost use Rattle.tsb_tree.specs.Stores.{OnlyReads, CreateRefusal};
+ghost use Rattle.tsb_tree.specs.Refusals.{CreateRefusal};
+ghost use Rattle.tsb_tree.specs.Stores.{ReadsAlone};
 ghost use Rattle.tsb_tree.specs.Trees.{AreFirst, ShowsTree};
 
 use crate::change::lay_image;
@@ -56,7 +56,7 @@ fn first_images(alloc: Global, page: u64) -> Result<Vec<(u64, Page)>, TreeError>
 /// its current leaf. After a refusal no page is set.
 pub fn create<P: Pages>(pages: &mut P, alloc: Global) -> Result<TreePlace, TreeError>
     ensures created { (start : Start) (shown : List (List ℕ)) → P.shows pages.old start shown → IfOk result (λ place. ShowsTree P.Pages pages.new start place.root place.level place.least) }
-    ensures as_before { OnErr result (OnlyReads P.Pages pages.old pages.new (result ≡ Err (TreeError.Pages refusals.Fault))) }
+    ensures as_before { OnErr result (ReadsAlone P.Pages pages.old pages.new result) }
     ensures refused { IfErr result (CreateRefusal (P.homes pages.old) (P.next pages.old) (length (P.named pages.old))) }
     ensures next { IfOk result (λ place. P.next pages.new ≡ P.next pages.old + 2) }
     ensures root { IfOk result (λ place. place.root ≡ P.next pages.old) }
@@ -72,6 +72,6 @@ pub fn create<P: Pages>(pages: &mut P, alloc: Global) -> Result<TreePlace, TreeE
             level: 1,
             least: Stamp::new(0, 0),
         }),
-        Err(refusal) => Err(TreeError::Pages(refusal)),
+        Err(refusal) => Err(TreeError::from(refusal)),
     }
 }

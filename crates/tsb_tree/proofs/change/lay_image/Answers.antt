@@ -1,4 +1,4 @@
-use Rattle.std.proofs.Common.{arith, ap, length, sym, ◌∙◌, ◌+◌, ◌≤◌, suc}
+use Rattle.std.proofs.Common.{arith}
 use Rattle.page_tx.proofs.Laying.{laid_with, distinct_with, below_with, length_with}
 use Rattle.tsb_tree.proofs.change.lay_image.Goals as goal
 

@@ -1,4 +1,4 @@
-use Rattle.std.proofs.Common.{◌≡◌, sym, ap, ◌∙◌}
+use Rattle.std.proofs.Common.{◌≡◌}
 use Rattle.page_tx.proofs.Laying.{image_found}
 use Rattle.tsb_tree.proofs.change.place_of.Goals as goal
 

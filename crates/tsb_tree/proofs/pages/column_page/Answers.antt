@@ -1,4 +1,4 @@
-use Rattle.std.proofs.Common.{◌≡◌, arith}
+use Rattle.std.proofs.Common.{arith}
 use Rattle.tsb_tree.proofs.Shaping.{can_be_column, column_says}
 use Rattle.tsb_tree.proofs.pages.column_page.Goals as goal
 

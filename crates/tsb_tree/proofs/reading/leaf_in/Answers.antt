@@ -1,4 +1,4 @@
-use Rattle.std.proofs.Common.{◌≡◌, ap, sym, subst, ◌∙◌, refl, arith, true, IsSome}
+use Rattle.std.proofs.Common.{arith}
 use Rattle.std.proofs.lemmas.Bool.{false≢true}
 use Rattle.tsb_node.proofs.ViewLaws.{entries-octets}
 use Rattle.version_model.specs.Entries.{versions_of}

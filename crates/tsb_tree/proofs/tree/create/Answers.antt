@@ -1,10 +1,10 @@
-use Rattle.std.proofs.Common.{◌≡◌, ◌+◌, ◌-◌, ◌<◌, ◌≤◌, List, ℕ, [], set, length, length-set, refl, sym, ◌∙◌, ap, subst, arith, None, Option}
+use Rattle.std.proofs.Common.{◌≡◌, ◌+◌, ◌≤◌, [], set, length, length-set, sym, subst, arith, None}
 use Rattle.page_journal.specs.Recovers.{laid}
-use Rattle.version_model.specs.Pages.{PageNode, ColumnNode, CurrentLeaf, all_keys}
-use Rattle.tsb_tree.specs.declared.error.TreeError.TheVariants as errors
-use Rattle.tsb_tree.specs.Stores.{Tells, CreateRefusal}
+use Rattle.version_model.specs.Pages.{ColumnNode, CurrentLeaf, all_keys}
+use Rattle.tsb_tree.specs.Refusals.{CreateRefusal, of_page}
+use Rattle.tsb_walk.specs.Shown.{AreShown}
 use Rattle.tsb_tree.proofs.Laying.{put}
-use Rattle.tsb_tree.proofs.Telling.{Tells-set, Tells-none}
+use Rattle.tsb_tree.proofs.Telling.{shown-set, shown-none}
 use Rattle.tsb_tree.proofs.Growing.{created, first_pages}
 use Rattle.tsb_tree.proofs.Creating.{lay_refused}
 use Rattle.tsb_tree.proofs.tree.create.Goals as goal
@@ -12,7 +12,9 @@ use Rattle.tsb_tree.proofs.tree.create.Goals as goal
 pub returns-in-Err-clause-refused : goal.returns-in-Err-clause-refused
 returns-in-Err-clause-refused g c =
     let inside : c.next_page-page.result + 2 ≤ g.P.Pages.homes c.args.pages.now = omega (arith, c.home_pages.ensures, c.home_pages-else-home_pages-lt2.ensures) in
-    subst (λ n. CreateRefusal (g.P.Pages.homes c.args.pages.now) n (length (g.P.Pages.named c.args.pages.now)) (errors.Pages c.in-Err.refusal)) c.next_page-page.ensures (lay_refused c.in-Err.refusal (g.P.Pages.homes c.args.pages.now) c.next_page-page.result (g.P.Pages.named c.args.pages.now) c.in_ok-images.images.items c.in_ok-images.ensures.images.few inside c.in-Err.ensures.refused)
+    let refused = lay_refused c.in-Err.refusal (g.P.Pages.homes c.args.pages.now) c.next_page-page.result (g.P.Pages.named c.args.pages.now) c.in_ok-images.images.items c.in_ok-images.ensures.images.few inside c.in-Err.ensures.refused in
+    subst (λ e. CreateRefusal (g.P.Pages.homes c.args.pages.now) (g.P.Pages.next c.args.pages.now) (length (g.P.Pages.named c.args.pages.now)) e) (sym c.from.ensures)
+    (subst (λ n. CreateRefusal (g.P.Pages.homes c.args.pages.now) n (length (g.P.Pages.named c.args.pages.now)) (of_page c.in-Err.refusal)) c.next_page-page.ensures refused)
 
 pub returns-in-Ok-clause-created : goal.returns-in-Ok-clause-created
 returns-in-Ok-clause-created g c start shown shows =
@@ -22,8 +24,8 @@ returns-in-Ok-clause-created g c start shown shows =
     let first = c.in_ok-images.ensures.images in
     let long : length shown ≡ homes = g.met.P.Pages.count c.args.pages.now start shown shows in
     let inside : page + 2 ≤ homes = omega (arith, c.home_pages.ensures, c.home_pages-else-home_pages-lt2.ensures) in
-    let one : Tells (set shown page first.column) (put page (ColumnNode all_keys [] 0 (page + 1)) (λ _. None)) = Tells-set shown (λ _. None) page first.column (ColumnNode all_keys [] 0 (page + 1)) (omega (arith, long, inside)) first.says_column (Tells-none shown) in
-    let two : Tells (set (set shown page first.column) (page + 1) first.leaf) (first_pages page) = Tells-set (set shown page first.column) (put page (ColumnNode all_keys [] 0 (page + 1)) (λ _. None)) (page + 1) first.leaf (CurrentLeaf all_keys 0 []) (omega (arith, long, inside, length-set shown page first.column)) first.says_leaf one in
+    let one : AreShown (set shown page first.column) (put page (ColumnNode all_keys [] 0 (page + 1)) (λ _. None)) = shown-set shown (λ _. None) page first.column (ColumnNode all_keys [] 0 (page + 1)) (omega (arith, long, inside)) first.says_column (shown-none shown) in
+    let two : AreShown (set (set shown page first.column) (page + 1) first.leaf) (first_pages page) = shown-set (set shown page first.column) (put page (ColumnNode all_keys [] 0 (page + 1)) (λ _. None)) (page + 1) first.leaf (CurrentLeaf all_keys 0 []) (omega (arith, long, inside, length-set shown page first.column)) first.says_leaf one in
     let zero' : c.new.result ≡ 0 = omega (arith, c.new.ensures.number) in
     rw zero' (record {
       shown = laid images shown;

@@ -1,6 +1,5 @@
-use Rattle.std.proofs.Common.{◌≡◌, ◌+◌, ◌<◌, ◌≤◌, List, ℕ, [], set, length, refl, sym, ◌∙◌, ap, subst, arith, None}
-use Rattle.page_journal.specs.Recovers.{laid, AreDistinct}
-use Rattle.page_journal.specs.Layout.{pages_of}
+use Rattle.std.proofs.Common.{◌≡◌, ◌+◌, List, ℕ, [], set, length, refl, ◌∙◌, ap, arith, None}
+use Rattle.page_journal.specs.Recovers.{laid}
 use Rattle.tsb_tree.specs.declared.whole.Whole.{Whole}
 use Rattle.tsb_tree.proofs.Creating.{first_column, first_leaf}
 use Rattle.tsb_tree.proofs.tree.first_images.Goals as goal

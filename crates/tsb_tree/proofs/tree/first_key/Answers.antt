@@ -1,4 +1,4 @@
-use Rattle.std.proofs.Common.{◌≡◌, ℕ, zero, suc, replicate, ◌∙◌, refl, arith, ap, length}
+use Rattle.std.proofs.Common.{◌≡◌, ℕ, zero, suc, replicate, ◌∙◌, refl, arith}
 use Rattle.route_model.specs.Keys.{number_of}
 use Rattle.tsb_tree.proofs.tree.first_key.Goals as goal
 

@@ -1,0 +1,30 @@
+use Rattle.std.proofs.Common.{arith, refl, sym, ap, Err}
+use Rattle.tsb_tree.specs.Shapes.{leaf_in_page, with_leaf}
+use Rattle.tsb_tree.proofs.Shaping.{whole_split}
+use Rattle.tsb_tree.proofs.Shelving.{err_shelf, ok_shelf, leaves_then, honest_on}
+use Rattle.tsb_tree.proofs.Rooms.{took}
+use Rattle.tsb_tree.proofs.burning.split_by_time.Goals as goal
+
+pub returns-in-Ok-clause-shelf : goal.returns-in-Ok-clause-shelf
+returns-in-Ok-clause-shelf g c =
+    leaves_then g.O.OnceDisk 1 1 c.args.shelf.now c.make_room.new.shelf c.settle_part.new.shelf _ _ _ _ c.in_ok-column.ensures.shelf (λ e. cc) (ok_shelf g.O.OnceDisk c.make_room.new.shelf c.settle_part.new.shelf c.in-Ok.leaf (record { column = c.in_ok-column.column; leaf = c.in-Ok.leaf }) c.in-Ok.ensures.shelf)
+
+pub returns-in-Err-clause-shelf : goal.returns-in-Err-clause-shelf
+returns-in-Err-clause-shelf g c =
+    leaves_then g.O.OnceDisk 1 1 c.args.shelf.now c.make_room.new.shelf c.settle_part.new.shelf _ _ _ _ c.in_ok-column.ensures.shelf (λ e. cc) (err_shelf g.O.OnceDisk c.make_room.new.shelf c.settle_part.new.shelf c.in-Err.refusal (Err c.from.result) (ap Err c.from.ensures) c.in-Err.ensures.shelf)
+
+pub returns-in-Ok-clause-takes : goal.returns-in-Ok-clause-takes
+returns-in-Ok-clause-takes g c honest leaf v page is stamp from =
+    let w = c.args.whole.now in
+    let same = c.in_ok-column.ensures.same in
+    let honest' = honest_on g.O.OnceDisk 1 c.args.shelf.now c.make_room.new.shelf _ _ c.in_ok-column.ensures.shelf honest in
+    let forward = c.requires.forward in
+    took g.O.OnceDisk c.args.shelf.now c.make_room.new.shelf c.settle_part.new.shelf c.in_ok-column.column c.in-Ok.leaf w _ leaf c.make_room.new.whole.parts.items v c.args.at c.make_room.new.whole.start
+    same.start is stamp from (omega (arith, c.requires.end)) forward same.low same.high refl (c.in_ok-column.ensures.room honest)
+    (c.in-Ok.ensures.settled honest' (leaf_in_page (with_leaf w leaf)) page forward)
+    (c.in-Ok.ensures.past honest' (leaf_in_page (with_leaf w leaf)) page (sym same.start) (omega (arith, forward, same.start)))
+
+pub returns-in-Ok-clause-whole : goal.returns-in-Ok-clause-whole
+returns-in-Ok-clause-whole g c is_in =
+    let same = c.in_ok-column.ensures.same in
+    whole_split c.make_room.new.whole _ _ c.in_ok-column.ensures.whole c.in_ok-column.ensures.few refl (omega (arith, c.requires.forward, same.start)) refl refl c.in-Ok.ensures.pushed (λ v h. rw same.leaf (is_in v h))

@@ -1,0 +1,13 @@
+use Rattle.std.proofs.Common.{subst, sym, ◌∙◌}
+use Rattle.version_model.specs.Sizes.{IsSingle}
+use Rattle.tsb_tree.proofs.Taking.{single_of}
+use Rattle.tsb_tree.proofs.dividing.newer_of.Goals as goal
+
+pub returns-then-len-clause-single : goal.returns-then-len-clause-single
+returns-then-len-clause-single c front v is stamp above =
+    let since = c.in_ok-newer.ensures in
+    let same = since.same (sym c.len.ensures.len ∙ c.if-len.true ∙ c.len-2.ensures.len) in
+    subst IsSingle same (single_of c.args.leaf.now front c.in_ok-newer.newer v c.args.at is stamp above since.from since.rising)
+
+pub returns-clause-single : goal.returns-clause-single
+returns-clause-single c front v is stamp above = single_of c.args.leaf.now front c.in_ok-newer.newer v c.args.at is stamp above c.in_ok-newer.ensures.from c.in_ok-newer.ensures.rising

@@ -1,0 +1,19 @@
+use Rattle.std.proofs.Common.{◌≡◌, ◌+◌, ◌<◌, ◌≤◌, List, ℕ, set, refl, sym, ◌∙◌, ap, arith}
+use Rattle.tsb_tree.proofs.layout.lay_whole.Goals as goal
+
+pub returns : goal.returns
+returns c =
+    let one = c.in_ok-lay_image.ensures in
+    let two = c.in_ok-lay_image-2.ensures in
+    record {
+      laid = record {
+        column = c.in_ok-column.column;
+        leaf = c.in_ok-leaf.leaf;
+        says_column = c.in_ok-column.ensures.says;
+        says_leaf = c.in_ok-leaf.ensures.says;
+        over = λ shown. two.laid shown ∙ ap (λ (l : List (List ℕ)). set l c.args.current c.in_ok-leaf.leaf) (one.laid shown);
+        distinct = two.distinct;
+        below = λ homes in_page in_current below. two.below homes in_current (one.below homes in_page below);
+        few = omega (arith, one.few, two.few);
+      };
+    }
