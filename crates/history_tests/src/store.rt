@@ -1,6 +1,6 @@
 //! A small store of versions: a list, of which those before a stamp may lie in a block.
 
-ghost use Rattle.std.specs.Prelude.{IsTrue, ℕ, List, Option, None};
+ghost use Rattle.std.specs.Prelude.{IsTrue, ℕ, List, Option};
 ghost use Rattle.version_model.specs.Versions.{Version};
 ghost use Rattle.version_model.specs.Blocks.{BlockNode};
 ghost use Rattle.version_model.specs.Ranges.{IsPoint, range_of};
@@ -8,12 +8,12 @@ ghost use Rattle.version_model.specs.Ranges.{IsPoint, range_of};
 use disk_memory::{MemOnce, MemSeen};
 use disk_models::Block;
 use once_store::{Shelf, ShelfReader, seal};
-use route_history::{LookError, Versions, version_of_change};
+use route_history::{Versions, version_of_change};
 use route_model::{Change, Key, Moment};
 use std::alloc::{AllocError, Global};
 use std::sync::Arc;
 use std::test::Fail;
-use tsb_walk::{Found, KeyVersions, Looked, Parted, Reached};
+use tsb_walk::{Found, KeyVersions, Looked, NodeError, Parted, Reached};
 use version_model::{Bounds, Entry, Part, PartKind, Place, Stamp};
 
 /// Versions in the order of their stamps. Each look is answered by going over all of them.
@@ -104,7 +104,7 @@ impl ListStore {
     }
 
     // What is found from this key on.
-    fn reach(&self, from: Key, stamp: Stamp) -> Result<Reached, LookError> {
+    fn reach(&self, from: Key, stamp: Stamp) -> Result<Reached, NodeError> {
         let Some(key) = self.next_live(from, stamp) else {
             return Ok(Reached::End);
         };
@@ -130,7 +130,7 @@ impl ListStore {
     }
 
     // The versions of the key from the stamp on.
-    fn versions(&self, key: Key, from: Stamp) -> Result<KeyVersions, LookError> {
+    fn versions(&self, key: Key, from: Stamp) -> Result<KeyVersions, NodeError> {
         let mut entries = Vec::new(self.alloc);
         for entry in &self.entries {
             if entry.key == key && from <= entry.stamp {
@@ -257,11 +257,9 @@ impl Past {
 
 impl Versions for ListStore {
     // Of a store of tests nothing is proved.
-    ghost stands = { λ store all. ⊥ };
+    ghost stands = { λ store blocks all. ⊥ };
 
-    ghost blocks = { λ store n. None };
-
-    fn next(&mut self, from: Key, stamp: Stamp) -> Result<Looked, LookError> {
+    fn next(&mut self, from: Key, stamp: Stamp) -> Result<Looked, NodeError> {
         if let Some(place) = self.past
             && lies_in(&place.bounds, from, stamp)
         {
@@ -270,7 +268,7 @@ impl Versions for ListStore {
         Ok(Looked::Here(self.reach(from, stamp)?))
     }
 
-    fn part(&mut self, key: Key, from: Stamp) -> Result<Parted, LookError> {
+    fn part(&mut self, key: Key, from: Stamp) -> Result<Parted, NodeError> {
         if let Some(place) = self.past
             && lies_in(&place.bounds, key, from)
         {

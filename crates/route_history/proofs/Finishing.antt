@@ -6,7 +6,7 @@ use Rattle.once_store.specs.Readers.{reader_disk}
 use Rattle.version_model.specs.Versions.{Version}
 use Rattle.tsb_walk.specs.declared.looks.Parted.{Parted}
 use Rattle.tsb_walk.specs.declared.looks.Parted.TheVariants.{Here, InBlock}
-use Rattle.tsb_walk.specs.Knowing.{ReadsWell, AreKnown, StandsKnown}
+use Rattle.tsb_walk.specs.Knowing.{ReadsWell, AreKnown}
 use Rattle.route_history.specs.EventTurns.{IsKnownPart}
 
 module _ {O Pen Seen : Type 0} (device : Ghosts O Pen Seen) (all : List Version) (key from : ℕ) where

@@ -8,10 +8,9 @@ use Rattle.route_model.specs.Keys.{key_number, session_number}
 use Rattle.route_meaning.specs.declared.question.Event.{Event}
 use Rattle.route_meaning.specs.declared.question.EventsQuestion.{EventsQuestion}
 use Rattle.route_meaning.specs.Merged.{Placed}
-use Rattle.route_meaning.specs.Events.{events, IsEventsAnswer}
 use Rattle.version_model.specs.Versions.{Version}
 use Rattle.route_history.specs.Stamps.{last_stamp}
-use Rattle.route_history.specs.Spans.{is_of_two, span_start, span_end, asked, IsEventOf, IsTelling, HasTold, HasToldSo, EventsGoOn}
+use Rattle.route_history.specs.Spans.{is_of_two, span_start, span_end, asked, IsEventOf, HasTold, HasToldSo, EventsGoOn}
 use Rattle.route_history.specs.declared.events.EventsCursor.{EventsCursor}
 
 none_later : (a b from at last : ℕ) (more : List Version) → at ≤ suc last → AllByRecursion (λ v. last < v.stamp) more → filter (is_of_two a b from at) more ≡ []

@@ -1,7 +1,7 @@
 -- The route after changes is what two look-ups of their versions tell.
-use Rattle.std.proofs.Common.{◌≡◌, ◌↔◌, ℕ, zero, suc, ◌+◌, ◌-◌, ◌*◌, ◌^◌, ◌<◌, ◌≤◌, ◌⊎◌, ◌&&◌, inl, inr, List, [], ◌∷◌, ◌++◌, length, map, Bool, true, false, cond, eqb, ltb, leb, Some, None, Option, IsSome, slice_get, refl, sym, ap, ◌∙◌, subst, arith}
+use Rattle.std.proofs.Common.{◌≡◌, ◌↔◌, ℕ, zero, suc, ◌<◌, ◌≤◌, ◌&&◌, inl, inr, List, [], ◌∷◌, ◌++◌, map, Bool, true, false, cond, eqb, ltb, leb, Some, None, Option, IsSome, slice_get, refl, sym, ap, ◌∙◌, subst, arith}
 use Rattle.std.specs.List.{AllByRecursion, filter}
-use Rattle.std.specs.Option.{option_map, is_some}
+use Rattle.std.specs.Option.{is_some}
 use Rattle.std.proofs.lemmas.Bool.{cases_Bool, false≢true, lt-ltb, le-ltb, eq-eqb}
 use Rattle.std.proofs.lemmas.Option.{same_Some, none-some}
 use Rattle.route_model.specs.declared.peer.Peer.{Peer}
@@ -14,21 +14,17 @@ use Rattle.route_model.specs.Spelling.{IsPeer, SpellsRoute}
 use Rattle.route_model.specs.Keys.{key_number, session_number}
 use Rattle.route_model.proofs.Fields.{some_is}
 use Rattle.route_model.proofs.Decoding.{route_spelled}
-use Rattle.route_meaning.specs.declared.question.Row.{Row}
-use Rattle.route_meaning.specs.declared.question.Spot.{Spot}
-use Rattle.route_meaning.specs.declared.question.Select.{Select}
 use Rattle.route_meaning.specs.Merged.{Placed, IsRising}
 use Rattle.route_meaning.specs.Holds.{time_of, same_peer, same_prefix, until, changes_of, Holds}
-use Rattle.route_meaning.specs.Rows.{AreRows}
 use Rattle.route_meaning.specs.inner.Replay.{after_change, route_after}
 use Rattle.route_meaning.proofs.Holding.{Holds-after, after-Holds}
 use Rattle.route_meaning.proofs.api.There.{rows_there}
-use Rattle.version_model.specs.Versions.{Version, Has, AsOf, Found, found_version, Answers}
-use Rattle.route_history.specs.Stamps.{orders, stamp_of, last_stamp}
+use Rattle.version_model.specs.Versions.{Version, Found, found_version, Answers}
+use Rattle.route_history.specs.Stamps.{stamp_of, last_stamp}
 use Rattle.route_history.specs.Kept.{Timed, at_time, timed, key_of, HasValue, IsVersion, AreVersions, Kept}
 use Rattle.route_history.specs.Walks.{counts, stamp_of_found, Tells}
 use Rattle.route_history.proofs.KeysApart.{prefix-prefix, session-session, session-prefix, prefix-session}
-use Rattle.route_history.proofs.Latest.{RisesFrom, TimesFrom, stamp-leb, times_timed, rises_from, counts_at, latest, as_of_latest, latest_as_of}
+use Rattle.route_history.proofs.Latest.{RisesFrom, stamp-leb, times_timed, rises_from, counts_at, latest, as_of_latest, latest_as_of}
 
 -- one spelling is of one route
 pub routes_one : (r s : Route) (octets : List ℕ) → SpellsRoute r octets → SpellsRoute s octets → r ≡ s

@@ -1,5 +1,5 @@
 -- The versions that a look tells of a key, as entries.
-use Rattle.std.proofs.Common.{◌≡◌, ℕ, ◌&&◌, inl, inr, List, [], ◌∷◌, map, Bool, true, false, eqb, Option, refl, sym, ap, ◌∙◌, subst}
+use Rattle.std.proofs.Common.{◌≡◌, ℕ, inl, inr, List, [], ◌∷◌, map, Bool, true, false, eqb, Option, refl, sym, ◌∙◌, subst}
 use Rattle.std.specs.Prelude.{◌||◌}
 use Rattle.std.specs.List.{AllByRecursion, filter}
 use Rattle.std.proofs.lemmas.Bool.{cases_Bool, eqb-true, false≢true}

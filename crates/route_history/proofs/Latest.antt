@@ -1,8 +1,8 @@
 -- Stamps of applied changes rise, and the newest version of a key is the last one along the list.
-use Rattle.std.proofs.Common.{◌≡◌, ℕ, zero, suc, ◌+◌, ◌-◌, ◌*◌, ◌^◌, ◌<◌, ◌≤◌, ◌⊎◌, ◌&&◌, inl, inr, List, [], ◌∷◌, ◌++◌, length, map, Bool, true, false, cond, eqb, ltb, leb, Some, None, Option, slice_get, refl, sym, ap, ◌∙◌, subst, arith}
+use Rattle.std.proofs.Common.{◌≡◌, ℕ, zero, suc, ◌*◌, ◌<◌, ◌≤◌, ◌⊎◌, ◌&&◌, inl, inr, List, [], ◌∷◌, ◌++◌, map, Bool, true, false, cond, eqb, leb, Some, None, Option, slice_get, refl, sym, ap, ◌∙◌, subst, arith}
 use Rattle.std.specs.List.{AllByRecursion}
 use Rattle.std.proofs.Math.Nat.{mul-le-mul_left}
-use Rattle.std.proofs.lemmas.Bool.{cases_Bool, cases_lt, false≢true, lt-ltb, le-ltb, le-leb, lt-leb, eqb-true, eq-eqb, ne_eqb, leb-true, leb-false}
+use Rattle.std.proofs.lemmas.Bool.{cases_Bool, cases_lt, false≢true, le-leb, lt-leb, eqb-true, eq-eqb, leb-true}
 use Rattle.std.proofs.lemmas.Option.{same_Some, none-some}
 use Rattle.route_model.specs.declared.change.Change.{Change}
 use Rattle.route_model.specs.Admission.{Admitted}
@@ -10,7 +10,7 @@ use Rattle.route_meaning.specs.Holds.{time_of}
 use Rattle.route_meaning.specs.Merged.{Placed, IsRising}
 use Rattle.version_model.specs.Versions.{Version, Has, AsOf}
 use Rattle.route_history.specs.Stamps.{orders, stamp_of, last_stamp}
-use Rattle.route_history.specs.Kept.{Timed, at_time, timed, IsVersion, AreVersions}
+use Rattle.route_history.specs.Kept.{Timed, at_time, timed, AreVersions}
 
 -- ---- stamps
 

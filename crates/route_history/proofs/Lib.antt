@@ -16,5 +16,8 @@ mod SameStamps
 mod SpelledEvents
 mod Telling
 mod GoingOn
+mod AppliedLater
+mod KeptLater
+mod KeptMore
 mod KeyVersionsOf
 mod Finishing

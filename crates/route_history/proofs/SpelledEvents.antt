@@ -9,7 +9,7 @@ use Rattle.route_model.specs.Prefix.{IpPrefix}
 use Rattle.route_model.specs.Spelling.{SpellsRoute}
 use Rattle.route_model.specs.Keys.{key_number, session_number}
 use Rattle.version_model.specs.Versions.{Version}
-use Rattle.route_history.specs.Spans.{IsChangeOf, IsChangeIn, HasEvent, IsEventIn}
+use Rattle.route_history.specs.Spans.{IsChangeOf, IsChangeIn, IsEventIn}
 
 no_change : (p : Peer) (x : IpPrefix) (octets : List ℕ) (o : Option Route) → ((r : Route) → SpellsRoute r octets → o ≡ Some r) → o ≡ None → (stamp : ℕ) (c : Change) → (key_number p x ≡ session_number p → ⊥) → IsChangeOf p x (record { key = key_number p x; stamp = stamp; value = Some octets }) c → ⊥
 no_change p x octets o only none stamp (Announce q y r) ne is = let s = is.3 in none-some r (sym none ∙ only r (subst (SpellsRoute r) (same_Some s.0 octets (sym s.1)) s.2))

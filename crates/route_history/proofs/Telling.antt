@@ -1,5 +1,5 @@
 -- The versions of a prefix and a session in a span are the events of the span.
-use Rattle.std.proofs.Common.{◌≡◌, ℕ, zero, suc, ◌+◌, ◌*◌, ◌/◌, ◌^◌, ◌<◌, ◌≤◌, ◌&&◌, inl, inr, List, [], ◌∷◌, ◌++◌, map, Bool, true, false, eqb, ltb, leb, Some, None, Option, slice_get, refl, sym, ap, ◌∙◌, subst, arith}
+use Rattle.std.proofs.Common.{◌≡◌, ℕ, zero, suc, ◌+◌, ◌*◌, ◌^◌, ◌<◌, ◌≤◌, ◌&&◌, inl, inr, List, [], ◌∷◌, ◌++◌, map, Bool, true, false, eqb, ltb, leb, Some, slice_get, refl, sym, ap, ◌∙◌, subst, arith}
 use Rattle.std.specs.Prelude.{◌||◌}
 use Rattle.std.specs.List.{AllByRecursion, AllZip, filter}
 use Rattle.std.proofs.lemmas.Bool.{cases_Bool, cases_lt, lt-ltb, le-ltb, le-leb, lt-leb}
@@ -15,14 +15,14 @@ use Rattle.route_model.specs.Keys.{key_number, session_number}
 use Rattle.route_meaning.specs.declared.question.Event.{Event}
 use Rattle.route_meaning.specs.declared.question.EventsQuestion.{EventsQuestion}
 use Rattle.route_meaning.specs.Merged.{Placed, IsRising as TimesRise}
-use Rattle.route_meaning.specs.Holds.{time_of, same_peer, same_prefix, concerns, until}
+use Rattle.route_meaning.specs.Holds.{time_of, same_peer, same_prefix, concerns}
 use Rattle.route_meaning.specs.Events.{events_in, all_events, between}
 use Rattle.route_meaning.proofs.Holding.{both, same_peer-true, same_prefix-true}
 use Rattle.route_meaning.proofs.api.Sorting.{all_weaker}
 use Rattle.version_model.specs.Versions.{Version, IsRising}
 use Rattle.route_history.specs.Stamps.{orders, stamp_of, last_stamp}
 use Rattle.route_history.specs.Kept.{Timed, at_time, timed, key_of, HasValue, IsVersion, AreVersions, Kept}
-use Rattle.route_history.specs.Spans.{AreStampsRising, is_of_two, is_at, span_start, span_end, asked, IsChangeOf, IsEventOf, HasEvent, TellsEvents}
+use Rattle.route_history.specs.Spans.{AreStampsRising, is_of_two, is_at, span_end, asked, IsChangeOf, IsEventOf, HasEvent, TellsEvents}
 use Rattle.route_history.proofs.KeysApart.{prefix-prefix, session-session, session-prefix, prefix-session}
 use Rattle.route_history.proofs.Latest.{RisesFrom, stamp-leb, below_all, at_place}
 use Rattle.route_history.proofs.Judging.{kept_rises}

@@ -4,9 +4,8 @@ use Rattle.route_model.specs.Admission.{Admitted}
 use Rattle.route_model.specs.Keys.{key_number, session_number}
 use Rattle.route_meaning.specs.Merged.{Placed}
 use Rattle.route_meaning.specs.Events.{IsEventsAnswer}
-use Rattle.version_model.specs.declared.part.Place.{Place}
 use Rattle.version_model.specs.Versions.{Version}
-use Rattle.version_model.specs.Blocks.{BlockNode, PlaceStands}
+use Rattle.version_model.specs.Blocks.{BlockNode}
 use Rattle.tsb_walk.specs.declared.looks.Parted.{Parted}
 use Rattle.tsb_walk.specs.declared.looks.Parted.TheVariants.{Here, InBlock}
 use Rattle.version_model.specs.Looks.{IsPart}

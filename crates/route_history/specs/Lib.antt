@@ -1,7 +1,9 @@
 pub mod Stamps
 pub mod Fronts
 pub mod Kept
+pub mod Growing
 pub mod Points
+pub mod Blame
 pub mod Walks
 pub mod RowTurns
 pub mod Spans

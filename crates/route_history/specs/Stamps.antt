@@ -1,5 +1,5 @@
 -- Stamps of changes: a time, and a number in the order of application.
-use Rattle.std.specs.Prelude.{ℕ, suc, ◌*◌, ◌+◌, ◌-◌, ◌^◌}
+use Rattle.std.specs.Prelude.{ℕ, ◌*◌, ◌+◌, ◌-◌, ◌^◌}
 
 -- how many changes can be told apart
 abbrev pub orders : ℕ

@@ -1,11 +1,15 @@
 //! Changes as versions.
 
-ghost use Rattle.std.specs.Prelude.{◌≡◌, ◌<◌, ◌^◌, IfOk};
+ghost use Rattle.std.specs.Prelude.{◌≡◌, ◌<◌, ◌≤◌, ◌^◌, ℕ, List, Option, length, option_map, IfOk, IfSome, OnOk, OnErr};
 ghost use Rattle.route_model.specs.Admission.{IsChange};
+ghost use Rattle.version_model.specs.Blocks.{BlockNode};
 ghost use Rattle.version_model.specs.Entries.{version_of};
+ghost use Rattle.version_model.specs.Versions.{Version};
 ghost use Rattle.route_history.specs.Stamps.{stamp_of};
 ghost use Rattle.route_history.specs.Kept.{IsVersion, HasValue, at_time, key_of};
+ghost use Rattle.route_history.specs.Growing.{StandsGrown, AreBefore, HasApplied};
 
+use crate::versions::Growing;
 use route_model::{Change, Key, Moment};
 use std::alloc::{AllocError, Global};
 use version_model::{Entry, Stamp};
@@ -22,13 +26,24 @@ fn key_of(change: &Change) -> Key
 }
 
 // What the version of a change has.
-fn value_of(alloc: Global, change: &Change) -> Result<Option<Vec<u8>>, AllocError>
-    ensures { IfOk result (λ value. HasValue change.now (Rattle.std.specs.Prelude.option_map (λ v. v.items) value)) }
+fn value_of(change: &Change) -> Option<&[u8]>
+    ensures value { HasValue change.now (option_map (λ octets. octets.now) result) }
+    ensures few { IsChange change.now → IfSome result (λ octets. length octets.now ≤ 3072) }
 {
     match change {
-        Change::Announce(_, _, route) => Ok(Some(route.spelling().to_vec(alloc)?)),
-        Change::Withdraw(_, _) => Ok(None),
-        Change::Down(_) => Ok(Some(Vec::new(alloc))),
+        Change::Announce(_, _, route) => Some(route.spelling()),
+        Change::Withdraw(_, _) => None,
+        Change::Down(_) => Some(&[]),
+    }
+}
+
+// The octets, kept.
+fn kept(alloc: Global, value: Option<&[u8]>) -> Result<Option<Vec<u8>>, AllocError>
+    ensures { IfOk result (λ kept. option_map (λ v. v.items) kept ≡ option_map (λ octets. octets.now) value.entry) }
+{
+    match value {
+        Some(octets) => Ok(Some(octets.to_vec(alloc)?)),
+        None => Ok(None),
     }
 }
 
@@ -44,6 +59,23 @@ pub fn version_of_change(
 {
     let stamp = Stamp::new(time.seconds(), order);
     let key = key_of(change);
-    let value = value_of(alloc, change)?;
+    let value = kept(alloc, value_of(change))?;
     Ok(Entry { key, stamp, value })
+}
+
+/// Applies a change that was told at a moment: adds its version, with this number in the order of application. The versions before
+/// it have lower stamps. After a refusal the same versions are there.
+pub fn apply<V: Growing>(
+    versions: &mut V,
+    time: Moment,
+    order: u64,
+    change: &Change,
+) -> Result<(), V::Refusal>
+    requires change { IsChange change.now }
+    ensures applied { (blocks : ℕ → Option BlockNode) (all : List Version) → V.stands versions.old blocks all → AreBefore (stamp_of time order) all → OnOk result (HasApplied (V.stands versions.new) blocks all order (at_time time change.now)) }
+    ensures refused { (blocks : ℕ → Option BlockNode) (all : List Version) → V.stands versions.old blocks all → OnErr result (StandsGrown (V.stands versions.new) blocks all) }
+{
+    let stamp = Stamp::new(time.seconds(), order);
+    let key = key_of(change);
+    versions.insert(key, stamp, value_of(change))
 }

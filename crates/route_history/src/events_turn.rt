@@ -1,28 +1,30 @@
 //! Turns of a question of a history, and errands of two looks.
 
-ghost use Rattle.std.specs.Prelude.{◌≡◌, ◌↔◌, ◌+◌, ℕ, List, Option, Some, None, IfOk, OnOk, OnErr, Err};
+ghost use Rattle.std.specs.Prelude.{◌≡◌, ◌↔◌, ◌+◌, ℕ, List, Option, Some, None, IfOk, IfErr, OnOk, OnErr, Err};
 ghost use Rattle.route_model.specs.Admission.{Admitted};
 ghost use Rattle.route_model.specs.Keys.{key_number, session_number};
 ghost use Rattle.route_meaning.specs.Merged.{Placed};
 ghost use Rattle.version_model.specs.Versions.{Version, IsRising};
+ghost use Rattle.version_model.specs.Blocks.{BlockNode};
 ghost use Rattle.version_model.specs.Looks.{IsPart};
 ghost use Rattle.version_model.specs.Entries.{versions_of};
 ghost use Rattle.once_store.specs.Readers.{capacity_of, reader_disk};
 ghost use Rattle.tsb_walk.specs.Knowing.{ReadsWell};
+ghost use Rattle.route_history.specs.Blame.{BlamesNone};
 ghost use Rattle.route_history.specs.Walks.{Rose};
 ghost use Rattle.route_history.specs.Spans.{TellsEvents, HasToldSo, IsSameTelling};
 ghost use Rattle.route_history.specs.Points.{PartsAt};
 ghost use Rattle.route_history.specs.EventTurns.{HasFit, IsKnownPart, AreKnownParts, IsEventsTurn, IsEventsErrandOf, IsToldSo};
 
 use crate::events::EventsCursor;
-use crate::versions::{LookError, Versions};
+use crate::versions::Versions;
 use disk_models::OnceDisk;
 use once_store::{BlockError, ShelfReader};
 use route_meaning::EventsAnswer;
 use route_model::Key;
 use std::alloc::Global;
 use std::mem;
-use tsb_walk::{KeyVersions, Parted, hist_part};
+use tsb_walk::{KeyVersions, NodeError, Parted, hist_part};
 use version_model::Stamp;
 
 /// What is to be looked for in the past, from one stamp on: the versions of the prefix or of the session, or of both.
@@ -75,13 +77,13 @@ pub fn take_events_turn<V: Versions>(
     versions: &mut V,
     alloc: Global,
     cursor: &mut EventsCursor,
-) -> Result<EventsTurn, LookError>
-    ensures turn { IfOk result (λ turn. (all : List Version) (ps : List (Placed Admitted)) → V.stands versions.old all → TellsEvents all ps cursor.old.question → HasToldSo all ps cursor.old → IsEventsTurn (V.blocks versions.old) all ps cursor.old cursor.new turn) }
+) -> Result<EventsTurn, NodeError>
+    ensures turn { IfOk result (λ turn. (blocks : ℕ → Option BlockNode) (all : List Version) (ps : List (Placed Admitted)) → V.stands versions.old blocks all → TellsEvents all ps cursor.old.question → HasToldSo all ps cursor.old → IsEventsTurn blocks all ps cursor.old cursor.new turn) }
     ensures fits { IfOk result (λ turn. HasFit cursor.new turn) }
     ensures refused { OnErr result (IsSameTelling cursor.old cursor.new) }
+    ensures blames { IfErr result (λ refusal. (blocks : ℕ → Option BlockNode) (all : List Version) → V.stands versions.old blocks all → BlamesNone refusal) }
     ensures question { cursor.new.question ≡ cursor.old.question }
-    ensures kept { (all : List Version) → V.stands versions.old all → V.stands versions.new all }
-    ensures same { V.blocks versions.new ≡ V.blocks versions.old }
+    ensures kept { (blocks : ℕ → Option BlockNode) (all : List Version) → V.stands versions.old blocks all → V.stands versions.new blocks all }
 {
     let Some(at) = cursor.at else {
         return Ok(EventsTurn::Done(cursor.tell(alloc)));

@@ -1,17 +1,20 @@
 //! Laws of applied changes as versions, and of what cursors have gathered: each the contract of a function that does nothing.
 
-ghost use Rattle.std.specs.Prelude.{◌≡◌, ◌↔◌, ℕ, List};
-ghost use Rattle.std.specs.List.{AllZip};
+ghost use Rattle.std.specs.Prelude.{◌≡◌, ◌↔◌, ◌<◌, ◌≤◌, ◌++◌, ◌∷◌, [], length, ℕ, List};
+ghost use Rattle.std.specs.List.{AllZip, AllByRecursion};
 ghost use Rattle.route_model.specs.Admission.{Admitted};
 ghost use Rattle.route_model.specs.Prefix.{IsPrefix};
 ghost use Rattle.route_model.specs.Spelling.{IsPeer};
 ghost use Rattle.route_meaning.specs.declared.question.EventsQuestion.{EventsQuestion};
 ghost use Rattle.route_meaning.specs.Merged.{Placed, IsRising};
 ghost use Rattle.route_meaning.specs.Holds.{time_of};
+ghost use Rattle.route_meaning.specs.History.{History, IsHistory, Begins, applied, settled};
 ghost use Rattle.version_model.specs.Versions.{Version, IsRising as AreStampsInOrder};
 ghost use Rattle.route_history.specs.declared.rows.RowsCursor.{RowsCursor};
 ghost use Rattle.route_history.specs.declared.events.EventsCursor.{EventsCursor};
-ghost use Rattle.route_history.specs.Kept.{Kept};
+ghost use Rattle.route_history.specs.Stamps.{stamp_of};
+ghost use Rattle.route_history.specs.Kept.{Timed, timed, IsVersion, Kept};
+ghost use Rattle.route_history.specs.Growing.{AreBefore};
 ghost use Rattle.route_history.specs.Walks.{Tells, Gathered, GoesOn, IsSameVersion};
 ghost use Rattle.route_history.specs.Spans.{TellsEvents, HasToldSo, EventsGoOn};
 
@@ -24,6 +27,13 @@ pub fn versions_tell()
     ensures stamps { (ps : List (Placed Admitted)) (all : List Version) → IsRising time_of ps → Kept ps all → AreStampsInOrder all }
 {}
 
+/// The version of the next change, whose number is how many versions there are, keeps the versions those of the applied changes; and
+/// its stamp is above theirs where it is told no earlier.
+pub fn kept_goes_on()
+    ensures more { (ps qs : List (Placed Admitted)) (all : List Version) (t : Timed) (v : Version) → timed qs ≡ timed ps ++ t ∷ [] → Kept ps all → IsVersion (length all) t v → Kept qs (all ++ v ∷ []) }
+    ensures before { (ps : List (Placed Admitted)) (all : List Version) (time : ℕ) → AllByRecursion (λ p. time_of p ≤ time) ps → Kept ps all → AreBefore (stamp_of time (length all)) all }
+{}
+
 /// What a cursor has gathered stays right where more changes are applied, none of which counts at its moment, or in its span.
 pub fn gathered_goes_on()
     ensures rows { (all new : List Version) (ps qs : List (Placed Admitted)) (c : RowsCursor) → GoesOn all new ps qs c.question.moment → Gathered all ps c → Gathered new qs c }
@@ -34,4 +44,11 @@ pub fn gathered_goes_on()
 /// same keys, stamps and ends.
 pub fn gathered_alike()
     ensures { (vs ws : List Version) (ps : List (Placed Admitted)) (c : RowsCursor) → AllZip IsSameVersion vs ws → Gathered vs ps c → Gathered ws ps c }
+{}
+
+/// What a cursor has gathered over a history is so over each later one, whatever the versions of both are, where the last moment
+/// that it asks of was settled.
+pub fn gathered_follows_histories()
+    ensures rows { (h g : History) (all new : List Version) (c : RowsCursor) → IsHistory h → IsHistory g → Begins h g → c.question.moment < settled h → Kept (applied h) all → Kept (applied g) new → Gathered all (applied h) c → Gathered new (applied g) c }
+    ensures events { (h g : History) (all new : List Version) (c : EventsCursor) → IsHistory h → IsHistory g → Begins h g → c.question.to < settled h → IsPeer c.question.peer → IsPrefix c.question.prefix → Kept (applied h) all → Kept (applied g) new → HasToldSo all (applied h) c → HasToldSo new (applied g) c }
 {}

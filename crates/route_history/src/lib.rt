@@ -12,10 +12,10 @@ mod rows;
 mod rows_turn;
 mod versions;
 
-pub use changes::version_of_change;
+pub use changes::{apply, version_of_change};
 pub use events::EventsCursor;
 pub use events_turn::{EventsErrand, EventsTurn, take_events_turn};
 pub use front::Front;
 pub use rows::RowsCursor;
 pub use rows_turn::{RowsErrand, RowsTurn, take_rows_turn};
-pub use versions::{LookError, Versions};
+pub use versions::{Growing, Versions};

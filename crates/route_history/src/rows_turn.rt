@@ -1,27 +1,29 @@
 //! Turns of a question of a moment, and errands into the past.
 
-ghost use Rattle.std.specs.Prelude.{◌≡◌, ◌↔◌, ◌<◌, ◌≤◌, ◌+◌, ℕ, List, Option, Some, None, IfOk, OnOk, OnErr, IsErrOf, Err, min};
+ghost use Rattle.std.specs.Prelude.{◌≡◌, ◌↔◌, ◌<◌, ◌≤◌, ◌+◌, ℕ, List, Option, Some, None, IfOk, IfErr, OnOk, OnErr, IsErrOf, Err, min};
 ghost use Rattle.route_model.specs.Admission.{Admitted};
 ghost use Rattle.route_meaning.specs.Merged.{Placed};
 ghost use Rattle.version_model.specs.Versions.{Version};
+ghost use Rattle.version_model.specs.Blocks.{BlockNode};
 ghost use Rattle.once_store.specs.Readers.{capacity_of, reader_disk};
 ghost use Rattle.tsb_walk.specs.Knowing.{ReadsWell, StandsKnown};
 ghost use Rattle.route_history.specs.Stamps.{last_stamp};
 ghost use Rattle.route_history.specs.Fronts.{front_number};
+ghost use Rattle.route_history.specs.Blame.{BlamesNone};
 ghost use Rattle.route_history.specs.Walks.{Tells, Gathered, Rose, IsSame, HasLeapt};
 ghost use Rattle.route_history.specs.RowTurns.{HasFit, IsTurn, IsErrandOf, IsTold};
 
 use crate::front::Front;
 use crate::leap::leap;
 use crate::rows::RowsCursor;
-use crate::versions::{LookError, Versions};
+use crate::versions::Versions;
 use disk_models::OnceDisk;
 use once_store::{BlockError, ShelfReader};
 use route_meaning::RowsAnswer;
 use route_model::{Key, Moment};
 use std::alloc::Global;
 use std::mem;
-use tsb_walk::{Looked, hist_next};
+use tsb_walk::{Looked, NodeError, hist_next};
 use version_model::{Place, Stamp};
 
 /// What is to be looked for in the past, without the store: the next key from this one on, in a place in settled blocks.
@@ -92,13 +94,13 @@ pub fn take_rows_turn<V: Versions>(
     versions: &mut V,
     alloc: Global,
     cursor: &mut RowsCursor,
-) -> Result<RowsTurn, LookError>
-    ensures turn { IfOk result (λ turn. (all : List Version) (ps : List (Placed Admitted)) → V.stands versions.old all → Tells all ps cursor.old.question.moment → Gathered all ps cursor.old → IsTurn (V.blocks versions.old) all ps cursor.old cursor.new turn) }
+) -> Result<RowsTurn, NodeError>
+    ensures turn { IfOk result (λ turn. (blocks : ℕ → Option BlockNode) (all : List Version) (ps : List (Placed Admitted)) → V.stands versions.old blocks all → Tells all ps cursor.old.question.moment → Gathered all ps cursor.old → IsTurn blocks all ps cursor.old cursor.new turn) }
     ensures fits { IfOk result (λ turn. HasFit cursor.new turn) }
     ensures refused { OnErr result ((all : List Version) (ps : List (Placed Admitted)) → Tells all ps cursor.old.question.moment → Gathered all ps cursor.old → Gathered all ps cursor.new) }
+    ensures blames { IfErr result (λ refusal. (blocks : ℕ → Option BlockNode) (all : List Version) → V.stands versions.old blocks all → BlamesNone refusal) }
     ensures question { cursor.new.question ≡ cursor.old.question }
-    ensures kept { (all : List Version) → V.stands versions.old all → V.stands versions.new all }
-    ensures same { V.blocks versions.new ≡ V.blocks versions.old }
+    ensures kept { (blocks : ℕ → Option BlockNode) (all : List Version) → V.stands versions.old blocks all → V.stands versions.new blocks all }
 {
     let Some(front) = cursor.leap() else {
         return Ok(RowsTurn::Done(cursor.tell(alloc)));

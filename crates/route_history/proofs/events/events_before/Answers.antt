@@ -1,9 +1,9 @@
-use Rattle.std.proofs.Common.{◌≡◌, ◌+◌, ◌<◌, ℕ, List, ◌++◌, ◌∷◌, [], take, map, subst, sym, ◌∙◌}
+use Rattle.std.proofs.Common.{◌≡◌, ◌+◌, ℕ, List, ◌++◌, ◌∷◌, [], take, map, subst, sym}
 use Rattle.std.specs.List.{AllByRecursion, filter}
 use Rattle.version_model.specs.declared.entry.Entry.{Entry}
 use Rattle.version_model.specs.Versions.{Version}
 use Rattle.route_history.specs.Spans.{before, version_at, subject_key, HasEvent, AreStamped}
-use Rattle.route_history.proofs.Stamps.{take_item, before_more, all_more, take_all}
+use Rattle.route_history.proofs.Stamps.{take_item, before_more, all_more}
 use Rattle.route_history.proofs.events.events_before.Goals as goal
 
 pub loop-entry-preserved : goal.loop-entry-preserved

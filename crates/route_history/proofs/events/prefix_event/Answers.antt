@@ -1,4 +1,4 @@
-use Rattle.std.proofs.Common.{◌≡◌, ◌<◌, ℕ, List, Option, Some, None, option_map, subst, sym, arith}
+use Rattle.std.proofs.Common.{◌<◌, ℕ, List, Option, Some, None, option_map, subst, arith}
 use Rattle.route_model.specs.Keys.{key_number, session_number}
 use Rattle.route_model.proofs.api.Keys.{session_below}
 use Rattle.route_model.specs.declared.change.Change.{Change}

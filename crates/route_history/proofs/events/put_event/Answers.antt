@@ -1,4 +1,4 @@
-use Rattle.std.proofs.Common.{◌≡◌, ◌<◌, ◌∷◌, ◌++◌, [], ℕ, List, Option, Some, refl, subst, sym, ◌∙◌}
+use Rattle.std.proofs.Common.{◌<◌, ◌∷◌, ◌++◌, [], List, Option, refl, subst, sym, ◌∙◌}
 use Rattle.std.specs.List.{filter}
 use Rattle.std.proofs.lemmas.Bool.{ltb-true}
 use Rattle.route_meaning.specs.declared.question.Event.{Event}

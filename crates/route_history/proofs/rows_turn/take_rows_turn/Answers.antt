@@ -1,4 +1,4 @@
-use Rattle.std.proofs.Common.{◌≡◌, ◌≤◌, ℕ, List, sym, ap, ◌∙◌, subst, Result, Ok, Err, OnErr, Bool, Some, Option, IfSome, arith}
+use Rattle.std.proofs.Common.{◌≡◌, ℕ, List, sym, ap, ◌∙◌, subst, Result, Ok, Err, OnErr, Bool, Some, Option, IfSome, arith}
 use Rattle.route_meaning.specs.declared.question.Row.{Row}
 use Rattle.route_meaning.specs.declared.question.RowsQuestion.{RowsQuestion}
 use Rattle.route_meaning.specs.Rows.{IsAnswer}
@@ -6,7 +6,6 @@ use Rattle.route_model.specs.Admission.{Admitted}
 use Rattle.route_meaning.specs.Merged.{Placed}
 use Rattle.version_model.specs.Versions.{Version}
 use Rattle.version_model.specs.Looks.{IsReached}
-use Rattle.tsb_walk.specs.declared.looks.Looked.{Looked}
 use Rattle.tsb_walk.specs.Answers.{reached_as}
 use Rattle.version_model.specs.Ranges.{IsPoint, range_of}
 use Rattle.tsb_walk.specs.Looked.{GoesOnIn, IsLooked}
@@ -23,14 +22,14 @@ on_err (Ok v) P p = tt
 on_err (Err e) P p = p
 
 pub returns-in_default-clause-turn : goal.returns-in_default-clause-turn
-returns-in_default-clause-turn g c = λ all ps stands t gathered.
+returns-in_default-clause-turn g c = λ blocks all ps stands t gathered.
     let h = subst (HasLeapt c.args.cursor.now c.leap.new.self) c.in_default.is c.leap.ensures.leapt in
     subst (λ (rows : List Row). IsAnswer ps c.args.cursor.now.question rows c.tell.result.more) (sym c.tell.ensures.rows)
     (subst (λ (more : Bool). IsAnswer ps c.args.cursor.now.question c.leap.new.self.rows.items more) (sym c.tell.ensures.more)
     (leapt_none all ps c.args.cursor.now c.leap.new.self t gathered h))
 
 pub returns-in_default-first-clause-turn : goal.returns-in_default-first-clause-turn
-returns-in_default-first-clause-turn g c = λ all ps stands t gathered.
+returns-in_default-first-clause-turn g c = λ blocks all ps stands t gathered.
     let h = subst (HasLeapt c.args.cursor.now c.leap.new.self) c.in-Some.is c.leap.ensures.leapt in
     let q = c.leap.new.self.question in
     let t' : Tells all ps q.moment = subst (λ (x : RowsQuestion). Tells all ps x.moment) (sym h.0) t in
@@ -42,25 +41,25 @@ returns-in_default-first-clause-turn g c = λ all ps stands t gathered.
     (subst (λ (more : Bool). IsAnswer ps q c.leap.new.self.rows.items more) (sym c.tell-in_default-first.ensures.more) whole))
 
 pub returns-in_ok-take-in-Here-clause-turn : goal.returns-in_ok-take-in-Here-clause-turn
-returns-in_ok-take-in-Here-clause-turn g c = λ all ps stands t gathered.
+returns-in_ok-take-in-Here-clause-turn g c = λ blocks all ps stands t gathered.
     let q = c.leap.new.self.question in
     let h = subst (HasLeapt c.args.cursor.now c.leap.new.self) c.in-Some.is c.leap.ensures.leapt in
     let under = leapt_under all ps c.args.cursor.now c.leap.new.self t gathered c.in-Some.front h in
     let t' : Tells all ps q.moment = subst (λ (x : RowsQuestion). Tells all ps x.moment) (sym h.0) t in
     let at : c.in-Some-first.from ≡ number_at c.in-Some.front = subst (λ (o : Option ℕ). IfSome o (λ k. k ≡ number_at c.in-Some.front)) c.in-Some-first.is c.first.ensures.key in
-    let looked = c.in_ok-reached.ensures.next all stands in
-    let here : IsReached all c.last_stamp.result c.in-Some-first.from (reached_as c.in-Here.reached) = subst (IsLooked (g.V.Versions.blocks c.args.versions.now) all c.in-Some-first.from c.last_stamp.result) c.in-Here.is looked in
+    let looked = c.in_ok-reached.ensures.next blocks all stands in
+    let here : IsReached all c.last_stamp.result c.in-Some-first.from (reached_as c.in-Here.reached) = subst (IsLooked blocks all c.in-Some-first.from c.last_stamp.result) c.in-Here.is looked in
     let reached : IsReached all (last_stamp q.moment) (number_at c.in-Some.front) (reached_as c.in-Here.reached) = subst (λ (n : ℕ). IsReached all (last_stamp q.moment) n (reached_as c.in-Here.reached)) at (subst (λ (s : ℕ). IsReached all s c.in-Some-first.from (reached_as c.in-Here.reached)) c.last_stamp.ensures here) in
     let taken = c.in_ok-take-in-Here.ensures.taken all ps t' under reached in
-    told_turn (g.V.Versions.blocks c.args.versions.now) all ps c.args.cursor.now c.take.new.self c.told.new.self c.told.result c.told.ensures.told taken.0 (c.take.ensures.question ∙ h.0)
+    told_turn blocks all ps c.args.cursor.now c.take.new.self c.told.new.self c.told.result c.told.ensures.told taken.0 (c.take.ensures.question ∙ h.0)
     (rose_further c.args.cursor.now c.leap.new.self c.in-Some.front (front_number c.take.new.self.front) h taken.1)
 
 pub returns-in-InBlock-clause-turn : goal.returns-in-InBlock-clause-turn
-returns-in-InBlock-clause-turn g c = λ all ps stands t gathered.
+returns-in-InBlock-clause-turn g c = λ blocks all ps stands t gathered.
     let q = c.leap.new.self.question in
     let h = subst (HasLeapt c.args.cursor.now c.leap.new.self) c.in-Some.is c.leap.ensures.leapt in
     let at : c.in-Some-first.from ≡ number_at c.in-Some.front = subst (λ (o : Option ℕ). IfSome o (λ k. k ≡ number_at c.in-Some.front)) c.in-Some-first.is c.first.ensures.key in
-    let looked : GoesOnIn (g.V.Versions.blocks c.args.versions.now) all c.in-Some-first.from c.last_stamp.result c.in-InBlock.place = subst (IsLooked (g.V.Versions.blocks c.args.versions.now) all c.in-Some-first.from c.last_stamp.result) c.in-InBlock.is (c.in_ok-reached.ensures.next all stands) in (
+    let looked : GoesOnIn blocks all c.in-Some-first.from c.last_stamp.result c.in-InBlock.place = subst (IsLooked blocks all c.in-Some-first.from c.last_stamp.result) c.in-InBlock.is (c.in_ok-reached.ensures.next blocks all stands) in (
       leapt_gathered all ps c.args.cursor.now c.leap.new.self t gathered c.in-Some.front h,
       h.0,
       record { here = ap front_number h.4 ∙ ap (λ (n : ℕ). Some n) (sym at); point = subst (λ (s : ℕ). IsPoint (range_of c.in-InBlock.place.bounds) c.in-Some-first.from s) c.last_stamp.ensures looked.point },

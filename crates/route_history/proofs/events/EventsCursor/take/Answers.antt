@@ -8,7 +8,6 @@ use Rattle.version_model.specs.Ranges.{end_or}
 use Rattle.route_history.specs.Spans.{span_start, span_end, asked, event_in, HasToldSo, IsTelling, AreStamped, version_at, before, stamp_in}
 use Rattle.version_model.specs.declared.entry.Entry.{Entry}
 use Rattle.version_model.specs.Looks.{IsPart}
-use Rattle.version_model.specs.Entries.{versions_of}
 use Rattle.route_history.specs.Spans.{HasEvent}
 use Rattle.std.specs.List.{AllByRecursion}
 use Rattle.route_history.proofs.KeyVersionsOf.{part_at, all_first, all_second}

@@ -1,6 +1,5 @@
-use Rattle.std.proofs.Common.{rules, ◌≡◌, ℕ, List, Some, Option, Err, sym, subst}
+use Rattle.std.proofs.Common.{rules, ◌≡◌, ℕ, Option, Err, sym, subst}
 use Rattle.once_store.specs.declared.error.BlockError.TheVariants.{Damaged}
-use Rattle.route_model.specs.Keys.{key_number, session_number}
 use Rattle.version_model.specs.Looks.{IsPart}
 use Rattle.version_model.specs.Entries.{versions_of}
 use Rattle.route_history.specs.EventTurns.{IsKnownPart}

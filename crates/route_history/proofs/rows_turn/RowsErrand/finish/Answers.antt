@@ -1,10 +1,9 @@
-use Rattle.std.proofs.Common.{rules, ◌≡◌, ℕ, List, Some, Err, Option, sym, subst}
+use Rattle.std.proofs.Common.{rules, ◌≡◌, ℕ, Err, subst}
 use Rattle.once_store.specs.declared.error.BlockError.TheVariants.{Damaged}
 use Rattle.version_model.specs.Looks.{IsReached}
 use Rattle.tsb_walk.specs.Answers.{reached_as}
 use Rattle.route_history.specs.Stamps.{last_stamp}
 use Rattle.route_history.specs.Fronts.{number_at, front_number}
-use Rattle.route_history.specs.Walks.{Gathered, Rose}
 use Rattle.route_history.proofs.Leapt.{under_front, rose_from, same_front}
 use Rattle.route_history.proofs.rows_turn.RowsErrand.finish.Goals as goal
 
