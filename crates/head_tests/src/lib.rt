@@ -3,3 +3,5 @@
 
 #[cfg(test)]
 mod pages;
+#[cfg(test)]
+mod settings;

@@ -1,0 +1,4 @@
+mod Histories
+mod Timing
+mod Lanes
+pub mod api

@@ -1,0 +1,9 @@
+//! What the pages and blocks of an archive carry: one history, in a head, a ring for each collector, and a tree.
+//!
+//! An archive's home pages are, in this order: the head; for each collector the pages of its ring; and the pages of the tree.
+//! The tree isn't known here but by what it stands for: versions, which are those of the applied changes.
+#![tactic(auto)]
+
+mod settings;
+
+pub use settings::Settings;
