@@ -42,12 +42,7 @@ pub trait Growing: Versions {
 
     /// Adds a version of the key: a value of at most 3,072 octets, or an end. Its stamp is above those of all versions. More
     /// blocks may be settled, also where it is refused.
-    fn insert(
-        &mut self,
-        key: Key,
-        stamp: Stamp,
-        value: Option<&[u8]>,
-    ) -> Result<(), Self::Refusal>
+    fn insert(&mut self, key: Key, stamp: Stamp, value: Option<&[u8]>) -> Result<(), Self::Refusal>
         requires few { IfSome value (λ octets. length octets.now ≤ 3072) }
         ensures inserted { (blocks : ℕ → Option BlockNode) (all : List Version) → Self.stands self.old blocks all → AreBefore stamp all → OnOk result (StandsGrown (Self.stands self.new) blocks (all ++ record { key = key; stamp = stamp; value = option_map (λ octets. octets.now) value.entry } ∷ [])) }
         ensures refused { (blocks : ℕ → Option BlockNode) (all : List Version) → Self.stands self.old blocks all → OnErr result (StandsGrown (Self.stands self.new) blocks all) };
