@@ -17,10 +17,10 @@ length-sized octets = length-append (to_be_bytes w32 (length octets)) octets
 
 -- ---- the first entry
 
-take_front : (n : ℕ) (xs ys : List ℕ) → length xs ≡ n → take n (xs ++ ys) ≡ xs
+pub take_front : (n : ℕ) (xs ys : List ℕ) → length xs ≡ n → take n (xs ++ ys) ≡ xs
 take_front n xs ys e = ap (λ k. take k (xs ++ ys)) (sym e) ∙ take-append_seam xs ys
 
-drop_front : (n : ℕ) (xs ys : List ℕ) → length xs ≡ n → drop n (xs ++ ys) ≡ ys
+pub drop_front : (n : ℕ) (xs ys : List ℕ) → length xs ≡ n → drop n (xs ++ ys) ≡ ys
 drop_front n xs ys e = ap (λ k. drop k (xs ++ ys)) (sym e) ∙ drop-append_seam xs ys
 
 pub entries_first : (a : Admitted) (rest : List Admitted) → flat_map entry (a ∷ rest) ≡ to_be_bytes w32 (length (admission_octets a)) ++ (admission_octets a ++ flat_map entry rest)

@@ -7,4 +7,5 @@ pub mod Untouched
 pub mod Spanning
 pub mod Unique
 pub mod Passing
+pub mod Standing
 pub mod api

@@ -1,3 +1,4 @@
 pub mod Ring
+pub mod Standing
 pub mod Calls
 pub mod inner

@@ -1,13 +1,12 @@
 //! Octets of a ring, and the admission that they spell.
 ghost use Rattle.std.specs.Prelude.{◌≡◌, ◌<◌, ◌≤◌, ◌+◌, ◌++◌, ℕ, List, length, take, drop, OnOk, IfOk, IfErr, IsErrOf};
-ghost use Rattle.std.specs.Int.{w32, from_be_bytes};
+ghost use Rattle.std.specs.Int.{w32, from_be_bytes, to_be_bytes};
 ghost use Rattle.page_tx.specs.Start.{Start};
 ghost use Rattle.intake.specs.Ring.{IsRing, StandsIn};
 ghost use Rattle.intake.specs.Calls.{OnlyReads, PageRefusal};
 
 use crate::error::ReadError;
 use crate::ring::{PAGE, Ring, wrap};
-use byteorder::{BigEndian, ByteOrder};
 use page_tx::{PageError, Pages};
 use route_model::{Admission, MAX_ADMISSION_LEN};
 use std::alloc::Global;
@@ -65,11 +64,12 @@ pub fn read<P: Pages>(
 }
 
 // The number in four octets.
-fn number(octets: &[u8]) -> u32
+pub fn number(octets: &[u8]) -> u32
     requires { length octets.now ≡ 4 }
-    ensures { result ≡ from_be_bytes w32 octets.now }
+    ensures number { result ≡ from_be_bytes w32 octets.now }
+    ensures octets { octets.now ≡ to_be_bytes w32 result }
 {
-    BigEndian::read_u32(octets)
+    u32::from_be_bytes([octets[0], octets[1], octets[2], octets[3]])
 }
 
 impl Ring {
@@ -77,6 +77,7 @@ impl Ring {
     ghost use Rattle.page_tx.specs.Start.{Start};
     ghost use Rattle.route_model.specs.Admission.{Admitted};
     ghost use Rattle.intake.specs.Ring.{entry, IsRing, Holds};
+    ghost use Rattle.intake.specs.Standing.{StandsFirst};
     ghost use Rattle.intake.specs.Calls.{OnlyReads, ReadRefusal};
     ghost use Rattle.page_tx.specs.declared.error.PageError.TheVariants as pages_refusals;
 
@@ -90,6 +91,9 @@ impl Ring {
         requires ring { IsRing (P.homes pages.old) self.now }
         ensures front { IfOk result (λ front. (start : Start) (shown : List (List ℕ)) (waits : List Admitted) → P.shows pages.old start shown → Holds shown self.now waits → front ≡ slice_get waits 0) }
         ensures none { IfOk result (λ front. IfNone front (self.now.used ≡ 0)) }
+        ensures first { IfOk result (λ front. IfSome front (λ a. (start : Start) (shown : List (List ℕ)) → P.shows pages.old start shown → StandsFirst shown self.now a)) }
+        ensures no_first { (page : ℕ) → result ≡ Err (ReadError.BadNode page) → (start : Start) (shown : List (List ℕ)) (a : Admitted) → P.shows pages.old start shown → StandsFirst shown self.now a → ⊥ }
+        ensures some { (page : ℕ) → result ≡ Err (ReadError.BadNode page) → 0 < self.now.used }
         ensures damaged { (page : ℕ) → result ≡ Err (ReadError.BadNode page) → (start : Start) (shown : List (List ℕ)) (waits : List Admitted) → P.shows pages.old start shown → Holds shown self.now waits → ⊥ }
         ensures begins { (page : ℕ) → result ≡ Err (ReadError.BadNode page) → page ≡ self.now.low + self.now.first / 16384 }
         ensures fits { IfOk result (λ front. IfSome front (λ a. length (entry a) ≤ self.now.used)) }

@@ -1,8 +1,9 @@
-use Rattle.std.proofs.Common.{◌≡◌, List, length, arith, sym, ◌∙◌, ap}
+use Rattle.std.proofs.Common.{◌≡◌, List, length, take, drop, arith, sym, ◌∙◌, ap}
 use Rattle.std.specs.List.{flat_map, slice_get}
 use Rattle.route_model.specs.Admission.{Admitted, admission_octets}
 use Rattle.intake.specs.Ring.{entry}
 use Rattle.intake.proofs.Entries.{first_there, first_len, first_spelled, length-sized, none_there}
+use Rattle.intake.proofs.Standing.{used_octets, used_length, used_stand, first_stands, begins, length_told}
 use Rattle.intake.proofs.ring.Ring.front.Goals as goal
 
 pub returns-then-self-eq0-clause-front : goal.returns-then-self-eq0-clause-front
@@ -21,7 +22,7 @@ returns-then-from-min-clause-damaged g c page is start shown waits are holds =
     let f = first_there shown c.args.self.now waits (omega (arith, ne)) holds in
     let fits = f.fits in
     let len : c.number-len.result ≡ length (admission_octets f.a) =
-    c.number-len.ensures ∙ first_len c.args.self.now waits c.deref.result.now f (c.deref.ensures.value ∙ c.in_ok-size.ensures.read start shown (flat_map entry waits) are holds.size holds.octets) in
+    c.number-len.ensures.number ∙ first_len c.args.self.now waits c.deref.result.now f (c.deref.ensures.value ∙ c.in_ok-size.ensures.read start shown (flat_map entry waits) are holds.size holds.octets) in
     let small = f.valid.small in
     absurd (omega (arith, c.if-from-min.true, c.min.ensures, c.from.ensures, len))
 
@@ -30,7 +31,7 @@ returns-in_default-clause-damaged g c page is start shown waits are holds =
     let ne = c.if-self-eq0.false in
     let f = first_there shown c.args.self.now waits (omega (arith, ne)) holds in
     let len : c.number-len.result ≡ length (admission_octets f.a) =
-    c.number-len.ensures ∙ first_len c.args.self.now waits c.deref.result.now f (c.deref.ensures.value ∙ c.in_ok-size.ensures.read start shown (flat_map entry waits) are holds.size holds.octets) in
+    c.number-len.ensures.number ∙ first_len c.args.self.now waits c.deref.result.now f (c.deref.ensures.value ∙ c.in_ok-size.ensures.read start shown (flat_map entry waits) are holds.size holds.octets) in
     let spelled = first_spelled c.args.self.now waits c.number-len.result c.deref-2.result.now f len
     (c.deref-2.ensures.value ∙ c.in_ok-octets.ensures.read start shown (flat_map entry waits) (c.read.ensures.same.shown start shown are) holds.size holds.octets) in
     let only = c.in_ok-admission.ensures.only f.a spelled in
@@ -41,7 +42,7 @@ returns-clause-front g c start shown waits are holds =
     let ne = c.if-self-eq0.false in
     let f = first_there shown c.args.self.now waits (omega (arith, ne)) holds in
     let len : c.number-len.result ≡ length (admission_octets f.a) =
-    c.number-len.ensures ∙ first_len c.args.self.now waits c.deref.result.now f (c.deref.ensures.value ∙ c.in_ok-size.ensures.read start shown (flat_map entry waits) are holds.size holds.octets) in
+    c.number-len.ensures.number ∙ first_len c.args.self.now waits c.deref.result.now f (c.deref.ensures.value ∙ c.in_ok-size.ensures.read start shown (flat_map entry waits) are holds.size holds.octets) in
     let spelled = first_spelled c.args.self.now waits c.number-len.result c.deref-2.result.now f len
     (c.deref-2.ensures.value ∙ c.in_ok-octets.ensures.read start shown (flat_map entry waits) (c.read.ensures.same.shown start shown are) holds.size holds.octets) in
     let only = c.in_ok-admission.ensures.only f.a spelled in
@@ -52,3 +53,48 @@ returns-clause-fits g c =
     let spelled = rw c.in-Some.is at c.in_ok-admission.ensures.found in
     let len = ap length (sym c.deref-2.ensures.value ∙ spelled.spelled) in
     omega (arith, len, c.in_ok-octets.ensures.len, c.if-from-min.false, c.min.ensures, c.from.ensures, c.if-self-lt4.false, length-sized (admission_octets c.in-Some.admission))
+
+pub returns-then-self-lt4-clause-no_first : goal.returns-then-self-lt4-clause-no_first
+returns-then-self-lt4-clause-no_first g c page is start shown a are first =
+    let stood = used_octets shown c.args.self.now in
+    let b = begins shown c.args.self.now a stood (used_length shown c.args.self.now) (used_stand shown c.args.self.now) first in
+    let fits = b.fits in
+    absurd (omega (arith, c.if-self-lt4.true))
+
+pub returns-then-from-min-clause-no_first : goal.returns-then-from-min-clause-no_first
+returns-then-from-min-clause-no_first g c page is start shown a are first =
+    let ring = c.args.self.now in
+    let stood = used_octets shown ring in
+    let long = used_length shown ring in
+    let stand = used_stand shown ring in
+    let b = begins shown ring a stood long stand first in
+    let small = first.valid.small in
+    let fits = b.fits in
+    let len = length_told a c.number-len.result stood c.deref.result.now small b.size (c.deref.ensures.value ∙ c.in_ok-size.ensures.read start shown stood are long stand) c.number-len.ensures.number in
+    absurd (omega (arith, c.if-from-min.true, c.min.ensures, c.from.ensures, len))
+
+pub returns-in_default-clause-no_first : goal.returns-in_default-clause-no_first
+returns-in_default-clause-no_first g c page is start shown a are first =
+    let ring = c.args.self.now in
+    let stood = used_octets shown ring in
+    let long = used_length shown ring in
+    let stand = used_stand shown ring in
+    let b = begins shown ring a stood long stand first in
+    let len = length_told a c.number-len.result stood c.deref.result.now first.valid.small b.size (c.deref.ensures.value ∙ c.in_ok-size.ensures.read start shown stood are long stand) c.number-len.ensures.number in
+    let octets : c.deref-2.result.now ≡ admission_octets a =
+    c.deref-2.ensures.value ∙ (c.in_ok-octets.ensures.read start shown stood (c.read.ensures.same.shown start shown are) long stand ∙ (ap (λ n. take n (drop 4 stood)) len ∙ b.octets)) in
+    let only = c.in_ok-admission.ensures.only a (record { valid = first.valid; spelled = octets }) in
+    absurd (c.in_default.not-Some a only)
+
+pub returns-clause-first : goal.returns-clause-first
+returns-clause-first g c start shown are =
+    let ring = c.args.self.now in
+    let stood = used_octets shown ring in
+    let long = used_length shown ring in
+    let stand = used_stand shown ring in
+    let spelled = rw c.in-Some.is at c.in_ok-admission.ensures.found in
+    first_stands shown ring c.in-Some.admission c.number-len.result c.deref.result.now c.deref-2.result.now stood stand
+    (c.deref.ensures.value ∙ c.in_ok-size.ensures.read start shown stood are long stand)
+    (c.deref-2.ensures.value ∙ c.in_ok-octets.ensures.read start shown stood (c.read.ensures.same.shown start shown are) long stand)
+    c.number-len.ensures.octets (ap length c.deref-2.ensures.value ∙ c.in_ok-octets.ensures.len)
+    (omega (arith, c.if-from-min.false, c.min.ensures, c.from.ensures, c.if-self-lt4.false)) spelled
