@@ -6,6 +6,6 @@ pub mod Filling
 pub mod Untouched
 pub mod Spanning
 pub mod Unique
-pub mod Passing
+pub mod Telling
 pub mod Standing
 pub mod api

@@ -1,29 +1,40 @@
 //! The times of all that waits in a ring.
 ghost use Rattle.std.specs.Prelude.{◌≡◌, ◌<◌, ◌≤◌, ◌+◌, ◌^◌, ◌++◌, ◌∷◌, [], ℕ, List, length, take, drop, OnOk, IfOk, IfErr, Err};
-ghost use Rattle.std.specs.Int.{w32, w64, from_be_bytes};
+ghost use Rattle.std.specs.Int.{w32, w64, from_be_bytes, to_be_bytes};
 ghost use Rattle.page_tx.specs.Start.{Start};
 ghost use Rattle.page_tx.specs.declared.error.PageError.TheVariants as pages_refusals;
-ghost use Rattle.route_model.specs.Admission.{Admitted};
-ghost use Rattle.intake.specs.Ring.{size_of, IsRing, Holds};
+ghost use Rattle.intake.specs.Ring.{size_of, IsRing};
+ghost use Rattle.intake.specs.Standing.{page_of, TellsTimes, BreaksAt};
 ghost use Rattle.intake.specs.Calls.{OnlyReads, ReadRefusal};
-ghost use Rattle.intake.specs.inner.Passing.{Passed};
 
 use crate::error::ReadError;
-use crate::reading::read;
+use crate::reading::{number, read};
 use crate::ring::{PAGE, Ring, wrap};
-use byteorder::{BigEndian, ByteOrder};
 use page_tx::Pages;
 use route_model::{MAX_ADMISSION_LEN, Moment};
 use std::alloc::{AllocError, Global};
+
+// The number in eight octets.
+fn long_number(octets: &[u8]) -> u64
+    requires { length octets.now ≡ 8 }
+    ensures number { result ≡ from_be_bytes w64 octets.now }
+    ensures octets { octets.now ≡ to_be_bytes w64 result }
+{
+    u64::from_be_bytes([
+        octets[0], octets[1], octets[2], octets[3], octets[4], octets[5], octets[6], octets[7],
+    ])
+}
 
 // The length of an entry's spelling, and the time that the spelling begins with.
 fn length_and_time(front: &[u8]) -> (u32, u64)
     requires { length front.now ≡ 12 }
     ensures length { result.0 ≡ from_be_bytes w32 (take 4 front.now) }
     ensures time { result.1 ≡ from_be_bytes w64 (drop 4 front.now) }
+    ensures length_octets { take 4 front.now ≡ to_be_bytes w32 result.0 }
+    ensures time_octets { drop 4 front.now ≡ to_be_bytes w64 result.1 }
 {
     let (length, time) = front.split_at(4);
-    (BigEndian::read_u32(length), BigEndian::read_u64(time))
+    (number(length), long_number(time))
 }
 
 // Puts one more time at the end.
@@ -35,11 +46,12 @@ fn add_time(times: &mut Vec<Moment>, time: Moment) -> Result<(), AllocError>
 }
 
 // The page of a place behind the first used octet.
-fn page_of(ring: Ring, at: u64) -> u64
+fn page_under(ring: Ring, at: u64) -> u64
     requires small { ring.low + ring.count < 2 ^ 64 }
     requires few { ring.count ≤ 65535 }
     requires start { ring.first < size_of ring }
     requires at { at ≤ size_of ring }
+    ensures page { result ≡ page_of ring at }
     ensures low { ring.low ≤ result }
     ensures high { result < ring.low + ring.count }
 {
@@ -55,15 +67,16 @@ fn time_at<P: Pages>(
 ) -> Result<(Moment, u64), ReadError>
     requires ring { IsRing (P.homes pages.old) ring }
     requires some { at < ring.used }
-    ensures passed { IfOk result (λ found. (start : Start) (shown : List (List ℕ)) (waits : List Admitted) (times : List ℕ) → P.shows pages.old start shown → Holds shown ring waits → Passed waits at times → Passed waits found.1 (times ++ found.0 ∷ [])) }
+    ensures told { IfOk result (λ found. (start : Start) (shown : List (List ℕ)) (times : List ℕ) → P.shows pages.old start shown → TellsTimes shown ring at times → TellsTimes shown ring found.1 (times ++ found.0 ∷ [])) }
     ensures on { IfOk result (λ found. at < found.1) }
     ensures inside { IfOk result (λ found. found.1 ≤ ring.used) }
-    ensures damaged { (page : ℕ) → result ≡ Err (ReadError.BadNode page) → (start : Start) (shown : List (List ℕ)) (waits : List Admitted) (times : List ℕ) → P.shows pages.old start shown → Holds shown ring waits → Passed waits at times → ⊥ }
-    ensures page { (page : ℕ) → result ≡ Err (ReadError.BadNode page) → (ring.low ≤ page) × (page < ring.low + ring.count) }
+    ensures breaks { (page : ℕ) → result ≡ Err (ReadError.BadNode page) → (start : Start) (shown : List (List ℕ)) (times : List ℕ) → P.shows pages.old start shown → TellsTimes shown ring at times → BreaksAt shown ring at }
+    ensures page { (page : ℕ) → result ≡ Err (ReadError.BadNode page) → page ≡ page_of ring at }
+    ensures inner { (page : ℕ) → result ≡ Err (ReadError.BadNode page) → (ring.low ≤ page) × (page < ring.low + ring.count) }
     ensures refused { IfErr result (ReadRefusal (P.down pages.old)) }
     ensures same { OnlyReads P.Pages pages.old pages.new (result ≡ Err (ReadError.Pages pages_refusals.Fault)) }
 {
-    let damaged = ReadError::BadNode(page_of(ring, at));
+    let damaged = ReadError::BadNode(page_under(ring, at));
     if ring.used - at < 12 {
         return Err(damaged);
     }
@@ -87,6 +100,7 @@ impl Ring {
     ghost use Rattle.page_tx.specs.declared.error.PageError.TheVariants as pages_refusals;
     ghost use Rattle.route_model.specs.Admission.{Admitted};
     ghost use Rattle.intake.specs.Ring.{time_of, IsRing, Holds};
+    ghost use Rattle.intake.specs.Standing.{page_of, TellsTimes, BreaksAt};
     ghost use Rattle.intake.specs.Calls.{OnlyReads, ReadRefusal};
 
     /// The times of all that waits, in its order. Of each admission no more is read than its length and its time. Where no
@@ -97,6 +111,9 @@ impl Ring {
         pages: &mut P,
     ) -> Result<Vec<Moment>, ReadError>
         requires ring { IsRing (P.homes pages.old) self.now }
+        ensures told { IfOk result (λ times. (start : Start) (shown : List (List ℕ)) → P.shows pages.old start shown → TellsTimes shown self.now self.now.used times.items) }
+        ensures breaks { (page : ℕ) → result ≡ Err (ReadError.BadNode page) → (start : Start) (shown : List (List ℕ)) → P.shows pages.old start shown → (at : ℕ) × BreaksAt shown self.now at × (page ≡ page_of self.now at) }
+        ensures none { (page : ℕ) → result ≡ Err (ReadError.BadNode page) → (start : Start) (shown : List (List ℕ)) (times : List ℕ) → P.shows pages.old start shown → TellsTimes shown self.now self.now.used times → ⊥ }
         ensures times { IfOk result (λ times. (start : Start) (shown : List (List ℕ)) (waits : List Admitted) → P.shows pages.old start shown → Holds shown self.now waits → times.items ≡ map time_of waits) }
         ensures damaged { (page : ℕ) → result ≡ Err (ReadError.BadNode page) → (start : Start) (shown : List (List ℕ)) (waits : List Admitted) → P.shows pages.old start shown → Holds shown self.now waits → ⊥ }
         ensures page { (page : ℕ) → result ≡ Err (ReadError.BadNode page) → (self.now.low ≤ page) × (page < self.now.low + self.now.count) }

@@ -1,16 +1,48 @@
-use Rattle.std.proofs.Common.{◌≡◌, IfErr, Err, rules, sym, ◌∙◌, ap, subst}
+use Rattle.std.proofs.Common.{◌≡◌, ℕ, IfErr, Err, Result, map, arith, rules, sym, ◌∙◌, ap, subst}
 use Rattle.intake.specs.declared.error.ReadError.{ReadError}
 use Rattle.intake.specs.declared.error.ReadError.TheVariants as reads
-use Rattle.intake.proofs.Passing.{passed_all}
+use Rattle.intake.specs.Ring.{time_of}
+use Rattle.intake.specs.Standing.{TellsTimes}
+use Rattle.intake.proofs.Telling.{tells_one, breaks_none, holds_tells}
 use Rattle.intake.proofs.ring.Ring.waiting_times.Goals as goal
+
+-- a refusal that is passed on is the one that came
+passed_on : {T U : Type 0} (r : Result T ReadError) (s : Result U ReadError) (e : ReadError) (page : ℕ) → IfErr r (λ x. x ≡ e) → s ≡ Err e → r ≡ Err (reads.BadNode page) → s ≡ Err (reads.BadNode page)
+passed_on {T} {U} r s e page told was is = was ∙ ap (λ (x : ReadError). Err x) (sym (subst (λ (r : Result T ReadError). IfErr r (λ x. x ≡ e)) is told))
+
+pub returns-in_err-time-clause-breaks : goal.returns-in_err-time-clause-breaks
+returns-in_err-time-clause-breaks g c page is start shown are =
+    let i = c.loop-at.invariant in
+    let told : IfErr c.from_residual.result (λ e. e ≡ c.in_err-time.field-0.0) = search rules in
+    let was = passed_on c.from_residual.result c.time_at.result c.in_err-time.field-0.0 page told c.in_err-time.was is in (
+      c.loop-at.at,
+      c.time_at.ensures.breaks page was start shown c.loop-at.times.items (i.same.shown start shown are) (i.told start shown are),
+      c.time_at.ensures.page page was,
+    )
+
+pub returns-in_err-time-clause-none : goal.returns-in_err-time-clause-none
+returns-in_err-time-clause-none g c page is start shown times are all =
+    let i = c.loop-at.invariant in
+    let told : IfErr c.from_residual.result (λ e. e ≡ c.in_err-time.field-0.0) = search rules in
+    let was = passed_on c.from_residual.result c.time_at.result c.in_err-time.field-0.0 page told c.in_err-time.was is in
+    breaks_none shown c.args.self.now c.loop-at.at times (c.time_at.ensures.breaks page was start shown c.loop-at.times.items (i.same.shown start shown are) (i.told start shown are)) all
 
 pub returns-in_err-time-clause-damaged : goal.returns-in_err-time-clause-damaged
 returns-in_err-time-clause-damaged g c page is start shown waits are holds =
     let i = c.loop-at.invariant in
     let told : IfErr c.from_residual.result (λ e. e ≡ c.in_err-time.field-0.0) = search rules in
-    let same : reads.BadNode page ≡ c.in_err-time.field-0.0 = subst (λ r. IfErr r (λ e. e ≡ c.in_err-time.field-0.0)) is told in
-    let was : c.time_at.result ≡ Err c.in_err-time.field-0.0 = c.in_err-time.was in
-    c.time_at.ensures.damaged page (was ∙ ap (λ (e : ReadError). Err e) (sym same)) start shown waits c.loop-at.times.items (i.same.shown start shown are) holds (i.passed start shown waits are holds)
+    let was = passed_on c.from_residual.result c.time_at.result c.in_err-time.field-0.0 page told c.in_err-time.was is in
+    breaks_none shown c.args.self.now c.loop-at.at (map time_of waits) (c.time_at.ensures.breaks page was start shown c.loop-at.times.items (i.same.shown start shown are) (i.told start shown are)) (holds_tells shown c.args.self.now waits holds)
+
+pub returns-clause-told : goal.returns-clause-told
+returns-clause-told g c start shown are =
+    let few = c.loop-at.invariant.few in
+    let all : c.loop-at.at ≡ c.args.self.now.used = omega (arith, few, c.loop-at-test.false) in
+    subst (λ k. TellsTimes shown c.args.self.now k c.loop-at.times.items) all (c.loop-at.invariant.told start shown are)
 
 pub returns-clause-times : goal.returns-clause-times
-returns-clause-times g c start shown waits are holds = passed_all waits c.loop-at.at c.args.self.now.used c.loop-at.times.items holds.size c.loop-at-test.false (c.loop-at.invariant.passed start shown waits are holds)
+returns-clause-times g c start shown waits are holds =
+    let few = c.loop-at.invariant.few in
+    let ring = c.args.self.now in
+    let all : c.loop-at.at ≡ ring.used = omega (arith, few, c.loop-at-test.false) in
+    tells_one shown ring ring.used c.loop-at.times.items (map time_of waits) (subst (λ k. TellsTimes shown ring k c.loop-at.times.items) all (c.loop-at.invariant.told start shown are)) (holds_tells shown ring waits holds)
