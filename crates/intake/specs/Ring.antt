@@ -97,3 +97,11 @@ pub record Gains (shows : List (List ℕ) → Type 0) (old : List (List ℕ)) (r
   pub shown : shows pages
   pub changes : ChangesOnly ring old pages
   pub stands : Stands pages ring admissions
+
+-- Pages are shown on which these octets stand behind the used ones, whatever those are, and outside of the ring they are as
+-- they were.
+pub record Adds (shows : List (List ℕ) → Type 0) (old : List (List ℕ)) (ring : Ring) (octets : List ℕ) : Type 0 where
+  pub pages : List (List ℕ)
+  pub shown : shows pages
+  pub outside : ChangesOnly ring old pages
+  pub behind : (used : List ℕ) → length used ≡ ring.used → StandsIn old ring used → StandsIn pages ring (used ++ octets)

@@ -85,6 +85,18 @@ returns-clause-appended g c start shown waits are holds =
       });
     }
 
+pub returns-clause-added : goal.returns-clause-added
+returns-clause-added g c start shown are =
+    let ring = c.args.self.now in
+    let items = c.in_ok-images.images.items in
+    let n = c.in_ok-images.ensures.numbers in
+    record {
+      pages = laid items shown;
+      shown = c.in_ok-lay.ensures.ok start shown (c.draft.ensures.same.shown start shown are);
+      outside = (let ch = laid_changes ring n.0 items shown n.1 n.2 in record { count = ch.count; below = ch.below; above = ch.above });
+      behind = λ used long stand. c.in_ok-images.ensures.stands start shown used are long stand;
+    }
+
 pub returns-clause-few : goal.returns-clause-few
 returns-clause-few g c =
     let same = c.draft.ensures.same in
