@@ -6,6 +6,8 @@ mod damaged;
 #[cfg(test)]
 mod fitting;
 #[cfg(test)]
+mod lengths;
+#[cfg(test)]
 mod made;
 #[cfg(test)]
 mod queued;

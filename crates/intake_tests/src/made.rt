@@ -5,7 +5,7 @@ use disk_models::Page;
 use intake::{IntakeError, ReadError, Ring};
 use page_journal::{Journal, PostError};
 use page_tx::{PageError, Pages, Tx};
-use route_model::{Admission, Change, Moment, Peer};
+use route_model::{Admission, Change, Moment, Peer, Prefix};
 use std::alloc::Global;
 use std::num::NonZeroUsize;
 use std::test::Fail;
@@ -56,6 +56,20 @@ pub(crate) fn ends(alloc: Global, seconds: u32, count: usize) -> Result<Admissio
     for _ in 0..count {
         changes.push(Change::Down(peer))?;
     }
+    Ok(Admission::new(Moment::from(seconds), changes)?)
+}
+
+// An admission as large as one may be: 43,677 ends of a session and a withdrawn prefix of no bits, whose spelling has
+// 36 + 3 * 43,677 + 5 = 131,072 octets.
+pub(crate) fn largest(alloc: Global, seconds: u32) -> Result<Admission, Fail> {
+    let (Some(peer), Some(prefix)) = (Peer::decode(&PEER), Prefix::decode(&[4, 0])) else {
+        return Err(ReadError::BadNode(0).into());
+    };
+    let mut changes = Vec::new(alloc);
+    for _ in 0..43_677usize {
+        changes.push(Change::Down(peer))?;
+    }
+    changes.push(Change::Withdraw(peer, prefix))?;
     Ok(Admission::new(Moment::from(seconds), changes)?)
 }
 

@@ -1,11 +1,12 @@
 //! A ring beside a plain queue.
 use crate::made::{
-    HOMES, PAGE, SHORTEST, append, begun, ends, front, is_untouched, pop, waiting_times,
+    HOMES, PAGE, SHORTEST, append, begun, ends, free, front, is_untouched, largest, pop,
+    waiting_times,
 };
 use disk_memory::MemErase;
 use intake::{IntakeError, ReadError, Ring};
 use page_tx::Tx;
-use route_model::Admission;
+use route_model::{Admission, Moment};
 use std::alloc::Global;
 use std::collections::VecDeque;
 use std::test::Fail;
@@ -28,7 +29,14 @@ impl Numbers {
 struct Both {
     ring: Ring,
     plain: VecDeque<Admission>,
+    /// The octets of what waits.
     octets: u64,
+    /// The octets of what was taken out.
+    taken: u64,
+    /// Whether more is put than taken, until a batch doesn't fit; then more is taken, until nothing waits.
+    fills: bool,
+    /// How often it changed from taking to putting.
+    drained: u32,
 }
 
 // How many changes: mostly few, one time in 64 up to 43,678, whose spelling has 131,070 octets.
@@ -41,23 +49,27 @@ fn count(numbers: &mut Numbers) -> usize {
     numbers.below(most) as usize
 }
 
+// Up to four admissions.
+fn some(alloc: Global, numbers: &mut Numbers, step: u32) -> Result<Vec<Admission>, Fail> {
+    let mut batch = Vec::new(alloc);
+    for _ in 0..numbers.below(5) {
+        batch.push(ends(alloc, step, count(numbers))?)?;
+    }
+    Ok(batch)
+}
+
 // Puts a batch into both, where it fits. Tells whether the ring answered as the plain queue's octets say.
 fn put(
     alloc: Global,
     tx: &mut Tx<MemErase>,
     both: &mut Both,
-    numbers: &mut Numbers,
-    step: u32,
+    batch: Vec<Admission>,
 ) -> Result<bool, Fail> {
-    let size = numbers.below(5);
-    let mut batch = Vec::new(alloc);
     let mut octets = 0u64;
-    for _ in 0..size {
-        let admission = ends(alloc, step, count(numbers))?;
+    for admission in &batch {
         octets = octets
             .saturating_add(4)
             .saturating_add(admission.encoded_len() as u64);
-        batch.push(admission)?;
     }
     let fits = both.octets.saturating_add(octets) <= 147_456;
     match append(alloc, tx, &mut both.ring, &batch) {
@@ -68,7 +80,10 @@ fn put(
             both.octets = both.octets.saturating_add(octets);
             Ok(fits)
         }
-        Err(IntakeError::IntakeFull) => Ok(!fits),
+        Err(IntakeError::IntakeFull) => {
+            both.fills = false;
+            Ok(!fits)
+        }
         Err(refused) => Err(refused.into()),
     }
 }
@@ -80,12 +95,36 @@ fn take(alloc: Global, tx: &mut Tx<MemErase>, both: &mut Both) -> Result<bool, F
         (Some(found), Some(admission)) => {
             let octets = 4u64.saturating_add(admission.encoded_len() as u64);
             both.octets = both.octets.saturating_sub(octets);
+            both.taken = both.taken.saturating_add(octets);
             let same = found.encode(alloc)? == admission.encode(alloc)?;
             Ok(pop(tx, &mut both.ring, &found) && same)
         }
         (None, None) => Ok(true),
         _ => Ok(false),
     }
+}
+
+// Puts a batch or takes one out, the one seven times as often as the other. Where nothing waits any more, the largest
+// admission is put first.
+fn step(
+    alloc: Global,
+    tx: &mut Tx<MemErase>,
+    both: &mut Both,
+    numbers: &mut Numbers,
+    step: u32,
+) -> Result<bool, Fail> {
+    if both.octets == 0 && !both.fills {
+        both.fills = true;
+        both.drained = both.drained.saturating_add(1);
+        let mut batch = Vec::new(alloc);
+        batch.push(largest(alloc, step)?)?;
+        return put(alloc, tx, both, batch);
+    }
+    if (numbers.below(8) == 0) == both.fills {
+        return take(alloc, tx, both);
+    }
+    let batch = some(alloc, numbers, step)?;
+    put(alloc, tx, both, batch)
 }
 
 // Whether the times of all that waits in the ring are those of the plain queue.
@@ -108,26 +147,105 @@ fn a_ring_is_a_queue(rt: HostRuntime) -> Result<(), Fail> {
         ring: Ring::empty(1, 9),
         plain: VecDeque::new(alloc),
         octets: 0,
+        taken: 0,
+        fills: false,
+        drained: 0,
     };
     let mut numbers = Numbers { last: 20_240_101 };
-    for step in 0..10_000u32 {
-        if numbers.below(2) == 0 {
-            assert!(rt;
-                put(alloc, &mut tx, &mut both, &mut numbers, step)?,
-                "{step}"
-            );
-        } else {
-            assert!(rt; take(alloc, &mut tx, &mut both)?, "{step}");
-        }
+    for n in 0..10_000u32 {
+        assert!(rt; step(alloc, &mut tx, &mut both, &mut numbers, n)?, "{n}");
         assert!(rt; both.ring.used == both.octets);
-        if step % 500 == 499 {
+        assert!(rt; both.ring.first == both.taken % 147_456);
+        if n % 500 == 499 {
             assert!(rt; have_the_times(alloc, &mut tx, &both)?);
             tx.commit()?;
             tx.checkpoint()?;
         }
     }
+    // It was filled until a batch didn't fit, and emptied, and so went round, again and again.
+    assert!(rt; both.drained >= 20 && both.taken / 147_456 >= 40);
     assert!(rt; is_untouched(&mut tx, 0)?);
     assert!(rt; is_untouched(&mut tx, HOMES - 1)?);
+    Ok(())
+}
+
+// How many octets lie before the end of a ring of one page, from the first that is used on, counted where they are up to 43.
+fn count_end(ring: &Ring, ends: &mut [u32; 44]) {
+    if let Some(counted) = ends.get_mut(PAGE.saturating_sub(ring.first) as usize) {
+        *counted = counted.saturating_add(1);
+    }
+}
+
+// Puts so many admissions of 43 octets, but no more than fit and than are wanted in all, with one second after another.
+fn put_seconds(
+    alloc: Global,
+    tx: &mut Tx<MemErase>,
+    ring: &mut Ring,
+    most: u64,
+    next: &mut u32,
+) -> Result<(), Fail> {
+    let fit = free(tx, ring).unwrap_or(0) / 43;
+    let left = 16_384u64.saturating_sub(u64::from(*next));
+    let mut batch = Vec::new(alloc);
+    for _ in 0..most.min(fit).min(left) {
+        batch.push(ends(alloc, *next, 1)?)?;
+        *next = next.saturating_add(1);
+    }
+    append(alloc, tx, ring, &batch)?;
+    Ok(())
+}
+
+// Takes up to so many out, and tells whether they came with one second after another.
+fn take_seconds(
+    alloc: Global,
+    tx: &mut Tx<MemErase>,
+    ring: &mut Ring,
+    most: u64,
+    next: &mut u32,
+    ends: &mut [u32; 44],
+) -> Result<bool, Fail> {
+    for _ in 0..most {
+        let Some(found) = front(alloc, tx, ring)? else {
+            return Ok(ring.used == 0);
+        };
+        count_end(ring, ends);
+        if found.time() != Moment::from(*next) || found.changes().len() != 1 {
+            return Ok(false);
+        }
+        *next = next.saturating_add(1);
+        if !pop(tx, ring, &found) {
+            return Ok(false);
+        }
+    }
+    Ok(true)
+}
+
+#[test]
+fn a_queue_wraps_at_each_octet_of_an_entry(rt: HostRuntime) -> Result<(), Fail> {
+    let alloc = rt.alloc();
+    let mut tx = begun(alloc)?;
+    let mut ring = Ring::empty(3, 1);
+    let mut numbers = Numbers { last: 7 };
+    let (mut given, mut taken) = (0u32, 0u32);
+    let mut ends = [0u32; 44];
+    for _ in 0..400u32 {
+        put_seconds(alloc, &mut tx, &mut ring, numbers.below(400), &mut given)?;
+        assert!(rt;
+            take_seconds(
+                alloc,
+                &mut tx,
+                &mut ring,
+                numbers.below(400),
+                &mut taken,
+                &mut ends
+            )?,
+            "{taken}"
+        );
+    }
+    // 43 and 16,384 have no common divisor, so 16,384 entries, in 43 rounds, begin once at each place.
+    assert!(rt; given == 16_384 && taken == 16_384);
+    assert!(rt; ring.first == 0 && ring.used == 0);
+    assert!(rt; ends.iter().skip(1).all(|counted| *counted == 1));
     Ok(())
 }
 

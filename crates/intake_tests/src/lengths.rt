@@ -1,0 +1,136 @@
+//! An entry that has another length than what was put there.
+use crate::made::{PAGE, append, begun, ends, front, many, one, waiting_times};
+use disk_memory::MemErase;
+use disk_models::Page;
+use intake::{ReadError, Ring};
+use page_tx::{Pages, Tx};
+use std::alloc::Global;
+use std::test::Fail;
+
+// How many times are read, or the page that is told as damaged.
+type Times = Result<usize, u64>;
+
+// A first octet of three pages from page 3 on, a length, the page that is told where the first admission is asked for, and
+// what is read of the times. An entry of 71 octets and one of 52 stand there. From 49,142 on the first wraps behind its
+// length and 6 octets of its time, and from 49,150 on within its length. By a length of 13 the next entry would begin 17
+// octets behind, where the octets of the spelling from the 13th on are no length that fits; by one of 119 the first entry
+// would be all there is.
+const CASES: [(u64, u32, u64, Times); 18] = [
+    (100, 0, 3, Err(3)),
+    (100, 7, 3, Err(3)),
+    (100, 13, 3, Err(3)),
+    (100, 119, 3, Ok(1)),
+    (100, 120, 3, Err(3)),
+    (100, 131_073, 3, Err(3)),
+    (49_142, 0, 5, Err(5)),
+    (49_142, 7, 5, Err(5)),
+    (49_142, 13, 5, Err(3)),
+    (49_142, 119, 5, Ok(1)),
+    (49_142, 120, 5, Err(5)),
+    (49_142, 131_073, 5, Err(5)),
+    (49_150, 0, 5, Err(5)),
+    (49_150, 7, 5, Err(5)),
+    (49_150, 13, 5, Err(3)),
+    (49_150, 119, 5, Ok(1)),
+    (49_150, 120, 5, Err(5)),
+    (49_150, 131_073, 5, Err(5)),
+];
+
+// Puts an octet at a place of the ring.
+fn put_octet(
+    alloc: Global,
+    tx: &mut Tx<MemErase>,
+    ring: &Ring,
+    place: u64,
+    octet: u8,
+) -> Result<(), Fail> {
+    let number = ring.low.saturating_add(place / PAGE);
+    if number >= tx.pool().home_pages() {
+        return Ok(());
+    }
+    tx.fetch(number)?;
+    let mut changed = Page::new(alloc)?;
+    if let Some(shown) = tx.page(number) {
+        changed.copy_from(shown);
+    }
+    if let Some(old) = changed.octets_mut().get_mut((place % PAGE) as usize) {
+        *old = octet;
+    }
+    tx.set(number, changed)?;
+    Ok(())
+}
+
+// Puts a length in place of the first entry's.
+fn put_length(alloc: Global, tx: &mut Tx<MemErase>, ring: &Ring, length: u32) -> Result<(), Fail> {
+    let size = PAGE.saturating_mul(ring.count);
+    let mut place = ring.first;
+    for octet in length.to_be_bytes() {
+        put_octet(alloc, tx, ring, place.checked_rem(size).unwrap_or(0), octet)?;
+        place = place.saturating_add(1);
+    }
+    Ok(())
+}
+
+// The page that is told where the first admission is asked for, none where one is answered.
+fn front_told(alloc: Global, tx: &mut Tx<MemErase>, ring: &Ring) -> Result<Option<u64>, Fail> {
+    match front(alloc, tx, ring) {
+        Ok(_) => Ok(None),
+        Err(ReadError::BadNode(page)) => Ok(Some(page)),
+        Err(other) => Err(other.into()),
+    }
+}
+
+fn times_told(alloc: Global, tx: &mut Tx<MemErase>, ring: &Ring) -> Result<Times, Fail> {
+    match waiting_times(alloc, tx, ring) {
+        Ok(times) => Ok(Ok(times.len())),
+        Err(ReadError::BadNode(page)) => Ok(Err(page)),
+        Err(other) => Err(other.into()),
+    }
+}
+
+#[test]
+fn a_wrong_length_is_told_with_its_page(rt: HostRuntime) -> Result<(), Fail> {
+    let alloc = rt.alloc();
+    let mut tx = begun(alloc)?;
+    for (first, length, page, times) in &CASES {
+        let mut ring = Ring {
+            first: *first,
+            ..Ring::empty(3, 3)
+        };
+        append(
+            alloc,
+            &mut tx,
+            &mut ring,
+            &[one(alloc)?, ends(alloc, 7, 4)?],
+        )?;
+        assert!(rt; front_told(alloc, &mut tx, &ring)?.is_none());
+        assert!(rt; times_told(alloc, &mut tx, &ring)? == Ok(2));
+        put_length(alloc, &mut tx, &ring, *length)?;
+        assert!(rt;
+            front_told(alloc, &mut tx, &ring)? == Some(*page),
+            "{first} {length}"
+        );
+        assert!(rt;
+            times_told(alloc, &mut tx, &ring)? == *times,
+            "{first} {length}"
+        );
+    }
+    Ok(())
+}
+
+#[test]
+fn a_length_that_no_admission_has_is_told_where_it_stands(rt: HostRuntime) -> Result<(), Fail> {
+    let alloc = rt.alloc();
+    let mut tx = begun(alloc)?;
+    let mut ring = Ring::empty(1, 9);
+    append(alloc, &mut tx, &mut ring, &many(alloc, 2000)?)?;
+    // By the greatest length the next entry would begin at the place 131,076, on the ninth page, 10 octets behind the first
+    // of an entry, where no time stands.
+    put_length(alloc, &mut tx, &ring, 131_072)?;
+    assert!(rt; front_told(alloc, &mut tx, &ring)? == Some(1));
+    assert!(rt; times_told(alloc, &mut tx, &ring)? == Err(9));
+    put_length(alloc, &mut tx, &ring, 131_073)?;
+    assert!(rt; front_told(alloc, &mut tx, &ring)? == Some(1));
+    assert!(rt; times_told(alloc, &mut tx, &ring)? == Err(1));
+    Ok(())
+}
