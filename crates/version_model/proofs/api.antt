@@ -2,6 +2,7 @@ pub mod Pushed
 pub mod AsOfs
 pub mod Shown
 pub mod LooksShown
+pub mod PartsJoined
 pub mod Sizing
 pub mod PastKept
 pub mod PastSplit

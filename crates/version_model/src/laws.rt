@@ -1,12 +1,12 @@
 //! Laws of the definitions, each the contract of a function that does nothing.
 
-ghost use Rattle.std.specs.Prelude.{◌≡◌, ◌<◌, ◌≤◌, ◌+◌, ◌-◌, ◌++◌, ℕ, suc, List, [], ◌∷◌, Option, Some, None, IsSome, length, filter, slice_get};
+ghost use Rattle.std.specs.Prelude.{◌≡◌, ◌<◌, ◌≤◌, ◌+◌, ◌-◌, ◌++◌, ℕ, suc, List, [], ◌∷◌, Option, Some, None, IsSome, length, filter, slice_get, nat_eq};
 ghost use Rattle.std.specs.List.{insert};
 ghost use Rattle.version_model.specs.declared.part.Part.{Part};
 ghost use Rattle.version_model.specs.declared.part.PartKind.TheVariants.{LeafBlock, ColumnBlock};
 ghost use Rattle.version_model.specs.declared.child.Child.{Child};
 ghost use Rattle.version_model.specs.Versions.{Version, Has, AsOf, Found, Answers, IsRising, IsAbove, Adds, AddsLater};
-ghost use Rattle.version_model.specs.Ranges.{Range, IsKeyOf, IsPoint, until, since, below, from_key, StartsBefore, end_or};
+ghost use Rattle.version_model.specs.Ranges.{Range, IsKeyOf, IsPoint, until, since, below, from_key, StartsBefore, end_or, stamp_end};
 ghost use Rattle.version_model.specs.Shows.{Shows, IsBefore, IsFrom, IsBelow, IsFromKey};
 ghost use Rattle.version_model.specs.Looks.{NoneWithin, Reached, IsReached, reached_to, is_of, IsPart};
 ghost use Rattle.version_model.specs.Blocks.{BlockNode, OldLeaf, OldColumn, PartStands, Grows};
@@ -61,6 +61,17 @@ pub fn answers_stay()
     ensures next { (all new : List Version) (s at from : ℕ) (reached : Reached) → AddsLater all s new → at ≤ s → IsReached all at from reached → IsReached new at from reached }
     ensures part { (all new versions : List Version) (s key from : ℕ) (told : Option ℕ) → AddsLater all s new → IsRising all → IsRising new → end_or told ≤ s + 1
         → IsPart all key from versions told → IsPart new key from versions told }
+{}
+
+/// The versions of a key from a stamp on up to one that is told, and those from there on, are together those from the first stamp
+/// on. So parts that follow one another from the first stamp to the end of all stamps are all versions of the key.
+pub fn parts_follow_one_another()
+    ensures joined { (all : List Version) (key from to end : ℕ) → IsRising all → from ≤ to → to ≤ end
+        → filter (is_of key from to) all ++ filter (is_of key to end) all ≡ filter (is_of key from end) all }
+    ensures next { (all versions more : List Version) (key from to : ℕ) (told : Option ℕ) → IsRising all → IsPart all key from versions (Some to) → IsPart all key to more told
+        → IsPart all key from (versions ++ more) told }
+    ensures whole { (all versions : List Version) (key : ℕ) → ((v : Version) → Has all v → v.stamp < stamp_end) → IsPart all key 0 versions None
+        → versions ≡ filter (λ v. nat_eq v.key key) all }
 {}
 
 /// Two lists whose stamps rise, and which have the same versions, are one list.

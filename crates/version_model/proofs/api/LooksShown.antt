@@ -22,7 +22,7 @@ at_cases v vs x (suc i) is = inr (record { place = i; is = is })
 pub Has-cases : (v : Version) (vs : List Version) (x : Version) → Has (v ∷ vs) x → (x ≡ v) ⊎ Has vs x
 Has-cases v vs x h = at_cases v vs x h.place h.is
 
-rising_tail : (v : Version) (vs : List Version) → IsRising (v ∷ vs) → IsRising vs
+pub rising_tail : (v : Version) (vs : List Version) → IsRising (v ∷ vs) → IsRising vs
 rising_tail v vs h = record { rises = λ i j x y lt at_i at_j. h.rises (suc i) (suc j) x y (omega arith) at_i at_j }
 
 pub above_head : (v : Version) (vs : List Version) (x : Version) → IsRising (v ∷ vs) → Has vs x → v.stamp < x.stamp
