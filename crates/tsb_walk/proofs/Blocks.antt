@@ -10,12 +10,14 @@ use Rattle.version_model.specs.Blocks.{BlockNode, OldLeaf, OldColumn, IsWider, s
 use Rattle.once_store.specs.Digests.{IsWhole}
 use Rattle.tsb_node.specs.declared.column.PartAt.{PartAt}
 use Rattle.tsb_node.specs.Leaves.{LeafNode, BeginsAsLeaf, IsLeafBlock}
-use Rattle.tsb_node.specs.Columns.{ColumnInBlock, IsColumnBlock}
+use Rattle.std.proofs.lemmas.Option.{same_Some}
+use Rattle.tsb_node.specs.Columns.{ColumnInBlock, IsColumnBlock, AreAscending, starts_of}
 use Rattle.tsb_node.specs.Parts.{BeginsAsOldColumn, IsPartAt}
 use Rattle.tsb_node.specs.Views.{BlockSays, says_old_leaf, says_old_column}
 use Rattle.tsb_node.proofs.api.Blocks.{leaf_begins, leaf_made, column_begins, column_made, one_leaf, one_column}
 use Rattle.tsb_walk.specs.Ways.{IsLeafFor, IsColumnFor, IsFit, LeadsTo}
 use Rattle.tsb_walk.specs.inner.Steps.{IsLeafOf, IsEndOf}
+use Rattle.tsb_walk.proofs.Spots.{LiesIn, one_place}
 
 pub record SaidLeaf (octets : List ℕ) (wide : Range) (versions : List Version) : Type 0 where
   pub leaf : LeafNode
@@ -114,21 +116,44 @@ end_found bounds wide octets found column end of =
     )
 
 -- a place without a fit block
-pub none_fits : (place : Place) (octets : List ℕ) → place.part.kind ≡ ColumnBlock → ((column : ColumnInBlock) (end : ℕ) → IsEndOf place.bounds octets column end → ⊥) → IsFit place octets → ⊥
-none_fits place octets kind never (inl leaf) = absurd (let k : LeafBlock ≡ ColumnBlock = sym leaf.1.kind ∙ kind in cc)
-none_fits place octets kind never (inr parts) = (let of = column_of place octets parts.0 parts.1 in never of.column of.end of.of)
+pub none_fits : (place : Place) (octets : List ℕ) (key stamp : ℕ) → place.part.kind ≡ ColumnBlock → ((column : ColumnInBlock) (end : ℕ) → IsEndOf place.bounds octets column end → ⊥) → IsFit place octets key stamp → ⊥
+none_fits place octets key stamp kind never (inl leaf) = absurd (let k : LeafBlock ≡ ColumnBlock = sym leaf.1.kind ∙ kind in cc)
+none_fits place octets key stamp kind never (inr next) = (let of = column_of place octets next.1.parts next.1.column in never of.column of.end of.of)
+
+-- the stamp lies in the part to which a column leads
+pub leads_lies : (place : Place) (octets : List ℕ) (key stamp : ℕ) (next : Place) (leads : LeadsTo place octets key stamp next) → LiesIn leads.parts (end_or place.bounds.end) stamp leads.part.place next.part
+leads_lies place octets key stamp next leads =
+    let s : next.part.start ≡ next.bounds.start = ap (λ (r : Range). r.start) leads.part.range in
+    let e : start_or (end_or place.bounds.end) (slice_get leads.parts (suc leads.part.place)) ≡ end_or next.bounds.end = ap (λ (r : Range). r.end) leads.part.range in
+    let from : next.bounds.start ≤ stamp = leads.point.start in
+    let before : stamp < end_or next.bounds.end = leads.point.end in
+    record { at = leads.part.at; from = omega (arith, s, from); before = omega (arith, e, before) }
+
+-- the parts of a column follow one another
+pub column_rises : (place : Place) (octets : List ℕ) (parts : List Part) → IsColumnFor place octets parts → AreAscending (starts_of parts)
+column_rises place octets parts for =
+    let of = column_of place octets parts for in
+    subst (λ (ps : List Part). AreAscending (starts_of ps)) of.same of.of.begins.valid.follow.rising
 
 module _ (place : Place) (octets : List ℕ) (column : ColumnInBlock) (end : ℕ) (of : IsEndOf place.bounds octets column end) where
-  -- a column whose part isn't in a block of a lower number isn't fit
-  pub higher_unfit : (stamp : ℕ) (found : PartAt) → place.part.kind ≡ ColumnBlock → IsPartAt column.parts end stamp found → place.part.block ≤ found.part.block → IsFit place octets → ⊥
-  higher_unfit stamp found kind is above (inl leaf) = absurd (let k : LeafBlock ≡ ColumnBlock = sym leaf.1.kind ∙ kind in cc)
-  higher_unfit stamp found kind is above (inr parts) =
-      let other = column_of place octets parts.0 parts.1 in
-      let same : column.parts ≡ parts.0 = ap (λ (c : ColumnInBlock). c.parts) (one_column column other.column octets of.begins other.of.begins) ∙ other.same in
-      omega (arith, above, parts.2.lower is.place found.part (subst (λ (ps : List Part). slice_get ps is.place ≡ Some found.part) same is.at))
-
   end_is : end_or place.bounds.end ≡ end
   end_is = of.wider.end ∙ ap end_or of.ended
+
+  -- a column whose part isn't in a block of a lower number isn't fit
+  pub higher_unfit : (key stamp : ℕ) (found : PartAt) → place.part.kind ≡ ColumnBlock → IsPartAt column.parts end stamp found → place.part.block ≤ found.part.block → IsFit place octets key stamp → ⊥
+  higher_unfit key stamp found kind is above (inl leaf) = absurd (let k : LeafBlock ≡ ColumnBlock = sym leaf.1.kind ∙ kind in cc)
+  higher_unfit key stamp found kind is above (inr next) =
+      let leads = next.1 in
+      let other = column_of place octets leads.parts leads.column in
+      let same : column.parts ≡ leads.parts = ap (λ (c : ColumnInBlock). c.parts) (one_column column other.column octets of.begins other.of.begins) ∙ other.same in
+      let here : LiesIn column.parts end stamp is.place found.part = record { at = is.at; from = is.start; before = subst (λ (n : ℕ). stamp < n) is.to_end is.before } in
+      let there : LiesIn leads.parts end stamp leads.part.place next.0.part = subst (λ (n : ℕ). LiesIn leads.parts n stamp leads.part.place next.0.part) end_is (leads_lies place octets key stamp next.0 leads) in
+      let here' : LiesIn leads.parts end stamp is.place found.part = subst (λ (ps : List Part). LiesIn ps end stamp is.place found.part) same here in
+      let one = one_place leads.parts end stamp is.place leads.part.place found.part next.0.part (column_rises place octets leads.parts leads.column) here' there in
+      let at : slice_get leads.parts is.place ≡ Some next.0.part = subst (λ (n : ℕ). slice_get leads.parts n ≡ Some next.0.part) (sym one) there.at in
+      let part : found.part ≡ next.0.part = same_Some found.part next.0.part (sym here'.at ∙ at) in
+      let block : found.part.block ≡ next.0.part.block = ap (λ (p : Part). p.block) part in
+      omega (arith, above, leads.lower, block)
 
   pub stamp_before : (key stamp : ℕ) → IsPoint (range_of place.bounds) key stamp → stamp < end
   stamp_before key stamp point = subst (λ (n : ℕ). stamp < n) end_is point.end

@@ -1,7 +1,10 @@
 pub mod Leaves
+pub mod Spots
 pub mod Blocks
+pub mod WaysMeet
 pub mod Walking
 pub mod Arriving
+pub mod Gathering
 pub mod OnePage
 pub mod OneLeaf
 pub mod Ons

@@ -105,7 +105,7 @@ module _ (shown : List (List ℕ)) (s : Store) (all : List Version) where
       }
 
   -- a place in the past of a column that stands stands
-  past_stands : (root : PagePlace) (key stamp : ℕ) (place : Place) → InPastOf shown root key stamp place → StandsShown shown s all root → PlaceStands s.blocks all place
+  pub past_stands : (root : PagePlace) (key stamp : ℕ) (place : Place) → InPastOf shown root key stamp place → StandsShown shown s all root → PlaceStands s.blocks all place
   past_stands root key stamp place is st = (column_shown root key is.column is.parts is.start is.current is.comes st).past.stand (range_of place.bounds) place.part is.part
 
   leaf_shows : (root : PagePlace) (key stamp : ℕ) (column : PagePlace) (versions : List Version) (is : InCurrentLeaf shown root key stamp column versions) → StandsShown shown s all root → Shows all (current_range (keys_at column) is.start) versions

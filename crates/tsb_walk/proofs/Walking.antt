@@ -1,5 +1,5 @@
 -- Walks through known blocks.
-use Rattle.std.proofs.Common.{◌≡◌, ◌↔◌, ℕ, ◌<◌, ◌⊎◌, inl, inr, List, Option, Some, None, IsSome, refl, sym, ◌∙◌, ap, subst, arith}
+use Rattle.std.proofs.Common.{◌≡◌, ◌↔◌, ℕ, suc, ◌<◌, ◌≤◌, ◌⊎◌, inl, inr, List, Option, Some, None, IsSome, slice_get, refl, sym, ◌∙◌, ap, subst, arith}
 use Rattle.std.proofs.lemmas.Option.{same_Some}
 use Rattle.std.proofs.lemmas.Bool.{cases_lt}
 use Rattle.disk_models.specs.declared.once.OnceDisk.{Ghosts}
@@ -10,9 +10,9 @@ use Rattle.version_model.specs.declared.part.Part.{Part}
 use Rattle.version_model.specs.declared.part.PartKind.TheVariants.{LeafBlock, ColumnBlock}
 use Rattle.version_model.specs.declared.part.Place.{Place}
 use Rattle.version_model.specs.Versions.{Version}
-use Rattle.version_model.specs.Ranges.{Range, range_of}
+use Rattle.version_model.specs.Ranges.{Range, IsPoint, range_of, end_or}
 use Rattle.version_model.specs.Shows.{Shows}
-use Rattle.version_model.specs.Blocks.{BlockNode, OldLeaf, OldColumn, PartStands, PlaceStands, by_leaf, by_parts, AreParts, IsWider}
+use Rattle.version_model.specs.Blocks.{BlockNode, OldLeaf, OldColumn, PartStands, PlaceStands, by_leaf, by_parts, AreParts, IsWider, start_or}
 use Rattle.version_model.proofs.api.Standing.{leaf_stands, column_stands}
 use Rattle.tsb_node.specs.Views.{BlockSays}
 use Rattle.tsb_node.proofs.api.Blocks.{leaf_whole, column_whole, one_said}
@@ -20,11 +20,12 @@ use Rattle.tsb_walk.specs.Knowing.{ReadsWell, IsKnown, AreKnown, StandsKnown}
 use Rattle.tsb_walk.specs.Ways.{IsLeafFor, IsFit, LeadsTo, Way, here, further, ComesTo}
 use Rattle.tsb_walk.specs.inner.Arriving.{HasLeaf}
 use Rattle.tsb_walk.proofs.Blocks.{said_leaf, said_column}
+use Rattle.tsb_walk.proofs.Spots.{spot_in}
 
 -- a block that is fit carries its digest
-pub fit_whole : (place : Place) (octets : List ℕ) → IsFit place octets → IsWhole octets
-fit_whole place octets (inl leaf) = (let said = said_leaf octets _ leaf.1.says leaf.1.wide leaf.0 refl in leaf_whole said.leaf octets said.block)
-fit_whole place octets (inr parts) = (let said = said_column octets _ parts.1.says parts.1.wide parts.0 refl in column_whole said.column octets said.block)
+pub fit_whole : (place : Place) (octets : List ℕ) (key stamp : ℕ) → IsFit place octets key stamp → IsWhole octets
+fit_whole place octets key stamp (inl leaf) = (let said = said_leaf octets _ leaf.1.says leaf.1.wide leaf.0 refl in leaf_whole said.leaf octets said.block)
+fit_whole place octets key stamp (inr next) = (let said = said_column octets _ next.1.column.says next.1.column.wide next.1.parts refl in column_whole said.column octets said.block)
 
 -- a number is that of a known block, or not
 pub known_or : (known : ℕ → Option (List ℕ)) (count n : ℕ) → ((octets : List ℕ) × IsKnown known count n octets) ⊎ ((octets : List ℕ) → IsKnown known count n octets → ⊥)
@@ -62,17 +63,41 @@ pub node_of : (blocks : ℕ → Option BlockNode) (all : List Version) (r : Rang
 node_of blocks all _ _ (by_leaf r part wide versions kind at wider shows) = (OldLeaf wide versions, at, (kind, wider))
 node_of blocks all _ _ (by_parts r part wide parts kind at wider are stand) = (OldColumn wide parts, at, (kind, wider, are))
 
-fit_of : (place : Place) (octets : List ℕ) (node : BlockNode) → BlockSays octets node → SuitsPart (range_of place.bounds) place.part node → IsFit place octets
-fit_of place octets (OldLeaf wide versions) says suits = inl (versions, record { wide = wide; kind = suits.0; says = says; wider = suits.1 })
-fit_of place octets (OldColumn wide parts) says suits = inr (parts, record { wide = wide; kind = suits.0; says = says; wider = suits.1 }, suits.2)
+-- a column whose parts follow one another leads on, for each point of its place
+leads_on : (place : Place) (octets : List ℕ) (wide : Range) (parts : List Part) (key stamp : ℕ) → BlockSays octets (OldColumn wide parts) → SuitsPart (range_of place.bounds) place.part (OldColumn wide parts) → IsPoint (range_of place.bounds) key stamp
+    → (next : Place) × LeadsTo place octets key stamp next
+leads_on place octets wide parts key stamp says suits point =
+    let are = suits.2 in
+    let low : are.first.start ≤ stamp = omega (arith, are.from_start, point.start) in
+    let spot = spot_in parts (end_or place.bounds.end) stamp are.first are.at_first low point.end in (
+      record { bounds = record { low = place.bounds.low; high = place.bounds.high; start = spot.part.start; end = Some (start_or (end_or place.bounds.end) (slice_get parts (suc spot.place))) }; part = spot.part },
+      record {
+        parts = parts;
+        column = record { wide = wide; kind = suits.0; says = says; wider = suits.1 };
+        part = record { place = spot.place; at = spot.lies.at; range = refl };
+        lower = are.lower spot.place spot.part spot.lies.at;
+        point = record { low = point.low; high = point.high; start = spot.lies.from; end = spot.lies.before };
+      },
+    )
+
+fit_of : (place : Place) (octets : List ℕ) (node : BlockNode) (key stamp : ℕ) → IsPoint (range_of place.bounds) key stamp → BlockSays octets node → SuitsPart (range_of place.bounds) place.part node → IsFit place octets key stamp
+fit_of place octets (OldLeaf wide versions) key stamp point says suits = inl (versions, record { wide = wide; kind = suits.0; says = says; wider = suits.1 })
+fit_of place octets (OldColumn wide parts) key stamp point says suits = inr (leads_on place octets wide parts key stamp says suits point)
 
 module _ (known : ℕ → Option (List ℕ)) (count : ℕ) (blocks : ℕ → Option BlockNode) (are : AreKnown known count blocks) (all : List Version) (place : Place) (stands : PlaceStands blocks all place) where
-  -- a place stands by a known block that is fit
-  pub stands_fit : (octets : List ℕ) × IsKnown known count place.part.block octets × IsFit place octets
-  stands_fit =
+  -- a place stands by a known block
+  pub stands_block : (octets : List ℕ) × IsKnown known count place.part.block octets
+  stands_block =
       let node = node_of blocks all (range_of place.bounds) place.part stands in
       let said = are.says place.part.block node.0 node.1 in
-      (said.0, said.1, fit_of place said.0 node.0 said.2 node.2)
+      (said.0, said.1)
+
+  -- that is fit for each of its points
+  pub stands_fit : (key stamp : ℕ) → IsPoint (range_of place.bounds) key stamp → (octets : List ℕ) × IsKnown known count place.part.block octets × IsFit place octets key stamp
+  stands_fit key stamp point =
+      let node = node_of blocks all (range_of place.bounds) place.part stands in
+      let said = are.says place.part.block node.0 node.1 in
+      (said.0, said.1, fit_of place said.0 node.0 key stamp point said.2 node.2)
 
   -- what the known block says is what stands there
   node_is : (octets : List ℕ) (node : BlockNode) → IsKnown known count place.part.block octets → BlockSays octets node → blocks place.part.block ≡ Some node
@@ -90,16 +115,20 @@ module _ (known : ℕ → Option (List ℕ)) (count : ℕ) (blocks : ℕ → Opt
       (column_stands blocks all (range_of place.bounds) place.part leads.column.wide leads.parts (node_is octets (OldColumn leads.column.wide leads.parts) is leads.column.says) stands).stand (range_of next.bounds) next.part leads.part
 
 module _ {O Pen Seen : Type 0} (device : Ghosts O Pen Seen) (reader reader' : ShelfReader O Pen Seen device) (seen seen' : Seen) (all : List Version) (place : Place) (stands : StandsKnown device reader seen all place) where
-  -- the place's block is known and fit
-  pub place_fit : (octets : List ℕ) × IsKnown (device.known seen) (device.block_count (reader_disk reader)) place.part.block octets × IsFit place octets
-  place_fit = stands_fit (device.known seen) (device.block_count (reader_disk reader)) stands.blocks stands.known all place stands.stands
+  -- the place's block is known
+  pub place_block : (octets : List ℕ) × IsKnown (device.known seen) (device.block_count (reader_disk reader)) place.part.block octets
+  place_block = stands_block (device.known seen) (device.block_count (reader_disk reader)) stands.blocks stands.known all place stands.stands
+
+  -- and fit
+  pub place_fit : (key stamp : ℕ) → IsPoint (range_of place.bounds) key stamp → (octets : List ℕ) × IsKnown (device.known seen) (device.block_count (reader_disk reader)) place.part.block octets × IsFit place octets key stamp
+  place_fit key stamp point = stands_fit (device.known seen) (device.block_count (reader_disk reader)) stands.blocks stands.known all place stands.stands key stamp point
 
   pub stands_on : (key stamp : ℕ) (next : Place) → device.known seen' ≡ device.known seen → reader_disk reader' ≡ reader_disk reader
       → ((octets : List ℕ) → IsKnown (device.known seen) (device.block_count (reader_disk reader)) place.part.block octets → LeadsTo place octets key stamp next)
       → ((octets : List ℕ) → IsKnown (device.known seen) (device.block_count (reader_disk reader)) place.part.block octets → ReadsWell device reader' seen')
       → StandsKnown device reader' seen' all next
   stands_on key stamp next same disk leads reads =
-      let fit = place_fit in
+      let fit = place_block in
       record {
         well = reads fit.0 fit.1;
         blocks = stands.blocks;
@@ -113,7 +142,7 @@ module _ {O Pen Seen : Type 0} (device : Ghosts O Pen Seen) (reader reader' : Sh
       → ((octets : List ℕ) → IsKnown (device.known seen) (device.block_count (reader_disk reader)) place.part.block octets → ReadsWell device reader' seen')
       → HasLeaf device reader' all place
   has_leaf same leaf reads =
-      let fit = place_fit in
+      let fit = place_block in
       let for = leaf fit.0 fit.1 in
       record {
         octets = fit.0;

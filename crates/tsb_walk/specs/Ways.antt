@@ -5,7 +5,7 @@ use Rattle.version_model.specs.declared.part.PartKind.TheVariants.{LeafBlock, Co
 use Rattle.version_model.specs.declared.part.Place.{Place}
 use Rattle.version_model.specs.Versions.{Version}
 use Rattle.version_model.specs.Ranges.{Range, IsPoint, range_of}
-use Rattle.version_model.specs.Blocks.{OldLeaf, OldColumn, IsWider, IsPartOf, AreParts}
+use Rattle.version_model.specs.Blocks.{OldLeaf, OldColumn, IsWider, IsPartOf}
 use Rattle.tsb_node.specs.Views.{BlockSays}
 use Rattle.tsb_walk.specs.Knowing.{IsKnown}
 
@@ -23,10 +23,6 @@ pub record IsColumnFor (place : Place) (octets : List ℕ) (parts : List Part) :
   pub says : BlockSays octets (OldColumn wide parts)
   pub wider : IsWider wide (range_of place.bounds)
 
--- the octets are what the place asks: such a leaf; or such a column, whose parts follow one another in blocks of lower numbers
-abbrev pub IsFit : Place → List ℕ → Type 0
-IsFit place octets = ((versions : List Version) × IsLeafFor place octets versions) ⊎ ((parts : List Part) × IsColumnFor place octets parts × AreParts (range_of place.bounds) parts place.part.block)
-
 -- the octets are such a column, and the other place is the part of it in which the key and the stamp lie, in a block of a lower number
 pub record LeadsTo (place : Place) (octets : List ℕ) (key stamp : ℕ) (next : Place) : Type 0 where
   pub parts : List Part
@@ -34,6 +30,10 @@ pub record LeadsTo (place : Place) (octets : List ℕ) (key stamp : ℕ) (next :
   pub part : IsPartOf (range_of place.bounds) parts (range_of next.bounds) next.part
   pub lower : next.part.block < place.part.block
   pub point : IsPoint (range_of next.bounds) key stamp
+
+-- the octets are what the place asks for the key and the stamp: such a leaf; or such a column that leads on to another place
+abbrev pub IsFit : Place → List ℕ → ℕ → ℕ → Type 0
+IsFit place octets key stamp = ((versions : List Version) × IsLeafFor place octets versions) ⊎ ((next : Place) × LeadsTo place octets key stamp next)
 
 -- the way of a key and a stamp from one place to another, through known blocks
 pub data Way (known : ℕ → Option (List ℕ)) (count key stamp : ℕ) : Place → Place → Type 0 where
@@ -51,6 +51,10 @@ pub record ComesTo (known : ℕ → Option (List ℕ)) (count key stamp : ℕ) (
 abbrev pub ComesToLeaf : (ℕ → Option (List ℕ)) → ℕ → ℕ → ℕ → Place → Type 0
 ComesToLeaf known count key stamp first = ComesTo known count key stamp first (λ place octets. (versions : List Version) × IsLeafFor place octets versions)
 
--- the way comes to this block, and the block isn't what its place asks
+-- the way comes to this block, and the block isn't what its place asks for the key and the stamp
 abbrev pub ComesToDamage : (ℕ → Option (List ℕ)) → ℕ → ℕ → ℕ → Place → ℕ → Type 0
-ComesToDamage known count key stamp first block = ComesTo known count key stamp first (λ place octets. (place.part.block ≡ block) × (IsFit place octets → ⊥))
+ComesToDamage known count key stamp first block = ComesTo known count key stamp first (λ place octets. (place.part.block ≡ block) × (IsFit place octets key stamp → ⊥))
+
+-- each block to which the way comes is known
+abbrev pub AreKnownOnWay : (ℕ → Option (List ℕ)) → ℕ → ℕ → ℕ → Place → Type 0
+AreKnownOnWay known count key stamp first = (last : Place) → Way known count key stamp first last → (octets : List ℕ) × IsKnown known count last.part.block octets

@@ -126,7 +126,7 @@ fn part_step(octets: &[u8], place: &Place, key: Key, stamp: Stamp) -> Option<Ste
     requires point { IsPoint (range_of place.now.bounds) key stamp }
     ensures step { IsWhole octets.now → IfSome result (IsStep place.now octets.now key stamp) }
     ensures down { IfSome result (GoesDown place.now key stamp) }
-    ensures none { IfNone result (IsFit place.now octets.now → ⊥) }
+    ensures none { IfNone result (IsFit place.now octets.now key stamp → ⊥) }
 {
     let Some(end) = column_end(octets, &place.bounds) else {
         return None;
@@ -147,7 +147,7 @@ pub fn step_in(octets: &[u8], place: &Place, key: Key, stamp: Stamp) -> Option<S
     requires point { IsPoint (range_of place.now.bounds) key stamp }
     ensures step { IsWhole octets.now → IfSome result (IsStep place.now octets.now key stamp) }
     ensures down { IfSome result (GoesDown place.now key stamp) }
-    ensures none { IfNone result (IsFit place.now octets.now → ⊥) }
+    ensures none { IfNone result (IsFit place.now octets.now key stamp → ⊥) }
 {
     match place.part.kind {
         PartKind::LeafBlock => {

@@ -1,14 +1,15 @@
 //! What looks answer, and how the octets of a leaf answer them.
 
-ghost use Rattle.std.specs.Prelude.{◌≡◌, ◌<◌, ◌↔◌, length, IsTrue, IfOk, Err, ℕ, List};
+ghost use Rattle.std.specs.Prelude.{◌≡◌, ◌<◌, ◌↔◌, length, filter, IsTrue, IfOk, Err, ℕ, List};
 ghost use Rattle.version_model.specs.Versions.{Version, Answers, IsRising};
 ghost use Rattle.version_model.specs.Ranges.{Range, IsPoint, high_or, end_or};
 ghost use Rattle.version_model.specs.Shows.{Shows};
-ghost use Rattle.version_model.specs.Looks.{IsReached, IsPart, NoneWithin};
+ghost use Rattle.version_model.specs.Looks.{IsReached, IsPart, NoneWithin, is_of};
 ghost use Rattle.version_model.specs.Entries.{versions_of};
 ghost use Rattle.tsb_node.specs.Leaves.{LeafNode, BeginsAsLeaf};
 ghost use Rattle.tsb_walk.specs.Answers.{found_as, reached_as};
 ghost use Rattle.tsb_walk.specs.Borders.{ReachesTo};
+ghost use Rattle.tsb_walk.specs.Looked.{GoesOnFrom};
 
 use route_model::Key;
 use std::alloc::Global;
@@ -102,6 +103,13 @@ fn is_below(key: Key, high: Option<Key>) -> bool
     }
 }
 
+// Whether a key is below another.
+fn is_before(key: Key, from: Key) -> bool
+    ensures { IsTrue result ↔ (key < from) }
+{
+    key < from
+}
+
 // Each key is one.
 fn is_key(key: Key) -> bool
     ensures { IsTrue result ↔ (key < high_or None) }
@@ -112,6 +120,7 @@ fn is_key(key: Key) -> bool
 // How far a look has come that found no value below the high key.
 fn past(high: Option<Key>) -> Reached
     ensures border { ReachesTo (high_or high) result }
+    ensures onward { (from : ℕ) → from < high_or high → GoesOnFrom from result }
     ensures past { (versions : List Version) (from s : ℕ) → from < high_or high → NoneWithin versions s from (high_or high) → IsReached versions s from (reached_as result) }
 {
     match high {
@@ -120,7 +129,8 @@ fn past(high: Option<Key>) -> Reached
     }
 }
 
-/// How far a look for the next key from `from` on comes in the leaf that begins these octets, of keys below `high`.
+/// How far a look for the next key from `from` on comes in the leaf that begins these octets, of keys below `high`. It never goes
+/// back, whatever the octets are.
 pub fn reached_in(
     alloc: Global,
     octets: &[u8],
@@ -132,6 +142,7 @@ pub fn reached_in(
     ensures reached { IfOk result (λ reached. (all : List Version) (r : Range) (leaf : LeafNode) → BeginsAsLeaf leaf octets.now → Shows all r leaf.versions → r.high ≡ high_or high.now → IsPoint r from stamp
         → IsReached all stamp from (reached_as reached)) }
     ensures border { IfOk result (ReachesTo (high_or high.now)) }
+    ensures onward { from < high_or high.now → IfOk result (GoesOnFrom from) }
     ensures leaf { (leaf : LeafNode) → BeginsAsLeaf leaf octets.now → result ≡ Err ReadFault.NotANode → ⊥ }
 {
     let Ok(least) = next(octets, from, stamp) else {
@@ -140,6 +151,9 @@ pub fn reached_in(
     let Some(key) = least else {
         return Ok(past(*high));
     };
+    if is_before(key, from) {
+        return Err(ReadFault::NotANode);
+    }
     if !is_below(key, *high) {
         return Ok(past(*high));
     }
@@ -161,6 +175,7 @@ pub fn part_in(
     requires size { length octets.now ≡ 16384 }
     ensures part { IfOk result (λ part. (all : List Version) (r : Range) (leaf : LeafNode) → BeginsAsLeaf leaf octets.now → Shows all r leaf.versions → IsRising all → r.end ≡ end_or end.now → IsPoint r key from
         → IsPart all key from (versions_of part.entries.items) part.told) }
+    ensures just { IfOk result (λ part. (leaf : LeafNode) → BeginsAsLeaf leaf octets.now → versions_of part.entries.items ≡ filter (is_of key from (end_or end.now)) leaf.versions) }
     ensures told { IfOk result (λ part. part.told ≡ end.now) }
     ensures leaf { (leaf : LeafNode) → BeginsAsLeaf leaf octets.now → result ≡ Err ReadFault.NotANode → ⊥ }
 {

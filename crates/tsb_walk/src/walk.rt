@@ -26,7 +26,7 @@ fn take_step<O: OnceDisk + Drop>(
     requires point { IsPoint (range_of place.now.bounds) key stamp }
     ensures step { ReadsWell O.OnceDisk reader.old seen.old → (octets : List ℕ) → IsKnown (O.known seen.old) (O.block_count (reader_disk reader.old)) place.now.part.block octets → IfOk result (IsStep place.now octets key stamp) }
     ensures reads { ReadsWell O.OnceDisk reader.old seen.old → (octets : List ℕ) → IsKnown (O.known seen.old) (O.block_count (reader_disk reader.old)) place.now.part.block octets → ReadsWell O.OnceDisk reader.new seen.new }
-    ensures unfit { ReadsWell O.OnceDisk reader.old seen.old → (octets : List ℕ) → IsKnown (O.known seen.old) (O.block_count (reader_disk reader.old)) place.now.part.block octets → (m : ℕ) → result ≡ Err (BlockError.Damaged m) → IsFit place.now octets → ⊥ }
+    ensures unfit { ReadsWell O.OnceDisk reader.old seen.old → (octets : List ℕ) → IsKnown (O.known seen.old) (O.block_count (reader_disk reader.old)) place.now.part.block octets → (m : ℕ) → result ≡ Err (BlockError.Damaged m) → IsFit place.now octets key stamp → ⊥ }
     ensures number { (m : ℕ) → result ≡ Err (BlockError.Damaged m) → m ≡ place.now.part.block }
     ensures down { IfOk result (GoesDown place.now key stamp) }
     ensures kept { OnOk result ((octets : List ℕ) × IsKept reader.new place.now.part.block octets) }

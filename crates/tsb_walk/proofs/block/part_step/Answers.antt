@@ -2,7 +2,7 @@ use Rattle.tsb_walk.proofs.Blocks.{none_fits, higher_unfit, part_leads, stamp_fr
 use Rattle.tsb_walk.proofs.block.part_step.Goals as goal
 
 pub returns-in_default-clause-none : goal.returns-in_default-clause-none
-returns-in_default-clause-none c = none_fits c.args.place.now c.args.octets.now c.requires.kind c.in_default.ensures.none
+returns-in_default-clause-none c = none_fits c.args.place.now c.args.octets.now c.args.key c.args.stamp c.requires.kind c.in_default.ensures.none
 
 pub returns-then-found-place-clause-none : goal.returns-then-found-place-clause-none
 returns-then-found-place-clause-none c =
@@ -12,7 +12,7 @@ returns-then-found-place-clause-none c =
     let of = c.in-Some.ensures.found.1 in
     let from = stamp_from place octets column c.in-Some.end of c.args.key c.args.stamp c.requires.point in
     let at = c.in-Ok.ensures.part column of.begins of.ended from in
-    higher_unfit place octets column c.in-Some.end of c.args.stamp c.in-Ok.found c.requires.kind at c.if-found-place.true
+    higher_unfit place octets column c.in-Some.end of c.args.key c.args.stamp c.in-Ok.found c.requires.kind at c.if-found-place.true
 
 pub returns-clause-step : goal.returns-clause-step
 returns-clause-step c = λ whole.

@@ -1,8 +1,10 @@
-use Rattle.std.proofs.Common.{rules, ◌≡◌, ◌∙◌, ap, Err, refl}
+use Rattle.std.proofs.Common.{rules, ◌≡◌, ◌∙◌, ◌<◌, ◌≤◌, suc, ap, Err, refl, arith}
 use Rattle.once_store.specs.declared.error.BlockError.TheVariants.{Damaged}
-use Rattle.version_model.specs.Ranges.{range_of}
+use Rattle.version_model.specs.Ranges.{range_of, high_or}
+use Rattle.tsb_walk.specs.HistLooks.{TellsNext}
+use Rattle.tsb_walk.proofs.OneLeaf.{all_until, shows_until}
 use Rattle.once_store.specs.Readers.{reader_disk}
-use Rattle.tsb_walk.proofs.Arriving.{leaf_kept, to_leaf, no_damage}
+use Rattle.tsb_walk.proofs.Arriving.{leaf_kept, tied, no_damage}
 use Rattle.tsb_walk.proofs.hist.hist_next.Goals as goal
 
 pub returns-in_err-last-clause-never : goal.returns-in_err-last-clause-never
@@ -23,7 +25,14 @@ returns-in-Ok-clause-next g c = λ all stands.
 
 pub returns-in-Ok-clause-checked : goal.returns-in-Ok-clause-checked
 returns-in-Ok-clause-checked g c = λ well.
-    to_leaf g.O.OnceDisk c.leaf_place.new.reader (g.O.OnceDisk.known c.args.seen.now) (g.O.OnceDisk.block_count (reader_disk c.args.reader.now)) c.args.from c.args.stamp c.args.place.now c.in_ok-last.last (c.in_ok-last.ensures.arrives well)
+    tied g.O.OnceDisk c.leaf_place.new.reader (g.O.OnceDisk.known c.args.seen.now) (g.O.OnceDisk.block_count (reader_disk c.args.reader.now)) c.args.from c.args.stamp c.args.place.now c.in_ok-last.last (c.in_ok-last.ensures.arrives well)
+    c.in-Some.block.now c.octets.result.now c.in-Some.ensures.some c.octets.ensures.value
+    (TellsNext c.args.from c.args.stamp c.in-Ok.reached)
+    (λ leaf begins. (
+      c.in-Ok.ensures.reached leaf.versions (all_until (high_or c.in_ok-last.last.bounds.high) (suc c.args.stamp)) leaf begins (shows_until leaf.versions (high_or c.in_ok-last.last.bounds.high) (suc c.args.stamp)) refl
+          (record { low = omega arith; high = c.in_ok-last.ensures.point.high; start = omega arith; end = omega arith }),
+      c.in-Ok.ensures.border,
+    ))
 
 pub returns-in-Err-clause-never : goal.returns-in-Err-clause-never
 returns-in-Err-clause-never g c = λ all stands block e.

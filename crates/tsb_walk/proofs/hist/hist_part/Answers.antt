@@ -1,8 +1,9 @@
 use Rattle.std.proofs.Common.{rules, ◌≡◌, ◌∙◌, ap, Err, refl}
 use Rattle.once_store.specs.declared.error.BlockError.TheVariants.{Damaged}
 use Rattle.version_model.specs.Ranges.{range_of}
+use Rattle.tsb_walk.specs.HistLooks.{TellsPart}
 use Rattle.once_store.specs.Readers.{reader_disk}
-use Rattle.tsb_walk.proofs.Arriving.{leaf_kept, to_leaf, no_damage}
+use Rattle.tsb_walk.proofs.Arriving.{leaf_kept, tied, no_damage}
 use Rattle.tsb_walk.proofs.hist.hist_part.Goals as goal
 
 pub returns-in_err-last-clause-never : goal.returns-in_err-last-clause-never
@@ -23,7 +24,9 @@ returns-in-Ok-clause-part g c = λ all rising stands.
 
 pub returns-in-Ok-clause-checked : goal.returns-in-Ok-clause-checked
 returns-in-Ok-clause-checked g c = λ well.
-    to_leaf g.O.OnceDisk c.leaf_place.new.reader (g.O.OnceDisk.known c.args.seen.now) (g.O.OnceDisk.block_count (reader_disk c.args.reader.now)) c.args.key c.args.from c.args.place.now c.in_ok-last.last (c.in_ok-last.ensures.arrives well)
+    tied g.O.OnceDisk c.leaf_place.new.reader (g.O.OnceDisk.known c.args.seen.now) (g.O.OnceDisk.block_count (reader_disk c.args.reader.now)) c.args.key c.args.from c.args.place.now c.in_ok-last.last (c.in_ok-last.ensures.arrives well)
+    c.in-Some.block.now c.octets.result.now c.in-Some.ensures.some c.octets.ensures.value
+    (TellsPart c.args.key c.args.from c.in-Ok.part) (λ leaf begins. (c.in-Ok.ensures.told, c.in-Ok.ensures.just leaf begins))
 
 pub returns-in-Err-clause-never : goal.returns-in-Err-clause-never
 returns-in-Err-clause-never g c = λ all stands block e.

@@ -1,4 +1,4 @@
-use Rattle.std.proofs.Common.{rules, ◌≡◌, ◌<◌, Err, inl, inr, subst}
+use Rattle.std.proofs.Common.{rules, ◌≡◌, ◌<◌, Err, inl, inr, subst, arith}
 use Rattle.std.proofs.lemmas.Bool.{cases_lt}
 use Rattle.tsb_node.specs.declared.leaf_part.ReadFault.TheVariants.{NotANode}
 use Rattle.version_model.specs.Versions.{Answers, found_at}
@@ -40,3 +40,9 @@ pub returns-in-Err-clause-leaf : goal.returns-in-Err-clause-leaf
 returns-in-Err-clause-leaf c = λ leaf begins e.
     let d : c.found_in.result ≡ Err NotANode = search rules in
     c.found_in.ensures.leaf leaf begins d
+
+pub returns-then-is_before-clause-leaf : goal.returns-then-is_before-clause-leaf
+returns-then-is_before-clause-leaf c = λ leaf begins e.
+    let least = subst (IsLeastLive leaf.versions c.args.stamp c.args.from) c.in-Some.is (c.in-Ok.ensures.next leaf begins) in
+    let back : c.in-Some.key < c.args.from = c.is_before.ensures.0 (cc c.if-is_before.true) in
+    omega (arith, least.0, back)

@@ -4,7 +4,7 @@ use Rattle.once_store.specs.Readers.{IsKept, reader_disk}
 use Rattle.version_model.specs.Versions.{Version}
 use Rattle.tsb_walk.specs.Ways.{IsFit, IsLeafFor}
 use Rattle.tsb_walk.specs.inner.Steps.{IsStep, GoesDown}
-use Rattle.tsb_walk.proofs.Walking.{only_kept, place_fit, stands_on, has_leaf, walk_starts, walk_on, comes, honest_on}
+use Rattle.tsb_walk.proofs.Walking.{only_kept, place_block, place_fit, stands_on, has_leaf, walk_starts, walk_on, comes, honest_on}
 use Rattle.tsb_walk.proofs.walk.leaf_place.Goals as goal
 
 pub loop-at-init : goal.loop-at-init
@@ -22,13 +22,13 @@ loop-at-init g c = record {
 pub returns-in_err-take_step-clause-reads : goal.returns-in_err-take_step-clause-reads
 returns-in_err-take_step-clause-reads g c = λ all stands.
     let now = c.loop-at.invariant.stands all stands in
-    let fit = place_fit g.O.OnceDisk c.loop-at.reader c.take_step.new.reader c.loop-at.seen c.take_step.new.seen all c.loop-at.at now in
+    let fit = place_block g.O.OnceDisk c.loop-at.reader c.take_step.new.reader c.loop-at.seen c.take_step.new.seen all c.loop-at.at now in
     c.take_step.ensures.reads now.well fit.0 fit.1
 
 pub returns-in_err-take_step-clause-never : goal.returns-in_err-take_step-clause-never
 returns-in_err-take_step-clause-never g c = λ all stands m e.
     let now = c.loop-at.invariant.stands all stands in
-    let fit = place_fit g.O.OnceDisk c.loop-at.reader c.take_step.new.reader c.loop-at.seen c.take_step.new.seen all c.loop-at.at now in
+    let fit = place_fit g.O.OnceDisk c.loop-at.reader c.take_step.new.reader c.loop-at.seen c.take_step.new.seen all c.loop-at.at now c.args.key c.args.stamp c.loop-at.invariant.point in
     let d : c.take_step.result ≡ Err (Damaged m) = search rules in
     c.take_step.ensures.unfit now.well fit.0 fit.1 m d fit.2
 
@@ -37,7 +37,7 @@ returns-in_err-take_step-clause-damaged g c = λ well m e.
     let d : c.take_step.result ≡ Err (Damaged m) = search rules in
     let i = c.loop-at.invariant in
     comes g.O.OnceDisk c.args.key c.args.stamp c.args.place.now c.args.reader.now c.args.seen.now c.loop-at.reader c.loop-at.seen c.loop-at.at i.same i.disk i.walked
-    (λ place octets. (place.part.block ≡ m) × (IsFit place octets → ⊥))
+    (λ place octets. (place.part.block ≡ m) × (IsFit place octets c.args.key c.args.stamp → ⊥))
     (λ w octets is. (sym (c.take_step.ensures.number m d), λ fit. c.take_step.ensures.unfit w octets is m d fit)) well
 
 pub returns-in-InLeaf-clause-leaf : goal.returns-in-InLeaf-clause-leaf
@@ -50,7 +50,7 @@ returns-in-InLeaf-clause-leaf g c = λ all stands.
 pub returns-in-InLeaf-clause-reads : goal.returns-in-InLeaf-clause-reads
 returns-in-InLeaf-clause-reads g c = λ all stands.
     let now = c.loop-at.invariant.stands all stands in
-    let fit = place_fit g.O.OnceDisk c.loop-at.reader c.take_step.new.reader c.loop-at.seen c.take_step.new.seen all c.loop-at.at now in
+    let fit = place_block g.O.OnceDisk c.loop-at.reader c.take_step.new.reader c.loop-at.seen c.take_step.new.seen all c.loop-at.at now in
     c.take_step.ensures.reads now.well fit.0 fit.1
 
 pub returns-in-InLeaf-clause-arrives : goal.returns-in-InLeaf-clause-arrives

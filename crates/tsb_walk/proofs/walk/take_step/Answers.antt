@@ -13,7 +13,7 @@ returns-in_err-fetch-clause-reads g c = λ well octets is.
 pub returns-in_err-fetch-clause-unfit : goal.returns-in_err-fetch-clause-unfit
 returns-in_err-fetch-clause-unfit g c = λ well octets is m e fit.
     let d : c.fetch.result ≡ Err (Damaged m) = search rules in
-    (c.fetch.ensures.damaged well.honest octets is.inside is.at m d).1 (fit_whole c.args.place.now octets fit)
+    (c.fetch.ensures.damaged well.honest octets is.inside is.at m d).1 (fit_whole c.args.place.now octets c.args.key c.args.stamp fit)
 
 pub returns-in_default-clause-reads : goal.returns-in_default-clause-reads
 returns-in_default-clause-reads g c = λ well octets is.
@@ -43,4 +43,4 @@ returns-in-None-clause-unfit g c = λ well octets is m e fit.
     let well' = reads_on g.O.OnceDisk c.args.reader.now c.fetch.new.self c.args.seen.now c.fetch.new.seen c.args.place.now.part.block octets well is c.fetch.ensures.honest c.fetch.ensures.disk c.fetch.ensures.knows in
     let same = only_kept g.O.OnceDisk c.args.reader.now c.fetch.new.self c.args.seen.now c.fetch.new.seen c.args.place.now.part.block octets well' (c.fetch.ensures.same well.honest) is c.in-Some.block.now c.in-Some.ensures.some in
     let here : c.octets.result.now ≡ octets = c.octets.ensures.value ∙ same in
-    c.in-None.ensures.none (subst (IsFit c.args.place.now) (sym here) fit)
+    c.in-None.ensures.none (subst (λ (o : List ℕ). IsFit c.args.place.now o c.args.key c.args.stamp) (sym here) fit)
