@@ -5,6 +5,7 @@ pub mod WaysMeet
 pub mod Walking
 pub mod Arriving
 pub mod Gathering
+pub mod Made
 pub mod OnePage
 pub mod OneLeaf
 pub mod Ons

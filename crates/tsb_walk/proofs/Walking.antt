@@ -17,7 +17,7 @@ use Rattle.version_model.proofs.api.Standing.{leaf_stands, column_stands}
 use Rattle.tsb_node.specs.Views.{BlockSays}
 use Rattle.tsb_node.proofs.api.Blocks.{leaf_whole, column_whole, one_said}
 use Rattle.tsb_walk.specs.Knowing.{ReadsWell, IsKnown, AreKnown, StandsKnown}
-use Rattle.tsb_walk.specs.Ways.{IsLeafFor, IsFit, LeadsTo, Way, here, further, ComesTo}
+use Rattle.tsb_walk.specs.Ways.{IsLeafFor, IsFit, LeadsTo, Way, here, further, ComesTo, ComesToUnknown}
 use Rattle.tsb_walk.specs.inner.Arriving.{HasLeaf}
 use Rattle.tsb_walk.proofs.Blocks.{said_leaf, said_column}
 use Rattle.tsb_walk.proofs.Spots.{spot_in}
@@ -177,6 +177,18 @@ module _ {O Pen Seen : Type 0} (device : Ghosts O Pen Seen) (key stamp : ℕ) (f
         | inr never ↦ inr (at, there.0, never)
       ]
       | inr lost ↦ inr lost
+    ]
+
+    -- the reader reads on well, or the way has come to a block that isn't known
+    pub reads_or : (reader' : ShelfReader O Pen Seen device) (seen' : Seen)
+        → (ReadsWell device reader seen → (octets : List ℕ) → IsKnown (device.known seen) (device.block_count (reader_disk reader)) at.part.block octets → ReadsWell device reader' seen')
+        → ReadsWell device reader₀ seen₀ → ReadsWell device reader' seen' ⊎ ComesToUnknown (device.known seen₀) (device.block_count (reader_disk reader₀)) key stamp first
+    reads_or reader' seen' reads well = elim (walked well) [
+      | inl there ↦ elim (known_or (device.known seen₀) (device.block_count (reader_disk reader₀)) at.part.block) [
+        | inl k ↦ inl (reads there.1 k.0 (along well at.part.block k.0 k.1))
+        | inr never ↦ inr (record { last = at; way = there.0; unknown = never })
+      ]
+      | inr lost ↦ inr (record { last = lost.0; way = lost.1; unknown = lost.2 })
     ]
 
     pub comes : (IsSo : Place → List ℕ → Type 0) → (ReadsWell device reader seen → (octets : List ℕ) → IsKnown (device.known seen) (device.block_count (reader_disk reader)) at.part.block octets → IsSo at octets)

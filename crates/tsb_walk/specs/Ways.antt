@@ -58,3 +58,9 @@ ComesToDamage known count key stamp first block = ComesTo known count key stamp 
 -- each block to which the way comes is known
 abbrev pub AreKnownOnWay : (ℕ → Option (List ℕ)) → ℕ → ℕ → ℕ → Place → Type 0
 AreKnownOnWay known count key stamp first = (last : Place) → Way known count key stamp first last → (octets : List ℕ) × IsKnown known count last.part.block octets
+
+-- the way comes to a block that isn't known
+pub record ComesToUnknown (known : ℕ → Option (List ℕ)) (count key stamp : ℕ) (first : Place) : Type 0 where
+  pub last : Place
+  pub way : Way known count key stamp first last
+  pub unknown : (octets : List ℕ) → IsKnown known count last.part.block octets → ⊥

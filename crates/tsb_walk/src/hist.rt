@@ -1,6 +1,6 @@
 //! Looks into the past: from a place that stands in settled blocks.
 
-ghost use Rattle.std.specs.Prelude.{◌≡◌, ◌↔◌, ℕ, List, IfOk, IsErrOf, Err, min, ◌+◌};
+ghost use Rattle.std.specs.Prelude.{◌≡◌, ◌↔◌, ◌⊎◌, ℕ, List, IfOk, IsErrOf, Err, min, ◌+◌};
 ghost use Rattle.version_model.specs.Versions.{Version, Answers, IsRising};
 ghost use Rattle.version_model.specs.Ranges.{IsPoint, range_of};
 ghost use Rattle.version_model.specs.Looks.{IsReached, IsPart};
@@ -10,7 +10,7 @@ ghost use Rattle.tsb_walk.specs.Answers.{found_as, reached_as};
 ghost use Rattle.tsb_walk.specs.HistLooks.{TellsNext, TellsPart, TellsFound, ComesToTelling};
 ghost use Rattle.tsb_walk.specs.Knowing.{ReadsWell, StandsKnown};
 ghost use Rattle.tsb_walk.specs.Looked.{GoesOnFrom, TellsFrom};
-ghost use Rattle.tsb_walk.specs.Ways.{ComesToDamage};
+ghost use Rattle.tsb_walk.specs.Ways.{ComesToDamage, ComesToUnknown};
 
 use crate::looks::{Found, KeyVersions, Reached, found_in, part_in, reached_in};
 use crate::walk::leaf_place;
@@ -48,6 +48,7 @@ pub fn hist_next<O: OnceDisk + Drop>(
     ensures next { (all : List Version) → StandsKnown O.OnceDisk reader.old seen.old all place.now → IfOk result (λ reached. IsReached all stamp from (reached_as reached)) }
     ensures reads { (all : List Version) → StandsKnown O.OnceDisk reader.old seen.old all place.now → ReadsWell O.OnceDisk reader.new seen.new }
     ensures never { (all : List Version) → StandsKnown O.OnceDisk reader.old seen.old all place.now → (block : ℕ) → result ≡ Err (BlockError.Damaged block) → ⊥ }
+    ensures reads_on { ReadsWell O.OnceDisk reader.old seen.old → ReadsWell O.OnceDisk reader.new seen.new ⊎ ComesToUnknown (O.known seen.old) (O.block_count (reader_disk reader.old)) from stamp place.now }
     ensures checked { ReadsWell O.OnceDisk reader.old seen.old → IfOk result (λ reached. ComesToTelling (O.known seen.old) (O.block_count (reader_disk reader.old)) from stamp place.now (TellsNext from stamp reached)) }
     ensures damaged { ReadsWell O.OnceDisk reader.old seen.old → (block : ℕ) → result ≡ Err (BlockError.Damaged block) → ComesToDamage (O.known seen.old) (O.block_count (reader_disk reader.old)) from stamp place.now block }
     ensures onward { IfOk result (GoesOnFrom from) }
@@ -82,6 +83,7 @@ pub fn hist_part<O: OnceDisk + Drop>(
     ensures part { (all : List Version) → IsRising all → StandsKnown O.OnceDisk reader.old seen.old all place.now → IfOk result (λ part. IsPart all key from (versions_of part.entries.items) part.told) }
     ensures reads { (all : List Version) → StandsKnown O.OnceDisk reader.old seen.old all place.now → ReadsWell O.OnceDisk reader.new seen.new }
     ensures never { (all : List Version) → StandsKnown O.OnceDisk reader.old seen.old all place.now → (block : ℕ) → result ≡ Err (BlockError.Damaged block) → ⊥ }
+    ensures reads_on { ReadsWell O.OnceDisk reader.old seen.old → ReadsWell O.OnceDisk reader.new seen.new ⊎ ComesToUnknown (O.known seen.old) (O.block_count (reader_disk reader.old)) key from place.now }
     ensures checked { ReadsWell O.OnceDisk reader.old seen.old → IfOk result (λ part. ComesToTelling (O.known seen.old) (O.block_count (reader_disk reader.old)) key from place.now (TellsPart key from part)) }
     ensures damaged { ReadsWell O.OnceDisk reader.old seen.old → (block : ℕ) → result ≡ Err (BlockError.Damaged block) → ComesToDamage (O.known seen.old) (O.block_count (reader_disk reader.old)) key from place.now block }
     ensures told { IfOk result (TellsFrom from) }
@@ -116,6 +118,7 @@ pub fn hist_find<O: OnceDisk + Drop>(
     ensures found { (all : List Version) → StandsKnown O.OnceDisk reader.old seen.old all place.now → IfOk result (λ found. Answers all key stamp (found_as found)) }
     ensures reads { (all : List Version) → StandsKnown O.OnceDisk reader.old seen.old all place.now → ReadsWell O.OnceDisk reader.new seen.new }
     ensures never { (all : List Version) → StandsKnown O.OnceDisk reader.old seen.old all place.now → (block : ℕ) → result ≡ Err (BlockError.Damaged block) → ⊥ }
+    ensures reads_on { ReadsWell O.OnceDisk reader.old seen.old → ReadsWell O.OnceDisk reader.new seen.new ⊎ ComesToUnknown (O.known seen.old) (O.block_count (reader_disk reader.old)) key stamp place.now }
     ensures checked { ReadsWell O.OnceDisk reader.old seen.old → IfOk result (λ found. ComesToTelling (O.known seen.old) (O.block_count (reader_disk reader.old)) key stamp place.now (TellsFound key stamp found)) }
     ensures damaged { ReadsWell O.OnceDisk reader.old seen.old → (block : ℕ) → result ≡ Err (BlockError.Damaged block) → ComesToDamage (O.known seen.old) (O.block_count (reader_disk reader.old)) key stamp place.now block }
     ensures same { O.honest_seen (reader_disk reader.old) seen.old → O.known seen.new ≡ O.known seen.old }

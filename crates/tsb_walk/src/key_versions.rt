@@ -1,13 +1,13 @@
 //! All versions of a key, by way of parts that follow one another.
 
-ghost use Rattle.std.specs.Prelude.{◌≡◌, ◌↔◌, ◌+◌, ◌≤◌, ℕ, List, None, IfOk, IfErr, Err, IsErrOf, min};
+ghost use Rattle.std.specs.Prelude.{◌≡◌, ◌↔◌, ◌⊎◌, ◌+◌, ◌≤◌, ℕ, List, None, IfOk, IfErr, Err, IsErrOf, min};
 ghost use Rattle.once_store.specs.Readers.{capacity_of, reader_disk};
 ghost use Rattle.page_tx.specs.Start.{Start};
 ghost use Rattle.version_model.specs.Versions.{Version, IsRising};
 ghost use Rattle.version_model.specs.Looks.{IsPart};
 ghost use Rattle.version_model.specs.Entries.{versions_of};
 ghost use Rattle.version_model.specs.Pages.{Store};
-ghost use Rattle.tsb_walk.specs.AllVersions.{VersionsRefusal};
+ghost use Rattle.tsb_walk.specs.AllVersions.{VersionsRefusal, IsPartOfTree, AreAllTold, MeetsUnknown, MeetsDamage};
 ghost use Rattle.tsb_walk.specs.Knowing.{ReadsWell, AreKnown};
 ghost use Rattle.tsb_walk.specs.Looked.{TellsFrom};
 ghost use Rattle.tsb_walk.specs.PageLooks.{IsBadLook};
@@ -49,6 +49,9 @@ fn next_part<P: Pages, O: OnceDisk + Drop>(
     ensures never { (start : Start) (shown : List (List ℕ)) → P.shows pages.old start shown → (s : Store) (all : List Version) → StandsShown shown s all root.now
         → ReadsWell O.OnceDisk reader.old seen.old → AreKnown (O.known seen.old) (O.block_count (reader_disk reader.old)) s.blocks
         → (block : ℕ) → result ≡ Err (NodeError.Damaged block) → ⊥ }
+    ensures reads_on { (start : Start) (shown : List (List ℕ)) → P.shows pages.old start shown → ReadsWell O.OnceDisk reader.old seen.old → ReadsWell O.OnceDisk reader.new seen.new ⊎ MeetsUnknown shown (O.known seen.old) (O.block_count (reader_disk reader.old)) root.now key }
+    ensures checked { (start : Start) (shown : List (List ℕ)) → P.shows pages.old start shown → ReadsWell O.OnceDisk reader.old seen.old → IfOk result (IsPartOfTree shown (O.known seen.old) (O.block_count (reader_disk reader.old)) root.now key from) }
+    ensures damaged { (start : Start) (shown : List (List ℕ)) → P.shows pages.old start shown → ReadsWell O.OnceDisk reader.old seen.old → (block : ℕ) → result ≡ Err (NodeError.Damaged block) → MeetsDamage shown (O.known seen.old) (O.block_count (reader_disk reader.old)) root.now key block }
     ensures bad { (start : Start) (shown : List (List ℕ)) → P.shows pages.old start shown → (page : ℕ) → result ≡ Err (NodeError.BadNode page) → IsBadLook shown root.now key from page }
     ensures told { IfOk result (TellsFrom from) }
     ensures refused { IfErr result (VersionsRefusal (P.down pages.old)) }
@@ -95,6 +98,9 @@ pub fn versions<P: Pages, O: OnceDisk + Drop>(
     ensures never { (start : Start) (shown : List (List ℕ)) → P.shows pages.old start shown → (s : Store) (all : List Version) → StandsShown shown s all root.now
         → ReadsWell O.OnceDisk reader.old seen.old → AreKnown (O.known seen.old) (O.block_count (reader_disk reader.old)) s.blocks
         → (block : ℕ) → result ≡ Err (NodeError.Damaged block) → ⊥ }
+    ensures checked { (start : Start) (shown : List (List ℕ)) → P.shows pages.old start shown → ReadsWell O.OnceDisk reader.old seen.old
+        → IfOk result (λ entries. AreAllTold shown (O.known seen.old) (O.block_count (reader_disk reader.old)) root.now key (versions_of entries.items) ⊎ MeetsUnknown shown (O.known seen.old) (O.block_count (reader_disk reader.old)) root.now key) }
+    ensures damaged { (start : Start) (shown : List (List ℕ)) → P.shows pages.old start shown → ReadsWell O.OnceDisk reader.old seen.old → (block : ℕ) → result ≡ Err (NodeError.Damaged block) → MeetsDamage shown (O.known seen.old) (O.block_count (reader_disk reader.old)) root.now key block ⊎ MeetsUnknown shown (O.known seen.old) (O.block_count (reader_disk reader.old)) root.now key }
     ensures bad { (start : Start) (shown : List (List ℕ)) → P.shows pages.old start shown → (page : ℕ) → result ≡ Err (NodeError.BadNode page) → (from : ℕ) × IsBadLook shown root.now key from page }
     ensures refused { IfErr result (VersionsRefusal (P.down pages.old)) }
     ensures same { OnlyReads P.Pages pages.old pages.new (result ≡ Err NodeError.Fault) }

@@ -4,6 +4,7 @@ ghost use Rattle.std.specs.Prelude.{◌≡◌, ◌<◌, ◌≤◌, ℕ, suc, Boo
 ghost use Rattle.page_journal.specs.Recovers.{IsListed};
 ghost use Rattle.page_tx.specs.Refusals.{FetchRefusal};
 ghost use Rattle.page_tx.specs.Start.{Start};
+ghost use Rattle.tsb_walk.specs.declared.page_place.PagePlace.{PagePlace as PagePlaceValue};
 ghost use Rattle.tsb_walk.specs.Shown.{HasKey};
 ghost use Rattle.tsb_walk.specs.PageWays.{IsLower, PageWay, IsNoKeyNode, IsBadKeyNode};
 ghost use Rattle.tsb_walk.specs.Refusals.{OnlyReads, WalkRefusal, IsDamage};
@@ -58,6 +59,7 @@ pub fn down<P: Pages>(pages: &mut P, place: &PagePlace, key: Key) -> Result<Page
     ensures lower { (start : Start) (shown : List (List ℕ)) → P.shows pages.old start shown → IfOk result (IsLower shown key place.now) }
     ensures bad { (start : Start) (shown : List (List ℕ)) → P.shows pages.old start shown → (page : ℕ) → result ≡ Err (NodeError.BadNode page) → (place.now.page ≡ page) × IsNoKeyNode shown place.now }
     ensures held { ((n : ℕ) → n < P.homes pages.old → IsListed n (P.named pages.old)) → IfErr result IsDamage }
+    ensures held_here { (place.now.page < P.homes pages.old → IsListed place.now.page (P.named pages.old)) → IfErr result IsDamage }
     ensures refused { IfErr result (WalkRefusal (P.down pages.old)) }
     ensures same { OnlyReads P.Pages pages.old pages.new (result ≡ Err NodeError.Fault) }
 {
@@ -83,6 +85,8 @@ pub fn locate<P: Pages>(pages: &mut P, root: &PagePlace, key: Key) -> Result<Pag
     ensures way { (start : Start) (shown : List (List ℕ)) → P.shows pages.old start shown → IfOk result (PageWay shown key root.now) }
     ensures bad { (start : Start) (shown : List (List ℕ)) → P.shows pages.old start shown → (page : ℕ) → result ≡ Err (NodeError.BadNode page) → IsBadKeyNode shown root.now key page }
     ensures held { ((n : ℕ) → n < P.homes pages.old → IsListed n (P.named pages.old)) → IfErr result IsDamage }
+    ensures held_on_way { (start : Start) (shown : List (List ℕ)) → P.shows pages.old start shown
+        → ((place : PagePlaceValue) → PageWay shown key root.now place → 1 < place.level → place.page < P.homes pages.old → IsListed place.page (P.named pages.old)) → IfErr result IsDamage }
     ensures refused { IfErr result (WalkRefusal (P.down pages.old)) }
     ensures same { OnlyReads P.Pages pages.old pages.new (result ≡ Err NodeError.Fault) }
 {

@@ -1,11 +1,11 @@
 //! The walk from a place through settled blocks to the leaf that has a key as of a stamp.
 
-ghost use Rattle.std.specs.Prelude.{◌≡◌, ◌↔◌, ℕ, List, IfOk, OnOk, IsErrOf, Err, min, ◌+◌};
+ghost use Rattle.std.specs.Prelude.{◌≡◌, ◌↔◌, ◌⊎◌, ℕ, List, IfOk, OnOk, IsErrOf, Err, min, ◌+◌};
 ghost use Rattle.version_model.specs.Versions.{Version};
 ghost use Rattle.version_model.specs.Ranges.{IsPoint, range_of};
 ghost use Rattle.once_store.specs.Readers.{IsKept, capacity_of, reader_disk};
 ghost use Rattle.tsb_walk.specs.Knowing.{ReadsWell, IsKnown, StandsKnown};
-ghost use Rattle.tsb_walk.specs.Ways.{IsFit, ComesToDamage};
+ghost use Rattle.tsb_walk.specs.Ways.{IsFit, ComesToDamage, ComesToUnknown};
 ghost use Rattle.tsb_walk.specs.inner.Steps.{IsStep, GoesDown};
 ghost use Rattle.tsb_walk.specs.inner.Arriving.{Arrives, HasLeaf};
 
@@ -60,6 +60,7 @@ pub fn leaf_place<O: OnceDisk + Drop>(
     ensures leaf { (all : List Version) → StandsKnown O.OnceDisk reader.old seen.old all place.now → IfOk result (HasLeaf O.OnceDisk reader.new all) }
     ensures reads { (all : List Version) → StandsKnown O.OnceDisk reader.old seen.old all place.now → ReadsWell O.OnceDisk reader.new seen.new }
     ensures never { (all : List Version) → StandsKnown O.OnceDisk reader.old seen.old all place.now → (m : ℕ) → result ≡ Err (BlockError.Damaged m) → ⊥ }
+    ensures reads_on { ReadsWell O.OnceDisk reader.old seen.old → ReadsWell O.OnceDisk reader.new seen.new ⊎ ComesToUnknown (O.known seen.old) (O.block_count (reader_disk reader.old)) key stamp place.now }
     ensures arrives { ReadsWell O.OnceDisk reader.old seen.old → IfOk result (Arrives O.OnceDisk reader.new (O.known seen.old) (O.block_count (reader_disk reader.old)) key stamp place.now) }
     ensures damaged { ReadsWell O.OnceDisk reader.old seen.old → (m : ℕ) → result ≡ Err (BlockError.Damaged m) → ComesToDamage (O.known seen.old) (O.block_count (reader_disk reader.old)) key stamp place.now m }
     ensures point { IfOk result (λ last. IsPoint (range_of last.bounds) key stamp) }

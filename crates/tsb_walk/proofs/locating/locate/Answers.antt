@@ -39,3 +39,11 @@ returns-in_err-at-clause-held g c = λ listed.
     let h = c.in_err-at.ensures.held (λ n inside. subst (IsListed n) (sym i.same.named) (listed n (omega (arith, inside, i.same.homes)))) in
     let d : c.from_residual.result ≡ Err c.in_err-at.field-0.0 = search rules in
     subst (λ (r : Result PagePlace NodeError). IfErr r IsDamage) (sym d) h
+
+pub returns-in_err-at-clause-held_on_way : goal.returns-in_err-at-clause-held_on_way
+returns-in_err-at-clause-held_on_way g c = λ start shown shows listed.
+    let i = c.loop-at.invariant in
+    let h = c.in_err-at.ensures.held_here (λ inside. subst (IsListed c.loop-at.at.page) (sym i.same.named)
+    (listed c.loop-at.at (i.way start shown shows) c.loop-at-test.true (omega (arith, inside, i.same.homes)))) in
+    let d : c.from_residual.result ≡ Err c.in_err-at.field-0.0 = search rules in
+    subst (λ (r : Result PagePlace NodeError). IfErr r IsDamage) (sym d) h

@@ -4,7 +4,7 @@ use Rattle.once_store.specs.Readers.{IsKept, reader_disk}
 use Rattle.version_model.specs.Versions.{Version}
 use Rattle.tsb_walk.specs.Ways.{IsFit, IsLeafFor}
 use Rattle.tsb_walk.specs.inner.Steps.{IsStep, GoesDown}
-use Rattle.tsb_walk.proofs.Walking.{only_kept, place_block, place_fit, stands_on, has_leaf, walk_starts, walk_on, comes, honest_on}
+use Rattle.tsb_walk.proofs.Walking.{only_kept, place_block, place_fit, stands_on, has_leaf, walk_starts, walk_on, comes, reads_or, honest_on}
 use Rattle.tsb_walk.proofs.walk.leaf_place.Goals as goal
 
 pub loop-at-init : goal.loop-at-init
@@ -85,3 +85,15 @@ loop-at-preserved g c =
       honest = honest_on H (reader_disk c.args.reader.now) (reader_disk c.loop-at.reader) c.args.seen.now c.loop-at.seen c.take_step.new.seen i.disk i.honest c.take_step.ensures.honest;
       faults = c.in_ok-take_step.ensures.quiet (λ e. absurd (cc)) ∙ i.faults;
     }
+
+pub returns-in_err-take_step-clause-reads_on : goal.returns-in_err-take_step-clause-reads_on
+returns-in_err-take_step-clause-reads_on g c =
+    let i = c.loop-at.invariant in
+    reads_or g.O.OnceDisk c.args.key c.args.stamp c.args.place.now c.args.reader.now c.args.seen.now c.loop-at.reader c.loop-at.seen c.loop-at.at i.same i.disk i.walked c.take_step.new.reader c.take_step.new.seen
+    (λ w octets is. c.take_step.ensures.reads w octets is)
+
+pub returns-in-InLeaf-clause-reads_on : goal.returns-in-InLeaf-clause-reads_on
+returns-in-InLeaf-clause-reads_on g c =
+    let i = c.loop-at.invariant in
+    reads_or g.O.OnceDisk c.args.key c.args.stamp c.args.place.now c.args.reader.now c.args.seen.now c.loop-at.reader c.loop-at.seen c.loop-at.at i.same i.disk i.walked c.take_step.new.reader c.take_step.new.seen
+    (λ w octets is. c.take_step.ensures.reads w octets is)
