@@ -1,3 +1,4 @@
 pub mod Places
 pub mod Carried
 pub mod Changes
+pub mod Refusals

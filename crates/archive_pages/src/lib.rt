@@ -4,6 +4,8 @@
 //! The tree isn't known here but by what it stands for: versions, which are those of the applied changes.
 #![tactic(auto)]
 
+mod heading;
 mod settings;
 
+pub use heading::{copy_head, put_head};
 pub use settings::Settings;
