@@ -1,3 +1,4 @@
 pub mod Bearing
 pub mod Creating
 pub mod Moving
+pub mod Giving

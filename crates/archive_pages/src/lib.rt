@@ -4,8 +4,13 @@
 //! The tree isn't known here but by what it stands for: versions, which are those of the applied changes.
 #![tactic(auto)]
 
+mod giving;
 mod heading;
+mod keeping;
+mod marking;
 mod settings;
 
+pub use giving::{Sifted, give};
 pub use heading::{copy_head, put_head};
+pub use marking::mark_head;
 pub use settings::Settings;
