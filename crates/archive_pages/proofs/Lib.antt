@@ -2,3 +2,4 @@ mod Histories
 mod Timing
 mod Lanes
 pub mod api
+mod Next

@@ -1,11 +1,11 @@
 -- What a batch adds to an archive.
-use Rattle.std.specs.Prelude.{◌≡◌, ◌<◌, ℕ, ◌+◌, ◌^◌, List, [], length, map, slice_get, Some}
+use Rattle.std.specs.Prelude.{◌≡◌, ◌<◌, ◌≤◌, ℕ, ◌+◌, ◌^◌, List, [], length, map, slice_get, Some}
 use Rattle.route_model.specs.Admission.{Admitted}
 use Rattle.route_meaning.specs.Holds.{admitted_time}
 use Rattle.sequencer.specs.Late.{greatest, timely}
 use Rattle.archive_head.specs.declared.lane.Lane.{Lane}
 use Rattle.archive_head.specs.Head.{Contents}
-use Rattle.intake.specs.Ring.{octets_for, IsRing}
+use Rattle.intake.specs.Ring.{entry, octets_for, size_of, IsRing}
 use Rattle.archive_pages.specs.declared.settings.Settings.{Settings}
 use Rattle.archive_pages.specs.Places.{ring_of}
 
@@ -40,3 +40,9 @@ pub record CanTake (homes : ℕ) (s : Settings) (c : ℕ) (lane : Lane) (kept : 
   pub ring : IsRing homes (ring_of s c lane)
   pub offered : lane.offered + kept.offered < 2 ^ 64
   pub admitted : lane.admitted + length kept.timely < 2 ^ 64
+
+-- The ring of which the head keeps this can lose an admission of this size at its front.
+pub record CanPop (s : Settings) (c : ℕ) (lane : Lane) (a : Admitted) : Type 0 where
+  pub start : lane.first < size_of (ring_of s c lane)
+  pub used : lane.used ≤ size_of (ring_of s c lane)
+  pub fits : length (entry a) ≤ lane.used

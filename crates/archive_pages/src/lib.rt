@@ -8,9 +8,11 @@ mod giving;
 mod heading;
 mod keeping;
 mod marking;
+mod passing;
 mod settings;
 
 pub use giving::{Sifted, give};
 pub use heading::{copy_head, put_head};
 pub use marking::mark_head;
+pub use passing::{TreePlace, pass_change};
 pub use settings::Settings;

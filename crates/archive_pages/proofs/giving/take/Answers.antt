@@ -3,7 +3,6 @@ use Rattle.intake.specs.declared.ring.Ring.{Ring}
 use Rattle.intake.specs.Ring.{octets_for, ListsBehind}
 use Rattle.route_model.specs.Admission.{Admitted}
 use Rattle.std.specs.Prelude.{List}
-use Rattle.archive_pages.specs.Places.{ring_of}
 use Rattle.archive_pages.specs.Batches.{Kept}
 use Rattle.archive_pages.proofs.giving.take.Goals as goal
 
