@@ -2,3 +2,4 @@ pub mod Bearing
 pub mod Creating
 pub mod Moving
 pub mod Giving
+pub mod Passing
