@@ -1,6 +1,6 @@
 //! A batch is given: its collector's ring takes what isn't late, and the head tells of it.
 
-ghost use Rattle.std.specs.Prelude.{◌≡◌, ◌≢◌, ◌<◌, ◌≤◌, ◌+◌, ◌++◌, ◌↔◌, ℕ, List, length, sum_by, IfOk, OnOk, OnErr, IfErr, Err};
+ghost use Rattle.std.specs.Prelude.{◌≡◌, ◌≢◌, ◌<◌, ◌≤◌, ◌+◌, ◌++◌, ◌↔◌, ℕ, List, length, sum_by, IsTrue, IfOk, OnOk, OnErr, IfErr, Err};
 ghost use Rattle.page_tx.specs.Device.{KeepsDevice};
 ghost use Rattle.page_tx.specs.Start.{Start};
 ghost use Rattle.page_tx.specs.declared.error.PageError.TheVariants as pages_refusals;
@@ -38,6 +38,30 @@ impl Model for Sifted {
     ghost Value = { Kept };
 
     ghost view = { λ s. record { timely = s.timely.items; offered = s.offered; mark = s.mark } };
+}
+
+// Whether a collector of whom the head keeps this can take a batch.
+fn lane_takes(homes: u64, settings: Settings, collector: u8, lane: Lane, batch: &Sifted) -> bool
+    ensures takes { IsTrue result ↔ CanTake homes settings collector lane batch.now }
+{
+    settings.ring(collector, &lane).is_within(homes)
+        && lane.offered.checked_add(batch.offered).is_some()
+        && lane
+            .admitted
+            .checked_add(batch.timely.len() as u64)
+            .is_some()
+}
+
+/// Whether the head has such a collector, its ring lies in a map of so many pages, and its counts have room for the batch.
+pub fn can_give(homes: u64, settings: Settings, head: &Head, collector: u8, batch: &Sifted) -> bool
+    ensures collector { IsTrue result → collector < length head.now.lanes }
+    ensures fits { IsTrue result → (lane : Lane) → HasLane head.now collector lane → CanTake homes settings collector lane batch.now }
+    ensures only { (lane : Lane) → HasLane head.now collector lane → CanTake homes settings collector lane batch.now → IsTrue result }
+{
+    if usize::from(collector) >= head.lanes.len() {
+        return false;
+    }
+    lane_takes(homes, settings, collector, lane_of(head, collector), batch)
 }
 
 // What the head is to keep of the collector whose ring took a batch.

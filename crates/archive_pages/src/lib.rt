@@ -11,8 +11,8 @@ mod marking;
 mod passing;
 mod settings;
 
-pub use giving::{Sifted, give};
+pub use giving::{Sifted, can_give, give};
 pub use heading::{copy_head, put_head};
 pub use marking::mark_head;
-pub use passing::{TreePlace, pass_change};
+pub use passing::{TreePlace, can_pass, pass_change};
 pub use settings::Settings;

@@ -10,6 +10,7 @@ ghost use Rattle.archive_pages.specs.Batches.{CanPop, HasLane};
 use crate::keeping::{lane_of, set_lane};
 use crate::settings::Settings;
 use archive_head::{Head, Lane};
+use disk_models::PAGE_SIZE;
 use route_model::Admission;
 
 /// What the head tells of the tree.
@@ -21,6 +22,28 @@ pub struct TreePlace {
     pub block: u64,
     /// The page of the root.
     pub root: u64,
+}
+
+// Whether the ring of which the head keeps this can lose the admission.
+fn lane_loses(settings: Settings, collector: u8, lane: Lane, admission: &Admission) -> bool
+    ensures loses { IsTrue result ↔ CanPop settings collector lane admission.now }
+{
+    let ring = settings.ring(collector, &lane);
+    let size = PAGE_SIZE as u64 * ring.count;
+    ring.first < size && ring.used <= size && ring.can_pop(admission)
+}
+
+/// Whether the head has such a collector, its ring can lose the admission, and one more change can be counted.
+pub fn can_pass(settings: Settings, head: &Head, collector: u8, admission: &Admission) -> bool
+    ensures collector { IsTrue result → collector < length head.now.lanes }
+    ensures applied { IsTrue result → head.now.applied + 1 < 2 ^ 64 }
+    ensures first { IsTrue result → (lane : Lane) → HasLane head.now collector lane → CanPop settings collector lane admission.now }
+    ensures only { (lane : Lane) → HasLane head.now collector lane → CanPop settings collector lane admission.now → head.now.applied + 1 < 2 ^ 64 → IsTrue result }
+{
+    if usize::from(collector) >= head.lanes.len() || head.applied == u64::MAX {
+        return false;
+    }
+    lane_loses(settings, collector, lane_of(head, collector), admission)
 }
 
 // The head counts the next change of the admission, where it has one.

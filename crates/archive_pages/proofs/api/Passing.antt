@@ -6,7 +6,7 @@ use Rattle.std.proofs.lemmas.Option.{slice_get_within}
 use Rattle.route_model.specs.Admission.{Admitted}
 use Rattle.route_meaning.specs.Merged.{Placed}
 use Rattle.route_meaning.specs.Holds.{time_of}
-use Rattle.route_meaning.specs.History.{Intake, History, waiting, IsBelowMarks}
+use Rattle.route_meaning.specs.History.{History, waiting, IsBelowMarks}
 use Rattle.interleaving_core.specs.Steps.{Applies, moved}
 use Rattle.interleaving_core.proofs.api.Right.{part_moved, whole_moved}
 use Rattle.archive_head.specs.declared.lane.Lane.{Lane}
