@@ -15,3 +15,8 @@ pub mod Planning
 pub mod KeyLists
 pub mod KeyNodes
 pub mod KeyPlans
+pub mod Columns
+pub mod PlanningLeaf
+pub mod LayingOut
+pub mod GrowingWhole
+pub mod Pushing

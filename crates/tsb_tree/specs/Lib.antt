@@ -8,3 +8,5 @@ pub mod Plans
 pub mod Trees
 pub mod KeyNodes
 pub mod Puts
+pub mod Takers
+pub mod Read

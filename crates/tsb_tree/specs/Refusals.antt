@@ -83,6 +83,41 @@ ReadRefusal down (errors.Pages pages.NeedsRecovery) = down ≡ true
 ReadRefusal down (errors.Once refusal) = ⊥
 ReadRefusal down errors.OutOfMemory = Unit {0}
 
+-- the reasons for which a column in memory doesn't grow: the shelf refuses, memory does, or its pages aren't those of a column that can take
+-- the version
+abbrev pub GrowRefusal : TreeError → Type 0
+GrowRefusal errors.StampBack = ⊥
+GrowRefusal errors.TooHigh = ⊥
+GrowRefusal (errors.BadNode page) = Unit {0}
+GrowRefusal (errors.Damaged block) = ⊥
+GrowRefusal (errors.Pages refusal) = ⊥
+GrowRefusal (errors.Once refusal) = Unit {0}
+GrowRefusal errors.OutOfMemory = Unit {0}
+
+-- the reasons for which a column isn't laid out in so many pages, of which this one is the next that was never used
+abbrev pub LayoutRefusal : ℕ → ℕ → TreeError → Type 0
+LayoutRefusal homes unused errors.StampBack = ⊥
+LayoutRefusal homes unused errors.TooHigh = ⊥
+LayoutRefusal homes unused (errors.BadNode page) = Unit {0}
+LayoutRefusal homes unused (errors.Damaged block) = ⊥
+LayoutRefusal homes unused (errors.Pages pages.PagesFull) = homes < unused + 2
+LayoutRefusal homes unused (errors.Pages pages.TooManyImages) = ⊥
+LayoutRefusal homes unused (errors.Pages pages.OutOfMemory) = ⊥
+LayoutRefusal homes unused (errors.Pages pages.Fault) = ⊥
+LayoutRefusal homes unused (errors.Pages pages.NeedsRecovery) = ⊥
+LayoutRefusal homes unused (errors.Once refusal) = ⊥
+LayoutRefusal homes unused errors.OutOfMemory = Unit {0}
+
+-- the reasons for which nothing of a column becomes a block: the shelf refuses, or memory does
+abbrev pub BurnRefusal : TreeError → Type 0
+BurnRefusal errors.StampBack = ⊥
+BurnRefusal errors.TooHigh = ⊥
+BurnRefusal (errors.BadNode page) = ⊥
+BurnRefusal (errors.Damaged block) = ⊥
+BurnRefusal (errors.Pages refusal) = ⊥
+BurnRefusal (errors.Once refusal) = Unit {0}
+BurnRefusal errors.OutOfMemory = Unit {0}
+
 -- The reasons for which a node of this level doesn't take a version, in so many pages, of which this one was the first that was never
 -- used. A level needs one page more at most, and the lowest two; what the shelf refuses is said of the shelf.
 abbrev pub PlanRefusal : ℕ → ℕ → ℕ → Bool → TreeError → Type 0

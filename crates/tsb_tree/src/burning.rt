@@ -1,11 +1,12 @@
 //! A column's leaf as it was until a stamp becomes a block, and its whole past where its page has no room for a part more.
-ghost use Rattle.std.specs.Prelude.{◌≡◌, ◌+◌, ◌^◌, ◌<◌, ◌≤◌, ◌++◌, ◌∷◌, [], ℕ, List, Option, Some, IfOk, OnOk, length, vec_len};
+ghost use Rattle.std.specs.Prelude.{◌≡◌, ◌+◌, ◌^◌, ◌<◌, ◌≤◌, ◌++◌, ◌∷◌, [], ℕ, List, Option, Some, IfOk, IfErr, OnOk, length, vec_len};
 ghost use Rattle.once_store.specs.Shelves.{disk_of, next_of, pen_of};
 ghost use Rattle.version_model.specs.Blocks.{BlockNode};
 ghost use Rattle.version_model.specs.Shows.{IsFrom};
 ghost use Rattle.version_model.specs.Versions.{Version, Has};
 ghost use Rattle.tsb_node.specs.Leaves.{IsLeafPage};
 ghost use Rattle.worm_migration.specs.Settled.{ShelfSays};
+ghost use Rattle.tsb_tree.specs.Refusals.{BurnRefusal};
 ghost use Rattle.tsb_tree.specs.Shapes.{IsWhole, IsSameButParts, leaf_in_page, with_leaf};
 ghost use Rattle.tsb_tree.specs.Shelves.{KeepsShelf, MakesRoom, TakesOn, burnt as burnt_blocks, packed, packed_parts};
 
@@ -51,6 +52,7 @@ fn pack<O: OnceDisk + Drop>(
     ensures room { O.honest (disk_of shelf.old) (pen_of shelf.old) → IfOk result (λ n. (blocks : ℕ → Option BlockNode) → ShelfSays O.OnceDisk shelf.old blocks
         → MakesRoom O.OnceDisk shelf.new blocks (packed whole.old (Some n) blocks) (next_of shelf.old) whole.old whole.new.parts.items) }
     ensures parts { IfOk result (λ n. whole.new.parts.items ≡ packed_parts whole.old (Some n)) }
+    ensures refused { IfErr result BurnRefusal }
     ensures same { IsSameButParts whole.new whole.old }
 {
     let (low, high, at) = (whole.low, whole.high, whole.start);
@@ -79,6 +81,7 @@ fn make_room<O: OnceDisk + Drop>(
         → MakesRoom O.OnceDisk shelf.new blocks (packed whole.old column blocks) (next_of shelf.old) whole.old whole.new.parts.items) }
     ensures same { IsSameButParts whole.new whole.old }
     ensures few { OnOk result (length whole.new.parts.items ≤ 647) }
+    ensures refused { IfErr result BurnRefusal }
     ensures whole { OnOk result (IsWhole whole.new) }
 {
     if whole.parts.len() < MOST_PARTS {
@@ -108,6 +111,7 @@ pub fn split_by_time<O: OnceDisk + Drop>(
         → whole.old.leaf ≡ leaf ++ v ∷ [] → v.stamp ≡ at → IsFrom whole.old.leaf at newer
         → IfOk result (λ burnt. (blocks : ℕ → Option BlockNode) → ShelfSays O.OnceDisk shelf.old blocks
         → TakesOn O.OnceDisk shelf.new blocks (burnt_blocks whole.old leaf at burnt blocks) (next_of shelf.old) v (with_leaf whole.old leaf) whole.new) }
+    ensures refused { IfErr result BurnRefusal }
     ensures low { OnOk result (whole.new.low ≡ whole.old.low) }
     ensures high { OnOk result (whole.new.high ≡ whole.old.high) }
     ensures start { OnOk result (whole.new.start ≡ at) }

@@ -36,8 +36,8 @@ fn lay_whole(
     Ok(())
 }
 
-// A column as one.
-fn lay_one(
+/// A column as one.
+pub fn lay_one(
     alloc: Global,
     page: u64,
     current: u64,
@@ -59,8 +59,8 @@ fn lay_one(
     })
 }
 
-// A column as its two halves, of which the higher one has two pages from this one on.
-fn lay_two(
+/// A column as its two halves, of which the higher one has two pages from this one on.
+pub fn lay_two(
     alloc: Global,
     page: u64,
     current: u64,

@@ -3,13 +3,19 @@
 
 mod burning;
 mod change;
+mod current_leaf;
 mod dividing;
 mod error;
+mod growing_whole;
 mod key_nodes;
 mod layout;
 mod pages;
+mod planning_column;
 mod putting;
+mod putting_in_leaf;
 mod reading;
+mod reading_whole;
+mod splitting_column;
 mod tree;
 mod whole;
 

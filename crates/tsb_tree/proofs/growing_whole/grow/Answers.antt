@@ -1,0 +1,39 @@
+use Rattle.std.proofs.Common.{rules, ◌≤◌, List, ap, subst, arith}
+use Rattle.version_model.specs.Entries.{version_of}
+use Rattle.version_model.specs.Shows.{IsFrom}
+use Rattle.version_model.specs.Sizes.{octets}
+use Rattle.version_model.specs.Versions.{Version, Has}
+use Rattle.tsb_tree.proofs.GrowingWhole.{taken_whole, taken_most, taken_only, taken_on}
+use Rattle.tsb_tree.proofs.growing_whole.grow.Goals as goal
+
+pub returns-in_default-clause-takes : goal.returns-in_default-clause-takes
+returns-in_default-clause-takes g c honest blocks says =
+    (blocks, taken_on c.args.whole.now c.take.new.whole (version_of c.args.entry.now) c.in_ok-take.ensures.taken g.O.OnceDisk c.args.shelf.now blocks says)
+
+pub returns-in_default-clause-whole : goal.returns-in_default-clause-whole
+returns-in_default-clause-whole g c =
+    taken_whole c.args.whole.now c.take.new.whole (version_of c.args.entry.now) c.in_ok-take.ensures.taken c.requires.whole c.requires.low c.requires.high c.requires.small
+
+pub returns-in_default-clause-most : goal.returns-in_default-clause-most
+returns-in_default-clause-most g c =
+    taken_most c.args.whole.now c.take.new.whole (version_of c.args.entry.now) c.in_ok-take.ensures.taken c.args.leaf.now.image c.requires.leaf c.requires.small
+
+pub returns-in_default-clause-only : goal.returns-in_default-clause-only
+returns-in_default-clause-only g c v h =
+    taken_only c.args.whole.now c.take.new.whole (version_of c.args.entry.now) c.in_ok-take.ensures.taken v h
+
+pub split_by_time-requires-clause-whole : goal.split_by_time-requires-clause-whole
+split_by_time-requires-clause-whole g c κs within =
+    taken_whole c.args.whole.now c.take.new.whole (version_of c.args.entry.now) c.in_ok-take.ensures.taken c.requires.whole c.requires.low c.requires.high c.requires.small
+
+pub returns-in-Ok-clause-most : goal.returns-in-Ok-clause-most
+returns-in-Ok-clause-most g c =
+    let most : octets c.take.new.whole.leaf ≤ 19363 = taken_most c.args.whole.now c.take.new.whole (version_of c.args.entry.now) c.in_ok-take.ensures.taken c.args.leaf.now.image c.requires.leaf c.requires.small in
+    let size : octets c.in-Some.newer ≤ octets c.take.new.whole.leaf = search rules in
+    omega (arith, most, size, ap octets c.in-Ok.ensures.leaf)
+
+pub returns-in-Ok-clause-only : goal.returns-in-Ok-clause-only
+returns-in-Ok-clause-only g c v h =
+    let from : IsFrom c.take.new.whole.leaf c.args.entry.now.stamp c.in-Some.newer = search rules in
+    let newer : Has c.in-Some.newer v = subst (λ (l : List Version). Has l v) c.in-Ok.ensures.leaf h in
+    taken_only c.args.whole.now c.take.new.whole (version_of c.args.entry.now) c.in_ok-take.ensures.taken v (from.is_in v newer)

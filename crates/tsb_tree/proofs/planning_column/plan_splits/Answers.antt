@@ -1,0 +1,74 @@
+use Rattle.std.proofs.Common.{rules, ◌≡◌, ◌<◌, ◌≤◌, ℕ, Err, Result, IfErr, sym, ◌∙◌, ap, subst, arith}
+use Rattle.once_store.specs.Shelves.{next_of}
+use Rattle.version_model.specs.Entries.{version_of}
+use Rattle.version_model.specs.Ranges.{high_or}
+use Rattle.version_model.specs.Pages.{Keys}
+use Rattle.version_model.specs.Versions.{Version, Has}
+use Rattle.tsb_tree.specs.declared.change.Change.{Change}
+use Rattle.tsb_tree.specs.declared.error.TreeError.{TreeError}
+use Rattle.tsb_tree.specs.Plans.{Plans}
+use Rattle.tsb_tree.specs.Refusals.{PlanRefusal, ReadRefusal}
+use Rattle.tsb_tree.specs.Wholes.{IsAt}
+use Rattle.tsb_tree.proofs.Columns.{is_at, ok_both}
+use Rattle.tsb_tree.proofs.LayingOut.{plans_taken, read_plan, keeps_none}
+use Rattle.tsb_tree.proofs.Pushing.{whole_among, whole_forward}
+use Rattle.tsb_tree.proofs.planning_column.plan_splits.Goals as goal
+
+pub returns-in_err-whole-clause-refused : goal.returns-in_err-whole-clause-refused
+returns-in_err-whole-clause-refused g c =
+    let h = c.in_err-whole.ensures.refused (g.P.Pages.down c.args.pages.now) in
+    let d : c.from_residual-in_err-whole.result ≡ Err c.in_err-whole.field-0.0 = search rules in
+    subst (λ (r : Result Change TreeError). IfErr r (PlanRefusal (g.P.Pages.homes c.args.pages.now) (g.P.Pages.next c.args.pages.now) c.args.place.now.level (g.P.Pages.down c.args.pages.now))) (sym d)
+    (read_plan (g.P.Pages.homes c.args.pages.now) (g.P.Pages.next c.args.pages.now) c.args.place.now.level (g.P.Pages.down c.args.pages.now) _ h)
+
+pub returns-in_err-whole-clause-shelf : goal.returns-in_err-whole-clause-shelf
+returns-in_err-whole-clause-shelf g c =
+    let h = c.in_err-whole.ensures.refused (g.P.Pages.down c.args.pages.now) in
+    let d : c.from_residual-in_err-whole.result ≡ Err c.in_err-whole.field-0.0 = search rules in
+    keeps_none g.O.OnceDisk c.args.shelf.now c.from_residual-in_err-whole.result (g.P.Pages.down c.args.pages.now)
+    (subst (λ (r : Result Change TreeError). IfErr r (ReadRefusal (g.P.Pages.down c.args.pages.now))) (sym d) h)
+
+pub returns-clause-refused : goal.returns-clause-refused
+returns-clause-refused g c =
+    let r = c.split_column.result in
+    let down = g.P.Pages.down c.args.pages.now in
+    let homes = c.home_pages.result in
+    let next = c.next_page.result in
+    let h = c.split_column.ensures.refused down in
+    let homes_is : homes ≡ g.P.Pages.homes c.args.pages.now = c.home_pages.ensures ∙ c.in_ok-column.ensures.reads.homes in
+    let next_is : next ≡ g.P.Pages.next c.args.pages.now = c.next_page.ensures ∙ c.in_ok-column.ensures.reads.next in
+    subst (λ (m : ℕ). IfErr r (PlanRefusal (g.P.Pages.homes c.args.pages.now) (g.P.Pages.next c.args.pages.now) m down)) (sym c.requires.level)
+    (subst (λ (m : ℕ). IfErr r (PlanRefusal (g.P.Pages.homes c.args.pages.now) m 1 down)) next_is (subst (λ (m : ℕ). IfErr r (PlanRefusal m next 1 down)) homes_is h))
+
+pub returns-clause-plans : goal.returns-clause-plans
+returns-clause-plans g c s all can at_leaf =
+    let place = c.args.place.now in
+    let leaf = c.args.leaf.now in
+    let v = version_of c.args.entry.now in
+    let w = c.in_ok-whole.whole in
+    let homes = g.P.Pages.homes c.args.pages.now in
+    let shown = c.in_ok-column.ensures.shown can.start can.shown can.is.shows in
+    let at : IsAt s.nodes place.page leaf.page w = is_at s all place can.shown c.requires.level can.is.tells can.stands w leaf.page _ _ shown c.in_ok-whole.ensures.column at_leaf c.in_ok-whole.ensures.leaf in
+    let homes_is : c.home_pages.result ≡ homes = c.home_pages.ensures ∙ c.in_ok-column.ensures.reads.homes in
+    let next_is : c.next_page.result ≡ g.P.Pages.next c.args.pages.now = c.next_page.ensures ∙ c.in_ok-column.ensures.reads.next in
+    let keys_is = c.in_ok-whole.ensures.keys in
+    let low : w.low ≤ v.key = omega (arith, ap (λ (k : Keys). k.low) keys_is, c.requires.has.low) in
+    let high : v.key < high_or w.high = omega (arith, ap (λ (k : Keys). k.high) keys_is, c.requires.has.high) in
+    ok_both _ _ _ c.split_column.result
+    (λ change taken inside. subst (λ (m : ℕ). Plans g.O.OnceDisk c.split_column.new.shelf homes s v m place.page change) (sym c.requires.level)
+    (plans_taken g.O.OnceDisk c.split_column.new.shelf homes s v place.page leaf.page c.next_page.result (next_of c.args.shelf.now) w change at low high (can.is.limit ∙ sym next_is) can.is.next c.split_column.ensures.shelf.forward
+    c.in_ok-column.ensures.inside c.requires.within (omega (arith, inside, homes_is)) (taken s.blocks can.is.says)))
+    (c.split_column.ensures.takes can.is.honest) c.split_column.ensures.inside
+
+pub returns-clause-honest : goal.returns-clause-honest
+returns-clause-honest g c s all can of filled =
+    let place = c.args.place.now in
+    let leaf = c.args.leaf.now in
+    let v = version_of c.args.entry.now in
+    let w = c.in_ok-whole.whole in
+    let shown = c.in_ok-column.ensures.shown can.start can.shown can.is.shows in
+    let page = c.in_ok-whole.ensures.leaf in
+    let at : IsAt s.nodes place.page leaf.page w = is_at s all place can.shown c.requires.level can.is.tells can.stands w leaf.page _ _ shown c.in_ok-whole.ensures.column of.at page in
+    let among : (x : Version) → Has w.leaf x → Has all x = whole_among s all place leaf.page leaf.image w v at can.stands page in
+    c.split_column.ensures.honest (record { above = λ x h. can.above.above x (among x h) }) (whole_forward s all place leaf.page leaf.image w v at can.stands page can.above c.requires.small filled)
+    (λ x h. can.bounded x (among x h)) can.inside

@@ -1,0 +1,91 @@
+//! What a column becomes that takes a version is planned.
+ghost use Rattle.std.specs.Prelude.{◌≡◌, ◌+◌, ◌^◌, ◌<◌, ◌≤◌, ℕ, List, IfOk, IfErr, OnOk, Some, slice_get};
+ghost use Rattle.version_model.specs.Entries.{version_of};
+ghost use Rattle.version_model.specs.Pages.{Store};
+ghost use Rattle.version_model.specs.Sizes.{entry_octets};
+ghost use Rattle.version_model.specs.Versions.{Version};
+ghost use Rattle.tsb_walk.specs.Shown.{HasKey};
+ghost use Rattle.tsb_tree.specs.Plans.{CanBeLaid, Plans};
+ghost use Rattle.tsb_tree.specs.Read.{IsFilled, IsLeafOf};
+ghost use Rattle.tsb_tree.specs.Refusals.{IsHonest, PlanRefusal};
+ghost use Rattle.tsb_tree.specs.Shelves.{KeepsShelf};
+ghost use Rattle.tsb_tree.specs.Stores.{ReadsAlone};
+ghost use Rattle.tsb_tree.specs.Takers.{CanTake};
+
+use crate::change::Change;
+use crate::current_leaf::{LeafImage, current_leaf};
+use crate::error::TreeError;
+use crate::putting_in_leaf::{lay_leaf, push_entry};
+use crate::reading::image_of;
+use crate::reading_whole::whole_in;
+use crate::splitting_column::{Unused, split_column};
+use disk_models::OnceDisk;
+use once_store::Shelf;
+use page_tx::Pages;
+use std::alloc::Global;
+use tsb_walk::PagePlace;
+use version_model::Entry;
+
+// Plans what the column at a place becomes that takes a version for which its leaf has no room.
+fn plan_splits<P: Pages, O: OnceDisk + Drop>(
+    pages: &mut P,
+    shelf: &mut Shelf<O>,
+    alloc: Global,
+    place: &PagePlace,
+    leaf: &LeafImage,
+    entry: &Entry,
+) -> Result<Change, TreeError>
+    requires level { place.now.level ≡ 1 }
+    requires has { HasKey place.now entry.now.key }
+    requires small { entry_octets (version_of entry.now) ≤ 3131 }
+    requires end { entry.now.stamp + 1 < 256 ^ 16 }
+    requires within { leaf.now.page < P.homes pages.old }
+    ensures plans { (s : Store) (all : List Version) → (can : CanTake P.Pages pages.old O.OnceDisk shelf.old s all place.now (version_of entry.now)) → slice_get can.shown leaf.now.page ≡ Some leaf.now.image
+        → IfOk result (λ change. Plans O.OnceDisk shelf.new (P.homes pages.old) s (version_of entry.now) place.now.level place.now.page change) }
+    ensures honest { (s : Store) (all : List Version) → (can : CanTake P.Pages pages.old O.OnceDisk shelf.old s all place.now (version_of entry.now)) → IsLeafOf can.shown place.now leaf.now.page leaf.now.image
+        → IsFilled place.now leaf.now.image (version_of entry.now) → IsHonest result }
+    ensures laid { IfOk result (λ change. CanBeLaid (P.homes pages.old) (P.next pages.old) place.now.level change) }
+    ensures inside { OnOk result (place.now.page < P.homes pages.old) }
+    ensures refused { IfErr result (PlanRefusal (P.homes pages.old) (P.next pages.old) place.now.level (P.down pages.old)) }
+    ensures reads { ReadsAlone P.Pages pages.old pages.new result }
+    ensures shelf { KeepsShelf O.OnceDisk 2 shelf.old shelf.new result }
+{
+    let column = image_of(pages, place.page)?;
+    let whole = whole_in(alloc, place, &column, leaf)?;
+    let unused = Unused {
+        next: pages.next_page(),
+        homes: pages.home_pages(),
+    };
+    split_column(shelf, alloc, unused, place.page, leaf, whole, entry)
+}
+
+/// Plans what the column at a place becomes that takes a version of its keys. Where the current leaf has room for it, its page's image
+/// alone is changed, and nothing is read as a list. Else the column is split.
+///
+/// Pages are only read, and blocks are settled: two at most.
+pub fn plan_column<P: Pages, O: OnceDisk + Drop>(
+    pages: &mut P,
+    shelf: &mut Shelf<O>,
+    alloc: Global,
+    place: &PagePlace,
+    entry: &Entry,
+) -> Result<Change, TreeError>
+    requires level { place.now.level ≡ 1 }
+    requires has { HasKey place.now entry.now.key }
+    requires small { entry_octets (version_of entry.now) ≤ 3131 }
+    requires end { entry.now.stamp + 1 < 256 ^ 16 }
+    ensures plans { (s : Store) (all : List Version) → CanTake P.Pages pages.old O.OnceDisk shelf.old s all place.now (version_of entry.now)
+        → IfOk result (λ change. Plans O.OnceDisk shelf.new (P.homes pages.old) s (version_of entry.now) place.now.level place.now.page change) }
+    ensures honest { (s : Store) (all : List Version) → CanTake P.Pages pages.old O.OnceDisk shelf.old s all place.now (version_of entry.now) → IsHonest result }
+    ensures laid { IfOk result (λ change. CanBeLaid (P.homes pages.old) (P.next pages.old) place.now.level change) }
+    ensures inside { OnOk result (place.now.page < P.homes pages.old) }
+    ensures refused { IfErr result (PlanRefusal (P.homes pages.old) (P.next pages.old) place.now.level (P.down pages.old)) }
+    ensures reads { ReadsAlone P.Pages pages.old pages.new result }
+    ensures shelf { KeepsShelf O.OnceDisk 2 shelf.old shelf.new result }
+{
+    let mut leaf = current_leaf(pages, place, entry)?;
+    if push_entry(&mut leaf.image, leaf.page, entry)? {
+        return Ok(lay_leaf(alloc, leaf, pages.next_page())?);
+    }
+    plan_splits(pages, shelf, alloc, place, &leaf, entry)
+}

@@ -1,0 +1,59 @@
+//! A column with its current leaf is read into memory from their pages.
+ghost use Rattle.std.specs.Prelude.{◌≡◌, ℕ, Bool, List, IfOk, IfErr, IsErrOf};
+ghost use Rattle.page_tx.specs.declared.error.PageError.{PageError};
+ghost use Rattle.version_model.specs.declared.part.Part.{Part};
+ghost use Rattle.version_model.specs.Pages.{ColumnNode, CurrentLeaf};
+ghost use Rattle.version_model.specs.Versions.{Version};
+ghost use Rattle.tsb_node.specs.Leaves.{IsLeafPage};
+ghost use Rattle.tsb_node.specs.Views.{PageSays};
+ghost use Rattle.tsb_walk.specs.Shown.{keys_at};
+ghost use Rattle.tsb_tree.specs.Refusals.{IsHonest, ReadRefusal};
+ghost use Rattle.tsb_tree.specs.Shapes.{IsWhole, leaf_in_page};
+ghost use Rattle.tsb_tree.specs.Wholes.{column_node, keys_of_whole};
+
+use crate::current_leaf::LeafImage;
+use crate::error::TreeError;
+use crate::reading::{column_in, leaf_in};
+use crate::whole::Whole;
+use disk_models::Page;
+use std::alloc::Global;
+use tsb_walk::{PagePlace, are_its_keys};
+
+/// What the page of the column at a place and that of its current leaf say.
+pub fn whole_in(
+    alloc: Global,
+    place: &PagePlace,
+    column: &Page,
+    leaf: &LeafImage,
+) -> Result<Whole, TreeError>
+    ensures column { IfOk result (λ whole. PageSays column.now (column_node whole leaf.now.page)) }
+    ensures leaf { IfOk result (λ whole. IsLeafPage (leaf_in_page whole) leaf.now.image) }
+    ensures keys { IfOk result (λ whole. keys_of_whole whole ≡ keys_at place.now) }
+    ensures whole { IfOk result (λ whole. IsWhole whole) }
+    ensures honest { (parts : List Part) (start : ℕ) (versions : List Version) → PageSays column.now (ColumnNode (keys_at place.now) parts start leaf.now.page)
+        → PageSays leaf.now.image (CurrentLeaf (keys_at place.now) start versions) → IsHonest result }
+    ensures refused { (down : Bool) → IfErr result (ReadRefusal down) }
+    ensures read { IsErrOf result (TreeError.Pages PageError.Fault) → ⊥ }
+{
+    let said = column_in(alloc, column, place.page)?;
+    let (bounds, versions) = leaf_in(alloc, &leaf.image, leaf.page)?;
+    if said.current.page != leaf.page {
+        return Err(TreeError::BadNode(place.page));
+    }
+    if !are_its_keys(&said.bounds, place) {
+        return Err(TreeError::BadNode(place.page));
+    }
+    if bounds.start != said.current.start {
+        return Err(TreeError::BadNode(leaf.page));
+    }
+    if !are_its_keys(&bounds, place) {
+        return Err(TreeError::BadNode(leaf.page));
+    }
+    Ok(Whole {
+        low: bounds.low,
+        high: bounds.high,
+        parts: said.parts,
+        start: bounds.start,
+        leaf: versions,
+    })
+}
