@@ -20,7 +20,7 @@ not_not : (b : Bool) → b ≡ not (not b)
 not_not true = refl
 not_not false = refl
 
-without_few : (ns old : List ℕ) → length (without ns old) ≤ length old
+pub without_few : (ns old : List ℕ) → length (without ns old) ≤ length old
 without_few ns old = let both = length-filter_both (λ n. not (is_among n ns)) (λ n. is_among n ns) (λ n. not_not (is_among n ns)) old in omega (arith, both)
 
 -- a refusal to lay two images

@@ -1,5 +1,5 @@
 -- Plans of a key node, made of those of its child.
-use Rattle.std.proofs.Common.{◌≡◌, ℕ, suc, ◌+◌, ◌<◌, ◌≤◌, ◌⊎◌, inl, inr, List, [], ◌∷◌, length, set, length-set, take, drop, Option, Some, None, slice_get, refl, sym, ◌∙◌, ap, subst, arith}
+use Rattle.std.proofs.Common.{◌≡◌, ℕ, suc, ◌<◌, ◌≤◌, List, length, set, length-set, take, drop, Option, Some, None, slice_get, refl, sym, ◌∙◌, ap, subst, arith}
 use Rattle.std.specs.List.{insert}
 use Rattle.std.specs.Option.{IfSome}
 use Rattle.std.proofs.lemmas.Option.{same_Some, none-some}
@@ -12,21 +12,20 @@ use Rattle.version_model.specs.declared.child.Child.{Child}
 use Rattle.version_model.specs.Versions.{Version}
 use Rattle.version_model.specs.Ranges.{high_or}
 use Rattle.version_model.specs.Pages.{Keys, PageNode, KeyNode, Store, StandsIn, IsChildOf, child_keys, low_or}
-use Rattle.version_model.specs.Inserts.{Splits}
 use Rattle.version_model.proofs.api.Children.{key_stands}
 use Rattle.version_model.proofs.api.Put.{Splits-child}
 use Rattle.version_model.proofs.api.Standing.{key_node_of}
 use Rattle.tsb_node.proofs.api.Pages.{one_said}
 use Rattle.tsb_node.specs.Views.{PageSays}
 use Rattle.tsb_walk.specs.declared.page_place.PagePlace.{PagePlace}
-use Rattle.tsb_walk.specs.Shown.{Says, AreShown, keys_at}
+use Rattle.tsb_walk.specs.Shown.{AreShown, keys_at}
 use Rattle.tsb_walk.specs.PageWays.{IsLower}
 use Rattle.tsb_tree.specs.declared.change.Change.{Change}
 use Rattle.tsb_tree.specs.KeyNodes.{BeginsBehind}
 use Rattle.tsb_tree.specs.Plans.{Plans, KeepsOwn}
-use Rattle.tsb_tree.specs.Puts.{PutsOne, PutsTwo, PutsChild}
+use Rattle.tsb_tree.specs.Puts.{PutsOne, PutsTwo}
 use Rattle.tsb_tree.specs.Wholes.{keys}
-use Rattle.tsb_tree.proofs.Laying.{put}
+use Rattle.tsb_tree.proofs.Laying.{put, put_other}
 use Rattle.tsb_tree.proofs.Puts.{puts_one, puts_two}
 use Rattle.tsb_tree.proofs.Telling.{shown-set, get-set_other}
 
@@ -49,6 +48,7 @@ module _ {O Pen Seen : Type 0} (device : Ghosts O Pen Seen) (shelf : Shelf O Pen
     lays = plans.lays;
     says = plans.says;
     splits = rw none (Splits-child s (record { nodes = plans.nodes; limit = change.unused; blocks = plans.blocks; next = next_of shelf }) v level page wide children i child at at_child from up_to (rw none at plans.splits));
+    silent = plans.silent;
     own = own_child;
   }
 
@@ -73,6 +73,7 @@ module _ {O Pen Seen : Type 0} (device : Ghosts O Pen Seen) (shelf : Shelf O Pen
               rw (one.images shown) (shown-set below plans.nodes page one.octets node room one.says (plans.lays shown long are)));
           says = plans.says;
           splits = rw (one.unused, one.new) (puts_one s t v level page wide children (insert children (suc i) new) i child new at at_child from up_to refl (rw some at plans.splits));
+          silent = λ p in_limit none. put_other page node plans.nodes p (not_page p none) ∙ plans.silent p in_limit none;
           own = λ all k stands p in_limit none shown.
               ap (λ (l : List (List ℕ)). slice_get l p) (one.images shown) ∙ get-set_other (laid change.images.items shown) page p one.octets (not_page p none) ∙ own_child all k stands p in_limit none shown;
         }
@@ -95,6 +96,8 @@ module _ {O Pen Seen : Type 0} (device : Ghosts O Pen Seen) (shelf : Shelf O Pen
               rw (two.images shown) (shown-set (set below page two.front) (put page front plans.nodes) change.unused two.back back (let h : change.unused < length (set below page two.front) = omega (arith, more, room) in h) two.says_back first));
           says = plans.says;
           splits = rw (two.unused, two.new) (puts_two s t v level page wide children (insert children (suc i) new) i child new at at_child from up_to refl (rw some at plans.splits) two.place two.mid two.at two.some);
+          silent = λ p in_limit none.
+              put_other change.unused back (put page front plans.nodes) p (λ e. omega (arith, e, in_limit, plans.splits.limit_grows)) ∙ put_other page front plans.nodes p (not_page p none) ∙ plans.silent p in_limit none;
           own = λ all k stands p in_limit none shown.
               (let apart : p ≡ change.unused → ⊥ = λ e. omega (arith, e, in_limit, plans.splits.limit_grows) in
               ap (λ (l : List (List ℕ)). slice_get l p) (two.images shown) ∙ get-set_other (set (laid change.images.items shown) page two.front) change.unused p two.back apart
@@ -114,7 +117,7 @@ found_lower shown s all key place next are lower above stands =
     let k = key_node_of s.nodes s.limit s.blocks s.next all place.level (keys_at place) place.page above stands in
     let said = are place.page _ k.at in
     let same : KeyNode (suc k.level) (keys_at place) k.children ≡ KeyNode place.level (keys_at place) lower.children
-        = one_said lower.says.octets _ _ (subst (λ (o : List ℕ). PageSays o (KeyNode (suc k.level) (keys_at place) k.children)) (same_Some _ _ (sym said.at ∙ lower.says.at)) said.says) lower.says.says in
+    = one_said lower.says.octets _ _ (subst (λ (o : List ℕ). PageSays o (KeyNode (suc k.level) (keys_at place) k.children)) (same_Some _ _ (sym said.at ∙ lower.says.at)) said.says) lower.says.says in
     let children : k.children ≡ lower.children = cc in
     let level : k.level ≡ next.level = omega (arith, k.is, lower.level) in
     let child : IsChildOf (keys_at place) k.children (keys_at next) (record { low = next.low; page = next.page }) =

@@ -20,3 +20,4 @@ pub mod PlanningLeaf
 pub mod LayingOut
 pub mod GrowingWhole
 pub mod Pushing
+pub mod Raising

@@ -1,22 +1,21 @@
 -- What a column in memory that is laid stands for.
-use Rattle.std.proofs.Common.{◌≡◌, ℕ, suc, ◌+◌, ◌*◌, ◌<◌, ◌≤◌, inl, inr, List, [], ◌∷◌, ◌++◌, length, set, length-set, Option, Some, None, slice_get, refl, sym, ◌∙◌, ap, subst, arith}
-use Rattle.std.proofs.lemmas.Option.{same_Some, none-some}
+use Rattle.std.proofs.Common.{◌≡◌, ℕ, ◌+◌, ◌<◌, ◌≤◌, List, [], length, set, length-set, Option, Some, None, slice_get, sym, ◌∙◌, ap, subst, arith}
+use Rattle.std.proofs.lemmas.Option.{none-some}
 use Rattle.disk_models.specs.declared.once.OnceDisk.{Ghosts}
 use Rattle.once_store.specs.declared.shelf.Shelf.{Shelf}
 use Rattle.once_store.specs.Shelves.{next_of}
 use Rattle.page_journal.specs.Layout.{Image}
 use Rattle.page_journal.specs.Recovers.{laid}
-use Rattle.tsb_node.specs.Views.{PageSays}
 use Rattle.tsb_walk.specs.Shown.{AreShown}
 use Rattle.version_model.specs.declared.child.Child.{Child}
 use Rattle.version_model.specs.Versions.{Version}
 use Rattle.version_model.specs.Ranges.{high_or}
 use Rattle.version_model.specs.Blocks.{BlockNode}
-use Rattle.version_model.specs.Pages.{PageNode, Store, CurrentLeaf}
+use Rattle.version_model.specs.Pages.{PageNode, Store}
 use Rattle.tsb_tree.specs.declared.change.Change.{Change}
 use Rattle.tsb_tree.specs.declared.whole.Whole.{Whole}
 use Rattle.tsb_tree.specs.Layouts.{LaysWhole, LaysTwo, LaysOut}
-use Rattle.tsb_tree.specs.Plans.{Plans, Lays, KeepsOwn}
+use Rattle.tsb_tree.specs.Plans.{Plans}
 use Rattle.tsb_tree.specs.Shelves.{TakesOn}
 use Rattle.tsb_tree.specs.Wholes.{IsAt, AreHalves, column_node, leaf_node}
 use Rattle.tsb_tree.proofs.Laying.{written, apart, IsAt-written, IsAt-first, others_written}
@@ -57,6 +56,7 @@ module _ {O Pen Seen : Type 0} (device : Ghosts O Pen Seen) (new : Shelf O Pen S
         lays = λ shown long are. whole_shown page current w' [] images shown s.nodes lays (omega (arith, long, in_page)) (omega (arith, long, in_current)) are;
         says = on.says;
         splits = rw (unused, none) (Splits-column_one s t v page current w w' is in_low in_high on.takes on.grows next_grows (omega arith) (λ p in_limit ne ne'. others_written s.nodes page current w' p ne ne') (IsAt-written s.nodes page current w' (apart s.nodes page current w is)));
+        silent = λ p in_limit unsaid. others_written s.nodes page current w' p (said_not s.nodes p page _ unsaid is.at) (said_not s.nodes p current _ unsaid is.at_current) ∙ unsaid;
         own = λ all k stands p in_limit unsaid shown. whole_keeps page current w' [] images shown p lays (said_not s.nodes p page _ unsaid is.at) (said_not s.nodes p current _ unsaid is.at_current);
       }
 
@@ -82,6 +82,9 @@ module _ {O Pen Seen : Type 0} (device : Ghosts O Pen Seen) (new : Shelf O Pen S
             left right q r child halves
             (λ page_in current_in. IsAt-first s.nodes page current q r left right ne (λ e. omega (arith, e, page_in)) (λ e. omega (arith, e, page_in)) (λ e. omega (arith, e, current_in)) (λ e. omega (arith, e, current_in)))
             (IsAt-written one q r right (λ e. omega (arith, e))) (omega arith) (omega arith) child_is);
+        silent = λ p in_limit unsaid.
+            others_written one q r right p (λ e. omega (arith, e, in_limit)) (λ e. omega (arith, e, in_limit))
+            ∙ others_written s.nodes page current left p (said_not s.nodes p page _ unsaid is.at) (said_not s.nodes p current _ unsaid is.at_current) ∙ unsaid;
         own = λ all k stands p in_limit unsaid shown.
             whole_keeps q r right lays.mid images shown p lays.second (λ e. omega (arith, e, in_limit)) (λ e. omega (arith, e, in_limit))
             ∙ whole_keeps page current left [] lays.mid shown p lays.first (said_not s.nodes p page _ unsaid is.at) (said_not s.nodes p current _ unsaid is.at_current);

@@ -86,6 +86,7 @@ module _ (s : Store) (v : Version) (old : List Version) (k : Keys) (page : ℕ) 
     lays = λ shown long are. rw (lays.over shown) (shown-set shown s.nodes c.current image more (omega (arith, long, inside)) leaf are);
     says = says;
     splits = rw (unused, none, ← next) (splits_leaf some);
+    silent = λ p in_limit none. put_other c.current more s.nodes p (λ e. none-some _ (sym none ∙ ap s.nodes e ∙ c.at_current)) ∙ none;
     own = λ all k' stands p in_limit unsaid shown.
         ap (λ (l : List (List ℕ)). slice_get l p) (lays.over shown) ∙ get-set_other shown c.current p image (λ e. none-some _ (sym unsaid ∙ ap s.nodes e ∙ c.at_current));
   }

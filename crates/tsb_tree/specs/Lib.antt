@@ -10,3 +10,4 @@ pub mod KeyNodes
 pub mod Puts
 pub mod Takers
 pub mod Read
+pub mod Raises

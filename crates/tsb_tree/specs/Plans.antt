@@ -31,12 +31,13 @@ Lays homes nodes change nodes' = (shown : List (List ℕ)) → length shown ≡ 
 abbrev pub KeepsOwn : Store → Change → Type 0
 KeepsOwn s change = (page : ℕ) → page < s.limit → s.nodes page ≡ None → (shown : List (List ℕ)) → slice_get (laid change.images.items shown) page ≡ slice_get shown page
 
--- With the images laid over the pages of a store, and with the blocks that there are then, the node at a page takes the version. Where
--- it stands for any versions, no page but those of the tree is written.
+-- With the images laid over the pages of a store, and with the blocks that there are then, the node at a page takes the version. A page
+-- in use that said nothing says nothing then. Where the node stands for any versions, no page but those of the tree is written.
 pub record Plans {O Pen Seen : Type 0} (device : OnceGhosts O Pen Seen) (new : Shelf O Pen Seen) (homes : ℕ) (s : Store) (v : Version) (level page : ℕ) (change : Change) : Type 0 where
   pub nodes : ℕ → Option PageNode
   pub blocks : ℕ → Option BlockNode
   pub lays : Lays homes s.nodes change nodes
   pub says : ShelfSays device new blocks
   pub splits : Splits s (record { nodes = nodes; limit = change.unused; blocks = blocks; next = next_of new }) v level page change.new
+  pub silent : (p : ℕ) → p < s.limit → s.nodes p ≡ None → nodes p ≡ None
   pub own : (all : List Version) (k : Keys) → StandsIn s all level k page → KeepsOwn s change

@@ -4,11 +4,13 @@
 mod burning;
 mod change;
 mod current_leaf;
+mod descent;
 mod dividing;
 mod error;
 mod growing_whole;
 mod key_nodes;
 mod layout;
+mod new_root;
 mod pages;
 mod planning_column;
 mod putting;

@@ -24,8 +24,8 @@ pub struct TreePlace {
     pub least: Stamp,
 }
 
-// The lowest key.
-fn first_key() -> Key
+/// The lowest key.
+pub fn first_key() -> Key
     ensures first { result ≡ 0 }
 {
     Key::from_octets(&[0; 40])

@@ -1,0 +1,41 @@
+use Rattle.std.proofs.Common.{◌≡◌, ◌<◌, suc, rules, sym, ◌∙◌, subst, arith}
+use Rattle.std.specs.List.{insert}
+use Rattle.std.proofs.lemmas.Option.{same_Some}
+use Rattle.version_model.specs.declared.child.Child.{Child}
+use Rattle.tsb_node.specs.Views.{keys_between}
+use Rattle.tsb_walk.specs.Shown.{keys_at}
+use Rattle.tsb_tree.specs.KeyNodes.{BeginsBehind}
+use Rattle.tsb_tree.specs.Plans.{CanBeLaid}
+use Rattle.tsb_tree.specs.Puts.{PutsChild}
+use Rattle.tsb_tree.proofs.Raising.{said_behind, said_below, said_puts}
+use Rattle.tsb_tree.proofs.descent.raise.Goals as goal
+
+pub returns-in_err-node-in-Some-clause-honest : goal.returns-in_err-node-in-Some-clause-honest
+returns-in_err-node-in-Some-clause-honest g c start shown shows room =
+    let r = room c.in-Some.new c.in-Some.is in
+    let h = (c.in_err-node-in-Some.ensures.says start shown c.args.place.now.level (keys_at c.args.place.now) r.children shows r.says).1 in
+    search rules
+
+pub returns-in-Ok-clause-puts : goal.returns-in-Ok-clause-puts
+returns-in-Ok-clause-puts g c start shown new room shows some =
+    let place = c.args.place.now in
+    let node = c.in_ok-node-in-Some.node in
+    let said = (c.in_ok-node-in-Some.ensures.says start shown place.level (keys_at place) room.children shows room.says).0 in
+    let same : c.in-Some.new ≡ new = same_Some _ _ (sym c.in-Some.is ∙ some) in
+    let puts = subst (λ (n : Child). BeginsBehind node.children.items room.at n.low → PutsChild place.page node.level (keys_between node.bounds) (insert node.children.items (suc room.at) n) c.args.change c.in-Ok.put) same (c.in-Ok.ensures.puts room.at) (said_behind node shown place new room said) in
+    said_puts node shown place new room c.args.change c.in-Ok.put said puts
+
+pub returns-in-Ok-clause-laid : goal.returns-in-Ok-clause-laid
+returns-in-Ok-clause-laid g c next level can =
+    let homes : c.home_pages-homes.result ≡ g.P.Pages.homes c.args.pages.now = c.home_pages-homes.ensures ∙ c.in_ok-node-in-Some.ensures.reads.homes in
+    let inside : c.args.place.now.page < c.home_pages-homes.result = omega (arith, homes, c.in_ok-node-in-Some.ensures.inside) in
+    subst (λ h. CanBeLaid h next (suc level) c.in-Ok.put) homes (c.in-Ok.ensures.laid next level inside (subst (λ h. CanBeLaid h next level c.args.change) (sym homes) can))
+
+pub returns-in-Err-clause-honest : goal.returns-in-Err-clause-honest
+returns-in-Err-clause-honest g c start shown shows room =
+    let place = c.args.place.now in
+    let node = c.in_ok-node-in-Some.node in
+    let new = c.in-Some.new in
+    let r = room new c.in-Some.is in
+    let said = (c.in_ok-node-in-Some.ensures.says start shown place.level (keys_at place) r.children shows r.says).0 in
+    c.in-Err.ensures.honest r.at (said_behind node shown place new r said) (said_below node shown place new r said)

@@ -1,0 +1,92 @@
+//! Down from a key node to its child that has a key, and what is planned for the child comes up again.
+ghost use Rattle.std.specs.Prelude.{◌≡◌, ◌<◌, ◌≤◌, ◌+◌, ◌^◌, ℕ, suc, List, Some, None, Ok, length, IfOk, OnOk, IfErr, IsSome};
+ghost use Rattle.std.specs.List.{insert};
+ghost use Rattle.page_journal.specs.Layout.{pages_of};
+ghost use Rattle.page_journal.specs.Recovers.{AreDistinct};
+ghost use Rattle.page_tx.specs.Start.{Start};
+ghost use Rattle.version_model.specs.declared.child.Child.{Child as ChildValue};
+ghost use Rattle.version_model.specs.Pages.{Keys, KeyNode};
+ghost use Rattle.tsb_node.specs.Views.{keys_between};
+ghost use Rattle.tsb_walk.specs.PageWays.{IsLower};
+ghost use Rattle.tsb_walk.specs.Shown.{Says, HasKey, keys_at};
+ghost use Rattle.tsb_tree.specs.KeyNodes.{IsWide};
+ghost use Rattle.tsb_tree.specs.Plans.{CanBeLaid};
+ghost use Rattle.tsb_tree.specs.Puts.{PutsChild};
+ghost use Rattle.tsb_tree.specs.Raises.{HasRoomBehind, RaiseRefusal};
+ghost use Rattle.tsb_tree.specs.Refusals.{IsHonest, ReadRefusal};
+ghost use Rattle.tsb_tree.specs.Stores.{ReadsAlone};
+
+use crate::change::Change;
+use crate::error::TreeError;
+use crate::putting::put_half;
+use crate::reading::{image_of, key_node_in};
+use page_tx::Pages;
+use route_model::Key;
+use std::alloc::Global;
+use tsb_node::KeyNodeSaid;
+use tsb_walk::{PagePlace, down};
+
+// The place of the child of a key node that has a key.
+fn child_at<P: Pages>(pages: &mut P, place: &PagePlace, key: Key) -> Result<PagePlace, TreeError>
+    requires has { HasKey place.now key }
+    ensures has { IfOk result (λ next. HasKey next key) }
+    ensures level { IfOk result (λ next. suc next.level ≡ place.now.level) }
+    ensures lower { (start : Start) (shown : List (List ℕ)) → P.shows pages.old start shown → IfOk result (IsLower shown key place.now) }
+    ensures honest { (start : Start) (shown : List (List ℕ)) (children : List ChildValue) → P.shows pages.old start shown → Says shown place.now.page (KeyNode place.now.level (keys_at place.now) children) → IsHonest result }
+    ensures refused { IfErr result (ReadRefusal (P.down pages.old)) }
+    ensures reads { ReadsAlone P.Pages pages.old pages.new result }
+{
+    match down(pages, place, key) {
+        Ok(next) => Ok(next),
+        Err(refusal) => Err(TreeError::from(refusal)),
+    }
+}
+
+// What the key node in a page says, as it is shown.
+fn key_node_at<P: Pages>(pages: &mut P, alloc: Global, n: u64) -> Result<KeyNodeSaid, TreeError>
+    ensures wide { IfOk result (λ said. IsWide said) }
+    ensures few { IfOk result (λ said. length said.children.items ≤ 338) }
+    ensures says { (start : Start) (shown : List (List ℕ)) (level : ℕ) (k : Keys) (children : List ChildValue) → P.shows pages.old start shown → Says shown n (KeyNode level k children)
+        → IfOk result (λ said. KeyNode said.level (keys_between said.bounds) said.children.items ≡ KeyNode level k children) × IsHonest result }
+    ensures inside { OnOk result (n < P.homes pages.old) }
+    ensures refused { IfErr result (ReadRefusal (P.down pages.old)) }
+    ensures reads { ReadsAlone P.Pages pages.old pages.new result }
+{
+    let image = image_of(pages, n)?;
+    match key_node_in(alloc, &image, n) {
+        Ok(said) => Ok(said),
+        Err(refusal) => Err(refusal),
+    }
+}
+
+// What is planned for a child of the key node at a place becomes what is planned for the key node: where the child became two, it takes the
+// new half.
+fn raise<P: Pages>(
+    pages: &mut P,
+    alloc: Global,
+    place: &PagePlace,
+    change: Change,
+) -> Result<Change, TreeError>
+    requires distinct { AreDistinct (pages_of change.images.items) }
+    ensures kept { change.new ≡ None → result ≡ Ok change }
+    ensures puts { (start : Start) (shown : List (List ℕ)) (new : ChildValue) (room : HasRoomBehind shown place.now new) → P.shows pages.old start shown → change.new ≡ Some new
+        → IfOk result (PutsChild place.now.page place.now.level (keys_at place.now) (insert room.children (suc room.at) new) change) }
+    ensures inside { IsSome change.new → OnOk result (place.now.page < P.homes pages.old) }
+    ensures laid { (next level : ℕ) → CanBeLaid (P.homes pages.old) next level change → IfOk result (CanBeLaid (P.homes pages.old) next (suc level)) }
+    ensures honest { (start : Start) (shown : List (List ℕ)) → P.shows pages.old start shown → ((new : ChildValue) → change.new ≡ Some new → HasRoomBehind shown place.now new) → IsHonest result }
+    ensures refused { IfErr result (RaiseRefusal (P.homes pages.old) change.unused (P.down pages.old)) }
+    ensures reads { ReadsAlone P.Pages pages.old pages.new result }
+{
+    let half = change.new;
+    match half {
+        None => Ok(change),
+        Some(new) => {
+            let node = key_node_at(pages, alloc, place.page)?;
+            let homes = pages.home_pages();
+            match put_half(alloc, homes, place.page, node, change, new) {
+                Ok(put) => Ok(put),
+                Err(refusal) => Err(refusal),
+            }
+        }
+    }
+}
