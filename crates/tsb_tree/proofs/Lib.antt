@@ -21,3 +21,4 @@ pub mod LayingOut
 pub mod GrowingWhole
 pub mod Pushing
 pub mod Raising
+pub mod Insertion

@@ -11,3 +11,4 @@ pub mod Puts
 pub mod Takers
 pub mod Read
 pub mod Raises
+pub mod Inserted

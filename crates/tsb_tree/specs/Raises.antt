@@ -56,15 +56,15 @@ RaiseRefusal homes unused down (errors.Once refusal) = ⊥
 RaiseRefusal homes unused down errors.OutOfMemory = Unit {0}
 
 -- the reasons for which a root of this level has no other above it, in so many pages, of which this one is the next that was never used
-abbrev pub GrowRefusal : ℕ → ℕ → ℕ → TreeError → Type 0
-GrowRefusal homes unused level errors.StampBack = ⊥
-GrowRefusal homes unused level errors.TooHigh = level ≡ 7
-GrowRefusal homes unused level (errors.BadNode page) = Unit {0}
-GrowRefusal homes unused level (errors.Damaged block) = ⊥
-GrowRefusal homes unused level (errors.Pages pages.PagesFull) = homes ≤ unused
-GrowRefusal homes unused level (errors.Pages pages.TooManyImages) = ⊥
-GrowRefusal homes unused level (errors.Pages pages.OutOfMemory) = ⊥
-GrowRefusal homes unused level (errors.Pages pages.Fault) = ⊥
-GrowRefusal homes unused level (errors.Pages pages.NeedsRecovery) = ⊥
-GrowRefusal homes unused level (errors.Once refusal) = ⊥
-GrowRefusal homes unused level errors.OutOfMemory = Unit {0}
+abbrev pub RootRefusal : ℕ → ℕ → ℕ → TreeError → Type 0
+RootRefusal homes unused level errors.StampBack = ⊥
+RootRefusal homes unused level errors.TooHigh = level ≡ 7
+RootRefusal homes unused level (errors.BadNode page) = Unit {0}
+RootRefusal homes unused level (errors.Damaged block) = ⊥
+RootRefusal homes unused level (errors.Pages pages.PagesFull) = homes ≤ unused
+RootRefusal homes unused level (errors.Pages pages.TooManyImages) = ⊥
+RootRefusal homes unused level (errors.Pages pages.OutOfMemory) = ⊥
+RootRefusal homes unused level (errors.Pages pages.Fault) = ⊥
+RootRefusal homes unused level (errors.Pages pages.NeedsRecovery) = ⊥
+RootRefusal homes unused level (errors.Once refusal) = ⊥
+RootRefusal homes unused level errors.OutOfMemory = Unit {0}

@@ -1,30 +1,39 @@
-//! Down from a key node to its child that has a key, and what is planned for the child comes up again.
+//! A version goes down through key nodes to the column that has its key, and what is planned there comes up again.
 ghost use Rattle.std.specs.Prelude.{◌≡◌, ◌<◌, ◌≤◌, ◌+◌, ◌^◌, ℕ, suc, List, Some, None, Ok, length, IfOk, OnOk, IfErr, IsSome};
 ghost use Rattle.std.specs.List.{insert};
 ghost use Rattle.page_journal.specs.Layout.{pages_of};
 ghost use Rattle.page_journal.specs.Recovers.{AreDistinct};
 ghost use Rattle.page_tx.specs.Start.{Start};
 ghost use Rattle.version_model.specs.declared.child.Child.{Child as ChildValue};
-ghost use Rattle.version_model.specs.Pages.{Keys, KeyNode};
+ghost use Rattle.version_model.specs.Entries.{version_of};
+ghost use Rattle.version_model.specs.Pages.{Keys, KeyNode, Store};
+ghost use Rattle.version_model.specs.Sizes.{entry_octets};
+ghost use Rattle.version_model.specs.Versions.{Version};
 ghost use Rattle.tsb_node.specs.Views.{keys_between};
 ghost use Rattle.tsb_walk.specs.PageWays.{IsLower};
 ghost use Rattle.tsb_walk.specs.Shown.{Says, HasKey, keys_at};
 ghost use Rattle.tsb_tree.specs.KeyNodes.{IsWide};
-ghost use Rattle.tsb_tree.specs.Plans.{CanBeLaid};
+ghost use Rattle.tsb_tree.specs.Plans.{CanBeLaid, Plans};
 ghost use Rattle.tsb_tree.specs.Puts.{PutsChild};
 ghost use Rattle.tsb_tree.specs.Raises.{HasRoomBehind, RaiseRefusal};
-ghost use Rattle.tsb_tree.specs.Refusals.{IsHonest, ReadRefusal};
+ghost use Rattle.tsb_tree.specs.Refusals.{IsHonest, PlanRefusal, ReadRefusal};
+ghost use Rattle.tsb_tree.specs.Shelves.{KeepsShelf};
 ghost use Rattle.tsb_tree.specs.Stores.{ReadsAlone};
+ghost use Rattle.tsb_tree.specs.Takers.{CanTake};
 
 use crate::change::Change;
 use crate::error::TreeError;
+use crate::planning_column::plan_column;
 use crate::putting::put_half;
 use crate::reading::{image_of, key_node_in};
+use disk_models::OnceDisk;
+use once_store::Shelf;
 use page_tx::Pages;
 use route_model::Key;
 use std::alloc::Global;
 use tsb_node::KeyNodeSaid;
 use tsb_walk::{PagePlace, down};
+use version_model::Entry;
 
 // The place of the child of a key node that has a key.
 fn child_at<P: Pages>(pages: &mut P, place: &PagePlace, key: Key) -> Result<PagePlace, TreeError>
@@ -89,4 +98,35 @@ fn raise<P: Pages>(
             }
         }
     }
+}
+
+/// The change by which the node at a place takes a version, made in memory, without a page set. It goes down to the column that has the
+/// version's key, and up again through those key nodes whose child became two.
+///
+/// Where it refuses, or the change isn't laid, at most two blocks of the shelf are spent.
+pub fn plan_under<P: Pages, O: OnceDisk + Drop>(
+    pages: &mut P,
+    shelf: &mut Shelf<O>,
+    alloc: Global,
+    place: &PagePlace,
+    entry: &Entry,
+) -> Result<Change, TreeError>
+    requires level { 1 ≤ place.now.level }
+    requires has { HasKey place.now entry.now.key }
+    requires small { entry_octets (version_of entry.now) ≤ 3131 }
+    requires end { entry.now.stamp + 1 < 256 ^ 16 }
+    ensures plans { (s : Store) (all : List Version) → CanTake P.Pages pages.old O.OnceDisk shelf.old s all place.now (version_of entry.now)
+        → IfOk result (λ change. Plans O.OnceDisk shelf.new (P.homes pages.old) s (version_of entry.now) place.now.level place.now.page change) }
+    ensures honest { (s : Store) (all : List Version) → CanTake P.Pages pages.old O.OnceDisk shelf.old s all place.now (version_of entry.now) → IsHonest result }
+    ensures laid { IfOk result (λ change. CanBeLaid (P.homes pages.old) (P.next pages.old) place.now.level change) }
+    ensures refused { IfErr result (PlanRefusal (P.homes pages.old) (P.next pages.old) place.now.level (P.down pages.old)) }
+    ensures reads { ReadsAlone P.Pages pages.old pages.new result }
+    ensures shelf { KeepsShelf O.OnceDisk 2 shelf.old shelf.new result }
+{
+    if place.level == 1 {
+        return plan_column(pages, shelf, alloc, place, entry);
+    }
+    let next = child_at(pages, place, entry.key)?;
+    let change = plan_under(pages, shelf, alloc, &next, entry)?;
+    raise(pages, alloc, place, change)
 }

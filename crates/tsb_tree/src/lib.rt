@@ -8,6 +8,7 @@ mod descent;
 mod dividing;
 mod error;
 mod growing_whole;
+mod inserting;
 mod key_nodes;
 mod layout;
 mod new_root;
@@ -22,4 +23,5 @@ mod tree;
 mod whole;
 
 pub use error::TreeError;
+pub use inserting::insert;
 pub use tree::{TreePlace, create};

@@ -6,7 +6,7 @@ ghost use Rattle.version_model.specs.Pages.{all_keys};
 ghost use Rattle.tsb_node.specs.Views.{keys_between};
 ghost use Rattle.tsb_tree.specs.KeyNodes.{IsWide};
 ghost use Rattle.tsb_tree.specs.Plans.{CanBeLaid};
-ghost use Rattle.tsb_tree.specs.Raises.{GrowsRoot, GrowRefusal, TreeCanBeLaid};
+ghost use Rattle.tsb_tree.specs.Raises.{GrowsRoot, RootRefusal, TreeCanBeLaid};
 ghost use Rattle.tsb_tree.specs.Refusals.{IsHonest};
 
 use crate::change::{Change, lay_image};
@@ -91,7 +91,7 @@ pub fn grown(
     ensures grows { IfOk result (λ grown. GrowsRoot level root new change grown) }
     ensures laid { (next : ℕ) → CanBeLaid homes next level change → IfOk result (λ grown. TreeCanBeLaid homes next level grown) }
     ensures high { (result ≡ Err TreeError.TooHigh) ↔ (level ≡ 7) }
-    ensures refused { IfErr result (GrowRefusal homes change.unused level) }
+    ensures refused { IfErr result (RootRefusal homes change.unused level) }
     ensures honest { 0 < new.low → IsHonest result }
 {
     if level >= HIGHEST {

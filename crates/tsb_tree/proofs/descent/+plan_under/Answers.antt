@@ -1,0 +1,60 @@
+use Rattle.std.proofs.Common.{◌≡◌, ◌<◌, ℕ, suc, rules, sym, ◌∙◌, subst, arith}
+use Rattle.std.specs.Prelude.{IfOk, OnOk}
+use Rattle.version_model.specs.Entries.{version_of}
+use Rattle.version_model.specs.Versions.{Version}
+use Rattle.tsb_walk.specs.declared.page_place.PagePlace.{PagePlace}
+use Rattle.tsb_tree.specs.Plans.{Plans, CanBeLaid}
+use Rattle.tsb_tree.proofs.Raising.{take_lower, can_said, raised, half_room}
+use Rattle.tsb_tree.proofs.descent.+plan_under.Goals as goal
+
+pub returns-in_err-next-clause-honest : goal.returns-in_err-next-clause-honest
+returns-in_err-next-clause-honest g t c s all can =
+    let above : 1 < c.args.place.now.level = omega (arith, c.requires.level, c.if-place-eq1.false) in
+    let said = can_said g.P.Pages c.args.pages.now g.O.OnceDisk c.args.shelf.now s all c.args.place.now (version_of c.args.entry.now) can above in
+    let h = c.in_err-next.ensures.honest can.start can.shown said.0 can.is.shows said.1 in
+    search rules
+
+pub returns-in_err-change-clause-honest : goal.returns-in_err-change-clause-honest
+returns-in_err-change-clause-honest g t c s all can =
+    let above : 1 < c.args.place.now.level = omega (arith, c.requires.level, c.if-place-eq1.false) in
+    let lower = c.in_ok-next.ensures.lower can.start can.shown can.is.shows in
+    let can' = take_lower g.P.Pages c.args.pages.now c.child_at.new.pages _ g.O.OnceDisk c.args.shelf.now s all c.args.place.now c.in_ok-next.next (version_of c.args.entry.now) c.in_ok-next.ensures.reads can above lower in
+    let h = c.in_err-change.ensures.honest s all can' in
+    search rules
+
+pub returns-clause-plans : goal.returns-clause-plans
+returns-clause-plans g t c s all can =
+    let pages = g.P.Pages in
+    let place : PagePlace = c.args.place.now in
+    let next : PagePlace = c.in_ok-next.next in
+    let v : Version = version_of c.args.entry.now in
+    let change = c.in_ok-change.change in
+    let above : 1 < place.level = omega (arith, c.requires.level, c.if-place-eq1.false) in
+    let lower = c.in_ok-next.ensures.lower can.start can.shown can.is.shows in
+    let can' = take_lower g.P.Pages c.args.pages.now c.child_at.new.pages _ g.O.OnceDisk c.args.shelf.now s all place next v c.in_ok-next.ensures.reads can above lower in
+    let down : pages.homes c.child_at.new.pages ≡ pages.homes c.args.pages.now = c.in_ok-next.ensures.reads.homes in
+    let up : pages.homes c.plan_under.new.pages ≡ pages.homes c.child_at.new.pages = c.in_ok-change.ensures.reads.homes in
+    let plans = subst (λ (h : ℕ). Plans g.O.OnceDisk c.plan_under.new.shelf h s v next.level next.page change) down (c.in_ok-change.ensures.plans s all can') in
+    let shows = c.in_ok-change.ensures.reads.shown can.start can.shown (c.in_ok-next.ensures.reads.shown can.start can.shown can.is.shows) in
+    let unused : ℕ = pages.next c.child_at.new.pages in
+    let laid = c.raise.ensures.laid unused next.level (subst (λ (h : ℕ). CanBeLaid h unused next.level change) (sym up) c.in_ok-change.ensures.laid) in
+    raised g.O.OnceDisk c.plan_under.new.shelf (pages.homes c.args.pages.now) can.shown s all v place next can.is.tells lower above can.stands change plans can.above unused (suc next.level) c.raise.result
+    c.raise.ensures.kept
+    (λ new room some. c.raise.ensures.puts can.start can.shown new room shows some)
+    (λ is. subst (λ (h : ℕ). OnOk c.raise.result (place.page < h)) (up ∙ down) (c.raise.ensures.inside is))
+    (subst (λ (h : ℕ). IfOk c.raise.result (CanBeLaid h unused (suc next.level))) (up ∙ down) laid)
+
+pub returns-clause-honest : goal.returns-clause-honest
+returns-clause-honest g t c s all can =
+    let pages = g.P.Pages in
+    let place : PagePlace = c.args.place.now in
+    let next : PagePlace = c.in_ok-next.next in
+    let v : Version = version_of c.args.entry.now in
+    let change = c.in_ok-change.change in
+    let above : 1 < place.level = omega (arith, c.requires.level, c.if-place-eq1.false) in
+    let lower = c.in_ok-next.ensures.lower can.start can.shown can.is.shows in
+    let can' = take_lower g.P.Pages c.args.pages.now c.child_at.new.pages _ g.O.OnceDisk c.args.shelf.now s all place next v c.in_ok-next.ensures.reads can above lower in
+    let plans = c.in_ok-change.ensures.plans s all can' in
+    let shows = c.in_ok-change.ensures.reads.shown can.start can.shown (c.in_ok-next.ensures.reads.shown can.start can.shown can.is.shows) in
+    c.raise.ensures.honest can.start can.shown shows
+    (λ new some. half_room g.O.OnceDisk c.plan_under.new.shelf (pages.homes c.child_at.new.pages) can.shown s all v place next can.is.tells lower above can.stands change plans can.above new some)

@@ -1,0 +1,69 @@
+use Rattle.std.proofs.Common.{◌≡◌, ◌≤◌, ◌++◌, ◌∷◌, [], ℕ, length, rules, sym, ◌∙◌, ap, subst, arith}
+use Rattle.std.proofs.lemmas.Result.{err_from_is_err_and}
+use Rattle.page_journal.specs.Layout.{pages_of}
+use Rattle.page_tx.proofs.Laying.{length_pages_of}
+use Rattle.page_tx.specs.Images.{joined}
+use Rattle.page_tx.specs.Refusals.{LayRefusal}
+use Rattle.tsb_tree.specs.Refusals.{InsertRefusal}
+use Rattle.tsb_tree.proofs.Insertion.{as_it_was, taken_in, lay_insert, never_back, lay_reads, not_less}
+use Rattle.tsb_tree.proofs.Shelving.{honest_on}
+use Rattle.tsb_tree.proofs.inserting.insert.Goals as goal
+
+pub returns-in_err-change-clause-err : goal.returns-in_err-change-clause-err
+returns-in_err-change-clause-err g c =
+    let place = c.args.place in
+    let p = err_from_is_err_and c.from_residual.result c.from_residual.ensures.1 in
+    rw p.1 (λ start shown all tree. as_it_was g.P.Pages c.args.pages.now c.planned.new.pages _ g.O.OnceDisk 2 c.args.shelf.now c.planned.new.shelf _ _ start shown all place.root place.level place.least c.in_err-change.ensures.reads c.in_err-change.ensures.shelf tree)
+
+pub returns-in_err-change-clause-honest : goal.returns-in_err-change-clause-honest
+returns-in_err-change-clause-honest g c start shown all tree =
+    let later : c.args.place.least ≤ c.args.entry.now.stamp = not_less c.lt.result _ _ c.lt.ensures c.if-lt.false in
+    let h = c.in_err-change.ensures.honest start shown all tree later in
+    search rules
+
+pub returns-in_err-change-clause-back : goal.returns-in_err-change-clause-back
+returns-in_err-change-clause-back g c =
+    let later : c.args.place.least ≤ c.args.entry.now.stamp = not_less c.lt.result _ _ c.lt.ensures c.if-lt.false in
+    let p = err_from_is_err_and c.from_residual.result c.from_residual.ensures.1 in
+    let never = never_back _ _ 0 _ _ _ _ _ (c.in_err-change.ensures.refused 0) later in
+    rw (p.1, p.2) (λ e. absurd (never (cc)), λ lt. absurd (omega (arith, lt, later)))
+
+pub returns-in_err-change-clause-refused : goal.returns-in_err-change-clause-refused
+returns-in_err-change-clause-refused g c =
+    let h = c.in_err-change.ensures.refused (length (g.P.Pages.named c.args.pages.now)) in
+    search rules
+
+pub returns-in-Ok-clause-ok : goal.returns-in-Ok-clause-ok
+returns-in-Ok-clause-ok g c start shown all tree =
+    let later : c.args.place.least ≤ c.args.entry.now.stamp = not_less c.lt.result _ _ c.lt.ensures c.if-lt.false in
+    let plan = c.in_ok-change.ensures in
+    let long = g.met.P.Pages.count c.args.pages.now start shown tree.is.shows in
+    let honest = honest_on g.O.OnceDisk 2 c.args.shelf.now c.planned.new.shelf _ _ plan.shelf tree.is.honest in
+    taken_in g.P.Pages c.args.pages.now c.lay.new.self g.O.OnceDisk c.args.shelf.now c.planned.new.shelf start shown tree.store _ c.in_ok-change.change c.in_ok-change.now tree.is long (plan.plans start shown all tree later)
+    (c.in-Ok.ensures.ok start shown (plan.reads.shown start shown tree.is.shows)) c.in-Ok.ensures.next honest
+
+pub returns-in-Ok-clause-named : goal.returns-in-Ok-clause-named
+returns-in-Ok-clause-named g c =
+    let plan = c.in_ok-change.ensures in
+    let images = c.in_ok-change.change.images.items in
+    (pages_of images, omega (arith, length_pages_of images, plan.laid.few), c.in-Ok.ensures.named ∙ ap (λ ns. joined ns (pages_of images)) plan.reads.named)
+
+pub returns-in-Err-clause-err : goal.returns-in-Err-clause-err
+returns-in-Err-clause-err g c start shown all tree =
+    let place = c.args.place in
+    let plan = c.in_ok-change.ensures in
+    let lay = c.in-Err.ensures in
+    let reads = lay_reads g.P.Pages c.args.pages.now c.planned.new.pages c.lay.new.self _ plan.reads (λ e. cc) lay.err lay.homes lay.as_next lay.as_named lay.down lay.device in
+    as_it_was g.P.Pages c.args.pages.now c.lay.new.self _ g.O.OnceDisk 2 c.args.shelf.now c.planned.new.shelf _ _ start shown all place.root place.level place.least reads plan.shelf tree
+
+pub returns-in-Err-clause-refused : goal.returns-in-Err-clause-refused
+returns-in-Err-clause-refused g c =
+    let pages = g.P.Pages in
+    let held = c.args.pages.now in
+    let place = c.args.place in
+    let plan = c.in_ok-change.ensures in
+    let change = c.in_ok-change.change in
+    let one = subst (λ (h : ℕ). LayRefusal h change.unused (length (joined (pages.named c.planned.new.pages) (pages_of change.images.items))) c.in-Err.refusal) plan.reads.homes c.in-Err.ensures.refused in
+    let two = subst (λ ns. LayRefusal (pages.homes held) change.unused (length (joined ns (pages_of change.images.items))) c.in-Err.refusal) plan.reads.named one in
+    let h = lay_insert c.in-Err.refusal (pages.homes held) (pages.next held) (pages.named held) place.level (pages.down held) place.least c.args.entry.now.stamp change plan.laid two in
+    subst (λ e. InsertRefusal (pages.homes held) (pages.next held) (length (pages.named held)) place.level (pages.down held) place.least c.args.entry.now.stamp e) (sym c.from.ensures) h

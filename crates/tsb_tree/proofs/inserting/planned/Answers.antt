@@ -1,0 +1,76 @@
+use Rattle.std.proofs.Common.{◌≡◌, ◌<◌, ℕ, rules, None, Some, refl, sym, ◌∙◌, subst, arith}
+use Rattle.std.specs.Prelude.{IfOk}
+use Rattle.version_model.specs.Entries.{version_of}
+use Rattle.version_model.specs.Ranges.{stamp_end}
+use Rattle.version_model.specs.Versions.{Version}
+use Rattle.tsb_tree.specs.Plans.{CanBeLaid}
+use Rattle.tsb_tree.specs.Raises.{TreeCanBeLaid}
+use Rattle.tsb_tree.proofs.Insertion.{root_can, root_plans, tree_same, tree_grown, half_above, not_highest}
+use Rattle.tsb_tree.proofs.inserting.planned.Goals as goal
+
+pub returns-in_err-change-clause-honest : goal.returns-in_err-change-clause-honest
+returns-in_err-change-clause-honest g c start shown all tree later =
+    let root = c.root-root in
+    let can = root_can g.P.Pages c.args.pages.now g.O.OnceDisk c.args.shelf.now start shown all root.result c.args.place.root c.args.place.level c.args.place.least (version_of c.args.entry.now) root.ensures.page root.ensures.level root.ensures.keys tree later c.requires.inside in
+    let h = c.in_err-change.ensures.honest tree.store all can in
+    search rules
+
+pub returns-in_default-clause-plans : goal.returns-in_default-clause-plans
+returns-in_default-clause-plans g c start shown all tree later =
+    let root = c.root-root in
+    let place = c.args.place in
+    let v : Version = version_of c.args.entry.now in
+    let homes : ℕ = g.P.Pages.homes c.args.pages.now in
+    let can = root_can g.P.Pages c.args.pages.now g.O.OnceDisk c.args.shelf.now start shown all root.result place.root place.level place.least v root.ensures.page root.ensures.level root.ensures.keys tree later c.requires.inside in
+    let change = c.in_ok-change.change in
+    let plans = root_plans g.O.OnceDisk c.plan_under.new.shelf homes tree.store v root.result place.root place.level change root.ensures.page root.ensures.level (c.in_ok-change.ensures.plans tree.store all can) in
+    let in_time : v.stamp < stamp_end = omega (arith, c.requires.end) in
+    tree_same g.O.OnceDisk c.plan_under.new.shelf homes tree.store all v place.root place.level place.least tree.has later c.requires.inside in_time change plans c.in_default.is _ refl refl c.stamp_behind-least.ensures.behind
+
+pub returns-in_err-change-2-clause-honest : goal.returns-in_err-change-2-clause-honest
+returns-in_err-change-2-clause-honest g c start shown all tree later =
+    let root = c.root-root in
+    let place = c.args.place in
+    let v : Version = version_of c.args.entry.now in
+    let homes : ℕ = g.P.Pages.homes c.args.pages.now in
+    let can = root_can g.P.Pages c.args.pages.now g.O.OnceDisk c.args.shelf.now start shown all root.result place.root place.level place.least v root.ensures.page root.ensures.level root.ensures.keys tree later c.requires.inside in
+    let change = c.in_ok-change.change in
+    let plans = root_plans g.O.OnceDisk c.plan_under.new.shelf homes tree.store v root.result place.root place.level change root.ensures.page root.ensures.level (c.in_ok-change.ensures.plans tree.store all can) in
+    let in_time : v.stamp < stamp_end = omega (arith, c.requires.end) in
+    let above = half_above g.O.OnceDisk c.plan_under.new.shelf homes tree.store all v place.root place.level place.least tree.has later c.requires.inside in_time change plans c.in-Some.new c.in-Some.is in
+    let h = c.in_err-change-2.ensures.honest above in
+    search rules
+
+pub returns-clause-plans : goal.returns-clause-plans
+returns-clause-plans g c start shown all tree later =
+    let root = c.root-root in
+    let place = c.args.place in
+    let v : Version = version_of c.args.entry.now in
+    let homes : ℕ = g.P.Pages.homes c.args.pages.now in
+    let can = root_can g.P.Pages c.args.pages.now g.O.OnceDisk c.args.shelf.now start shown all root.result place.root place.level place.least v root.ensures.page root.ensures.level root.ensures.keys tree later c.requires.inside in
+    let change = c.in_ok-change.change in
+    let made = c.in_ok-change-2.change in
+    let plans = root_plans g.O.OnceDisk c.plan_under.new.shelf homes tree.store v root.result place.root place.level change root.ensures.page root.ensures.level (c.in_ok-change.ensures.plans tree.store all can) in
+    let in_time : v.stamp < stamp_end = omega (arith, c.requires.end) in
+    let same : c.home_pages.result ≡ homes = c.home_pages.ensures ∙ c.in_ok-change.ensures.reads.homes in
+    let next : ℕ = g.P.Pages.next c.args.pages.now in
+    let fits : CanBeLaid c.home_pages.result next place.level change =
+    subst (λ (h : ℕ). CanBeLaid h next place.level change) (sym same) (subst (λ (l : ℕ). CanBeLaid homes next l change) root.ensures.level c.in_ok-change.ensures.laid) in
+    let laid : TreeCanBeLaid c.home_pages.result next place.level made = c.in_ok-change-2.ensures.laid next fits in
+    let grows = c.in_ok-change-2.ensures.grows in
+    let room : change.unused < homes = omega (arith, same, laid.inside, grows.unused) in
+    let low : place.level < 7 = not_highest place.level made c.in_ok-change-2.ensures.high c.requires.few in
+    tree_grown g.O.OnceDisk c.plan_under.new.shelf homes tree.store all v place.root place.level place.least tree.has later c.requires.inside in_time change plans c.in-Some.new c.in-Some.is made grows room low _ refl refl c.stamp_behind-least.ensures.behind
+
+pub returns-clause-laid : goal.returns-clause-laid
+returns-clause-laid g c =
+    let root = c.root-root in
+    let place = c.args.place in
+    let homes : ℕ = g.P.Pages.homes c.args.pages.now in
+    let change = c.in_ok-change.change in
+    let made = c.in_ok-change-2.change in
+    let same : c.home_pages.result ≡ homes = c.home_pages.ensures ∙ c.in_ok-change.ensures.reads.homes in
+    let next : ℕ = g.P.Pages.next c.args.pages.now in
+    let fits : CanBeLaid c.home_pages.result next place.level change =
+    subst (λ (h : ℕ). CanBeLaid h next place.level change) (sym same) (subst (λ (l : ℕ). CanBeLaid homes next l change) root.ensures.level c.in_ok-change.ensures.laid) in
+    subst (λ (h : ℕ). TreeCanBeLaid h next place.level made) same (c.in_ok-change-2.ensures.laid next fits)

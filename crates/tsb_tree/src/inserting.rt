@@ -1,0 +1,136 @@
+//! A tree takes a version.
+ghost use Rattle.std.specs.Prelude.{◌≡◌, ◌↔◌, ◌<◌, ◌≤◌, ◌+◌, ◌*◌, ◌^◌, ◌++◌, ◌∷◌, [], ℕ, suc, List, length, Err, IfOk, OnOk, OnErr, IfErr, IsErrOf};
+ghost use Rattle.page_tx.specs.Device.{KeepsDevice};
+ghost use Rattle.page_tx.specs.Images.{joined};
+ghost use Rattle.page_tx.specs.Start.{Start};
+ghost use Rattle.version_model.specs.Entries.{version_of};
+ghost use Rattle.version_model.specs.Ranges.{key_end};
+ghost use Rattle.version_model.specs.Sizes.{entry_octets};
+ghost use Rattle.version_model.specs.Versions.{Version};
+ghost use Rattle.tsb_tree.specs.Inserted.{PlansTree, TakenIn};
+ghost use Rattle.tsb_tree.specs.Raises.{TreeCanBeLaid};
+ghost use Rattle.tsb_tree.specs.Refusals.{IsHonest, InsertRefusal};
+ghost use Rattle.tsb_tree.specs.Shelves.{KeepsShelf};
+ghost use Rattle.tsb_tree.specs.Stores.{ReadsAlone};
+ghost use Rattle.tsb_tree.specs.Trees.{TreeShown};
+
+use crate::change::Change;
+use crate::descent::plan_under;
+use crate::error::TreeError;
+use crate::new_root::grown;
+use crate::tree::TreePlace;
+use disk_models::OnceDisk;
+use once_store::Shelf;
+use page_tx::{PageError, Pages};
+use std::alloc::Global;
+use tsb_walk::PagePlace;
+use version_model::{Entry, Stamp};
+
+// The stamp behind another one.
+fn stamp_behind(stamp: Stamp) -> Stamp
+    requires end { stamp + 1 < 2 ^ 128 }
+    ensures behind { result ≡ stamp + 1 }
+{
+    let time = stamp.time();
+    match stamp.order().checked_add(1) {
+        Some(order) => Stamp::new(time, order),
+        None => Stamp::new(time + 1, 0),
+    }
+}
+
+// The change by which a tree takes a version, and where the tree lies when it is laid.
+fn planned<P: Pages, O: OnceDisk + Drop>(
+    pages: &mut P,
+    shelf: &mut Shelf<O>,
+    alloc: Global,
+    place: TreePlace,
+    entry: &Entry,
+) -> Result<(Change, TreePlace), TreeError>
+    requires some { 1 ≤ place.level }
+    requires few { place.level ≤ 7 }
+    requires inside { entry.now.key + 1 < key_end }
+    requires size { entry_octets (version_of entry.now) ≤ 3131 }
+    requires end { entry.now.stamp + 1 < 2 ^ 128 }
+    ensures plans { (start : Start) (shown : List (List ℕ)) (all : List Version) (tree : TreeShown P.Pages pages.old O.OnceDisk shelf.old start shown all place.root place.level place.least) → place.least ≤ entry.now.stamp
+        → IfOk result (λ plan. PlansTree O.OnceDisk shelf.new (P.homes pages.old) tree.store (all ++ version_of entry.now ∷ []) plan.0 plan.1) }
+    ensures honest { (start : Start) (shown : List (List ℕ)) (all : List Version) → TreeShown P.Pages pages.old O.OnceDisk shelf.old start shown all place.root place.level place.least → place.least ≤ entry.now.stamp → IsHonest result }
+    ensures laid { IfOk result (λ plan. TreeCanBeLaid (P.homes pages.old) (P.next pages.old) place.level plan.0) }
+    ensures least { IfOk result (λ plan. plan.1.least ≡ entry.now.stamp + 1) }
+    ensures some { IfOk result (λ plan. 1 ≤ plan.1.level) }
+    ensures few { IfOk result (λ plan. plan.1.level ≤ 7) }
+    ensures refused { (named : ℕ) → IfErr result (InsertRefusal (P.homes pages.old) (P.next pages.old) named place.level (P.down pages.old) place.least entry.now.stamp) }
+    ensures reads { ReadsAlone P.Pages pages.old pages.new result }
+    ensures shelf { KeepsShelf O.OnceDisk 2 shelf.old shelf.new result }
+{
+    let root = PagePlace::root(place.root, place.level);
+    let change = plan_under(pages, shelf, alloc, &root, entry)?;
+    let stamp = entry.stamp;
+    let least = stamp_behind(stamp);
+    let half = change.new;
+    let Some(new) = half else {
+        let same = TreePlace { least, ..place };
+        return Ok((change, same));
+    };
+    let higher = TreePlace {
+        root: change.unused,
+        level: place.level + 1,
+        least,
+    };
+    let change = grown(
+        alloc,
+        pages.home_pages(),
+        place.level,
+        place.root,
+        change,
+        new,
+    )?;
+    Ok((change, higher))
+}
+
+/// Puts a version into the tree at a place: from its stamp on its key has a value of at most 3,072 octets, or none any more. Tells
+/// where the tree lies then.
+///
+/// The stamp must be at least the place's. All images are laid together, behind the last block that is settled, or none. So
+/// after a refusal the tree lies where it lay and stands for the same versions, and no page is set; but up to two blocks may be spent.
+pub fn insert<P: Pages, O: OnceDisk + Drop>(
+    pages: &mut P,
+    shelf: &mut Shelf<O>,
+    alloc: Global,
+    place: TreePlace,
+    entry: &Entry,
+) -> Result<TreePlace, TreeError>
+    requires some { 1 ≤ place.level }
+    requires few { place.level ≤ 7 }
+    requires inside { entry.now.key + 1 < key_end }
+    requires size { entry_octets (version_of entry.now) ≤ 3131 }
+    requires end { entry.now.stamp + 1 < 2 ^ 128 }
+    ensures ok { (start : Start) (shown : List (List ℕ)) (all : List Version) (tree : TreeShown P.Pages pages.old O.OnceDisk shelf.old start shown all place.root place.level place.least)
+        → IfOk result (λ now. TakenIn P.Pages pages.new O.OnceDisk shelf.new start shown tree.store (all ++ version_of entry.now ∷ []) now) }
+    ensures err { OnErr result ((start : Start) (shown : List (List ℕ)) (all : List Version) → TreeShown P.Pages pages.old O.OnceDisk shelf.old start shown all place.root place.level place.least
+        → TreeShown P.Pages pages.new O.OnceDisk shelf.new start shown all place.root place.level place.least) }
+    ensures honest { (start : Start) (shown : List (List ℕ)) (all : List Version) → TreeShown P.Pages pages.old O.OnceDisk shelf.old start shown all place.root place.level place.least → IsHonest result }
+    ensures back { (result ≡ Err TreeError.StampBack) ↔ (entry.now.stamp < place.least) }
+    ensures refused { IfErr result (InsertRefusal (P.homes pages.old) (P.next pages.old) (length (P.named pages.old)) place.level (P.down pages.old) place.least entry.now.stamp) }
+    ensures least { IfOk result (λ now. now.least ≡ entry.now.stamp + 1) }
+    ensures some { IfOk result (λ now. 1 ≤ now.level) }
+    ensures few { IfOk result (λ now. now.level ≤ 7) }
+    ensures reads { OnErr result (ReadsAlone P.Pages pages.old pages.new result) }
+    ensures keeps { (start : Start) (shown : List (List ℕ)) → P.shows pages.old start shown → (after : List (List ℕ)) × P.shows pages.new start after }
+    ensures device { KeepsDevice (P.honest pages.old) (P.honest pages.new) (P.faults pages.old) (P.faults pages.new) (IsErrOf result (TreeError.Pages PageError.Fault)) }
+    ensures shelf { KeepsShelf O.OnceDisk 2 shelf.old shelf.new result }
+    ensures onward { P.next pages.old ≤ P.next pages.new }
+    ensures next { P.next pages.new ≤ P.next pages.old + place.level + 2 }
+    ensures named { OnOk result ((ns : List ℕ) × (length ns ≤ 2 * place.level + 3) × (P.named pages.new ≡ joined (P.named pages.old) ns)) }
+    ensures homes { P.homes pages.new ≡ P.homes pages.old }
+    ensures down { P.down pages.new ≡ P.down pages.old }
+{
+    let stamp = entry.stamp;
+    if stamp < place.least {
+        return Err(TreeError::StampBack);
+    }
+    let (change, now) = planned(pages, shelf, alloc, place, entry)?;
+    match pages.lay(change.images, change.unused) {
+        Ok(()) => Ok(now),
+        Err(refusal) => Err(TreeError::from(refusal)),
+    }
+}
