@@ -2,6 +2,10 @@
 #![tactic(auto)]
 
 #[cfg(test)]
+mod calls;
+#[cfg(test)]
+mod made;
+#[cfg(test)]
 mod pages;
 #[cfg(test)]
 mod settings;
