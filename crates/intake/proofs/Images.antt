@@ -10,7 +10,7 @@ use Rattle.page_tx.specs.Images.{joined}
 use Rattle.page_tx.specs.inner.Laid.{length_laid}
 use Rattle.page_tx.proofs.api.Laid.{laid_apart, shown_other}
 use Rattle.intake.specs.declared.ring.Ring.{Ring}
-use Rattle.intake.specs.Ring.{page_at, wrapped, ChangesOnly}
+use Rattle.intake.specs.Ring.{wrapped, ChangesOnly}
 use Rattle.intake.specs.inner.Drafts.{numbers_from, image_of, AreFrom}
 use Rattle.intake.proofs.Wrapping.{wrapped_is}
 
@@ -54,15 +54,6 @@ pages_of_push (image ∷ rest) n page = ap (λ (l : List ℕ). image.0 ∷ l) (p
 pub laid_push : (images : List Image) (n : ℕ) (page : List ℕ) (pages : List (List ℕ)) → laid (images ++ (n, page) ∷ []) pages ≡ set (laid images pages) n page
 laid_push [] n page pages = refl
 laid_push (image ∷ rest) n page pages = laid_push rest n page (set pages image.0 image.1)
-
-set_same : (pages : List (List ℕ)) (n : ℕ) → set pages n (page_at pages n) ≡ pages
-set_same [] n = refl
-set_same (page ∷ rest) zero = refl
-set_same (page ∷ rest) (suc n) = ap (λ (l : List (List ℕ)). page ∷ l) (set_same rest n)
-
--- a copy of a page is laid as well
-pub laid_copy : (images : List Image) (n : ℕ) (page : List ℕ) (pages : List (List ℕ)) → laid images pages ≡ pages → page ≡ page_at pages n → laid (images ++ (n, page) ∷ []) pages ≡ pages
-laid_copy images n page pages before same = laid_push images n page pages ∙ (ap (λ (l : List (List ℕ)). set l n page) before ∙ (ap (set pages n) same ∙ set_same pages n))
 
 -- ---- the numbers of a ring's pages
 

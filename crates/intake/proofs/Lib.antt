@@ -1,6 +1,7 @@
 pub mod Wrapping
 pub mod Pieces
 pub mod Images
+pub mod Copying
 pub mod Entries
 pub mod Filling
 pub mod Untouched

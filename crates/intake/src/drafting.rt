@@ -1,5 +1,5 @@
 //! Images of a ring's pages, into which a batch is spelled before they are laid.
-ghost use Rattle.std.specs.Prelude.{◌≡◌, ◌<◌, ◌≤◌, ◌↔◌, ◌+◌, ◌*◌, ◌/◌, ◌++◌, ◌∷◌, [], ℕ, List, length, take, drop, flat_map, slice_get, slice_set, OnOk, IfOk, IfErr, IsErrOf, Some};
+ghost use Rattle.std.specs.Prelude.{◌≡◌, ◌<◌, ◌≤◌, ◌↔◌, ◌+◌, ◌*◌, ◌/◌, ◌++◌, ◌∷◌, [], ℕ, List, length, take, drop, flat_map, slice_get, slice_set, OnOk, IfOk, IfErr, IsErrOf, IsTrue, Some};
 ghost use Rattle.std.specs.List.{AllByRecursion};
 ghost use Rattle.route_model.specs.Admission.{IsAdmission};
 ghost use Rattle.page_journal.specs.Layout.{Image, pages_of};
@@ -7,7 +7,7 @@ ghost use Rattle.page_journal.specs.Recovers.{laid, IsListed};
 ghost use Rattle.page_tx.specs.Start.{Start};
 ghost use Rattle.intake.specs.Ring.{page_at, wrapped, entry, octets_for, size_of, IsRing, StandsIn, HoldsBehind};
 ghost use Rattle.intake.specs.Calls.{OnlyReads, PageRefusal, most_pages};
-ghost use Rattle.intake.specs.inner.Drafts.{numbers_from, image_of, AreFrom, Covers, Writes};
+ghost use Rattle.intake.specs.inner.Drafts.{numbers_from, image_of, AreFrom, Covers, Fills, Writes};
 
 use crate::ring::{PAGE, Ring, wrap};
 use disk_models::Page;
@@ -37,26 +37,59 @@ fn add_image(images: &mut Vec<(u64, Page)>, n: u64, page: Page) -> Result<(), Al
     Ok(())
 }
 
-// Copies of so many pages of a ring, from one on.
-fn copies<P: Pages>(
+// Whether octets are all that the k-th page has on which they lie, from a place in the first of these pages on.
+fn is_filled(from: u64, octets: u64, k: u64) -> bool
+    requires from { from < 16384 }
+    requires few { octets ≤ 16384 * 65535 }
+    requires page { k < 65535 }
+    ensures { IsTrue result ↔ Fills from octets k }
+{
+    from <= PAGE * k && PAGE * (k + 1) <= from + octets
+}
+
+// A page to be drafted: of zeros where all of its octets will be put, and else a copy of the one that is shown.
+fn begun_page<P: Pages>(
     alloc: Global,
     pages: &mut P,
-    ring: Ring,
-    begun: u64,
-    count: u64,
-) -> Result<Vec<(u64, Page)>, PageError>
-    requires ring { IsRing (P.homes pages.old) ring }
-    requires begun { begun < ring.count }
-    requires few { count ≤ ring.count }
-    ensures numbers { IfOk result (λ images. pages_of images.items ≡ numbers_from ring.low ring.count begun count) }
-    ensures copies { IfOk result (λ images. (start : Start) (shown : List (List ℕ)) → P.shows pages.old start shown → laid images.items shown ≡ shown) }
+    n: u64,
+    filled: bool,
+) -> Result<Page, PageError>
+    requires { n < P.homes pages.old }
+    ensures copy { IfOk result (λ page. (IsTrue filled → ⊥) → (start : Start) (shown : List (List ℕ)) → P.shows pages.old start shown → page ≡ page_at shown n) }
     ensures refused { IfErr result (PageRefusal (P.down pages.old)) }
     ensures same { OnlyReads P.Pages pages.old pages.new (IsErrOf result PageError.Fault) }
 {
-    let mut images = Vec::new(alloc);
+    if filled {
+        return Ok(Page::new(alloc)?);
+    }
+    copy_of(pages, n)
+}
+
+// Images of so many pages of a ring, from the one on that has the place behind the used octets. Those pages aren't copied
+// whose octets are all among so many behind the used ones.
+fn images_from<P: Pages>(
+    alloc: Global,
+    pages: &mut P,
+    ring: Ring,
+    at: u64,
+    octets: u64,
+    count: u64,
+) -> Result<Vec<(u64, Page)>, PageError>
+    requires ring { IsRing (P.homes pages.old) ring }
+    requires at { at ≡ wrapped (size_of ring) (ring.first + ring.used) }
+    requires room { ring.used + octets ≤ size_of ring }
+    requires few { count ≤ ring.count }
+    ensures numbers { IfOk result (λ images. pages_of images.items ≡ numbers_from ring.low ring.count (at / 16384) count) }
+    ensures stood { IfOk result (λ images. (start : Start) (shown : List (List ℕ)) (stood : List ℕ) → P.shows pages.old start shown → length stood ≡ ring.used → StandsIn shown ring stood → StandsIn (laid images.items shown) ring stood) }
+    ensures refused { IfErr result (PageRefusal (P.down pages.old)) }
+    ensures same { OnlyReads P.Pages pages.old pages.new (IsErrOf result PageError.Fault) }
+{
+    let begun = at / PAGE;
+    let mut images = Vec::with_capacity(alloc, count as usize)?;
     for k in 0..count {
         let number = ring.low + wrap(ring.count, begun + k);
-        let page = copy_of(pages, number)?;
+        let filled = is_filled(at % PAGE, octets, k);
+        let page = begun_page(alloc, pages, number, filled)?;
         add_image(&mut images, number, page)?;
     }
     Ok(images)
@@ -222,7 +255,7 @@ pub fn draft<P: Pages>(
 {
     let at = wrap(PAGE * ring.count, ring.first + ring.used);
     let count = page_count(at % PAGE, octets).min(ring.count);
-    let mut images = copies(alloc, pages, ring, at / PAGE, count)?;
+    let mut images = images_from(alloc, pages, ring, at, octets, count)?;
     put_batch(alloc, &mut images, ring, at / PAGE, batch)?;
     Ok(images)
 }

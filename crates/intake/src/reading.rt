@@ -54,7 +54,7 @@ pub fn read<P: Pages>(
     ensures refused { IfErr result (PageRefusal (P.down pages.old)) }
     ensures same { OnlyReads P.Pages pages.old pages.new (IsErrOf result PageError.Fault) }
 {
-    let mut out = Vec::new(alloc);
+    let mut out = Vec::with_capacity(alloc, len)?;
     let mut done = 0;
     while done < len {
         read_piece(pages, ring, from + done as u64, len - done, &mut out)?;

@@ -1,9 +1,9 @@
 -- Images of a ring's pages, before they are laid.
-use Rattle.std.specs.Prelude.{◌≡◌, ◌<◌, ◌≤◌, ℕ, zero, suc, ◌+◌, ◌-◌, ◌/◌, List, [], ◌∷◌, ◌++◌, length, nat_lt, cond}
+use Rattle.std.specs.Prelude.{◌≡◌, ◌<◌, ◌≤◌, ℕ, zero, suc, ◌+◌, ◌-◌, ◌*◌, ◌/◌, List, [], ◌∷◌, ◌++◌, length, nat_lt, cond}
 use Rattle.page_journal.specs.Layout.{Image}
 use Rattle.page_journal.specs.Recovers.{laid}
 use Rattle.intake.specs.declared.ring.Ring.{Ring}
-use Rattle.intake.specs.Ring.{wrapped, size_of, StandsIn}
+use Rattle.intake.specs.Ring.{page_at, wrapped, size_of, StandsIn}
 
 -- the numbers of so many pages of a ring, from one on
 abbrev pub numbers_from : ℕ → ℕ → ℕ → ℕ → List ℕ
@@ -27,3 +27,11 @@ Covers ring begun n octets = (k : ℕ) → k < octets → image_of ring.count be
 abbrev pub Writes : Ring → List ℕ → List Image → List Image → Type 0
 Writes ring octets old new = (pages : List (List ℕ)) (stood : List ℕ) → ring.low + ring.count ≤ length pages → length stood ≡ ring.used
     → StandsIn (laid old pages) ring stood → StandsIn (laid new pages) ring (stood ++ octets)
+
+-- octets are all that the k-th page has on which they lie, from a place in the first of these pages on
+abbrev pub Fills : ℕ → ℕ → ℕ → Type 0
+Fills from octets k = (from ≤ 16384 * k) × (16384 * (k + 1) ≤ from + octets)
+
+-- pages with used octets are the same
+abbrev pub KeepsUsed : Ring → List (List ℕ) → List (List ℕ) → Type 0
+KeepsUsed ring old new = (j : ℕ) → j < ring.used → page_at new (ring.low + wrapped (size_of ring) (ring.first + j) / 16384) ≡ page_at old (ring.low + wrapped (size_of ring) (ring.first + j) / 16384)

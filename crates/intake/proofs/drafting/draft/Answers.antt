@@ -48,3 +48,8 @@ returns-clause-behind g c n =
     let all = covers_all ring c.wrap-at.result c.args.octets c.page_count.result c.min-count.result c.requires.ring.start c.requires.room c.wrap-at.ensures c.page_count.ensures.all c.min-count.ensures in
     subst (λ (ns : List ℕ). IsListed n ns ↔ HoldsBehind ring c.args.octets n) (sym (c.in_ok-put_batch.ensures.numbers ∙ c.in_ok-images.ensures.numbers))
     (holds_there ring c.wrap-at.result c.args.octets c.page_count.result c.min-count.result c.requires.ring.start c.requires.room c.wrap-at.ensures c.min-count.ensures c.page_count.ensures.least c.page_count.ensures.none all n)
+
+pub returns-clause-stands : goal.returns-clause-stands
+returns-clause-stands g c start shown stood are long stand =
+    let count = g.met.P.Pages.count c.args.pages.now start shown are in
+    c.in_ok-put_batch.ensures.written shown stood (omega (arith, c.requires.ring.inside, count)) long (c.in_ok-images.ensures.stood start shown stood are long stand)
