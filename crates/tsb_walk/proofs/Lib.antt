@@ -12,3 +12,4 @@ pub mod Ons
 pub mod Untouched
 pub mod PageWalking
 pub mod PageStanding
+pub mod PageWaysMeet

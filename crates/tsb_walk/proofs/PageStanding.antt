@@ -45,7 +45,7 @@ rising_in octets _ (says_column column is) keys start versions e = absurd (cc)
 rising_in octets _ (says_key_node node is) keys start versions e = absurd (cc)
 
 -- key nodes are of level 2 and above
-high_level : (octets : List ℕ) (node : PageNode) → PageSays octets node → (level : ℕ) (keys : Keys) (children : List Child) → node ≡ KeyNode level keys children → 1 < level
+pub high_level : (octets : List ℕ) (node : PageNode) → PageSays octets node → (level : ℕ) (keys : Keys) (children : List Child) → node ≡ KeyNode level keys children → 1 < level
 high_level octets _ (says_leaf leaf is) level keys children e = absurd (cc)
 high_level octets _ (says_column column is) level keys children e = absurd (cc)
 high_level octets _ (says_key_node node is) level keys children e =

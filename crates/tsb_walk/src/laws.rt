@@ -1,6 +1,6 @@
 //! Laws of the definitions, each the contract of a function that does nothing.
 
-ghost use Rattle.std.specs.Prelude.{◌<◌, ℕ, List, Option};
+ghost use Rattle.std.specs.Prelude.{◌≡◌, ◌<◌, ℕ, List, Option};
 ghost use Rattle.version_model.specs.declared.part.Place.{Place as PlaceValue};
 ghost use Rattle.version_model.specs.Versions.{Version, IsRising};
 ghost use Rattle.version_model.specs.Ranges.{stamp_end};
@@ -16,6 +16,7 @@ ghost use Rattle.tsb_walk.specs.HistLooks.{TellsNext, TellsPart, TellsFound, Com
 ghost use Rattle.tsb_walk.specs.Looked.{IsLooked, IsParted, IsDescended};
 ghost use Rattle.tsb_walk.specs.Shown.{StandsShown};
 ghost use Rattle.tsb_walk.specs.PageLooks.{IsLookOf, IsPartLookOf, IsFoundLookOf, IsBadLook};
+ghost use Rattle.tsb_walk.specs.PageWays.{PageWay, IsBadKeyNode};
 ghost use Rattle.tsb_walk.specs.Ways.{ComesToLeaf, ComesToDamage, AreKnownOnWay};
 
 /// Where the root stands, what a look is made of is true of the versions, and no page on the way of a key is bad: so an answer and a
@@ -28,6 +29,18 @@ pub fn looks_are_true_where_the_root_stands()
     ensures descended { (shown : List (List ℕ)) (s : Store) (all : List Version) (root : PagePlaceValue) (key stamp : ℕ) (answer : DescendedValue) → stamp < stamp_end
         → StandsShown shown s all root → IsFoundLookOf shown root key stamp answer → IsDescended s.blocks all key stamp answer }
     ensures good { (shown : List (List ℕ)) (s : Store) (all : List Version) (root : PagePlaceValue) (key stamp page : ℕ) → StandsShown shown s all root
+        → IsBadLook shown root key stamp page → ⊥ }
+{}
+
+/// Whatever the pages say, an answer and a bad page exclude each other: a way that comes to a column comes to no page that isn't what
+/// it is to be.
+pub fn answers_and_bad_pages_exclude_each_other()
+    ensures locate { (shown : List (List ℕ)) (root column : PagePlaceValue) (key page : ℕ) → PageWay shown key root column → column.level ≡ 1 → IsBadKeyNode shown root key page → ⊥ }
+    ensures next { (shown : List (List ℕ)) (root : PagePlaceValue) (key stamp page : ℕ) (answer : LookedValue) → IsLookOf shown root key stamp answer
+        → IsBadLook shown root key stamp page → ⊥ }
+    ensures part { (shown : List (List ℕ)) (root : PagePlaceValue) (key stamp page : ℕ) (answer : PartedValue) → IsPartLookOf shown root key stamp answer
+        → IsBadLook shown root key stamp page → ⊥ }
+    ensures descended { (shown : List (List ℕ)) (root : PagePlaceValue) (key stamp page : ℕ) (answer : DescendedValue) → IsFoundLookOf shown root key stamp answer
         → IsBadLook shown root key stamp page → ⊥ }
 {}
 
