@@ -1,4 +1,3 @@
-mod Histories
 mod Timing
 mod Lanes
 pub mod api

@@ -1,3 +1,4 @@
+pub mod Histories
 pub mod Bearing
 pub mod Creating
 pub mod Moving

@@ -18,9 +18,10 @@ last_time before [] = before
 last_time before (t ∷ ts) = last_time t.time ts
 
 -- What is to be a tree: with these pages and settled blocks, of which the tree may use the pages from one on, with this root, and with
--- this first page that was never used, it stands for these versions; and this is the least stamp that a version to come may have.
+-- this first page and this first block that were never used, it stands for these versions; and this is the least stamp that a version to
+-- come may have.
 abbrev pub TreeOn : Type 1
-TreeOn = List (List ℕ) → (ℕ → List ℕ → Type 0) → ℕ → ℕ → ℕ → ℕ → List Version → Type 0
+TreeOn = List (List ℕ) → (ℕ → List ℕ → Type 0) → ℕ → ℕ → ℕ → ℕ → ℕ → List Version → Type 0
 
 -- The head tells what a collector gave, and the collector's ring holds of it what waits, in its order.
 pub record LaneStands (s : Settings) (pages : List (List ℕ)) (c : ℕ) (lane : Lane) (i : Intake) (waits : List Admitted) : Type 0 where
@@ -41,7 +42,7 @@ pub record Bears (Tree : TreeOn) (s : Settings) (settled : ℕ → List ℕ → 
   pub last : head.last ≡ last_time 0 (timed (applied h))
   pub versions : List Version
   pub kept : Kept (applied h) versions
-  pub tree : Tree pages settled (tree_low s) head.root head.fresh (stamp_of head.last head.applied) versions
+  pub tree : Tree pages settled (tree_low s) head.root head.fresh head.block (stamp_of head.last head.applied) versions
 
 -- Page 0 is the one spelling of a head with which the pages carry the history.
 pub record Represents (Tree : TreeOn) (s : Settings) (settled : ℕ → List ℕ → Type 0) (pages : List (List ℕ)) (h : History) : Type 0 where
@@ -52,10 +53,10 @@ pub record Represents (Tree : TreeOn) (s : Settings) (settled : ℕ → List ℕ
 
 -- with these blocks the tree stands wherever its own pages are the same
 abbrev pub IsFramed : TreeOn → (ℕ → List ℕ → Type 0) → Type 0
-IsFramed Tree settled = (low root fresh next_stamp : ℕ) (versions : List Version) (old new : List (List ℕ)) → length new ≡ length old → ((n : ℕ) → low ≤ n → page_at new n ≡ page_at old n)
-    → Tree old settled low root fresh next_stamp versions → Tree new settled low root fresh next_stamp versions
+IsFramed Tree settled = (low root fresh block next_stamp : ℕ) (versions : List Version) (old new : List (List ℕ)) → length new ≡ length old → ((n : ℕ) → low ≤ n → page_at new n ≡ page_at old n)
+    → Tree old settled low root fresh block next_stamp versions → Tree new settled low root fresh block next_stamp versions
 
 -- it stands wherever more blocks are settled
 abbrev pub IsGrowing : TreeOn → Type 1
-IsGrowing Tree = (few many : ℕ → List ℕ → Type 0) → ((b : ℕ) (octets : List ℕ) → few b octets → many b octets) → (low root fresh next_stamp : ℕ) (versions : List Version) (pages : List (List ℕ))
-    → Tree pages few low root fresh next_stamp versions → Tree pages many low root fresh next_stamp versions
+IsGrowing Tree = (few many : ℕ → List ℕ → Type 0) → ((b : ℕ) (octets : List ℕ) → few b octets → many b octets) → (low root fresh block next_stamp : ℕ) (versions : List Version) (pages : List (List ℕ))
+    → Tree pages few low root fresh block next_stamp versions → Tree pages many low root fresh block next_stamp versions

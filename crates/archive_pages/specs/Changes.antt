@@ -53,4 +53,4 @@ pub record Takes (Tree : TreeOn) (s : Settings) (settled : ℕ → List ℕ → 
   pub more : List Version
   pub versions : AreVersions head.applied (next_change some next) more
   pub changes : ChangesFrom (tree_low s) old new
-  pub tree : Tree new settled (tree_low s) after.root after.fresh (stamp_of after.last after.applied) (before ++ more)
+  pub tree : Tree new settled (tree_low s) after.root after.fresh after.block (stamp_of after.last after.applied) (before ++ more)

@@ -17,7 +17,7 @@ use Rattle.archive_pages.specs.declared.settings.Settings.{Settings}
 use Rattle.archive_pages.specs.Places.{ring_of, tree_low}
 use Rattle.archive_pages.specs.Carried.{TreeOn, IsFramed, IsGrowing, Bears, Represents, last_time}
 use Rattle.archive_pages.specs.Changes.{with_lane, lane_given}
-use Rattle.archive_pages.proofs.Histories.{length_changed, waits_given, waits_given_other, applied_given, waits_marked, applied_marked}
+use Rattle.archive_pages.proofs.api.Histories.{length_changed, waits_given, waits_given_other, applied_given, waits_marked, applied_marked}
 use Rattle.archive_pages.proofs.Lanes.{rings_apart, ring_before_tree, lane_framed, lanes_changed}
 
 -- ---- the first page
@@ -34,7 +34,7 @@ bears_headed Tree s settled framed head old new h count same b = record {
   last = b.last;
   versions = b.versions;
   kept = b.kept;
-  tree = framed (tree_low s) head.root head.fresh _ b.versions old new count (λ n le. same n (omega arith)) b.tree;
+  tree = framed (tree_low s) head.root head.fresh head.block _ b.versions old new count (λ n le. same n (omega arith)) b.tree;
 }
 
 -- The head is written, at the end of a transaction.
@@ -58,7 +58,7 @@ bears_grown Tree growing s few many more head pages h b = record {
   last = b.last;
   versions = b.versions;
   kept = b.kept;
-  tree = growing few many more (tree_low s) head.root head.fresh _ b.versions pages b.tree;
+  tree = growing few many more (tree_low s) head.root head.fresh head.block _ b.versions pages b.tree;
 }
 
 -- ---- a mark is raised
@@ -125,5 +125,5 @@ bears_given Tree s settled framed head old new h c batch lane i used b right at 
       last = b.last ∙ ap (λ ps. last_time 0 (timed ps)) (sym same);
       versions = b.versions;
       kept = subst (λ ps. Kept ps b.versions) (sym same) b.kept;
-      tree = framed (tree_low s) head.root head.fresh _ b.versions old new changes.count (λ n le. changes.above n (omega arith)) b.tree;
+      tree = framed (tree_low s) head.root head.fresh head.block _ b.versions old new changes.count (λ n le. changes.above n (omega arith)) b.tree;
     }

@@ -36,7 +36,7 @@ each_same (suc n) zero x y e = cc
 each_same (suc n) (suc c) x y e = each_same n c x y e
 
 pub bears_created : (Tree : TreeOn) (s : Settings) (settled : ℕ → List ℕ → Type 0) (head : Contents) (pages : List (List ℕ)) → head.applied ≡ 0 → head.last ≡ 0 → head.begun ≡ 0 → head.lanes ≡ replicate s.collectors no_lane → AreSettings s → tree_low s ≤ length pages
-    → Tree pages settled (tree_low s) head.root head.fresh 0 [] → Bears Tree s settled head pages (empty s.collectors)
+    → Tree pages settled (tree_low s) head.root head.fresh head.block 0 [] → Bears Tree s settled head pages (empty s.collectors)
 bears_created Tree s settled head pages order last begun lanes some room tree = record {
   right = right_empty s.collectors;
   number = length-replicate s.collectors nothing;
@@ -55,5 +55,5 @@ bears_created Tree s settled head pages order last begun lanes some room tree = 
   last = last;
   versions = [];
   kept = tt;
-  tree = subst (λ k. Tree pages settled (tree_low s) head.root head.fresh (k * 2 ^ 64 + head.applied) []) (sym last) (subst (λ k. Tree pages settled (tree_low s) head.root head.fresh (0 * 2 ^ 64 + k) []) (sym order) tree);
+  tree = subst (λ k. Tree pages settled (tree_low s) head.root head.fresh head.block (k * 2 ^ 64 + head.applied) []) (sym last) (subst (λ k. Tree pages settled (tree_low s) head.root head.fresh head.block (0 * 2 ^ 64 + k) []) (sym order) tree);
 }
