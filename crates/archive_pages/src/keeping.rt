@@ -5,8 +5,8 @@ ghost use Rattle.archive_pages.specs.Changes.{with_lane};
 
 use archive_head::{Head, Lane};
 
-// What the head keeps of a collector.
-pub(crate) fn lane_of(head: &Head, collector: u8) -> Lane
+/// What the head keeps of a collector.
+pub fn lane_of(head: &Head, collector: u8) -> Lane
     requires collector { collector < length head.now.lanes }
     ensures lane { slice_get head.now.lanes collector ≡ Some result }
 {

@@ -13,6 +13,7 @@ mod settings;
 
 pub use giving::{Sifted, can_give, give};
 pub use heading::{copy_head, put_head};
+pub use keeping::lane_of;
 pub use marking::mark_head;
 pub use passing::{TreePlace, can_pass, pass_change};
 pub use settings::Settings;

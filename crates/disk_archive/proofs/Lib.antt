@@ -1,0 +1,5 @@
+mod Mirroring
+mod Crossing
+mod Outcomes
+mod Telling
+pub mod api

@@ -1,0 +1,43 @@
+-- By cases on what a call answers.
+use Rattle.std.proofs.Common.{◌≡◌, ◌≢◌, ◌⊎◌, inl, inr, Bool, true, false, refl, subst, Result, Ok, Err}
+use Rattle.std.specs.Prelude.{OnOk, OnErr}
+use Rattle.page_journal.specs.Refusals.{PostRefusal}
+use Rattle.page_journal.specs.declared.error.PostError.{PostError}
+use Rattle.page_journal.specs.declared.error.PostError.TheVariants as posts
+use Rattle.disk_archive.specs.declared.error.CommitError.{CommitError}
+use Rattle.disk_archive.specs.declared.error.CommitError.TheVariants as commits
+use Rattle.disk_archive.specs.inner.Committing.{CommitRefusal}
+use Rattle.std.proofs.Common.{ℕ}
+
+pub on_each_err : {X E : Type 0} (r : Result X E) (P : Type 0) → P → OnErr r P
+on_each_err (Ok x) P p = tt
+on_each_err (Err e) P p = p
+
+pub ok_then : {X E : Type 0} (r : Result X E) (P Q : Type 0) → (P → Q) → OnOk r P → OnOk r Q
+ok_then (Ok x) P Q f p = f p
+ok_then (Err e) P Q f p = tt
+
+pub ok_both : {X E : Type 0} (r : Result X E) (P Q Z : Type 0) → OnOk r P → OnOk r Q → (P → Q → Z) → OnOk r Z
+ok_both (Ok x) P Q Z p q step = step p q
+ok_both (Err e) P Q Z p q step = tt
+
+pub from_result : {X E : Type 0} (r : Result X E) (P Q Z : Type 0) → (P → Z) → (Q → Z) → OnOk r P → OnErr r Q → Z
+from_result (Ok x) P Q Z ok err p q = ok p
+from_result (Err e) P Q Z ok err p q = err q
+
+pub down_or : (down : Bool) (P : Type 0) → (down ≡ false → P) → (down ≡ true) ⊎ P
+down_or true P f = inl refl
+down_or false P f = inr (f refl)
+
+-- a failure of the device, or not
+pub fault_or : (e : PostError) (P Q : Type 0) → (e ≡ posts.Fault → P) → (e ≢ posts.Fault → Q) → P ⊎ Q
+fault_or posts.Fault P Q f g = inl (f refl)
+fault_or posts.NeedsRecovery P Q f g = inr (g (λ x. cc))
+fault_or posts.TooManyImages P Q f g = inr (g (λ x. cc))
+fault_or posts.JournalFull P Q f g = inr (g (λ x. cc))
+fault_or posts.OutOfMemory P Q f g = inr (g (λ x. cc))
+
+pub commit_refused : (down : Bool) (n closed : ℕ) (e : PostError) (r : CommitError) → PostRefusal down n closed e → (r ≡ commits.Fault → e ≡ posts.Fault) → (r ≡ commits.NeedsRecovery → e ≡ posts.NeedsRecovery) → (r ≡ commits.OutOfMemory → e ≡ posts.OutOfMemory) → CommitRefusal down r
+commit_refused down n closed e commits.Fault p f g h = let q = subst (PostRefusal down n closed) (f refl) p in q.usable
+commit_refused down n closed e commits.NeedsRecovery p f g h = subst (PostRefusal down n closed) (g refl) p
+commit_refused down n closed e commits.OutOfMemory p f g h = let q = subst (PostRefusal down n closed) (h refl) p in q.usable

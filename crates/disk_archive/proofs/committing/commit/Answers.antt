@@ -1,0 +1,62 @@
+use Rattle.std.proofs.Common.{◌≡◌, ◌≢◌, ◌⊎◌, inl, inr, ◌∙◌, sym, ap, subst, ℕ, List, true, false}
+use Rattle.disk_models.specs.Erase.{DiskState, Leaves}
+use Rattle.disk_models.proofs.api.Moments.{leaves_then, leaves_weaker}
+use Rattle.page_journal.specs.Journal.{closed_slots, disk_of, home_pages, needs_recovery}
+use Rattle.page_journal.specs.Recovers.{Recovers, RecoversEither}
+use Rattle.buffer_pool.specs.Pool.{Maps, journal_of}
+use Rattle.page_tx.specs.Start.{Start}
+use Rattle.page_tx.specs.Tx.{Shows, named_pages, pool_of}
+use Rattle.disk_archive.specs.inner.Committing.{CommitRefusal}
+use Rattle.std.specs.Prelude.{length, Err}
+use Rattle.disk_archive.proofs.Outcomes.{on_each_err, down_or, fault_or, commit_refused}
+use Rattle.disk_archive.proofs.committing.commit.Goals as goal
+
+pub returns-in_err-make_room-clause-crash : goal.returns-in_err-make_room-clause-crash
+returns-in_err-make_room-clause-crash g c start shown s =
+    let homes = home_pages (journal_of (pool_of c.args.tx.now)) in
+    leaves_weaker _ _ (λ f. Recovers homes start.note f start.pages) (RecoversEither homes start.note start.pages shown) (λ f means. inl means) (c.make_room.ensures.crash start shown s)
+
+pub returns-in_err-make_room-clause-err : goal.returns-in_err-make_room-clause-err
+returns-in_err-make_room-clause-err g c start shown s = on_each_err c.from_residual.result _
+    (down_or (needs_recovery (journal_of (pool_of c.make_room.new.tx))) _ (λ usable. (c.make_room.ensures.shown start shown s usable).1.maps))
+
+pub returns-in-Ok-clause-crash : goal.returns-in-Ok-clause-crash
+returns-in-Ok-clause-crash g c start shown s =
+    let homes = home_pages (journal_of (pool_of c.args.tx.now)) in
+    let s0 = g.E.EraseDisk.model (disk_of (journal_of (pool_of c.args.tx.now))) in
+    let s1 = g.E.EraseDisk.model (disk_of (journal_of (pool_of c.make_room.new.tx))) in
+    let s2 = g.E.EraseDisk.model (disk_of (journal_of (pool_of c.commit.new.self))) in
+    let k = c.in_ok-make_room.ensures.kept start shown s in
+    let begun : Start = record { note = start.note; pages = start.pages; clock = k.0 } in
+    leaves_then s0 s1 s2 (RecoversEither homes start.note start.pages shown)
+    (leaves_weaker s0 s1 (λ f. Recovers homes start.note f start.pages) (RecoversEither homes start.note start.pages shown) (λ f means. inl means) (c.make_room.ensures.crash start shown s))
+    (subst (λ n. Leaves s1 s2 (RecoversEither n start.note start.pages shown)) c.make_room.ensures.journal.homes (c.commit.ensures.crash begun shown k.1))
+
+pub returns-in-Ok-clause-ok : goal.returns-in-Ok-clause-ok
+returns-in-Ok-clause-ok g c start shown s =
+    let k = c.in_ok-make_room.ensures.kept start shown s in
+    c.in-Ok.ensures.maps (record { note = start.note; pages = start.pages; clock = k.0 }) shown k.1
+
+pub returns-in-Err-clause-crash : goal.returns-in-Err-clause-crash
+returns-in-Err-clause-crash g c start shown s =
+    let homes = home_pages (journal_of (pool_of c.args.tx.now)) in
+    let s0 = g.E.EraseDisk.model (disk_of (journal_of (pool_of c.args.tx.now))) in
+    let s1 = g.E.EraseDisk.model (disk_of (journal_of (pool_of c.make_room.new.tx))) in
+    let s2 = g.E.EraseDisk.model (disk_of (journal_of (pool_of c.commit.new.self))) in
+    let k = c.in_ok-make_room.ensures.kept start shown s in
+    let begun : Start = record { note = start.note; pages = start.pages; clock = k.0 } in
+    leaves_then s0 s1 s2 (RecoversEither homes start.note start.pages shown)
+    (leaves_weaker s0 s1 (λ f. Recovers homes start.note f start.pages) (RecoversEither homes start.note start.pages shown) (λ f means. inl means) (c.make_room.ensures.crash start shown s))
+    (subst (λ n. Leaves s1 s2 (RecoversEither n start.note start.pages shown)) c.make_room.ensures.journal.homes (c.commit.ensures.crash begun shown k.1))
+
+pub returns-in-Err-clause-err : goal.returns-in-Err-clause-err
+returns-in-Err-clause-err g c start shown s =
+    let k = c.in_ok-make_room.ensures.kept start shown s in
+    fault_or c.in-Err.error _ _
+    (λ e. (c.commit.ensures.failed (c.in-Err.is ∙ ap (λ x. Err x) e)).recovery)
+    (λ ne. subst (λ p. Maps g.E.EraseDisk p start.pages) (sym (c.in-Err.ensures.unchanged ne)) k.1.maps)
+
+pub returns-in-Err-clause-refused : goal.returns-in-Err-clause-refused
+returns-in-Err-clause-refused g c =
+    subst (λ b. CommitRefusal b c.refusal.result) c.in_ok-make_room.ensures.down
+    (commit_refused _ _ _ c.in-Err.error c.refusal.result c.in-Err.ensures.refused c.refusal.ensures.fault c.refusal.ensures.recovery c.refusal.ensures.memory)

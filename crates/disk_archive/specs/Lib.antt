@@ -1,0 +1,6 @@
+pub mod Trees
+pub mod Sites
+pub mod Mirrors
+pub mod Archives
+pub mod Crashes
+pub mod inner

@@ -1,0 +1,35 @@
+-- What disks hold for an archive, also after a crash.
+use Rattle.std.specs.Prelude.{◌⊎◌, ℕ, List}
+use Rattle.disk_models.specs.Erase.{DiskState}
+use Rattle.disk_models.specs.Once.{OnceState, settled_in}
+use Rattle.disk_models.specs.Left.{Left, LeftNow}
+use Rattle.page_journal.specs.Recovers.{Recovers}
+use Rattle.route_meaning.specs.History.{History, Begins}
+use Rattle.archive_pages.specs.declared.settings.Settings.{Settings}
+use Rattle.archive_pages.specs.Carried.{Represents}
+use Rattle.disk_archive.specs.Trees.{TreeLies}
+
+-- what an archive was made with, for good: its settings, how many home pages and which note its journal has, and how many blocks its disk
+pub record Site : Type 0 where
+  pub settings : Settings
+  pub homes : ℕ
+  pub note : List ℕ
+  pub blocks : ℕ
+
+-- What a crash left of both disks carries the history: the octets mean pages that, with the blocks that are settled, carry it.
+pub record LeftCarries (site : Site) (h : History) (left : Left) : Type 0 where
+  pub pages : List (List ℕ)
+  pub means : Recovers site.homes site.note left.erase pages
+  pub carries : Represents (TreeLies site.blocks) site.settings (settled_in left.once) pages h
+
+-- it carries one history or the other
+abbrev pub LeftEither : Site → History → History → Left → Type 0
+LeftEither site h g left = LeftCarries site h left ⊎ LeftCarries site g left
+
+-- it carries a history that this one begins
+abbrev pub LeftFrom : Site → History → Left → Type 0
+LeftFrom site h left = (g : History) × Begins h g × LeftCarries site g left
+
+-- Whatever both disks read as, or a crash may leave of them now, carries a history that this one begins.
+abbrev pub Rests : Site → DiskState → OnceState → History → Type 0
+Rests site e o h = (left : Left) → LeftNow e o left → LeftFrom site h left

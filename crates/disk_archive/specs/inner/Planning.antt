@@ -1,0 +1,20 @@
+-- What a call is to commit.
+use Rattle.std.specs.Prelude.{◌≡◌, ℕ, List}
+use Rattle.archive_head.specs.Head.{Contents, IsHead, head_octets}
+use Rattle.intake.specs.Ring.{page_at}
+use Rattle.route_meaning.specs.History.{History}
+use Rattle.archive_pages.specs.declared.settings.Settings.{Settings}
+use Rattle.archive_pages.specs.Carried.{Bears}
+use Rattle.disk_archive.specs.Trees.{TreeLies}
+
+-- these pages carry the history with this head, which stands on the first of them
+pub record Headed (count : ℕ) (s : Settings) (settled : ℕ → List ℕ → Type 0) (head : Contents) (pages : List (List ℕ)) (h : History) : Type 0 where
+  pub valid : IsHead head
+  pub first : page_at pages 0 ≡ head_octets head
+  pub bears : Bears (TreeLies count) s settled head pages h
+
+-- such pages are shown
+pub record Planned (count : ℕ) (s : Settings) (settled : ℕ → List ℕ → Type 0) (shows : List (List ℕ) → Type 0) (head : Contents) (h : History) : Type 0 where
+  pub pages : List (List ℕ)
+  pub shown : shows pages
+  pub headed : Headed count s settled head pages h

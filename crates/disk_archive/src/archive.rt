@@ -1,0 +1,103 @@
+//! The archive, and what it tells.
+
+ghost use Rattle.std.specs.Prelude.{◌≡◌, ◌<◌, ◌≤◌, ℕ, List, length, map, Some, IfOk, slice_get};
+ghost use Rattle.page_journal.specs.Journal.{home_pages};
+ghost use Rattle.buffer_pool.specs.Pool.{journal_of};
+ghost use Rattle.page_tx.specs.Tx.{pool_of};
+ghost use Rattle.disk_models.specs.Erase.{Counts};
+ghost use Rattle.route_meaning.specs.History.{History, settled};
+ghost use Rattle.interleaving_core.specs.World.{resume_of};
+
+use archive_head::Head;
+use archive_pages::{Settings, lane_of};
+use disk_models::{EraseDisk, Fault, OnceDisk};
+use interleaving_core::Resume;
+use once_store::Shelf;
+use page_tx::Tx;
+use route_model::Mark;
+use sequencer::Sequencer;
+use std::alloc::Global;
+use std::sync::Arc;
+
+/// What some collectors gave, on two disks: home pages with a head, a ring of what waits for each collector and a tree, and blocks
+/// with the tree's past.
+///
+/// In memory it has the head, the marks, and the times of what waits.
+#[derive(Drop)]
+pub struct Archive<E: EraseDisk + Drop, O: OnceDisk + Drop> {
+    pub(crate) alloc: Global,
+    pub(crate) tx: Tx<E>,
+    pub(crate) shelf: Shelf<O>,
+    pub(crate) settings: Settings,
+    pub(crate) head: Head,
+    pub(crate) sequencer: Sequencer,
+    ghost some: { 1 ≤ settings.collectors },
+    ghost few: { settings.collectors ≤ 16 },
+    ghost lanes: { length head.lanes ≡ settings.collectors },
+    ghost numbers: { length sequencer ≡ settings.collectors },
+    ghost homes: { 0 < home_pages (journal_of (pool_of tx)) },
+}
+
+impl<E: EraseDisk + Drop, O: OnceDisk + Drop> Archive<E, O> {
+    ghost use Rattle.disk_archive.specs.Archives.{Holds, IsHonest, erase_of, once_of, once_state, pen_in, settings_of};
+
+    /// How many collectors there are, 1 to 16. Their numbers begin with 0.
+    pub fn collectors(&self) -> u8
+        ensures settings { result ≡ (settings_of self.now).collectors }
+        ensures count { IsHonest self.now → (h : History) → Holds self.now h → length h.intakes ≡ result }
+        ensures some { 1 ≤ result }
+        ensures few { result ≤ 16 }
+    {
+        self.settings.collectors
+    }
+
+    /// How many pages the ring of each collector has.
+    pub fn ring(&self) -> u16
+        ensures settings { result ≡ (settings_of self.now).ring }
+    {
+        self.settings.ring
+    }
+
+    /// The settled watermark: a question of a moment below it is answered. An archive that must be opened again tells that of before
+    /// the call that failed.
+    pub fn settled(&self) -> Mark
+        ensures settled { IsHonest self.now → (h : History) → Holds self.now h → result ≡ settled h }
+    {
+        self.sequencer.settled()
+    }
+
+    /// Where the collector goes on. An archive that must be opened again tells that of before the call that failed.
+    pub fn resume(&self, collector: u8) -> Resume
+        requires collector { collector < (settings_of self.now).collectors }
+        ensures resume { IsHonest self.now → (h : History) → Holds self.now h → slice_get (map resume_of h.intakes) collector ≡ Some result }
+    {
+        let lane = lane_of(&self.head, collector);
+        Resume {
+            offered: lane.offered,
+            admitted: lane.admitted,
+            mark: lane.mark,
+        }
+    }
+
+    /// What a reader of blocks may know from now on: those that are settled.
+    pub fn seen(&mut self) -> Result<O::Seen, Fault>
+        ensures seen { IsHonest self.old → IfOk result (λ seen. O.honest_seen (once_of self.old) seen) }
+        ensures known { IsHonest self.old → IfOk result (λ seen. O.known seen ≡ (once_state self.old).settled) }
+        ensures fresh { IfOk result (λ seen. O.seen_fault_count seen ≡ 0) }
+        ensures counts { Counts (O.pen_fault_count (pen_in self.old)) (O.pen_fault_count (pen_in self.new)) result }
+        ensures holds { (h : History) → Holds self.old h → Holds self.new h }
+    {
+        self.shelf.seen()
+    }
+
+    /// Gives both disks up.
+    pub fn into_disks(self) -> (E, Arc<O>, O::Pen)
+        ensures erase { result.0 ≡ erase_of self }
+        ensures once { result.1.value ≡ once_of self }
+        ensures pen { result.2 ≡ pen_in self }
+    {
+        let Archive { tx, shelf, .. } = self;
+        let (once, pen) = shelf.into_disk();
+        (tx.into_pool().into_disk(), once, pen)
+    }
+}

@@ -1,0 +1,91 @@
+//! How a transaction is committed: the one place where a call of an archive writes to the erasable disk. It is given no shelf, so
+//! that whatever a call burns is settled before.
+
+ghost use Rattle.std.specs.Prelude.{◌≡◌, ◌≢◌, ◌<◌, ◌⊎◌, ℕ, List, [], OnOk, OnErr, IfOk, IfErr, IsErrOf, Err, true, false};
+ghost use Rattle.disk_models.specs.Erase.{Leaves};
+ghost use Rattle.page_journal.specs.Calls.{SameJournal};
+ghost use Rattle.page_journal.specs.Journal.{closed_slots, disk_of, home_pages, needs_recovery, note_of};
+ghost use Rattle.page_journal.specs.Recovers.{Recovers, RecoversEither};
+ghost use Rattle.page_journal.specs.Refusals.{UseRefusal};
+ghost use Rattle.buffer_pool.specs.Pool.{Maps, journal_of};
+ghost use Rattle.page_tx.specs.Start.{Start};
+ghost use Rattle.page_tx.specs.Tx.{Shows, named_pages, pool_of};
+ghost use Rattle.disk_archive.specs.inner.Committing.{CommitRefusal};
+
+use crate::error::{CommitError, NeedsRecovery};
+use disk_models::EraseDisk;
+use page_journal::{PostError, UseError};
+use page_tx::Tx;
+
+// Why a post was refused that has a closed slot.
+fn refusal(error: PostError) -> CommitError
+    requires few { error ≢ PostError.TooManyImages }
+    requires room { error ≢ PostError.JournalFull }
+    ensures fault { (result ≡ CommitError.Fault) → (error ≡ PostError.Fault) }
+    ensures recovery { (result ≡ CommitError.NeedsRecovery) → (error ≡ PostError.NeedsRecovery) }
+    ensures memory { (result ≡ CommitError.OutOfMemory) → (error ≡ PostError.OutOfMemory) }
+{
+    match error {
+        PostError::Fault => CommitError::Fault,
+        PostError::NeedsRecovery => CommitError::NeedsRecovery,
+        PostError::OutOfMemory => CommitError::OutOfMemory,
+        PostError::TooManyImages | PostError::JournalFull => unreachable!(),
+    }
+}
+
+// Sees to it that a slot of the journal is closed.
+fn make_room<E: EraseDisk + Drop>(tx: &mut Tx<E>) -> Result<(), UseError>
+    ensures crash { (start : Start) (shown : List (List ℕ)) → Shows E.EraseDisk tx.old start shown
+        → Leaves (E.model (disk_of (journal_of (pool_of tx.old)))) (E.model (disk_of (journal_of (pool_of tx.new)))) (λ c. Recovers (home_pages (journal_of (pool_of tx.old))) start.note c start.pages) }
+    ensures shown { (start : Start) (shown : List (List ℕ)) → Shows E.EraseDisk tx.old start shown → needs_recovery (journal_of (pool_of tx.new)) ≡ false
+        → (clock : ℕ) × Shows E.EraseDisk tx.new (record { note = start.note; pages = start.pages; clock = clock }) shown }
+    ensures kept { (start : Start) (shown : List (List ℕ)) → Shows E.EraseDisk tx.old start shown
+        → OnOk result ((clock : ℕ) × Shows E.EraseDisk tx.new (record { note = start.note; pages = start.pages; clock = clock }) shown) }
+    ensures down { OnOk result (needs_recovery (journal_of (pool_of tx.new)) ≡ needs_recovery (journal_of (pool_of tx.old))) }
+    ensures room { OnOk result (0 < closed_slots (journal_of (pool_of tx.new))) }
+    ensures refused { IfErr result (UseRefusal (needs_recovery (journal_of (pool_of tx.old)))) }
+    ensures unchanged { IsErrOf result UseError.NeedsRecovery → pool_of tx.new ≡ pool_of tx.old }
+    ensures named { named_pages tx.new ≡ named_pages tx.old }
+    ensures journal { SameJournal E.EraseDisk (journal_of (pool_of tx.old)) (journal_of (pool_of tx.new)) (IsErrOf result UseError.Fault) }
+{
+    if tx.pool().closed() > 0 {
+        return Ok(());
+    }
+    tx.checkpoint()
+}
+
+/// Makes the pages that are shown those of the pool, all of them or none. Where no slot of the journal is closed, a checkpoint
+/// comes first. After a refusal the pages are those of the start, or the archive must be opened again.
+pub(crate) fn commit<E: EraseDisk + Drop>(tx: &mut Tx<E>) -> Result<(), CommitError>
+    ensures crash { (start : Start) (shown : List (List ℕ)) → Shows E.EraseDisk tx.old start shown
+        → Leaves (E.model (disk_of (journal_of (pool_of tx.old)))) (E.model (disk_of (journal_of (pool_of tx.new)))) (RecoversEither (home_pages (journal_of (pool_of tx.old))) start.note start.pages shown) }
+    ensures ok { (start : Start) (shown : List (List ℕ)) → Shows E.EraseDisk tx.old start shown → OnOk result (Maps E.EraseDisk (pool_of tx.new) shown) }
+    ensures err { (start : Start) (shown : List (List ℕ)) → Shows E.EraseDisk tx.old start shown → OnErr result ((needs_recovery (journal_of (pool_of tx.new)) ≡ true) ⊎ Maps E.EraseDisk (pool_of tx.new) start.pages) }
+    ensures refused { IfErr result (CommitRefusal (needs_recovery (journal_of (pool_of tx.old)))) }
+    ensures journal { SameJournal E.EraseDisk (journal_of (pool_of tx.old)) (journal_of (pool_of tx.new)) (IsErrOf result CommitError.Fault) }
+{
+    make_room(tx)?;
+    match tx.commit() {
+        Ok(()) => Ok(()),
+        Err(error) => Err(refusal(error)),
+    }
+}
+
+/// Begins a transaction without an image, where the archive needn't be opened again. To commit no image does nothing, and tells.
+pub(crate) fn begin<E: EraseDisk + Drop>(tx: &mut Tx<E>) -> Result<(), NeedsRecovery>
+    ensures shown { OnOk result (E.honest (disk_of (journal_of (pool_of tx.old))) → (pages : List (List ℕ)) → Maps E.EraseDisk (pool_of tx.old) pages
+        → Shows E.EraseDisk tx.new (record { note = note_of (journal_of (pool_of tx.old)); pages = pages; clock = (E.model (disk_of (journal_of (pool_of tx.old)))).clock }) pages) }
+    ensures down { OnErr result (needs_recovery (journal_of (pool_of tx.old)) ≡ true) }
+    ensures usable { OnOk result (needs_recovery (journal_of (pool_of tx.old)) ≡ false) }
+    ensures named { named_pages tx.new ≡ [] }
+    ensures same { journal_of (pool_of tx.new) ≡ journal_of (pool_of tx.old) }
+{
+    tx.begin(0);
+    match tx.commit() {
+        Ok(()) => {
+            tx.begin(0);
+            Ok(())
+        }
+        Err(_) => Err(NeedsRecovery),
+    }
+}

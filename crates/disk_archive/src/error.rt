@@ -1,0 +1,95 @@
+//! Why the calls of an archive refuse.
+
+ghost use Rattle.std.specs.Prelude.{◌≡◌};
+ghost use Rattle.disk_archive.specs.declared.error.AdmitError.TheVariants as admits;
+
+use page_journal::UseError;
+use std::alloc::AllocError;
+use thiserror::Error;
+
+/// An earlier write or sync failed, and the archive wasn't opened again since.
+#[derive(Clone, Copy, Debug, PartialEq, Eq)]
+pub(crate) struct NeedsRecovery;
+
+/// Why a transaction isn't committed.
+#[derive(Clone, Copy, Debug, PartialEq, Eq)]
+pub(crate) enum CommitError {
+    /// A device failed. The archive must be opened again, or nothing was written.
+    Fault,
+    /// An earlier write or sync failed, and the archive wasn't opened again since.
+    NeedsRecovery,
+    /// A growth was refused, before anything was written.
+    OutOfMemory,
+}
+
+impl From<UseError> for CommitError {
+    ghost use Rattle.disk_archive.specs.inner.Committing.{of_use};
+
+    ghost from_gives = { λ refusal e. e ≡ of_use refusal };
+
+    fn from(refusal: UseError) -> Self {
+        match refusal {
+            UseError::Fault => CommitError::Fault,
+            UseError::NeedsRecovery => CommitError::NeedsRecovery,
+        }
+    }
+}
+
+/// Why a batch isn't taken. The first of these that holds is told, but for a failure, and memory.
+#[derive(Clone, Copy, Debug, PartialEq, Eq, Error)]
+pub enum AdmitError {
+    /// An earlier write or sync failed, and the archive wasn't opened again since.
+    #[error("the archive must be opened again")]
+    NeedsRecovery,
+    /// The archive has no collector of this number.
+    #[error("no such collector")]
+    NoCollector,
+    /// The batch has more than [`crate::MAX_BATCH_LEN`] octets.
+    #[error("the batch has more than 262144 octets")]
+    BatchTooLarge,
+    /// So many records can't be counted.
+    #[error("the count of offered records is full")]
+    CounterFull,
+    /// The collector's ring has too few free octets.
+    #[error("the intake is full")]
+    IntakeFull,
+    /// What the home page of this number told isn't what an archive tells.
+    #[error("page {0} is damaged")]
+    BadNode(u64),
+    /// A device failed. After a write or a sync the archive must be opened again.
+    #[error("the device failed")]
+    Fault,
+    /// A growth was refused, before anything was written.
+    #[error("out of memory")]
+    OutOfMemory,
+}
+
+impl From<AllocError> for AdmitError {
+    ghost from_gives = { λ _ e. e ≡ admits.OutOfMemory };
+
+    fn from(_: AllocError) -> Self {
+        AdmitError::OutOfMemory
+    }
+}
+
+impl From<CommitError> for AdmitError {
+    ghost use Rattle.disk_archive.specs.inner.Committing.{admit_of_commit};
+
+    ghost from_gives = { λ refusal e. e ≡ admit_of_commit refusal };
+
+    fn from(refusal: CommitError) -> Self {
+        match refusal {
+            CommitError::Fault => AdmitError::Fault,
+            CommitError::NeedsRecovery => AdmitError::NeedsRecovery,
+            CommitError::OutOfMemory => AdmitError::OutOfMemory,
+        }
+    }
+}
+
+impl From<NeedsRecovery> for AdmitError {
+    ghost from_gives = { λ _ e. e ≡ admits.NeedsRecovery };
+
+    fn from(_: NeedsRecovery) -> Self {
+        AdmitError::NeedsRecovery
+    }
+}
