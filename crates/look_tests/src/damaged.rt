@@ -1,7 +1,8 @@
 //! Pages and blocks that someone damaged: each look answers, or names the one that isn't what it is to be.
-use crate::answers::{Comes, In, next_at};
+use crate::answers::{Comes, In, all_of, found_at, next_at, part_at};
 use crate::spelling::At;
-use crate::tree::{Tree, key_node, octets_of, page_with, set_page, tree_with, whole_tree};
+use crate::tree::{Tree, Turned, key_node, octets_of, page_with, set_page, tree_with, whole_tree};
+use std::alloc::Global;
 use std::test::Fail;
 use tsb_walk::NodeError;
 
@@ -24,6 +25,24 @@ fn mend(tree: &mut Tree, n: u64) -> Result<(), Fail> {
     set_page(tree, n, page)
 }
 
+// Whether the look for the next key tells this; where it is refused, the looks for the key and for its versions are, for the same reason.
+fn is_told(
+    tree: &mut Tree,
+    key: u8,
+    at: At,
+    wanted: &Result<(In, Comes), NodeError>,
+) -> Result<bool, Fail> {
+    if next_at(tree, key, at)? != *wanted {
+        return Ok(false);
+    }
+    let found = found_at(tree, key, at)?.err();
+    let part = part_at(tree, key, at)?.err();
+    Ok(match wanted {
+        Ok(_) => found.is_none() && part.is_none(),
+        Err(error) => found == Some(*error) && part == Some(*error),
+    })
+}
+
 // A page, and a key and a stamp whose way comes to it.
 const WAYS: [(u64, u8, At); 11] = [
     (1, 0, (300, 0)),
@@ -39,16 +58,20 @@ const WAYS: [(u64, u8, At); 11] = [
     (11, 16, (40, 0)),
 ];
 
-// Octets of a header: of its kind, unit, level, count and size, its low key and its high key, its start and its end.
-const HEADER: [usize; 14] = [0, 1, 2, 3, 4, 5, 6, 7, 8, 47, 87, 103, 104, 119];
+// Octets that a page's header doesn't leave free: its kind, unit, level, count and size, its low key and its high key, its start and
+// its end; and behind all entries, and at the end, where zeros stand.
+const FIXED: [usize; 21] = [
+    0, 1, 2, 3, 4, 5, 6, 7, 8, 47, 48, 87, 88, 95, 103, 104, 111, 119, 16_351, 16_352, 16_383,
+];
 
 #[test]
 fn a_page_with_a_damaged_header_is_bad(rt: HostRuntime) -> Result<(), Fail> {
     let mut tree = whole_tree(rt.alloc())?;
     for (n, key, at) in WAYS.as_slice() {
-        for octet in HEADER {
+        for octet in FIXED {
             spoil(&mut tree, *n, octet)?;
-            assert!(rt; next_at(&mut tree, *key, *at)? == Err(NodeError::BadNode(*n)));
+            assert!(rt; is_told(&mut tree, *key, *at, &Err(NodeError::BadNode(*n)))?);
+            assert!(rt; all_of(&mut tree, *key)?.err() == Some(NodeError::BadNode(*n)));
         }
         mend(&mut tree, *n)?;
         assert!(rt; next_at(&mut tree, *key, *at)?.is_ok());
@@ -56,34 +79,162 @@ fn a_page_with_a_damaged_header_is_bad(rt: HostRuntime) -> Result<(), Fail> {
     Ok(())
 }
 
-// Whether a look answers, or names what is bad where this page is damaged: the page itself, or what it leads to. Leaves lead nowhere,
-// and the first column alone leads to blocks.
-fn is_told(answer: &Result<(), NodeError>, n: u64) -> bool {
-    match answer {
-        Ok(()) => true,
-        Err(NodeError::BadNode(page)) => *page == n || n < 9,
-        Err(NodeError::Damaged(_)) => n == 6,
-        Err(_) => false,
+// A page or a block, an octet of it that is turned, a key and a stamp, and what the look for the next key tells then.
+type Told = (u64, usize, u8, At, Result<(In, Comes), NodeError>);
+
+// In the past before time 100, and in the past from there on.
+const EARLY: In = Some((0, (0, 0), Some((100, 0)), Some(8)));
+
+const LATE: In = Some((3, (100, 0), Some((200, 5)), Some(8)));
+
+// The first octet of a number turned: what it adds.
+const FAR: u64 = 72_057_594_037_927_936;
+
+fn are_told_of_pages(tree: &mut Tree, wanted: &[Told]) -> Result<bool, Fail> {
+    for (n, octet, key, at, answer) in wanted {
+        spoil(tree, *n, *octet)?;
+        if !is_told(tree, *key, *at, answer)? {
+            return Ok(false);
+        }
+        mend(tree, *n)?;
     }
+    Ok(true)
 }
 
-// Octets of entries: of a key, a stamp, a tag, a length, of numbers of pages and blocks.
-const ENTRIES: [usize; 12] = [120, 135, 136, 137, 144, 159, 161, 167, 175, 176, 178, 200];
+#[test]
+fn a_damaged_child_is_bad_or_leads_to_what_is(rt: HostRuntime) -> Result<(), Fail> {
+    let mut tree = whole_tree(rt.alloc())?;
+    let wanted: [Told; 23] = [
+        // The lowest key of the first child, and its page.
+        (1, 120, 0, (300, 0), Err(NodeError::BadNode(1))),
+        (1, 159, 0, (300, 0), Err(NodeError::BadNode(1))),
+        (1, 160, 0, (300, 0), Err(NodeError::BadNode(FAR + 2))),
+        (1, 167, 0, (300, 0), Err(NodeError::BadNode(3))),
+        (
+            1,
+            167,
+            15,
+            (30, 0),
+            Ok((None, Comes::To(15, (30, 0), Some(3)))),
+        ),
+        (2, 159, 7, (300, 0), Err(NodeError::BadNode(2))),
+        (2, 167, 7, (300, 0), Err(NodeError::BadNode(5))),
+        (2, 168, 7, (300, 0), Err(NodeError::BadNode(2))),
+        (3, 159, 15, (30, 0), Err(NodeError::BadNode(3))),
+        (3, 167, 15, (30, 0), Err(NodeError::BadNode(4))),
+        (4, 167, 0, (300, 0), Err(NodeError::BadNode(7))),
+        (
+            4,
+            167,
+            8,
+            (30, 0),
+            Ok((None, Comes::To(8, (10, 0), Some(1)))),
+        ),
+        (5, 167, 200, (40, 0), Err(NodeError::BadNode(9))),
+        // Those of the second one: the keys of both change, and neither page has them.
+        (1, 168, 15, (30, 0), Err(NodeError::BadNode(2))),
+        (1, 207, 0, (300, 0), Err(NodeError::BadNode(2))),
+        (1, 207, 14, (20, 0), Err(NodeError::BadNode(3))),
+        (1, 207, 15, (30, 0), Err(NodeError::BadNode(3))),
+        (
+            1,
+            215,
+            0,
+            (300, 0),
+            Ok((None, Comes::To(3, (150, 0), Some(170)))),
+        ),
+        (1, 215, 15, (30, 0), Err(NodeError::BadNode(2))),
+        (4, 207, 8, (30, 0), Err(NodeError::BadNode(6))),
+        (4, 207, 9, (30, 0), Err(NodeError::BadNode(7))),
+        (4, 215, 8, (30, 0), Err(NodeError::BadNode(6))),
+        (4, 216, 8, (30, 0), Err(NodeError::BadNode(4))),
+    ];
+    assert!(rt; are_told_of_pages(&mut tree, wanted.as_slice())?);
+    Ok(())
+}
 
 #[test]
-fn a_page_with_a_damaged_entry_gives_an_answer_or_is_bad(rt: HostRuntime) -> Result<(), Fail> {
+fn a_damaged_column_is_bad_or_leads_to_what_is(rt: HostRuntime) -> Result<(), Fail> {
     let mut tree = whole_tree(rt.alloc())?;
-    for (n, key, at) in WAYS.as_slice() {
-        for octet in ENTRIES {
-            spoil(&mut tree, *n, octet)?;
-            let answer = next_at(&mut tree, *key, *at)?.map(|_| ());
-            assert!(rt; is_told(&answer, *n));
-        }
-        // Behind the entries, and in the last octets, nothing but zeros stands.
-        for octet in [16_351, 16_352, 16_383] {
-            spoil(&mut tree, *n, octet)?;
-            assert!(rt; next_at(&mut tree, *key, *at)? == Err(NodeError::BadNode(*n)));
-        }
+    let early = Ok((EARLY, Comes::To(3, (1, 0), Some(160))));
+    let now = Ok((None, Comes::To(3, (150, 0), Some(170))));
+    let wanted: [Told; 29] = [
+        // The first part: its start, its kind and its number.
+        (6, 127, 0, (300, 0), Err(NodeError::BadNode(6))),
+        (6, 135, 0, (300, 0), Err(NodeError::BadNode(6))),
+        (6, 136, 0, (300, 0), Err(NodeError::BadNode(6))),
+        (6, 137, 0, (1, 0), Err(NodeError::Damaged(FAR))),
+        (6, 144, 0, (1, 0), Err(NodeError::Damaged(1))),
+        (6, 144, 0, (300, 0), now),
+        // The second part: where it starts the first one ends.
+        (6, 152, 0, (1, 0), Err(NodeError::Damaged(0))),
+        (6, 152, 0, (100, 0), Err(NodeError::Damaged(0))),
+        (6, 152, 0, (101, 0), Err(NodeError::Damaged(3))),
+        (6, 160, 0, (100, 0), Err(NodeError::Damaged(0))),
+        (6, 160, 0, (100, 1), Err(NodeError::Damaged(3))),
+        (6, 161, 0, (1, 0), Err(NodeError::BadNode(6))),
+        (6, 169, 0, (100, 0), Err(NodeError::Damaged(2))),
+        (6, 169, 0, (1, 0), early),
+        // The current leaf: where it starts the second part ends.
+        (6, 177, 0, (1, 0), early),
+        (6, 177, 0, (200, 5), Err(NodeError::Damaged(3))),
+        (6, 177, 0, (201, 5), Err(NodeError::BadNode(9))),
+        (6, 185, 0, (150, 0), Err(NodeError::Damaged(3))),
+        (6, 185, 0, (200, 4), Err(NodeError::BadNode(9))),
+        (6, 186, 0, (1, 0), Err(NodeError::BadNode(6))),
+        (6, 194, 0, (1, 0), early),
+        (6, 194, 0, (300, 0), Err(NodeError::BadNode(8))),
+        (6, 195, 0, (300, 0), Err(NodeError::BadNode(6))),
+        // Columns without a past.
+        (7, 127, 14, (20, 0), Err(NodeError::BadNode(7))),
+        (7, 136, 14, (20, 0), Err(NodeError::BadNode(7))),
+        (7, 137, 14, (20, 0), Err(NodeError::BadNode(FAR + 10))),
+        (7, 144, 14, (20, 0), Err(NodeError::BadNode(11))),
+        (7, 145, 14, (20, 0), Err(NodeError::BadNode(7))),
+        (8, 144, 15, (30, 0), Err(NodeError::BadNode(10))),
+    ];
+    assert!(rt; are_told_of_pages(&mut tree, wanted.as_slice())?);
+    Ok(())
+}
+
+#[test]
+fn a_damaged_leaf_is_bad_or_has_other_versions(rt: HostRuntime) -> Result<(), Fail> {
+    let mut tree = whole_tree(rt.alloc())?;
+    let wanted: [(u64, usize, u8, At, Result<Comes, NodeError>); 25] = [
+        // The first version: its key, its stamp, its tag, its length and its value.
+        (9, 120, 0, (200, 5), Err(NodeError::BadNode(9))),
+        (9, 159, 0, (200, 5), Ok(Comes::To(2, (150, 0), Some(170)))),
+        (9, 167, 0, (200, 5), Ok(Comes::To(3, (151, 0), Some(170)))),
+        (9, 175, 0, (200, 5), Ok(Comes::To(3, (150, 1), Some(170)))),
+        (9, 176, 0, (200, 5), Err(NodeError::BadNode(9))),
+        (9, 177, 0, (200, 5), Err(NodeError::BadNode(9))),
+        (9, 178, 0, (200, 5), Err(NodeError::BadNode(9))),
+        (9, 179, 0, (200, 5), Ok(Comes::To(3, (150, 0), Some(171)))),
+        // The second one, and the third, whose stamp passes the one asked for, or falls.
+        (9, 219, 6, (300, 0), Ok(Comes::To(7, (199, 0), Some(171)))),
+        (9, 227, 6, (300, 0), Ok(Comes::To(6, (198, 0), Some(171)))),
+        (9, 287, 4, (300, 0), Ok(Comes::To(6, (199, 0), Some(171)))),
+        (9, 286, 4, (300, 0), Err(NodeError::BadNode(9))),
+        // The end of key 3: it comes later, becomes a value of no octets, or has octets.
+        (9, 347, 0, (400, 0), Ok(Comes::To(3, (150, 0), Some(170)))),
+        (9, 356, 0, (400, 0), Ok(Comes::To(3, (400, 0), None))),
+        (9, 358, 0, (400, 0), Err(NodeError::BadNode(9))),
+        (9, 359, 0, (400, 0), Err(NodeError::BadNode(9))),
+        // Other leaves.
+        (10, 159, 8, (10, 0), Ok(Comes::To(9, (10, 0), Some(1)))),
+        (10, 167, 8, (10, 0), Ok(Comes::Past(15))),
+        (10, 219, 14, (20, 0), Err(NodeError::BadNode(10))),
+        (10, 279, 8, (50, 0), Ok(Comes::To(8, (10, 0), Some(1)))),
+        (10, 299, 8, (50, 0), Err(NodeError::BadNode(10))),
+        (11, 159, 15, (30, 0), Err(NodeError::BadNode(11))),
+        (11, 167, 15, (30, 0), Ok(Comes::End)),
+        (11, 219, 16, (40, 0), Ok(Comes::To(201, (40, 0), Some(4)))),
+        (11, 239, 16, (40, 0), Ok(Comes::To(200, (40, 0), Some(5)))),
+    ];
+    for (n, octet, key, at, answer) in wanted.as_slice() {
+        spoil(&mut tree, *n, *octet)?;
+        let told = (*answer).map(|comes| (None, comes));
+        assert!(rt; is_told(&mut tree, *key, *at, &told)?);
         mend(&mut tree, *n)?;
     }
     Ok(())
@@ -95,44 +246,203 @@ fn a_key_node_that_names_itself_is_bad(rt: HostRuntime) -> Result<(), Fail> {
     let mut tree = whole_tree(alloc)?;
     let page = page_with(alloc, &key_node(alloc, 2, 0, Some(15), &[(0, 4), (8, 7)])?)?;
     set_page(&mut tree, 4, page)?;
-    assert!(rt; next_at(&mut tree, 0, (300, 0))? == Err(NodeError::BadNode(4)));
+    assert!(rt; is_told(&mut tree, 0, (300, 0), &Err(NodeError::BadNode(4)))?);
     // The root too, and one that names a page that there isn't.
     let page = page_with(alloc, &key_node(alloc, 4, 0, None, &[(0, 1), (15, 200)])?)?;
     set_page(&mut tree, 1, page)?;
-    assert!(rt; next_at(&mut tree, 0, (300, 0))? == Err(NodeError::BadNode(1)));
-    assert!(rt; next_at(&mut tree, 15, (300, 0))? == Err(NodeError::BadNode(200)));
+    assert!(rt; is_told(&mut tree, 0, (300, 0), &Err(NodeError::BadNode(1)))?);
+    assert!(rt; is_told(&mut tree, 15, (300, 0), &Err(NodeError::BadNode(200)))?);
     Ok(())
 }
 
-// Whether a block is named where this one is damaged: itself, or where it is the column one that it leads to.
-fn is_named(answer: &Result<(In, Comes), NodeError>, n: u64) -> bool {
-    match answer {
-        Err(NodeError::Damaged(block)) => *block == n || n == 3,
-        _ => false,
-    }
+// A tree with an octet of a block turned, and whether its looks tell this.
+fn is_told_of_block(alloc: Global, turned: Turned, told: &Told) -> Result<bool, Fail> {
+    let mut tree = tree_with(alloc, Some(turned))?;
+    is_told(&mut tree, told.2, told.3, &told.4)
 }
 
-// Octets of a block: of its header, and of its entries.
-const BLOCK: [usize; 8] = [0, 2, 7, 47, 87, 103, 119, 159];
-
-#[test]
-fn a_block_that_is_damaged_gives_an_answer_or_is_named(rt: HostRuntime) -> Result<(), Fail> {
-    // A block, a key and a stamp whose way comes to it.
-    let ways: [(u64, u8, At); 4] = [
-        (0, 0, (1, 0)),
-        (1, 0, (100, 0)),
-        (2, 4, (199, 0)),
-        (3, 0, (200, 4)),
-    ];
-    for (n, key, at) in ways.as_slice() {
-        for octet in BLOCK {
-            let mut tree = tree_with(rt.alloc(), *n, octet)?;
-            let answer = next_at(&mut tree, *key, *at)?;
-            let named = is_named(&answer, *n);
-            assert!(rt; named || answer.is_ok());
-            // Kind, unit, level, size, start and end are always looked at; of the keys, whether they are the place's at least.
-            assert!(rt; named || (8..88).contains(&octet) || octet > 119);
+// Whether looks tell these of blocks with a digest of what they are then.
+fn are_told_of_blocks(alloc: Global, wanted: &[Told]) -> Result<bool, Fail> {
+    for told in wanted {
+        let turned = Turned {
+            block: told.0,
+            octet: told.1,
+            is_sealed: true,
+        };
+        if !is_told_of_block(alloc, turned, told)? {
+            return Ok(false);
         }
     }
+    Ok(true)
+}
+
+// Of each block, a key and a stamp whose way comes to it, and what they tell.
+const BLOCK_WAYS: [(u64, u8, At, Comes, In); 4] = [
+    (0, 0, (1, 0), Comes::To(3, (1, 0), Some(160)), EARLY),
+    (1, 0, (100, 0), Comes::To(3, (1, 0), Some(160)), LATE),
+    (2, 4, (199, 0), Comes::To(6, (199, 0), Some(171)), LATE),
+    (3, 0, (200, 4), Comes::To(3, (150, 0), Some(170)), LATE),
+];
+
+#[test]
+fn a_block_with_a_damaged_header_is_damaged(rt: HostRuntime) -> Result<(), Fail> {
+    for (n, key, at, comes, place) in BLOCK_WAYS.as_slice() {
+        // All that a header doesn't leave free, zeros behind the entries too; a block may have more keys than its place.
+        let fixed = [0, 1, 2, 3, 5, 7, 8, 47, 88, 103, 104, 119, 16_351];
+        for octet in fixed {
+            let told = (*n, octet, *key, *at, Err(NodeError::Damaged(*n)));
+            assert!(rt; are_told_of_blocks(rt.alloc(), [told].as_slice())?);
+        }
+        for octet in [48, 87] {
+            let told = (*n, octet, *key, *at, Ok((*place, *comes)));
+            assert!(rt; are_told_of_blocks(rt.alloc(), [told].as_slice())?);
+        }
+    }
+    Ok(())
+}
+
+#[test]
+fn a_block_without_its_digest_is_damaged(rt: HostRuntime) -> Result<(), Fail> {
+    for (n, key, at, _, _) in BLOCK_WAYS.as_slice() {
+        for octet in [0, 87, 159, 16_351, 16_352, 16_383] {
+            let turned = Turned {
+                block: *n,
+                octet,
+                is_sealed: false,
+            };
+            let told = (*n, octet, *key, *at, Err(NodeError::Damaged(*n)));
+            assert!(rt; is_told_of_block(rt.alloc(), turned, &told)?);
+        }
+    }
+    Ok(())
+}
+
+#[test]
+fn a_damaged_leaf_of_the_past_is_named_or_has_other_versions(rt: HostRuntime) -> Result<(), Fail> {
+    let wanted: [Told; 20] = [
+        (0, 120, 0, (1, 0), Err(NodeError::Damaged(0))),
+        (
+            0,
+            159,
+            0,
+            (1, 0),
+            Ok((EARLY, Comes::To(2, (1, 0), Some(160)))),
+        ),
+        (
+            0,
+            167,
+            0,
+            (0, 0),
+            Ok((EARLY, Comes::To(3, (0, 0), Some(160)))),
+        ),
+        (0, 175, 0, (1, 0), Ok((EARLY, Comes::Past(8)))),
+        (0, 176, 0, (1, 0), Err(NodeError::Damaged(0))),
+        (0, 178, 0, (1, 0), Err(NodeError::Damaged(0))),
+        (
+            0,
+            179,
+            0,
+            (1, 0),
+            Ok((EARLY, Comes::To(3, (1, 0), Some(161)))),
+        ),
+        (0, 227, 4, (50, 0), Ok((EARLY, Comes::Past(8)))),
+        (
+            0,
+            279,
+            4,
+            (99, 0),
+            Ok((EARLY, Comes::To(5, (50, 0), Some(161)))),
+        ),
+        (0, 296, 4, (99, 0), Ok((EARLY, Comes::To(5, (99, 0), None)))),
+        (0, 299, 4, (99, 0), Err(NodeError::Damaged(0))),
+        (
+            1,
+            167,
+            0,
+            (100, 0),
+            Ok((LATE, Comes::To(3, (0, 0), Some(160)))),
+        ),
+        (
+            1,
+            179,
+            0,
+            (100, 0),
+            Ok((LATE, Comes::To(3, (1, 0), Some(161)))),
+        ),
+        (
+            1,
+            219,
+            0,
+            (150, 0),
+            Ok((LATE, Comes::To(2, (150, 0), Some(170)))),
+        ),
+        (
+            1,
+            227,
+            0,
+            (150, 0),
+            Ok((LATE, Comes::To(3, (1, 0), Some(160)))),
+        ),
+        (1, 236, 0, (150, 0), Err(NodeError::Damaged(1))),
+        (1, 240, 0, (150, 0), Err(NodeError::Damaged(1))),
+        (
+            2,
+            219,
+            4,
+            (199, 0),
+            Ok((LATE, Comes::To(7, (199, 0), Some(171)))),
+        ),
+        (
+            2,
+            227,
+            4,
+            (199, 0),
+            Ok((LATE, Comes::To(6, (198, 0), Some(171)))),
+        ),
+        (
+            2,
+            239,
+            4,
+            (199, 0),
+            Ok((LATE, Comes::To(6, (199, 0), Some(170)))),
+        ),
+    ];
+    assert!(rt; are_told_of_blocks(rt.alloc(), wanted.as_slice())?);
+    Ok(())
+}
+
+#[test]
+fn a_damaged_column_of_the_past_is_named_or_leads_to_what_is(rt: HostRuntime) -> Result<(), Fail> {
+    let wanted: [Told; 14] = [
+        // The first part: its start, its kind and its number.
+        (3, 127, 0, (100, 0), Err(NodeError::Damaged(3))),
+        (3, 135, 0, (100, 0), Err(NodeError::Damaged(3))),
+        (3, 136, 0, (100, 0), Err(NodeError::Damaged(3))),
+        (3, 137, 0, (100, 0), Err(NodeError::Damaged(3))),
+        (3, 144, 0, (100, 0), Err(NodeError::Damaged(0))),
+        (
+            3,
+            144,
+            4,
+            (199, 0),
+            Ok((LATE, Comes::To(6, (199, 0), Some(171)))),
+        ),
+        // The second one: where it starts the first one ends. It comes to stand in the very block of the column.
+        (3, 152, 0, (100, 0), Err(NodeError::Damaged(1))),
+        (3, 152, 4, (198, 0), Err(NodeError::Damaged(2))),
+        (3, 160, 4, (199, 0), Err(NodeError::Damaged(1))),
+        (3, 161, 4, (199, 0), Err(NodeError::Damaged(3))),
+        (3, 162, 4, (199, 0), Err(NodeError::Damaged(3))),
+        (3, 169, 4, (199, 0), Err(NodeError::Damaged(3))),
+        (
+            3,
+            169,
+            0,
+            (100, 0),
+            Ok((LATE, Comes::To(3, (1, 0), Some(160)))),
+        ),
+        (3, 170, 0, (100, 0), Err(NodeError::Damaged(3))),
+    ];
+    assert!(rt; are_told_of_blocks(rt.alloc(), wanted.as_slice())?);
     Ok(())
 }

@@ -225,6 +225,14 @@ pub(crate) fn page_with(alloc: Global, octets: &[u8]) -> Result<Page, Fail> {
     Ok(page)
 }
 
+// An octet of a block of the tree that is turned: before the block gets its digest, or after.
+#[derive(Clone, Copy, Debug)]
+pub(crate) struct Turned {
+    pub block: u64,
+    pub octet: usize,
+    pub is_sealed: bool,
+}
+
 // A block that begins with these octets, with its digest.
 fn block_with(alloc: Global, octets: &[u8]) -> Result<Block, Fail> {
     let mut block = Block::new(alloc)?;
@@ -234,6 +242,18 @@ fn block_with(alloc: Global, octets: &[u8]) -> Result<Block, Fail> {
     block.put(0, octets);
     seal(&mut block);
     Ok(block)
+}
+
+fn turn(block: &mut Block, turned: &Turned) -> Result<(), Fail> {
+    if turned.octet >= 16_384 {
+        return Err(Fail::from("no octet of a block"));
+    }
+    let octets = block.octets_mut();
+    octets[turned.octet] ^= 1;
+    if turned.is_sealed {
+        seal(block);
+    }
+    Ok(())
 }
 
 // The pages of the tree, a reader of its blocks, and what is seen of them.
@@ -270,19 +290,21 @@ fn pages(alloc: Global) -> Result<Tx<MemErase>, Fail> {
     Ok(Tx::new(alloc, pool, 0))
 }
 
-// The tree, whose block of this number has an octet turned, but carries its digest. Its pages are in the pool, and no image is held.
-pub(crate) fn tree_with(alloc: Global, spoiled: u64, at: usize) -> Result<Tree, Fail> {
+// The tree, of whose blocks one has an octet turned. Its pages are in the pool, and no image is held.
+pub(crate) fn tree_with(alloc: Global, turned: Option<Turned>) -> Result<Tree, Fail> {
     let (disk, pen) = MemOnce::new(alloc, 16);
     let mut shelf = match Shelf::open(Arc::new(alloc, disk)?, pen, 0) {
         Ok(shelf) => shelf,
         Err(refused) => return Err(refused.fault.into()),
     };
     for n in 0..4u64 {
-        let mut octets = block_octets(alloc, n)?;
-        if n == spoiled && at < octets.len() {
-            octets[at] ^= 1;
+        let mut block = block_with(alloc, &block_octets(alloc, n)?)?;
+        if let Some(turned) = &turned {
+            if turned.block == n {
+                turn(&mut block, turned)?;
+            }
         }
-        shelf.append(&block_with(alloc, &octets)?)?;
+        shelf.append(&block)?;
     }
     let seen = shelf.seen()?;
     let reader = shelf.reader(alloc, 4)?;
@@ -301,5 +323,5 @@ pub(crate) fn tree_with(alloc: Global, spoiled: u64, at: usize) -> Result<Tree, 
 }
 
 pub(crate) fn whole_tree(alloc: Global) -> Result<Tree, Fail> {
-    tree_with(alloc, 99, 0)
+    tree_with(alloc, None)
 }
