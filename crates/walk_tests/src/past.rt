@@ -9,7 +9,7 @@ use route_model::Key;
 use std::alloc::Global;
 use std::sync::Arc;
 use std::test::Fail;
-use tsb_walk::{Reached, hist_find, hist_next, hist_part};
+use tsb_walk::{KeyVersions, Reached, hist_find, hist_next, hist_part};
 use version_model::{Bounds, Part, PartKind, Place, Stamp};
 
 fn key_of(last: u8) -> Key {
@@ -70,6 +70,19 @@ const BOTH: [(usize, &[u8]); 7] = [
     (169, &[1]),
 ];
 
+// Block 9, a leaf of those keys from time 0 to 258: key 7 has 170 from 7 on, and 187 from 300 on, when the leaf has long ended.
+const BEYOND: [(usize, &[u8]); 9] = [
+    (0, &[1, 0, 0, 0, 0, 2, 0, 120]),
+    (87, &[9]),
+    (110, &[1, 2]),
+    (159, &[7]),
+    (167, &[7]),
+    (176, &[1, 0, 1, 170]),
+    (219, &[7]),
+    (226, &[1, 44]),
+    (236, &[1, 0, 1, 187]),
+];
+
 // A column of one part from time 0 to 300, in a block of this kind and number.
 fn column_of(kind: &'static [u8], block: &'static [u8]) -> [(usize, &'static [u8]); 5] {
     [
@@ -102,7 +115,7 @@ fn append(
 }
 
 // The three blocks above; 3 and 4, columns in each other's chain down to them; 5 and 6, which name their own number and a higher one;
-// 7, the early leaf without a digest; 8, a column of that.
+// 7, the early leaf without a digest; 8, a column of that; 9, the leaf with a version from behind its end.
 fn past_of(alloc: Global) -> Result<Past, Fail> {
     let (disk, pen) = MemOnce::new(alloc, 16);
     let mut shelf = match Shelf::open(Arc::new(alloc, disk)?, pen, 0) {
@@ -118,6 +131,7 @@ fn past_of(alloc: Global) -> Result<Past, Fail> {
     append(alloc, &mut shelf, column_of(&[2], &[7]).as_slice())?;
     shelf.append(&block_of(alloc, EARLY.as_slice())?)?;
     append(alloc, &mut shelf, column_of(&[1], &[7]).as_slice())?;
+    append(alloc, &mut shelf, BEYOND.as_slice())?;
     let seen = shelf.seen()?;
     let reader = shelf.reader(alloc, 4)?;
     Ok(Past {
@@ -129,12 +143,17 @@ fn past_of(alloc: Global) -> Result<Past, Fail> {
 
 // A place of the keys below a high one, from time 0 to 300, in a block.
 fn place_of(kind: PartKind, block: u64, high: u8) -> Place {
+    place_until(300, kind, block, high)
+}
+
+// The same up to another time.
+fn place_until(end: u64, kind: PartKind, block: u64, high: u8) -> Place {
     Place {
         bounds: Bounds {
             low: key_of(0),
             high: Some(key_of(high)),
             start: Stamp::new(0, 0),
-            end: Some(Stamp::new(300, 0)),
+            end: Some(Stamp::new(end, 0)),
         },
         part: Part {
             start: Stamp::new(0, 0),
@@ -207,27 +226,56 @@ fn reached(
     }))
 }
 
-// How many versions of a key are told from a time on, and up to which time.
-fn told(
+// The versions of a key from a time on.
+fn part_of(
     past: &mut Past,
     place: &Place,
     key: u8,
     from: u64,
-) -> Result<Result<(usize, Option<u64>), BlockError>, Fail> {
+) -> Result<Result<KeyVersions, BlockError>, Fail> {
     let key = key_of(key);
     let stamp = Stamp::new(from, 0);
     if !lies_in(&place.bounds, key, stamp) {
         return Err(Fail::from("no point of the place"));
     }
-    let part = hist_part(
+    Ok(hist_part(
         &mut past.reader,
         &mut past.seen,
         past.alloc,
         place,
         key,
         stamp,
-    );
-    Ok(part.map(|part| (part.entries.len(), part.told.map(|end| end.time()))))
+    ))
+}
+
+// Versions: since when, and the first octet of what the key has then.
+type Versions = &'static [(u64, Option<u8>)];
+
+// Whether just these versions are told, and up to which time.
+fn tells(
+    past: &mut Past,
+    place: &Place,
+    key: u8,
+    from: u64,
+    versions: Versions,
+    end: u64,
+) -> Result<bool, Fail> {
+    let Ok(part) = part_of(past, place, key, from)? else {
+        return Ok(false);
+    };
+    Ok(
+        part.told.map(|end| end.time()) == Some(end)
+            && part.entries.len() == versions.len()
+            && part.entries.iter().zip(versions).all(|(entry, wanted)| {
+                entry.key == key_of(key)
+                    && entry.stamp.time() == wanted.0
+                    && entry
+                        .value
+                        .as_ref()
+                        .and_then(|value| value.first().copied())
+                        == wanted.1
+            }),
+    )
 }
 
 #[test]
@@ -278,18 +326,35 @@ fn the_next_key_is_found_in_the_past(rt: HostRuntime) -> Result<(), Fail> {
 fn the_versions_of_a_key_are_told_of_the_past(rt: HostRuntime) -> Result<(), Fail> {
     let mut past = past_of(rt.alloc())?;
     let place = place_of(PartKind::ColumnBlock, 4, 9);
-    // A key and a time; how many versions are told, and up to when. The copy of key 5 is none.
-    let wanted: [(u8, u64, usize, u64); 6] = [
-        (3, 0, 2, 258),
-        (3, 3, 1, 258),
-        (5, 1, 1, 258),
-        (5, 2, 0, 258),
-        (3, 258, 1, 300),
-        (5, 258, 1, 300),
+    // A key and a time; the versions that are told, and up to when. The copy of key 5 is none.
+    let wanted: [(u8, u64, Versions, u64); 9] = [
+        (3, 0, &[(2, Some(187)), (200, None)], 258),
+        (3, 2, &[(2, Some(187)), (200, None)], 258),
+        (3, 3, &[(200, None)], 258),
+        (3, 257, &[], 258),
+        (5, 1, &[(1, Some(170))], 258),
+        (5, 2, &[], 258),
+        (3, 258, &[(259, Some(204))], 300),
+        (5, 258, &[(260, None)], 300),
+        (5, 261, &[], 300),
     ];
-    for (key, from, count, end) in wanted.as_slice() {
-        assert!(rt; told(&mut past, &place, *key, *from)? == Ok((*count, Some(*end))));
+    for (key, from, versions, end) in wanted.as_slice() {
+        assert!(rt; tells(&mut past, &place, *key, *from, *versions, *end)?);
     }
+    Ok(())
+}
+
+#[test]
+fn a_version_from_behind_the_end_of_its_block_counts_for_nothing(
+    rt: HostRuntime,
+) -> Result<(), Fail> {
+    let mut past = past_of(rt.alloc())?;
+    let place = place_until(258, PartKind::LeafBlock, 9, 9);
+    assert!(rt; found(&mut past, &place, 7, 6)? == Ok(None));
+    assert!(rt; found(&mut past, &place, 7, 257)? == Ok(Some((7, Some(170)))));
+    assert!(rt; reached(&mut past, &place, 0, 257)? == Ok((Some(key_of(7)), Some(170))));
+    assert!(rt; tells(&mut past, &place, 7, 0, &[(7, Some(170))], 258)?);
+    assert!(rt; tells(&mut past, &place, 7, 8, &[], 258)?);
     Ok(())
 }
 
@@ -317,7 +382,7 @@ fn a_block_that_is_not_what_its_place_asks_is_damaged(rt: HostRuntime) -> Result
         let wanted = BlockError::Damaged(*damaged);
         assert!(rt; found(&mut past, &place, 3, 2)? == Err(wanted));
         assert!(rt; reached(&mut past, &place, 3, 2)? == Err(wanted));
-        assert!(rt; told(&mut past, &place, 3, 2)? == Err(wanted));
+        assert!(rt; part_of(&mut past, &place, 3, 2)?.err() == Some(wanted));
     }
     // Fewer keys than the block has.
     let place = place_of(PartKind::ColumnBlock, 4, 5);
