@@ -1,5 +1,5 @@
 -- Parts of a key's versions, gathered one after another.
-use Rattle.std.proofs.Common.{◌≡◌, ℕ, ◌<◌, ◌≤◌, List, [], ◌∷◌, ◌++◌, map, filter, Option, Some, None, refl, sym, ◌∙◌, ap, subst, arith}
+use Rattle.std.proofs.Common.{◌≡◌, ℕ, ◌≤◌, List, [], ◌∷◌, ◌++◌, filter, Option, refl, sym, ◌∙◌, ap, subst, arith}
 use Rattle.std.proofs.lemmas.List.{map-append}
 use Rattle.disk_models.specs.declared.once.OnceDisk.{Ghosts}
 use Rattle.once_store.specs.declared.error.BlockError.{BlockError}
@@ -9,14 +9,13 @@ use Rattle.once_store.specs.Readers.{reader_disk}
 use Rattle.version_model.specs.declared.entry.Entry.{Entry}
 use Rattle.version_model.specs.declared.part.Place.{Place}
 use Rattle.version_model.specs.Versions.{Version, IsRising}
-use Rattle.version_model.specs.Ranges.{end_or, stamp_end}
+use Rattle.version_model.specs.Ranges.{end_or}
 use Rattle.version_model.specs.Looks.{is_of, IsPart}
 use Rattle.version_model.specs.Entries.{versions_of, version_of}
 use Rattle.version_model.specs.Blocks.{BlockNode}
 use Rattle.version_model.specs.Pages.{Store}
 use Rattle.version_model.proofs.api.LooksShown.{is_of_no}
 use Rattle.version_model.proofs.api.PartsJoined.{joined}
-use Rattle.tsb_walk.specs.declared.error.NodeError.{NodeError}
 use Rattle.tsb_walk.specs.declared.error.NodeError.TheVariants as nodes
 use Rattle.tsb_walk.specs.declared.page_place.PagePlace.{PagePlace}
 use Rattle.tsb_walk.specs.Knowing.{ReadsWell, AreKnown, StandsKnown}

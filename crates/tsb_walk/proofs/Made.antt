@@ -1,12 +1,11 @@
 -- Of which parts all versions of a key are made.
-use Rattle.std.proofs.Common.{◌≡◌, ℕ, ◌++◌, ◌⊎◌, inl, inr, [], List, Option, Some, None, sym, ◌∙◌, ap, subst}
+use Rattle.std.proofs.Common.{◌≡◌, ℕ, ◌++◌, [], List, Option, Some, None, sym, ◌∙◌, ap, subst}
 use Rattle.std.proofs.lemmas.List.{map-append}
 use Rattle.version_model.specs.declared.entry.Entry.{Entry}
-use Rattle.version_model.specs.Versions.{Version}
 use Rattle.version_model.specs.Entries.{versions_of, version_of}
 use Rattle.tsb_walk.specs.declared.looks.KeyVersions.{KeyVersions}
 use Rattle.tsb_walk.specs.declared.page_place.PagePlace.{PagePlace}
-use Rattle.tsb_walk.specs.AllVersions.{IsPartOfTree, AreTold, none_told, told_on, AreAllTold, MeetsUnknown, MeetsDamage}
+use Rattle.tsb_walk.specs.AllVersions.{IsPartOfTree, AreTold, none_told, told_on, AreAllTold}
 
 -- what is said by what is known is said by what is known still
 pub by_same : (known known' : ℕ → Option (List ℕ)) (count count' : ℕ) (P : (ℕ → Option (List ℕ)) → ℕ → Type 0) → known ≡ known' → count ≡ count' → P known count → P known' count'

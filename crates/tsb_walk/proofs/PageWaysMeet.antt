@@ -1,5 +1,5 @@
 -- Two ways of a key from one page: one goes on from where the other ends, so not both end otherwise.
-use Rattle.std.proofs.Common.{◌≡◌, ℕ, zero, suc, ◌<◌, ◌≤◌, ◌⊎◌, inl, inr, List, [], ◌∷◌, ◌++◌, Option, Some, None, slice_get, refl, sym, ◌∙◌, ap, subst, arith}
+use Rattle.std.proofs.Common.{◌≡◌, ℕ, zero, suc, ◌<◌, ◌≤◌, ◌⊎◌, inl, inr, List, [], ◌∷◌, ◌++◌, Some, slice_get, refl, sym, ◌∙◌, ap, subst, arith}
 use Rattle.std.proofs.lemmas.Bool.{cases_order}
 use Rattle.std.proofs.lemmas.Option.{same_Some, none-some}
 use Rattle.std.specs.List.{AllByRecursion}
@@ -7,14 +7,14 @@ use Rattle.version_model.specs.declared.child.Child.{Child}
 use Rattle.version_model.specs.declared.part.Part.{Part}
 use Rattle.version_model.specs.declared.part.Place.{Place}
 use Rattle.version_model.specs.Versions.{Version}
-use Rattle.version_model.specs.Ranges.{Range, range_of}
+use Rattle.version_model.specs.Ranges.{Range}
 use Rattle.version_model.specs.Blocks.{start_or}
 use Rattle.version_model.specs.Pages.{Keys, PageNode, CurrentLeaf, ColumnNode, KeyNode, IsChildOf, child_keys, low_or}
 use Rattle.tsb_node.specs.Columns.{AreAscending, starts_of}
 use Rattle.tsb_node.specs.KeyNodes.{lows_of}
 use Rattle.tsb_node.specs.Views.{PageSays, says_leaf, says_column, says_key_node}
 use Rattle.tsb_walk.specs.declared.page_place.PagePlace.{PagePlace}
-use Rattle.tsb_walk.specs.Shown.{Says, HasKey, keys_at}
+use Rattle.tsb_walk.specs.Shown.{Says, keys_at}
 use Rattle.tsb_walk.specs.PageWays.{IsLower, PageWay, here, further, IsNoKeyNode, IsBadKeyNode, ComesToColumn}
 use Rattle.tsb_walk.specs.PageLooks.{InCurrentLeaf, InPastOf, IsBadLook, bad_key_node, bad_column, bad_leaf}
 use Rattle.tsb_walk.proofs.PageStanding.{says_one, high_level}

@@ -24,6 +24,7 @@ use version_model::{Place, Stamp};
 // Why a leaf in a block isn't looked into.
 fn fault_of(fault: ReadFault, block: u64) -> BlockError
     ensures damaged { (m : ℕ) → result ≡ BlockError.Damaged m → (m ≡ block) × (fault ≡ ReadFault.NotANode) }
+    ensures memory { result ≡ BlockError.OutOfMemory → fault ≡ ReadFault.Memory }
     ensures never { result ≡ BlockError.Fault → ⊥ }
 {
     match fault {
@@ -71,6 +72,8 @@ pub fn hist_next<O: OnceDisk + Drop>(
 }
 
 /// The versions of the key from the stamp on, ends included, of a place in the past: all before the end that is told.
+///
+/// It waits for nothing, and calls blocks damaged, as `hist_next` does.
 pub fn hist_part<O: OnceDisk + Drop>(
     reader: &mut ShelfReader<O>,
     seen: &mut O::Seen,
@@ -106,6 +109,8 @@ pub fn hist_part<O: OnceDisk + Drop>(
 }
 
 /// What the key has as of the stamp, by a place in the past: its value, or none where it has none or has ended.
+///
+/// It waits for nothing, and calls blocks damaged, as `hist_next` does.
 pub fn hist_find<O: OnceDisk + Drop>(
     reader: &mut ShelfReader<O>,
     seen: &mut O::Seen,

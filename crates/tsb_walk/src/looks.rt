@@ -13,7 +13,7 @@ ghost use Rattle.tsb_walk.specs.Looked.{GoesOnFrom};
 
 use route_model::Key;
 use std::alloc::Global;
-use tsb_node::{FoundVersion, ReadFault, find, next, part};
+use tsb_node::{FoundVersion, ReadFault, find, key_fits, next, part};
 use version_model::{Entry, Place, Stamp};
 
 /// A value, and the stamp from which on its key has it.
@@ -97,9 +97,10 @@ pub fn found_in(
 fn is_below(key: Key, high: Option<Key>) -> bool
     ensures { IsTrue result ↔ (key < high_or high) }
 {
+    key_fits(key);
     match high {
         Some(high) => key < high,
-        None => is_key(key),
+        None => true,
     }
 }
 
@@ -108,13 +109,6 @@ fn is_before(key: Key, from: Key) -> bool
     ensures { IsTrue result ↔ (key < from) }
 {
     key < from
-}
-
-// Each key is one.
-fn is_key(key: Key) -> bool
-    ensures { IsTrue result ↔ (key < high_or None) }
-{
-    true
 }
 
 // How far a look has come that found no value below the high key.

@@ -83,6 +83,7 @@ fn column_at<P: Pages>(
 // Why a current leaf isn't looked into.
 fn leaf_refusal(fault: ReadFault, page: u64) -> NodeError
     ensures bad { (n : ℕ) → result ≡ NodeError.BadNode n → (page ≡ n) × (fault ≡ ReadFault.NotANode) }
+    ensures memory { result ≡ NodeError.OutOfMemory → fault ≡ ReadFault.Memory }
     ensures refused { (down : Bool) → LookRefusal down result }
     ensures never { result ≡ NodeError.Fault → ⊥ }
 {

@@ -1,4 +1,4 @@
-use Rattle.std.proofs.Common.{rules, ◌≡◌, ◌∙◌, ◌<◌, ◌≤◌, suc, ap, Err, refl, arith}
+use Rattle.std.proofs.Common.{rules, ◌≡◌, ◌∙◌, suc, ap, Err, refl, arith}
 use Rattle.once_store.specs.declared.error.BlockError.TheVariants.{Damaged}
 use Rattle.version_model.specs.Ranges.{range_of, high_or}
 use Rattle.tsb_walk.specs.HistLooks.{TellsNext}

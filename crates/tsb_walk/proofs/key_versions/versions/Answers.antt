@@ -1,7 +1,6 @@
-use Rattle.std.proofs.Common.{rules, ◌≡◌, ◌<◌, ◌∙◌, inl, inr, Err, ap, refl, sym, subst, filter, ℕ, List, Option, arith}
+use Rattle.std.proofs.Common.{rules, ◌≡◌, ◌∙◌, inl, inr, Err, ap, refl, sym, subst, filter, ℕ, Option, arith}
 use Rattle.once_store.specs.Readers.{reader_disk}
-use Rattle.version_model.specs.Versions.{Version}
-use Rattle.version_model.specs.Ranges.{end_or, stamp_end}
+use Rattle.version_model.specs.Ranges.{end_or}
 use Rattle.version_model.specs.Looks.{is_of}
 use Rattle.version_model.specs.Entries.{versions_of}
 use Rattle.tsb_walk.proofs.Gathering.{known_on, none_gathered, gathered}
