@@ -1,38 +1,19 @@
 //! A tree of no version.
-use buffer_pool::Pool;
+use crate::trees::begun;
 use disk_memory::MemErase;
 use disk_models::Page;
-use page_journal::{Journal, PostError};
 use page_tx::{PageError, Pages, Tx};
 use std::alloc::Global;
-use std::num::NonZeroUsize;
 use std::test::Fail;
 use tsb_tree::{TreeError, create};
 use version_model::Stamp;
-
-// The octets of a page.
-const PAGE: u64 = 16_384;
 
 // The home pages.
 const HOMES: u64 = 40;
 
 // A transaction over home pages of which those from one on were never used.
-fn begun(alloc: Global, unused: u64) -> Result<Tx<MemErase>, Fail> {
-    let disk = MemErase::new(alloc, (265 + HOMES) * PAGE);
-    let journal = match Journal::create(alloc, disk, HOMES) {
-        Ok(journal) => journal,
-        Err(refused) => return Err(refused.error.into()),
-    };
-    let Some(capacity) = NonZeroUsize::new(4) else {
-        return Err(PostError::TooManyImages.into());
-    };
-    let Ok(pool) = Pool::new(alloc, journal, capacity) else {
-        return Err(PostError::OutOfMemory.into());
-    };
-    if unused > pool.home_pages() {
-        return Err(PostError::TooManyImages.into());
-    }
-    Ok(Tx::new(alloc, pool, unused))
+fn begun_from(alloc: Global, unused: u64) -> Result<Tx<MemErase>, Fail> {
+    begun(alloc, HOMES, 4, Vec::new(alloc), unused)
 }
 
 // Whether a page's octets are these, and zeros behind them.
@@ -72,7 +53,7 @@ fn header(alloc: Global, kind: u8, level: u8, count: u8, used: u8) -> Result<Vec
 #[test]
 fn a_column_and_its_leaf_are_set_in_the_next_two_pages(rt: HostRuntime) -> Result<(), Fail> {
     let alloc = rt.alloc();
-    let mut tx = begun(alloc, 3)?;
+    let mut tx = begun_from(alloc, 3)?;
     let place = create(&mut tx, alloc)?;
     assert_eq!(rt; place.root, 3);
     assert_eq!(rt; place.level, 1);
@@ -92,7 +73,7 @@ fn a_column_and_its_leaf_are_set_in_the_next_two_pages(rt: HostRuntime) -> Resul
 #[test]
 fn two_pages_are_needed(rt: HostRuntime) -> Result<(), Fail> {
     let alloc = rt.alloc();
-    let mut tx = begun(alloc, 39)?;
+    let mut tx = begun_from(alloc, 39)?;
     assert!(rt;
         matches!(
             create(&mut tx, alloc),
@@ -101,7 +82,7 @@ fn two_pages_are_needed(rt: HostRuntime) -> Result<(), Fail> {
     );
     assert_eq!(rt; tx.next_page(), 39);
     assert_eq!(rt; tx.images(), 0);
-    let mut tx = begun(alloc, 38)?;
+    let mut tx = begun_from(alloc, 38)?;
     assert_eq!(rt; create(&mut tx, alloc)?.root, 38);
     assert_eq!(rt; tx.next_page(), 40);
     assert!(rt;
@@ -127,7 +108,7 @@ fn fill(alloc: Global, tx: &mut Tx<MemErase>, count: u64) -> Result<(), Fail> {
 #[test]
 fn a_transaction_that_is_full_takes_neither_page(rt: HostRuntime) -> Result<(), Fail> {
     let alloc = rt.alloc();
-    let mut tx = begun(alloc, 35)?;
+    let mut tx = begun_from(alloc, 35)?;
     fill(alloc, &mut tx, 30)?;
     assert!(rt;
         matches!(
@@ -137,7 +118,7 @@ fn a_transaction_that_is_full_takes_neither_page(rt: HostRuntime) -> Result<(), 
     );
     assert_eq!(rt; tx.images(), 30);
     assert_eq!(rt; tx.next_page(), 35);
-    let mut tx = begun(alloc, 35)?;
+    let mut tx = begun_from(alloc, 35)?;
     fill(alloc, &mut tx, 29)?;
     create(&mut tx, alloc)?;
     assert_eq!(rt; tx.images(), 31);
