@@ -22,3 +22,5 @@ pub mod GrowingWhole
 pub mod Pushing
 pub mod Raising
 pub mod Insertion
+pub mod Roots
+pub mod Looks

@@ -12,3 +12,4 @@ pub mod Takers
 pub mod Read
 pub mod Raises
 pub mod Inserted
+pub mod Opened

@@ -11,7 +11,9 @@ mod growing_whole;
 mod inserting;
 mod key_nodes;
 mod layout;
+mod looking;
 mod new_root;
+mod opening;
 mod pages;
 mod planning_column;
 mod putting;
@@ -24,4 +26,6 @@ mod whole;
 
 pub use error::TreeError;
 pub use inserting::insert;
+pub use looking::Tree;
+pub use opening::open;
 pub use tree::{TreePlace, create};

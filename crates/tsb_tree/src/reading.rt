@@ -1,5 +1,5 @@
 //! Reading the nodes of a tree from its pages.
-ghost use Rattle.std.specs.Prelude.{◌≡◌, ◌<◌, ◌≤◌, ℕ, Bool, List, Some, IfOk, OnOk, IfErr, IsErrOf, slice_get};
+ghost use Rattle.std.specs.Prelude.{◌≡◌, ◌<◌, ◌≤◌, ℕ, Bool, List, Some, IfOk, OnOk, IfErr, Err, IsErrOf, slice_get};
 ghost use Rattle.page_tx.specs.declared.error.PageError.{PageError};
 ghost use Rattle.page_tx.specs.Start.{Start};
 ghost use Rattle.version_model.specs.declared.part.Part.{Part};
@@ -26,6 +26,7 @@ pub fn see<P: Pages>(pages: &mut P, n: u64) -> Result<(), TreeError>
     ensures there { OnOk result (P.resident pages.new n) }
     ensures inside { OnOk result (n < P.homes pages.old) }
     ensures honest { n < P.homes pages.old → IsHonest result }
+    ensures bad { (page : ℕ) → result ≡ Err (TreeError.BadNode page) → (page ≡ n) × (P.homes pages.old ≤ n) }
     ensures refused { IfErr result (ReadRefusal (P.down pages.old)) }
     ensures reads { ReadsAlone P.Pages pages.old pages.new result }
 {

@@ -1,0 +1,60 @@
+-- Roots of trees, by what their pages say.
+use Rattle.std.proofs.Common.{◌≡◌, ℕ, suc, ◌<◌, ◌≤◌, List, Option, Some, None, IfSome, length, slice_get, refl, sym, ◌∙◌, subst, arith}
+use Rattle.std.proofs.lemmas.Option.{same_Some, slice_get_within}
+use Rattle.version_model.specs.Versions.{Version}
+use Rattle.version_model.specs.Blocks.{BlockNode}
+use Rattle.version_model.specs.Pages.{Keys, PageNode, ColumnNode, KeyNode, Stands, column, key_node, Store, TreeStands, all_keys}
+use Rattle.tsb_node.specs.Views.{PageSays}
+use Rattle.tsb_node.proofs.api.Pages.{one_said}
+use Rattle.tsb_walk.specs.Shown.{AreShown}
+use Rattle.tsb_walk.specs.declared.error.NodeError.{NodeError}
+use Rattle.tsb_walk.specs.declared.error.NodeError.TheVariants as walks
+use Rattle.tsb_tree.specs.declared.error.TreeError.{TreeError}
+use Rattle.tsb_tree.specs.declared.error.TreeError.TheVariants as errors
+use Rattle.tsb_tree.specs.Refusals.{of_node}
+use Rattle.tsb_tree.specs.Opened.{IsRoot, is_column, is_key_node, ShowsRoot}
+
+-- octets are a root of one level at most
+pub one_root : (octets : List ℕ) (a b : ℕ) → IsRoot octets a → IsRoot octets b → a ≡ b
+one_root octets _ _ (is_column parts start current p) (is_column parts' start' current' q) = refl
+one_root octets _ _ (is_column parts start current p) (is_key_node level children q) = absurd (let e = one_said octets (ColumnNode all_keys parts start current) (KeyNode level all_keys children) p q in cc)
+one_root octets _ _ (is_key_node level children p) (is_column parts start current q) = absurd (let e = one_said octets (KeyNode level all_keys children) (ColumnNode all_keys parts start current) p q in cc)
+one_root octets _ _ (is_key_node level children p) (is_key_node level' children' q) =
+    let e = one_said octets (KeyNode level all_keys children) (KeyNode level' all_keys children') p q in
+    let l : level ≡ level' = cc in l
+
+-- the page is a root of one level at most
+pub level_is : (shown : List (List ℕ)) (root : ℕ) (octets : List ℕ) (a b : ℕ) → slice_get shown root ≡ Some octets → IsRoot octets a → ShowsRoot shown root b → a ≡ b
+level_is shown root octets a b at is other = one_root octets a b is (subst (λ (o : List ℕ). IsRoot o b) (same_Some _ _ (sym other.1 ∙ at)) other.2)
+
+pub root_here : (shown : List (List ℕ)) (root : ℕ) (octets : List ℕ) (level : ℕ) → slice_get shown root ≡ Some octets → ShowsRoot shown root level → IsRoot octets level
+root_here shown root octets level at other = subst (λ (o : List ℕ). IsRoot o level) (same_Some _ _ (sym other.1 ∙ at)) other.2
+
+pub root_inside : (shown : List (List ℕ)) (root level : ℕ) → ShowsRoot shown root level → root < length shown
+root_inside shown root level is = slice_get_within shown root is.0 is.1
+
+stands_root : (shown : List (List ℕ)) (nodes : ℕ → Option PageNode) (limit : ℕ) (blocks : ℕ → Option BlockNode) (next : ℕ) (all : List Version) → AreShown shown nodes
+    → (level : ℕ) (k : Keys) (root : ℕ) → k ≡ all_keys → Stands nodes limit blocks next all level k root → ShowsRoot shown root level
+stands_root shown nodes limit blocks next all are _ _ _ e (column k page c) =
+    let says = are page (ColumnNode k c.parts c.start c.current) c.at in
+    (says.octets, says.at, is_column c.parts c.start c.current (subst (λ (x : Keys). PageSays says.octets (ColumnNode x c.parts c.start c.current)) e says.says))
+stands_root shown nodes limit blocks next all are _ _ _ e (key_node level k page children in_limit at follow stand) =
+    let says = are page (KeyNode (suc level) k children) at in
+    (says.octets, says.at, is_key_node (suc level) children (subst (λ (x : Keys). PageSays says.octets (KeyNode (suc level) x children)) e says.says))
+
+-- the root of a tree that stands is a root of its level
+pub tree_root : (shown : List (List ℕ)) (s : Store) (all : List Version) (root level : ℕ) → AreShown shown s.nodes → TreeStands s all root level → ShowsRoot shown root level
+tree_root shown s all root level are tree = stands_root shown s.nodes s.limit s.blocks s.next all are level all_keys root refl tree.stands
+
+pub some_map : (P Q : ℕ → Type 0) (r : Option ℕ) → ((x : ℕ) → P x → Q x) → IfSome r P → IfSome r Q
+some_map P Q None f h = tt
+some_map P Q (Some x) f h = f x h
+
+-- a page that the tree calls bad is one that the walk does
+pub bad_from : (r : NodeError) (e : TreeError) (page : ℕ) → e ≡ of_node r → e ≡ errors.BadNode page → r ≡ walks.BadNode page
+bad_from (walks.BadNode n) e page is bad = (let same : errors.BadNode n ≡ errors.BadNode page = sym is ∙ bad in cc)
+bad_from (walks.Damaged n) e page is bad = absurd (let same : errors.Damaged n ≡ errors.BadNode page = sym is ∙ bad in cc)
+bad_from walks.Fault e page is bad = absurd (let same = sym is ∙ bad in cc)
+bad_from walks.OnceFault e page is bad = absurd (let same = sym is ∙ bad in cc)
+bad_from walks.NeedsRecovery e page is bad = absurd (let same = sym is ∙ bad in cc)
+bad_from walks.OutOfMemory e page is bad = absurd (let same = sym is ∙ bad in cc)
