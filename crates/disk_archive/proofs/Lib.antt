@@ -2,4 +2,8 @@ mod Mirroring
 mod Crossing
 mod Outcomes
 mod Telling
+mod Calling
+mod Lasting
+mod BatchSizes
+mod Plans
 pub mod api

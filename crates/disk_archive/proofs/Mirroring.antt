@@ -151,3 +151,8 @@ mirror_marked lanes new h c mark m raises = record {
   marks = raises.marks ∙ (ap (λ l. slice_set l c mark) m.marks ∙ sym (marks_marked c mark h.intakes));
   times = raises.times ∙ (m.times ∙ (ap (λ k. map (map admitted_time) (parts 0 k (waiting h))) (sym (length_changed c (with_mark mark) h.intakes)) ∙ ap (λ w. map (map admitted_time) (parts 0 (length (marked h c mark).intakes) w)) (sym (waits_marked h c mark))));
 }
+
+pub mark_at : (lanes : List Waiting) (c : ℕ) → c < length lanes → (mark : ℕ) × (slice_get (marks lanes) c ≡ Some mark)
+mark_at [] c lt = absurd (omega arith)
+mark_at (w ∷ lanes) zero lt = (w.mark, refl)
+mark_at (w ∷ lanes) (suc c) lt = mark_at lanes c (omega arith)

@@ -41,3 +41,7 @@ pub commit_refused : (down : Bool) (n closed : ℕ) (e : PostError) (r : CommitE
 commit_refused down n closed e commits.Fault p f g h = let q = subst (PostRefusal down n closed) (f refl) p in q.usable
 commit_refused down n closed e commits.NeedsRecovery p f g h = subst (PostRefusal down n closed) (g refl) p
 commit_refused down n closed e commits.OutOfMemory p f g h = let q = subst (PostRefusal down n closed) (h refl) p in q.usable
+
+pub err_then : {X E : Type 0} (r : Result X E) (P Q : Type 0) → (P → Q) → OnErr r P → OnErr r Q
+err_then (Ok x) P Q f p = tt
+err_then (Err e) P Q f p = f p

@@ -2,9 +2,13 @@
 //! through crashes.
 #![tactic(auto)]
 
+mod admitting;
 mod archive;
+mod batches;
 mod committing;
 mod error;
+mod planning;
 
 pub use archive::Archive;
+pub use batches::MAX_BATCH_LEN;
 pub use error::AdmitError;

@@ -1,0 +1,72 @@
+-- What is held after a call, and what lasts.
+use Rattle.std.proofs.Common.{◌≡◌, ◌⊎◌, inl, inr, ⊎_elim, ◌≤◌, ℕ, List, Bool, true, false, refl, sym, ◌∙◌, ap, subst, arith, true≢false}
+use Rattle.disk_models.specs.declared.erase.EraseDisk.{Ghosts as EraseGhosts}
+use Rattle.disk_models.specs.declared.once.OnceDisk.{Ghosts as OnceGhosts}
+use Rattle.disk_models.specs.Erase.{DiskState, IsSound}
+use Rattle.disk_models.specs.Once.{OnceState, Grows}
+use Rattle.disk_models.specs.Left.{Left, LeftNow, TriedWithin}
+use Rattle.page_journal.specs.Journal.{disk_of as erase_disk}
+use Rattle.buffer_pool.specs.Pool.{journal_of}
+use Rattle.page_tx.specs.Tx.{pool_of}
+use Rattle.route_meaning.specs.History.{History, Begins}
+use Rattle.route_meaning.proofs.api.Beginning.{Begins-trans}
+use Rattle.disk_archive.specs.declared.archive.Archive.{Archive}
+use Rattle.disk_archive.specs.Sites.{LeftEither, LeftFrom}
+use Rattle.disk_archive.specs.Archives.{Carries, Waits, GoesOn, Holds, Stands, IsHonest, erase_state, once_of, once_state, site_of, is_down}
+use Rattle.disk_archive.specs.Crashes.{Crashes, Lasts}
+use Rattle.disk_archive.specs.inner.Idle.{IsAsBefore}
+use Rattle.disk_archive.proofs.Crossing.{no_write}
+use Rattle.disk_archive.proofs.Calling.{AllSound, grows_none}
+use Rattle.disk_archive.proofs.Telling.{waits_same}
+
+usable_of : {E O Pen Seen : Type 0} {erase : EraseGhosts E} {once : OnceGhosts O Pen Seen} (a : Archive E O Pen Seen erase once) (h : History) → Carries a h → is_down a ≡ false
+usable_of a h k = k.maps.keeps.usable
+
+-- after an Ok, which only a usable archive answers
+pub held_ok : {E O Pen Seen : Type 0} {erase : EraseGhosts E} {once : OnceGhosts O Pen Seen} (a z : Archive E O Pen Seen erase once) (h g : History) → (IsHonest z → IsHonest a) → is_down a ≡ false → (Carries a h → Carries z g) → Holds a h → Holds z g
+held_ok a z h g back usable step held honest = ⊎_elim (λ k. inl (step k)) (λ w. absurd (true≢false (sym w.unusable ∙ usable))) (held (back honest))
+
+-- after a refusal
+pub held_err : {E O Pen Seen : Type 0} {erase : EraseGhosts E} {once : OnceGhosts O Pen Seen} (a z : Archive E O Pen Seen erase once) (h : History) → (IsHonest z → IsHonest a) → (is_down a ≡ true → IsAsBefore a z) → (Carries a h → GoesOn z h) → Holds a h → Holds z h
+held_err a z h back idle step held honest = ⊎_elim (λ k. step k)
+    (λ w. let s = idle w.unusable in inr (waits_same a z h w s.journal s.disk s.state s.settings s.head s.lanes honest))
+    (held (back honest))
+
+-- A call that carries the history on or leaves it, and does nothing while the archive must be opened again.
+pub lasts_of : {E O Pen Seen : Type 0} {erase : EraseGhosts E} {once : OnceGhosts O Pen Seen} (a z : Archive E O Pen Seen erase once) (to : History → History) → ((g : History) → Begins g (to g)) → AllSound erase → (IsHonest a → IsHonest z) → (is_down a ≡ true → IsAsBefore a z)
+    → ((g : History) → Carries a g → Carries z (to g) ⊎ GoesOn z g) → ((g : History) → Carries a g → Crashes a z (LeftEither (site_of a) g (to g))) → (h : History) → Stands a h → Lasts a z h
+lasts_of {erase = erase} a z to beg sound honest idle after crash h stands =
+    let g = stands.0 in
+    ⊎_elim
+    (λ k.
+    let each = crash g k in
+    record {
+      stands = ⊎_elim (λ moved. (to g, Begins-trans h g (to g) stands.1 (beg g), inl moved)) (λ same. (g, stands.1, same)) (after g k);
+      inside = record {
+        first = each.first;
+        from = each.from;
+        to = each.to;
+        each = λ left pair. ⊎_elim (λ was. (g, stands.1, was)) (λ is. (to g, Begins-trans h g (to g) stands.1 (beg g), is)) (each.each left pair);
+      };
+    })
+    (λ w.
+    let s = idle w.unusable in
+    let e : erase_state z ≡ erase_state a = ap (λ j. erase.model (erase_disk j)) s.journal in
+    record {
+      stands = (g, stands.1, inr (waits_same a z g w s.journal s.disk s.state s.settings s.head s.lanes (honest w.honest)));
+      inside = record {
+        first = once_state a;
+        from = grows_none (once_state a);
+        to = subst (λ (o : OnceState). Grows (once_state a) o) (sym s.state) (grows_none (once_state a));
+        each = λ left pair.
+            let o = once_state a in
+            let f = w.rests left (record {
+              erase = (sound _ w.honest.0).only_now left.erase (subst (λ (x : DiskState). x.left_since (erase_state a).clock left.erase) e pair.erase);
+              tried = pair.tried;
+              within = subst (λ (x : OnceState). TriedWithin x left) s.state pair.within;
+              settled = pair.settled;
+            }) in
+            (f.0, Begins-trans h g f.0 stands.1 f.1, f.2);
+      };
+    })
+    stands.2

@@ -1,0 +1,178 @@
+use Rattle.std.proofs.Common.{rules, ◌≡◌, ◌<◌, ◌≤◌, inl, inr, ℕ, List, [], length, map, refl, sym, ◌∙◌, ap, subst, arith}
+use Rattle.std.specs.Prelude.{sum_by}
+use Rattle.disk_models.specs.Once.{OnceState}
+use Rattle.page_journal.specs.Journal.{home_pages}
+use Rattle.page_tx.specs.Start.{Start}
+use Rattle.route_model.specs.Admission.{Admitted}
+use Rattle.route_meaning.specs.History.{Intake, History}
+use Rattle.sequencer.specs.Taking.{TakesIn}
+use Rattle.interleaving_core.specs.Steps.{given}
+use Rattle.interleaving_core.proofs.api.Right.{begins_given, right_given}
+use Rattle.intake.specs.Ring.{entry_octets}
+use Rattle.disk_archive.specs.Archives.{once_state, site_of}
+use Rattle.disk_archive.proofs.BatchSizes.{octets_timely}
+use Rattle.disk_archive.proofs.Mirroring.{intake_at, mark_at, mark_there, mirror_same, mirror_given}
+use Rattle.disk_archive.proofs.Outcomes.{on_each_err}
+use Rattle.disk_archive.proofs.Calling.{Ready, start_of, grows_none, unwritten, written, kept, refused, done}
+use Rattle.disk_archive.proofs.archive.Archive.try_admit.Goals as goal
+
+pub plan_batch-requires-clause-octets : goal.plan_batch-requires-clause-octets
+plan_batch-requires-clause-octets g c =
+    let a = c.args.self.now in
+    let few = a.numbers in
+    let low = c.in_ok-may_take.ensures.collector in
+    let m = mark_at a.sequencer c.args.collector (omega (arith, few, low)) in
+    let e = (c.in_ok-kept.ensures.kept m.0 m.1).items in
+    let part = octets_timely m.0 [] c.args.batch.now in
+    let all = c.in_ok-may_take.ensures.octets in
+    subst (λ (l : List Admitted). sum_by entry_octets l ≤ 262144) (sym e) (omega (arith, part, all))
+
+pub returns-in_err-may_take-clause-err : goal.returns-in_err-may_take-clause-err
+returns-in_err-may_take-clause-err g c = on_each_err c.from_residual-in_err-may_take.result _ (λ h k.
+    let a = c.args.self.now in
+    let w = given h c.args.collector c.args.batch.now in
+    let sound = g.met.E.EraseDisk.sound in
+    let start : Start = start_of a h k in
+    let s0 = c.in_ok-begin.ensures.shown k.honest.0 k.pages k.maps in
+    let homes0 = ap home_pages c.begin.ensures.same in
+    let r : Ready a h k c.begin.new.tx k.pages = record { shows = s0; homes = homes0 } in
+    inl (kept a _ h k k.pages r refl refl refl refl (s0.honest, k.honest.1) k.mirrors))
+
+pub returns-in_err-may_take-clause-crash : goal.returns-in_err-may_take-clause-crash
+returns-in_err-may_take-clause-crash g c h k =
+    let a = c.args.self.now in
+    let w = given h c.args.collector c.args.batch.now in
+    let sound = g.met.E.EraseDisk.sound in
+    let start : Start = start_of a h k in
+    let s0 = c.in_ok-begin.ensures.shown k.honest.0 k.pages k.maps in
+    let homes0 = ap home_pages c.begin.ensures.same in
+    let r : Ready a h k c.begin.new.tx k.pages = record { shows = s0; homes = homes0 } in
+    unwritten a _ h w k k.pages sound r (grows_none (once_state a))
+
+pub returns-in_err-kept-clause-err : goal.returns-in_err-kept-clause-err
+returns-in_err-kept-clause-err g c = on_each_err c.from_residual-in_err-kept.result _ (λ h k.
+    let a = c.args.self.now in
+    let w = given h c.args.collector c.args.batch.now in
+    let sound = g.met.E.EraseDisk.sound in
+    let start : Start = start_of a h k in
+    let s0 = c.in_ok-begin.ensures.shown k.honest.0 k.pages k.maps in
+    let homes0 = ap home_pages c.begin.ensures.same in
+    let r : Ready a h k c.begin.new.tx k.pages = record { shows = s0; homes = homes0 } in
+    inl (kept a _ h k k.pages r refl refl refl refl (s0.honest, k.honest.1) (mirror_same a.sequencer c.part.new.sequencer h c.part.ensures.same k.mirrors)))
+
+pub returns-in_err-kept-clause-crash : goal.returns-in_err-kept-clause-crash
+returns-in_err-kept-clause-crash g c h k =
+    let a = c.args.self.now in
+    let w = given h c.args.collector c.args.batch.now in
+    let sound = g.met.E.EraseDisk.sound in
+    let start : Start = start_of a h k in
+    let s0 = c.in_ok-begin.ensures.shown k.honest.0 k.pages k.maps in
+    let homes0 = ap home_pages c.begin.ensures.same in
+    let r : Ready a h k c.begin.new.tx k.pages = record { shows = s0; homes = homes0 } in
+    unwritten a _ h w k k.pages sound r (grows_none (once_state a))
+
+pub returns-in_err-next-clause-err : goal.returns-in_err-next-clause-err
+returns-in_err-next-clause-err g c = on_each_err c.from_residual-in_err-next.result _ (λ h k.
+    let a = c.args.self.now in
+    let w = given h c.args.collector c.args.batch.now in
+    let sound = g.met.E.EraseDisk.sound in
+    let start : Start = start_of a h k in
+    let s0 = c.in_ok-begin.ensures.shown k.honest.0 k.pages k.maps in
+    let homes0 = ap home_pages c.begin.ensures.same in
+    let now = c.plan_batch.ensures.shown (site_of a).blocks (once_state a) start k.pages h s0 k.bears in
+    let r : Ready a h k c.plan_batch.new.pages now.0 = record { shows = now.1; homes = c.plan_batch.ensures.homes ∙ homes0 } in
+    inl (kept a _ h k now.0 r refl refl refl refl (now.1.honest, k.honest.1) (mirror_same a.sequencer c.part.new.sequencer h c.part.ensures.same k.mirrors)))
+
+pub returns-in_err-next-clause-crash : goal.returns-in_err-next-clause-crash
+returns-in_err-next-clause-crash g c h k =
+    let a = c.args.self.now in
+    let w = given h c.args.collector c.args.batch.now in
+    let sound = g.met.E.EraseDisk.sound in
+    let start : Start = start_of a h k in
+    let s0 = c.in_ok-begin.ensures.shown k.honest.0 k.pages k.maps in
+    let homes0 = ap home_pages c.begin.ensures.same in
+    let now = c.plan_batch.ensures.shown (site_of a).blocks (once_state a) start k.pages h s0 k.bears in
+    let r : Ready a h k c.plan_batch.new.pages now.0 = record { shows = now.1; homes = c.plan_batch.ensures.homes ∙ homes0 } in
+    unwritten a _ h w k now.0 sound r (grows_none (once_state a))
+
+pub returns-in_err-commit-clause-err : goal.returns-in_err-commit-clause-err
+returns-in_err-commit-clause-err g c = on_each_err c.from_residual-in_err-commit.result _ (λ h k.
+    let a = c.args.self.now in
+    let w = given h c.args.collector c.args.batch.now in
+    let sound = g.met.E.EraseDisk.sound in
+    let start : Start = start_of a h k in
+    let s0 = c.in_ok-begin.ensures.shown k.honest.0 k.pages k.maps in
+    let homes0 = ap home_pages c.begin.ensures.same in
+    let number = k.bears.number in
+    let collector = c.in_ok-may_take.ensures.collector in
+    let low : c.args.collector < length h.intakes = omega (arith, number, collector) in
+    let it = intake_at c.args.collector h.intakes low in
+    let i : Intake = it.0 in
+    let at = mark_there a.sequencer h c.args.collector i k.mirrors it.1 in
+    let plan = c.in_ok-next.ensures.planned (site_of a).blocks (once_state a) start k.pages h i c.args.batch.now s0 k.bears it.1 c.in_ok-may_take.ensures.valid (c.in_ok-kept.ensures.kept i.mark at) in
+    let r : Ready a h k c.plan_batch.new.pages plan.pages = record { shows = plan.shown; homes = c.plan_batch.ensures.homes ∙ homes0 } in
+    let l = c.commit.ensures.crash start plan.pages plan.shown in
+    refused a _ h w k c.plan_batch.new.pages plan.pages c.in_ok-next.next sound r c.commit.ensures.journal.homes c.commit.ensures.journal.note refl refl refl refl
+    (c.commit.ensures.journal.serves.honest.0 plan.shown.honest, k.honest.1) (mirror_same a.sequencer c.part.new.sequencer h c.part.ensures.same k.mirrors)
+    (begins_given h c.args.collector c.args.batch.now) plan.headed l (c.in_err-commit.ensures.err start plan.pages plan.shown))
+
+pub returns-in_err-commit-clause-crash : goal.returns-in_err-commit-clause-crash
+returns-in_err-commit-clause-crash g c h k =
+    let a = c.args.self.now in
+    let w = given h c.args.collector c.args.batch.now in
+    let sound = g.met.E.EraseDisk.sound in
+    let start : Start = start_of a h k in
+    let s0 = c.in_ok-begin.ensures.shown k.honest.0 k.pages k.maps in
+    let homes0 = ap home_pages c.begin.ensures.same in
+    let number = k.bears.number in
+    let collector = c.in_ok-may_take.ensures.collector in
+    let low : c.args.collector < length h.intakes = omega (arith, number, collector) in
+    let it = intake_at c.args.collector h.intakes low in
+    let i : Intake = it.0 in
+    let at = mark_there a.sequencer h c.args.collector i k.mirrors it.1 in
+    let plan = c.in_ok-next.ensures.planned (site_of a).blocks (once_state a) start k.pages h i c.args.batch.now s0 k.bears it.1 c.in_ok-may_take.ensures.valid (c.in_ok-kept.ensures.kept i.mark at) in
+    let r : Ready a h k c.plan_batch.new.pages plan.pages = record { shows = plan.shown; homes = c.plan_batch.ensures.homes ∙ homes0 } in
+    let l = c.commit.ensures.crash start plan.pages plan.shown in
+    written a _ h w k c.plan_batch.new.pages plan.pages c.in_ok-next.next sound r (grows_none (once_state a)) plan.headed l
+
+pub returns-clause-crash : goal.returns-clause-crash
+returns-clause-crash g c h k =
+    let a = c.args.self.now in
+    let w = given h c.args.collector c.args.batch.now in
+    let sound = g.met.E.EraseDisk.sound in
+    let start : Start = start_of a h k in
+    let s0 = c.in_ok-begin.ensures.shown k.honest.0 k.pages k.maps in
+    let homes0 = ap home_pages c.begin.ensures.same in
+    let number = k.bears.number in
+    let collector = c.in_ok-may_take.ensures.collector in
+    let low : c.args.collector < length h.intakes = omega (arith, number, collector) in
+    let it = intake_at c.args.collector h.intakes low in
+    let i : Intake = it.0 in
+    let at = mark_there a.sequencer h c.args.collector i k.mirrors it.1 in
+    let plan = c.in_ok-next.ensures.planned (site_of a).blocks (once_state a) start k.pages h i c.args.batch.now s0 k.bears it.1 c.in_ok-may_take.ensures.valid (c.in_ok-kept.ensures.kept i.mark at) in
+    let r : Ready a h k c.plan_batch.new.pages plan.pages = record { shows = plan.shown; homes = c.plan_batch.ensures.homes ∙ homes0 } in
+    let l = c.commit.ensures.crash start plan.pages plan.shown in
+    written a _ h w k c.plan_batch.new.pages plan.pages c.in_ok-next.next sound r (grows_none (once_state a)) plan.headed l
+
+pub returns-clause-ok : goal.returns-clause-ok
+returns-clause-ok g c h k =
+    let a = c.args.self.now in
+    let w = given h c.args.collector c.args.batch.now in
+    let sound = g.met.E.EraseDisk.sound in
+    let start : Start = start_of a h k in
+    let s0 = c.in_ok-begin.ensures.shown k.honest.0 k.pages k.maps in
+    let homes0 = ap home_pages c.begin.ensures.same in
+    let number = k.bears.number in
+    let collector = c.in_ok-may_take.ensures.collector in
+    let low : c.args.collector < length h.intakes = omega (arith, number, collector) in
+    let it = intake_at c.args.collector h.intakes low in
+    let i : Intake = it.0 in
+    let at = mark_there a.sequencer h c.args.collector i k.mirrors it.1 in
+    let plan = c.in_ok-next.ensures.planned (site_of a).blocks (once_state a) start k.pages h i c.args.batch.now s0 k.bears it.1 c.in_ok-may_take.ensures.valid (c.in_ok-kept.ensures.kept i.mark at) in
+    let r : Ready a h k c.plan_batch.new.pages plan.pages = record { shows = plan.shown; homes = c.plan_batch.ensures.homes ∙ homes0 } in
+    let l = c.commit.ensures.crash start plan.pages plan.shown in
+    let same : c.from.result ≡ c.args.collector = search rules in
+    let taken = subst (λ n. TakesIn c.part.new.sequencer n c.in_ok-kept.field-0.sieved c.take_in.new.self) same c.take_in.ensures.taken in
+    let mirrors = mirror_given a.sequencer c.part.new.sequencer c.take_in.new.self h c.args.collector c.args.batch.now i c.in_ok-kept.field-0.sieved k.bears.right (right_given h c.args.collector c.args.batch.now c.in_ok-may_take.ensures.valid k.bears.right) it.1 k.mirrors
+    c.part.ensures.same taken (c.in_ok-kept.ensures.sieved i.mark at) in
+    done a _ w plan.pages refl refl refl (c.commit.ensures.journal.serves.honest.0 plan.shown.honest, k.honest.1) (c.in_ok-commit.ensures.ok start plan.pages plan.shown) mirrors plan.headed

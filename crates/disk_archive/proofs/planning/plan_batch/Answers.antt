@@ -1,0 +1,63 @@
+use Rattle.std.proofs.Common.{◌≡◌, ◌<◌, ◌≤◌, ◌∙◌, ℕ, List, length, sym, ap, subst, arith, length-set}
+use Rattle.archive_head.specs.Head.{Contents}
+use Rattle.intake.specs.Calls.{AppendRefusal}
+use Rattle.archive_pages.specs.Batches.{HasLane, lane_with}
+use Rattle.archive_pages.specs.Changes.{with_lane}
+use Rattle.archive_pages.specs.Refusals.{HeadRefusal}
+use Rattle.disk_archive.proofs.Plans.{lane_at, given_shown, plan_done}
+use Rattle.disk_archive.proofs.planning.plan_batch.Goals as goal
+
+pub returns-in-Err-clause-refused : goal.returns-in-Err-clause-refused
+returns-in-Err-clause-refused g c = c.of_intake.ensures.refused _ (λ e. subst (AppendRefusal _ _ _ _) e c.in-Err.ensures.refused) (λ e. subst (AppendRefusal _ _ _ _) e c.in-Err.ensures.refused)
+
+pub put_head-requires-clause-few : goal.put_head-requires-clause-few
+put_head-requires-clause-few g c =
+    let copy = c.in_ok-next.ensures.copy in
+    let low : c.args.collector < length c.in_ok-next.next.lanes = subst (λ (x : Contents). c.args.collector < length x.lanes) (sym copy) c.requires.collector in
+    let lane = lane_at c.args.collector _ low in
+    let e = c.in_default.ensures.head lane.0 lane.1 in
+    let n : length c.give.new.head.lanes ≡ length c.args.head.now.lanes = ap (λ (x : Contents). length x.lanes) e ∙ (length-set _ c.args.collector (lane_with lane.0 c.args.batch.now) ∙ ap (λ (x : Contents). length x.lanes) copy) in
+    let few = c.requires.lanes in
+    omega (arith, n, few)
+
+pub returns-clause-lanes : goal.returns-clause-lanes
+returns-clause-lanes g c =
+    let copy = c.in_ok-next.ensures.copy in
+    let low : c.args.collector < length c.in_ok-next.next.lanes = subst (λ (x : Contents). c.args.collector < length x.lanes) (sym copy) c.requires.collector in
+    let lane = lane_at c.args.collector _ low in
+    let e = c.in_default.ensures.head lane.0 lane.1 in
+    ap (λ (x : Contents). length x.lanes) e ∙ (length-set _ c.args.collector (lane_with lane.0 c.args.batch.now) ∙ ap (λ (x : Contents). length x.lanes) copy)
+
+pub returns-in-Err-put_head-clause-shown : goal.returns-in-Err-put_head-clause-shown
+returns-in-Err-put_head-clause-shown g c count o start shown h shows b =
+    let copy = c.in_ok-next.ensures.copy in
+    let lane = lane_at c.args.collector c.args.head.now.lanes c.requires.collector in
+    let at = subst (λ (x : Contents). HasLane x c.args.collector lane.0) (sym copy) lane.1 in
+    let now = given_shown count c.args.settings o (g.P.Pages.shows c.give.new.pages start) c.args.head.now shown h c.args.collector c.args.batch.now lane.0 b lane.1
+    (λ waits holds. c.in_default.ensures.gains lane.0 at start shown waits shows holds) in
+    (now.0, c.in-Err-put_head.ensures.same start now.0 now.1)
+
+pub returns-in-Err-put_head-clause-refused : goal.returns-in-Err-put_head-clause-refused
+returns-in-Err-put_head-clause-refused g c = c.of_page.ensures.refused _ (λ e. absurd (subst (HeadRefusal _) e c.in-Err-put_head.ensures.refused)) (λ e. absurd (subst (HeadRefusal _) e c.in-Err-put_head.ensures.refused))
+
+pub returns-clause-shown : goal.returns-clause-shown
+returns-clause-shown g c count o start shown h shows b =
+    let copy = c.in_ok-next.ensures.copy in
+    let lane = lane_at c.args.collector c.args.head.now.lanes c.requires.collector in
+    let at = subst (λ (x : Contents). HasLane x c.args.collector lane.0) (sym copy) lane.1 in
+    let now = given_shown count c.args.settings o (g.P.Pages.shows c.give.new.pages start) c.args.head.now shown h c.args.collector c.args.batch.now lane.0 b lane.1
+    (λ waits holds. c.in_default.ensures.gains lane.0 at start shown waits shows holds) in
+    (_, c.in_default-put_head.ensures.written start now.0 now.1)
+
+pub returns-clause-planned : goal.returns-clause-planned
+returns-clause-planned g c count o start shown h i offered shows b here valid is =
+    let copy = c.in_ok-next.ensures.copy in
+    let lane = lane_at c.args.collector c.args.head.now.lanes c.requires.collector in
+    let at = subst (λ (x : Contents). HasLane x c.args.collector lane.0) (sym copy) lane.1 in
+    let e = c.in_default.ensures.head lane.0 at in
+    plan_done count c.args.settings o (g.P.Pages.shows c.give.new.pages start) (g.P.Pages.shows c.put_head.new.pages start) c.args.head.now c.give.new.head shown h c.args.collector offered c.args.batch.now lane.0 i b valid lane.1 here is
+    (λ waits holds. c.in_default.ensures.gains lane.0 at start shown waits shows holds)
+    (e ∙ ap (λ (x : Contents). with_lane x c.args.collector (lane_with lane.0 c.args.batch.now)) copy)
+    c.put_head.ensures.valid
+    (λ pages shown. let n = g.met.P.Pages.count c.give.new.pages start pages shown in let m = c.give.ensures.homes in let some = c.requires.some in omega (arith, n, m, some))
+    (λ pages shown. c.in_default-put_head.ensures.written start pages shown)

@@ -1,0 +1,112 @@
+//! A batch is admitted.
+
+ghost use Rattle.std.specs.Prelude.{◌≡◌, ◌≢◌, ◌<◌, ◌≤◌, ◌⊎◌, ◌↔◌, ℕ, List, length, sum_by, Some, IfOk, OnOk, OnErr, IfErr, Err, slice_get, true, false};
+ghost use Rattle.std.specs.List.{AllByRecursion};
+ghost use Rattle.route_model.specs.Admission.{IsAdmission};
+ghost use Rattle.route_meaning.specs.History.{History, Intake};
+ghost use Rattle.interleaving_core.specs.Steps.{given};
+ghost use Rattle.interleaving_core.specs.Does.{IsReply};
+ghost use Rattle.intake.specs.Ring.{entry_octets};
+ghost use Rattle.archive_head.specs.declared.lane.Lane.{Lane};
+ghost use Rattle.archive_pages.specs.Batches.{HasLane};
+
+use crate::archive::Archive;
+use crate::batches::{Parted, fits, part};
+use crate::committing::{begin, commit};
+use crate::error::AdmitError;
+use crate::planning::plan_batch;
+use archive_head::Head;
+use archive_pages::{Settings, lane_of};
+use disk_models::{EraseDisk, OnceDisk};
+use interleaving_core::{BatchReply, Receipt};
+use route_model::Admission;
+
+// Whether there is such a collector, the batch isn't too large, and its records can be counted.
+fn may_take(
+    settings: Settings,
+    head: &Head,
+    collector: u8,
+    batch: &[Admission],
+) -> Result<(), AdmitError>
+    requires lanes { length head.now.lanes ≡ settings.collectors }
+    ensures collector { OnOk result (collector < settings.collectors) }
+    ensures octets { OnOk result (sum_by entry_octets batch.now ≤ 262144) }
+    ensures valid { OnOk result (AllByRecursion IsAdmission batch.now) }
+    ensures no_collector { settings.collectors ≤ collector → result ≡ Err AdmitError.NoCollector }
+    ensures too_large { collector < settings.collectors → 262144 < sum_by entry_octets batch.now → result ≡ Err AdmitError.BatchTooLarge }
+{
+    if collector >= settings.collectors {
+        return Err(AdmitError::NoCollector);
+    }
+    if !fits(batch) {
+        return Err(AdmitError::BatchTooLarge);
+    }
+    let lane = lane_of(head, collector);
+    if lane.offered.checked_add(batch.len() as u64).is_none() {
+        return Err(AdmitError::CounterFull);
+    }
+    Ok(())
+}
+
+impl<E: EraseDisk + Drop, O: OnceDisk + Drop> Archive<E, O> {
+    ghost use Rattle.disk_archive.specs.Archives.{Carries, GoesOn, Holds, Stands, IsHonest, is_down, settings_of, site_of};
+    ghost use Rattle.disk_archive.specs.Sites.{LeftEither};
+    ghost use Rattle.disk_archive.specs.Crashes.{Crashes, Lasts};
+    ghost use Rattle.disk_archive.specs.inner.Idle.{IsAsBefore};
+
+    // Admits a batch where the archive carries a history.
+    fn try_admit(&mut self, collector: u8, batch: &[Admission]) -> Result<BatchReply, AdmitError>
+        ensures usable { OnOk result (is_down self.old ≡ false) }
+        ensures recovery { is_down self.old ≡ true → IsAsBefore self.old self.new }
+        ensures told { is_down self.old ≡ true → result ≡ Err AdmitError.NeedsRecovery }
+        ensures no_collector { is_down self.old ≡ false → (settings_of self.old).collectors ≤ collector → result ≡ Err AdmitError.NoCollector }
+        ensures too_large { is_down self.old ≡ false → collector < (settings_of self.old).collectors → 262144 < sum_by entry_octets batch.now → result ≡ Err AdmitError.BatchTooLarge }
+        ensures honest { IsHonest self.old ↔ IsHonest self.new }
+        ensures ok { OnOk result ((h : History) → Carries self.old h → Carries self.new (given h collector batch.now)) }
+        ensures err { OnErr result ((h : History) → Carries self.old h → GoesOn self.new h) }
+        ensures crash { (h : History) → Carries self.old h → Crashes self.old self.new (LeftEither (site_of self.old) h (given h collector batch.now)) }
+    {
+        begin(&mut self.tx)?;
+        may_take(self.settings, &self.head, collector, batch)?;
+        let lane = lane_of(&self.head, collector);
+        let Parted { kept, sieved } = part(self.alloc, &mut self.sequencer, collector, batch)?;
+        let next = plan_batch(
+            self.alloc,
+            &mut self.tx,
+            self.settings,
+            &self.head,
+            collector,
+            &kept,
+        )?;
+        commit(&mut self.tx)?;
+        self.head = next;
+        self.sequencer.take_in(usize::from(collector), &sieved);
+        Ok(BatchReply {
+            receipt: Receipt {
+                collector,
+                from: lane.admitted,
+                to: lane.admitted.saturating_add(kept.timely.len() as u64),
+            },
+            offered: lane.offered.saturating_add(kept.offered),
+            late: sieved.late,
+        })
+    }
+
+    /// Admits the records of a collector, in their order, but for those that come late: whose time is below the collector's mark or
+    /// below an earlier time of the batch. Each of these is told. The mark is raised to the greatest of these times.
+    ///
+    /// From an Ok on each crash leaves a history with the batch. After a refusal the archive holds the history of before; where a write
+    /// or a sync failed, it must be opened again, and the batch is then in the history whole or not at all.
+    pub fn admit(&mut self, collector: u8, batch: &[Admission]) -> Result<BatchReply, AdmitError>
+        ensures ok { OnOk result ((h : History) → Holds self.old h → Holds self.new (given h collector batch.now)) }
+        ensures err { OnErr result ((h : History) → Holds self.old h → Holds self.new h) }
+        ensures crash { (h : History) → Carries self.old h → Crashes self.old self.new (LeftEither (site_of self.old) h (given h collector batch.now)) }
+        ensures lasts { (h : History) → Stands self.old h → Lasts self.old self.new h }
+        ensures usable { OnOk result (is_down self.old ≡ false) }
+        ensures recovery { is_down self.old ≡ true → result ≡ Err AdmitError.NeedsRecovery }
+        ensures no_collector { is_down self.old ≡ false → (settings_of self.old).collectors ≤ collector → result ≡ Err AdmitError.NoCollector }
+        ensures too_large { is_down self.old ≡ false → collector < (settings_of self.old).collectors → 262144 < sum_by entry_octets batch.now → result ≡ Err AdmitError.BatchTooLarge }
+    {
+        self.try_admit(collector, batch)
+    }
+}

@@ -1,0 +1,65 @@
+//! Batches: how large one is, and what of it isn't late.
+
+ghost use Rattle.std.specs.Prelude.{◌≡◌, ◌≤◌, ◌<◌, ◌↔◌, ℕ, [], map, length, sum_by, Some, IfOk, IsTrue, slice_get};
+ghost use Rattle.std.specs.List.{AllByRecursion};
+ghost use Rattle.route_model.specs.Admission.{Admitted, IsAdmission};
+ghost use Rattle.route_meaning.specs.Holds.{admitted_time};
+ghost use Rattle.sequencer.specs.Lanes.{SameLanes, marks};
+ghost use Rattle.sequencer.specs.Taking.{IsSieved, MayTakeIn};
+ghost use Rattle.intake.specs.Ring.{entry_octets};
+ghost use Rattle.archive_pages.specs.Batches.{IsKeptOf};
+
+use archive_pages::Sifted;
+use route_model::Admission;
+use sequencer::{Sequencer, Sieved, timely_of, times_of};
+use std::alloc::{AllocError, Global};
+
+/// The most octets of a batch: for each admission the octets of its spelling, and 4 more.
+pub const MAX_BATCH_LEN: usize = 262_144;
+
+/// A batch, sifted: what is kept of it, and what the sequencer takes in.
+#[derive(Drop)]
+pub(crate) struct Parted {
+    pub(crate) kept: Sifted,
+    pub(crate) sieved: Sieved,
+}
+
+/// Whether the batch has at most [`MAX_BATCH_LEN`] octets.
+pub(crate) fn fits(batch: &[Admission]) -> bool
+    ensures octets { IsTrue result ↔ sum_by entry_octets batch.now ≤ 262144 }
+    ensures valid { IsTrue result → AllByRecursion IsAdmission batch.now }
+{
+    let mut octets: usize = 0;
+    for admission in batch {
+        let _changes = admission.changes();
+        octets += 4 + admission.encoded_len();
+        if octets > MAX_BATCH_LEN {
+            return false;
+        }
+    }
+    true
+}
+
+/// Parts what is late of a collector's batch from what isn't, and makes room for the times. Nothing is taken in yet.
+pub(crate) fn part(
+    alloc: Global,
+    sequencer: &mut Sequencer,
+    collector: u8,
+    batch: &[Admission],
+) -> Result<Parted, AllocError>
+    requires inside { collector < length sequencer.old }
+    ensures same { SameLanes sequencer.old sequencer.new }
+    ensures kept { IfOk result (λ p. (mark : ℕ) → slice_get (marks sequencer.old) collector ≡ Some mark → IsKeptOf mark batch.now p.kept) }
+    ensures sieved { IfOk result (λ p. (mark : ℕ) → slice_get (marks sequencer.old) collector ≡ Some mark → IsSieved mark (map admitted_time batch.now) p.sieved) }
+    ensures ready { IfOk result (λ p. MayTakeIn sequencer.new collector p.sieved) }
+{
+    let times = times_of(alloc, batch)?;
+    let sieved = sequencer.sieve(alloc, usize::from(collector), &times)?;
+    let timely = timely_of(alloc, batch, &sieved.late)?;
+    let kept = Sifted {
+        timely,
+        offered: batch.len() as u64,
+        mark: sieved.mark,
+    };
+    Ok(Parted { kept, sieved })
+}
