@@ -10,6 +10,8 @@ mod failing;
 #[cfg(test)]
 mod one_key;
 #[cfg(test)]
+mod opened;
+#[cfg(test)]
 mod refused;
 #[cfg(test)]
 mod trees;
