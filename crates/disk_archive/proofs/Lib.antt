@@ -6,4 +6,5 @@ mod Calling
 mod Lasting
 mod BatchSizes
 mod Plans
+mod Replies
 pub mod api

@@ -1,6 +1,6 @@
 -- By cases on what a call answers.
 use Rattle.std.proofs.Common.{◌≡◌, ◌≢◌, ◌⊎◌, inl, inr, Bool, true, false, refl, subst, Result, Ok, Err}
-use Rattle.std.specs.Prelude.{OnOk, OnErr}
+use Rattle.std.specs.Prelude.{OnOk, OnErr, IfOk}
 use Rattle.page_journal.specs.Refusals.{PostRefusal}
 use Rattle.page_journal.specs.declared.error.PostError.{PostError}
 use Rattle.page_journal.specs.declared.error.PostError.TheVariants as posts
@@ -45,3 +45,8 @@ commit_refused down n closed e commits.OutOfMemory p f g h = let q = subst (Post
 pub err_then : {X E : Type 0} (r : Result X E) (P Q : Type 0) → (P → Q) → OnErr r P → OnErr r Q
 err_then (Ok x) P Q f p = tt
 err_then (Err e) P Q f p = f p
+
+-- what is said of an Ok's value where it is known why it is one
+pub if_ok_as : {X E : Type 0} (r : Result X E) (P : Type 0) (Q : X → Type 0) → OnOk r P → (P → IfOk r Q) → IfOk r Q
+if_ok_as (Ok x) P Q p step = step p
+if_ok_as (Err e) P Q p step = tt

@@ -27,6 +27,11 @@ lane_at c [] lt = absurd (omega arith)
 lane_at zero (l ∷ lanes) lt = (l, refl)
 lane_at (suc c) (l ∷ lanes) lt = lane_at c lanes (omega arith)
 
+pub set_there : {X : Type 0} (xs : List X) (c : ℕ) (x new : X) → slice_get xs c ≡ Some x → slice_get (slice_set xs c new) c ≡ Some new
+set_there [] c x new e = cc
+set_there (y ∷ xs) zero x new e = refl
+set_there (y ∷ xs) (suc c) x new e = set_there xs c x new e
+
 -- the ring gained what is kept, so some pages are shown
 pub given_shown : (count : ℕ) (s : Settings) (o : OnceState) (shows : List (List ℕ) → Type 0) (head : Contents) (shown : List (List ℕ)) (h : History) (c : ℕ) (kept : Kept) (lane : Lane)
     → Bears (TreeLies count) s (settled_in o) head shown h → HasLane head c lane

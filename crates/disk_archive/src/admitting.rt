@@ -63,12 +63,13 @@ impl<E: EraseDisk + Drop, O: OnceDisk + Drop> Archive<E, O> {
         ensures too_large { is_down self.old ≡ false → collector < (settings_of self.old).collectors → 262144 < sum_by entry_octets batch.now → result ≡ Err AdmitError.BatchTooLarge }
         ensures honest { IsHonest self.old ↔ IsHonest self.new }
         ensures ok { OnOk result ((h : History) → Carries self.old h → Carries self.new (given h collector batch.now)) }
+        ensures reply { (h : History) → Carries self.old h → (i : Intake) → slice_get h.intakes collector ≡ Some i → IfOk result (IsReply i collector batch.now) }
         ensures err { OnErr result ((h : History) → Carries self.old h → GoesOn self.new h) }
         ensures crash { (h : History) → Carries self.old h → Crashes self.old self.new (LeftEither (site_of self.old) h (given h collector batch.now)) }
     {
         begin(&mut self.tx)?;
         may_take(self.settings, &self.head, collector, batch)?;
-        let lane = lane_of(&self.head, collector);
+        let before = lane_of(&self.head, collector);
         let Parted { kept, sieved } = part(self.alloc, &mut self.sequencer, collector, batch)?;
         let next = plan_batch(
             self.alloc,
@@ -79,15 +80,16 @@ impl<E: EraseDisk + Drop, O: OnceDisk + Drop> Archive<E, O> {
             &kept,
         )?;
         commit(&mut self.tx)?;
+        let after = lane_of(&next, collector);
         self.head = next;
         self.sequencer.take_in(usize::from(collector), &sieved);
         Ok(BatchReply {
             receipt: Receipt {
                 collector,
-                from: lane.admitted,
-                to: lane.admitted.saturating_add(kept.timely.len() as u64),
+                from: before.admitted,
+                to: after.admitted,
             },
-            offered: lane.offered.saturating_add(kept.offered),
+            offered: after.offered,
             late: sieved.late,
         })
     }
@@ -99,6 +101,7 @@ impl<E: EraseDisk + Drop, O: OnceDisk + Drop> Archive<E, O> {
     /// or a sync failed, it must be opened again, and the batch is then in the history whole or not at all.
     pub fn admit(&mut self, collector: u8, batch: &[Admission]) -> Result<BatchReply, AdmitError>
         ensures ok { OnOk result ((h : History) → Holds self.old h → Holds self.new (given h collector batch.now)) }
+        ensures reply { IsHonest self.old → (h : History) → Holds self.old h → (i : Intake) → slice_get h.intakes collector ≡ Some i → IfOk result (IsReply i collector batch.now) }
         ensures err { OnErr result ((h : History) → Holds self.old h → Holds self.new h) }
         ensures crash { (h : History) → Carries self.old h → Crashes self.old self.new (LeftEither (site_of self.old) h (given h collector batch.now)) }
         ensures lasts { (h : History) → Stands self.old h → Lasts self.old self.new h }

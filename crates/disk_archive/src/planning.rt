@@ -10,7 +10,7 @@ ghost use Rattle.route_meaning.specs.History.{History, Intake};
 ghost use Rattle.interleaving_core.specs.Steps.{given};
 ghost use Rattle.archive_head.specs.declared.lane.Lane.{Lane};
 ghost use Rattle.intake.specs.Ring.{entry_octets, octets_for, size_of};
-ghost use Rattle.archive_pages.specs.Batches.{HasLane, IsKeptOf};
+ghost use Rattle.archive_pages.specs.Batches.{HasLane, IsKeptOf, lane_with};
 ghost use Rattle.archive_pages.specs.Places.{ring_of};
 ghost use Rattle.archive_pages.specs.Carried.{Bears};
 ghost use Rattle.disk_archive.specs.Trees.{TreeLies};
@@ -73,6 +73,7 @@ pub(crate) fn plan_batch<P: Pages>(
         → Bears (TreeLies count) settings (settled_in o) head.now shown h → slice_get h.intakes collector ≡ Some i → AllByRecursion IsAdmission offered → IsKeptOf i.mark offered batch.now
         → Planned count settings (settled_in o) (P.shows pages.new start) next (given h collector offered)) }
     ensures lanes { IfOk result (λ next. length next.lanes ≡ length head.now.lanes) }
+    ensures lane { IfOk result (λ next. (lane : Lane) → HasLane head.now collector lane → HasLane next collector (lane_with lane batch.now)) }
     ensures shown { (count : ℕ) (o : OnceState) (start : Start) (shown : List (List ℕ)) (h : History) → P.shows pages.old start shown → Bears (TreeLies count) settings (settled_in o) head.now shown h
         → (now : List (List ℕ)) × P.shows pages.new start now }
     ensures full { result ≡ Err AdmitError.IntakeFull → (lane : Lane) → HasLane head.now collector lane → size_of (ring_of settings collector lane) < lane.used + octets_for batch.now.timely }

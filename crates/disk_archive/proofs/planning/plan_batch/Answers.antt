@@ -1,10 +1,10 @@
-use Rattle.std.proofs.Common.{◌≡◌, ◌<◌, ◌≤◌, ◌∙◌, ℕ, List, length, sym, ap, subst, arith, length-set}
+use Rattle.std.proofs.Common.{◌≡◌, ◌<◌, ◌≤◌, ◌∙◌, ℕ, List, length, sym, ap, subst, arith, length-set, slice_get}
 use Rattle.archive_head.specs.Head.{Contents}
 use Rattle.intake.specs.Calls.{AppendRefusal}
 use Rattle.archive_pages.specs.Batches.{HasLane, lane_with}
 use Rattle.archive_pages.specs.Changes.{with_lane}
 use Rattle.archive_pages.specs.Refusals.{HeadRefusal}
-use Rattle.disk_archive.proofs.Plans.{lane_at, given_shown, plan_done}
+use Rattle.disk_archive.proofs.Plans.{lane_at, set_there, given_shown, plan_done}
 use Rattle.disk_archive.proofs.planning.plan_batch.Goals as goal
 
 pub returns-in-Err-clause-refused : goal.returns-in-Err-clause-refused
@@ -27,6 +27,13 @@ returns-clause-lanes g c =
     let lane = lane_at c.args.collector _ low in
     let e = c.in_default.ensures.head lane.0 lane.1 in
     ap (λ (x : Contents). length x.lanes) e ∙ (length-set _ c.args.collector (lane_with lane.0 c.args.batch.now) ∙ ap (λ (x : Contents). length x.lanes) copy)
+
+pub returns-clause-lane : goal.returns-clause-lane
+returns-clause-lane g c lane at =
+    let copy = c.in_ok-next.ensures.copy in
+    let here = subst (λ (x : Contents). HasLane x c.args.collector lane) (sym copy) at in
+    let e = c.in_default.ensures.head lane here in
+    ap (λ (x : Contents). slice_get x.lanes c.args.collector) e ∙ set_there c.in_ok-next.next.lanes c.args.collector lane (lane_with lane c.args.batch.now) here
 
 pub returns-in-Err-put_head-clause-shown : goal.returns-in-Err-put_head-clause-shown
 returns-in-Err-put_head-clause-shown g c count o start shown h shows b =

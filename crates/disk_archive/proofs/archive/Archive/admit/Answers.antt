@@ -1,7 +1,7 @@
-use Rattle.std.proofs.Common.{◌≡◌, inl, inr}
+use Rattle.std.proofs.Common.{◌≡◌, inl, inr, ⊎_elim, sym, ◌∙◌, true≢false}
 use Rattle.interleaving_core.specs.Steps.{given}
 use Rattle.interleaving_core.proofs.api.Right.{begins_given}
-use Rattle.disk_archive.proofs.Outcomes.{err_then, from_result, ok_both}
+use Rattle.disk_archive.proofs.Outcomes.{err_then, from_result, ok_both, if_ok_as}
 use Rattle.disk_archive.proofs.Lasting.{held_ok, held_err, lasts_of}
 use Rattle.disk_archive.proofs.archive.Archive.admit.Goals as goal
 
@@ -25,3 +25,7 @@ returns-clause-lasts g c =
     lasts_of a z (λ h. given h c.args.collector c.args.batch.now) (λ h. begins_given h c.args.collector c.args.batch.now) g.met.E.EraseDisk.sound c.try_admit.ensures.honest.0 c.try_admit.ensures.recovery
     (λ h k. from_result c.try_admit.result _ _ _ (λ ok. inl (ok h k)) (λ err. inr (err h k)) c.try_admit.ensures.ok c.try_admit.ensures.err)
     c.try_admit.ensures.crash
+
+pub returns-clause-reply : goal.returns-clause-reply
+returns-clause-reply g c honest h held i here = if_ok_as c.try_admit.result _ _ c.try_admit.ensures.usable
+    (λ usable. ⊎_elim (λ k. c.try_admit.ensures.reply h k i here) (λ w. absurd (true≢false (sym w.unusable ∙ usable))) (held honest))

@@ -1,4 +1,4 @@
-use Rattle.std.proofs.Common.{rules, ◌≡◌, ◌<◌, ◌≤◌, inl, inr, ℕ, List, [], length, map, refl, sym, ◌∙◌, ap, subst, arith}
+use Rattle.std.proofs.Common.{rules, ◌≡◌, ◌<◌, ◌≤◌, inl, inr, ℕ, List, [], length, map, refl, sym, ◌∙◌, ap, subst, arith, slice_get}
 use Rattle.std.specs.Prelude.{sum_by}
 use Rattle.disk_models.specs.Once.{OnceState}
 use Rattle.page_journal.specs.Journal.{home_pages}
@@ -13,6 +13,8 @@ use Rattle.disk_archive.specs.Archives.{once_state, site_of}
 use Rattle.disk_archive.proofs.BatchSizes.{octets_timely}
 use Rattle.disk_archive.proofs.Mirroring.{intake_at, mark_at, mark_there, mirror_same, mirror_given}
 use Rattle.disk_archive.proofs.Outcomes.{on_each_err}
+use Rattle.sequencer.proofs.api.Setting.{one_there}
+use Rattle.disk_archive.proofs.Replies.{reply_is}
 use Rattle.disk_archive.proofs.Calling.{Ready, start_of, grows_none, unwritten, written, kept, refused, done}
 use Rattle.disk_archive.proofs.archive.Archive.try_admit.Goals as goal
 
@@ -176,3 +178,11 @@ returns-clause-ok g c h k =
     let mirrors = mirror_given a.sequencer c.part.new.sequencer c.take_in.new.self h c.args.collector c.args.batch.now i c.in_ok-kept.field-0.sieved k.bears.right (right_given h c.args.collector c.args.batch.now c.in_ok-may_take.ensures.valid k.bears.right) it.1 k.mirrors
     c.part.ensures.same taken (c.in_ok-kept.ensures.sieved i.mark at) in
     done a _ w plan.pages refl refl refl (c.commit.ensures.journal.serves.honest.0 plan.shown.honest, k.honest.1) (c.in_ok-commit.ensures.ok start plan.pages plan.shown) mirrors plan.headed
+
+pub returns-clause-reply : goal.returns-clause-reply
+returns-clause-reply g c h k i here =
+    let a = c.args.self.now in
+    let at = mark_there a.sequencer h c.args.collector i k.mirrors here in
+    let own = k.bears.lanes c.args.collector c.lane_of-before.result i c.lane_of-before.ensures.lane here in
+    let after = one_there (slice_get c.in_ok-next.next.lanes c.args.collector) c.lane_of-after.result _ c.lane_of-after.ensures.lane (c.in_ok-next.ensures.lane c.lane_of-before.result c.lane_of-before.ensures.lane) in
+    reply_is c.lane_of-before.result c.lane_of-after.result i c.args.collector c.args.batch.now _ c.in_ok-kept.field-0.sieved own.offered own.admitted (c.in_ok-kept.ensures.kept i.mark at) after (c.in_ok-kept.ensures.sieved i.mark at)
