@@ -1,2 +1,4 @@
 pub mod Catching
 pub mod Seen
+pub mod Answering
+pub mod Looking

@@ -1,4 +1,6 @@
 pub mod Steps
 pub mod Turns
+pub mod Looks
 pub mod Seeing
 pub mod Sharing
+pub mod Asking

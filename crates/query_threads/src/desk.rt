@@ -1,37 +1,39 @@
 //! What lies under the lock: the archive, and the writing seat, which knows its past.
-ghost use Rattle.std.specs.Prelude.{◌≡◌, ℕ, ◌+◌, ◌<◌, ◌≤◌, List, [], length, OnOk, IfOk, IfErr};
+ghost use Rattle.std.specs.Prelude.{◌≡◌, ℕ, ◌+◌, ◌<◌, ◌≤◌, List, [], length, Some, OnOk, IfOk, IfErr, IfSome};
 ghost use Rattle.std.specs.List.{AllByRecursion};
 ghost use Rattle.route_meaning.specs.History.{IsHistory, applied, settled};
 ghost use Rattle.interleaving_core.specs.Does.{last_moment};
 ghost use Rattle.interleaving_core.specs.Headline.{IsAnswered};
-ghost use Rattle.board.specs.Past.{Past, Among, GoesOnAs, reach};
+ghost use Rattle.board.specs.Past.{Past, GoesOnAs, reach};
 ghost use Rattle.board.specs.Views.{View, Within, Reached, IsCaughtUp, IsFrontOf, BeginsView};
 ghost use Rattle.query_threads.specs.Steps.{DoesAdmit, DoesMark, DoesApply, DoesFlush};
+ghost use Rattle.query_threads.specs.Looks.{IsErrandOn};
 ghost use Rattle.query_threads.specs.Turns.{TurnGives, IsTold};
 ghost use Rattle.query_threads.specs.Seeing.{Sees};
 
 use crate::refusal::{AdmitError, AskError, Flush, MarkError, Step, Trouble, Turn};
-use crate::store::Store;
+use crate::store::{OnDisk, Store};
 use board::{Board, Named, Pass, Target, Word, Writer};
 use interleaving_core::BatchReply;
 use route_model::{Admission, Mark};
+use std::alloc::Global;
 use std::marker::{Brand, Model};
 
 /// Contracts see what the writing seat knows.
-pub struct Desk<A: Store, N: Named> {
+pub struct Desk<A: Store, N: Named + OnDisk<A::Disk>> {
     archive: A,
     writer: Writer<N>,
 }
 
-impl<A: Store, N: Named> Model for Desk<A, N> {
-    ghost use Rattle.std.specs.Prelude.{◌≡◌, ◌+◌, length};
+impl<A: Store, N: Named + OnDisk<A::Disk>> Model for Desk<A, N> {
+    ghost use Rattle.std.specs.Prelude.{◌≡◌, ◌+◌, length, Some};
     ghost use Rattle.board.specs.Views.{View, IsCaughtUp};
 
     ghost Value = { View };
 
     ghost view = { λ d. d.writer };
 
-    ghost invariant = { λ d. A.carries d.archive d.writer.past × (N.table.words ≡ length d.writer.past.history.intakes + 1) × IsCaughtUp d.writer };
+    ghost invariant = { λ d. A.carries d.archive d.writer.past × (N.table.words ≡ length d.writer.past.history.intakes + 1) × IsCaughtUp d.writer × (N.disk ≡ Some (A.disk_of d.archive)) };
 }
 
 // Raises each word to what the past of the writing seat reaches, which the archive carries.
@@ -69,12 +71,13 @@ fn follow<X: Target, A: Store, N: Named, T>(
     catch_up(board, writer, archive);
 }
 
-impl<A: Store, N: Named> Desk<A, N> {
+impl<A: Store, N: Named + OnDisk<A::Disk>> Desk<A, N> {
     /// An archive with its writing seat, which knows its past and has raised all words.
     pub(crate) fn new(archive: A, writer: Writer<N>) -> Desk<A, N>
         requires carried { A.carries archive writer.past }
         requires words { N.table.words ≡ length writer.past.history.intakes + 1 }
         requires caught_up { IsCaughtUp writer }
+        requires disk { N.disk ≡ Some (A.disk_of archive) }
         ensures { result ≡ writer }
     {
         Desk { archive, writer }
@@ -175,7 +178,7 @@ impl<A: Store, N: Named> Desk<A, N> {
         ensures right { IsHistory pass.new.past.history }
         ensures asks { A.asks cursor.new ≡ A.asks cursor.old }
         ensures settled { OnOk result (last_moment (A.asks cursor.old) < settled pass.new.past.history) }
-        ensures gives { A.gathered cursor.old pass.new.past.history → IfOk result (λ turn. TurnGives (λ e. A.lies e.0 cursor.new pass.new.past × Among (A.known e.1) pass.new.past.blocks × Among pass.new.past.blocks (A.known e.1)) (A.gathered cursor.new pass.new.past.history) (λ answer. IsAnswered (applied pass.new.past.history) (A.asks cursor.old) answer) turn) }
+        ensures gives { A.gathered cursor.old pass.new.past.history → IfOk result (λ turn. TurnGives (λ e. IfSome N.disk (IsErrandOn (λ errand. A.lies errand cursor.new) A.honest A.block_count A.known pass.new.past e.0 e.1)) (A.gathered cursor.new pass.new.past.history) (λ answer. IsAnswered (applied pass.new.past.history) (A.asks cursor.old) answer) turn) }
         ensures told { IfErr result (λ e. IsTold e pass.new.past.history (A.asks cursor.old)) }
     {
         self.greet(board, pass);
@@ -190,10 +193,13 @@ impl<A: Store, N: Named> Desk<A, N> {
     }
 
     /// A reader of this archive's blocks, which keeps none yet.
-    pub fn reader(&self, capacity: usize) -> Result<A::Reader, Trouble>
+    pub fn reader(&self, alloc: Global, capacity: usize) -> Result<A::Reader, Trouble>
+        requires some { 1 ≤ capacity }
+        requires few { capacity ≤ 1024 }
+        ensures disk { IfOk result (λ r. N.disk ≡ Some (A.reads r)) }
         ensures empty { IfOk result (λ r. A.kept r ≡ []) }
     {
-        self.archive.reader(capacity)
+        self.archive.reader(alloc, capacity)
     }
 
     /// The archive, once the threads are done. What each of these passes knew begins its past.

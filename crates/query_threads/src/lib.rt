@@ -4,6 +4,7 @@
 
 mod desk;
 mod gate;
+pub mod laws;
 mod refusal;
 mod shared;
 mod store;
@@ -11,4 +12,4 @@ mod store;
 pub use gate::{Gate, NoGate};
 pub use refusal::{AdmitError, AskError, Flush, MarkError, Step, Trouble, Turn};
 pub use shared::{Reader, Shared};
-pub use store::Store;
+pub use store::{OnDisk, Store};

@@ -1,5 +1,5 @@
 //! An archive that threads share, behind one lock, with its board beside it.
-ghost use Rattle.std.specs.Prelude.{◌≡◌, ◌<◌, ◌≤◌, ℕ, suc, List, [], length, OnOk, IfOk, IfErr};
+ghost use Rattle.std.specs.Prelude.{◌≡◌, ◌<◌, ◌≤◌, ℕ, suc, List, [], length, Some, OnOk, IfOk, IfErr, IfSome};
 ghost use Rattle.std.specs.List.{AllByRecursion};
 ghost use Rattle.route_meaning.specs.History.{IsHistory, applied, settled};
 ghost use Rattle.interleaving_core.specs.Does.{last_moment};
@@ -8,29 +8,31 @@ ghost use Rattle.board.specs.Past.{Past, Among};
 ghost use Rattle.board.specs.Views.{View, Reached, IsCaughtUp, IsFrontOf, BeginsView, with_seen, watermark_of, durable_of};
 ghost use Rattle.board.specs.Opened.{name_of};
 ghost use Rattle.query_threads.specs.Steps.{DoesAdmit, DoesMark, DoesApply, DoesFlush};
+ghost use Rattle.query_threads.specs.Looks.{IsErrandOn};
 ghost use Rattle.query_threads.specs.Turns.{TurnGives, IsTold, IsAbove};
 ghost use Rattle.query_threads.specs.Seeing.{Sees};
 
 use crate::desk::{Desk, catch_up};
 use crate::gate::Gate;
 use crate::refusal::{AdmitError, AskError, Flush, MarkError, Step, Trouble, Turn};
-use crate::store::Store;
+use crate::store::{OnDisk, Store};
 use board::{Board, Named, Opened, Pass};
 use interleaving_core::{Answer, BatchReply, Query};
 use route_model::{Admission, Mark};
-use std::marker::{Brand, Model};
+use std::alloc::Global;
+use std::marker::{Brand, Model, PhantomData};
 use std::sync::{Mutex, Wait};
 
 /// The archive, its words, and what is told of questions. Contracts see how many collectors there are and how many pages
 /// each ring has.
-pub struct Shared<A: Store, N: Named, G: Gate + Drop> {
+pub struct Shared<A: Store, N: Named + OnDisk<A::Disk>, G: Gate + Drop> {
     desk: Mutex<Desk<A, N>>,
     board: Board<N>,
     gate: G,
     ring: u16,
 }
 
-impl<A: Store, N: Named, G: Gate + Drop> Model for Shared<A, N, G> {
+impl<A: Store, N: Named + OnDisk<A::Disk>, G: Gate + Drop> Model for Shared<A, N, G> {
     ghost use Rattle.query_threads.specs.Sharing.{Sharing};
 
     ghost Value = { Sharing };
@@ -39,29 +41,41 @@ impl<A: Store, N: Named, G: Gate + Drop> Model for Shared<A, N, G> {
 }
 
 /// Blocks of a shared archive that one pass has read. Contracts see the blocks that it keeps.
-pub struct Reader<A: Store> {
+#[derive(Drop)]
+pub struct Reader<A: Store, N: OnDisk<A::Disk>> {
+    alloc: Global,
     blocks: A::Reader,
+    of: PhantomData<N>,
 }
 
-impl<A: Store> Model for Reader<A> {
-    ghost use Rattle.std.specs.Prelude.{ℕ, List};
+impl<A: Store, N: OnDisk<A::Disk>> Model for Reader<A, N> {
+    ghost use Rattle.std.specs.Prelude.{◌≡◌, ℕ, List, Some};
 
     ghost Value = { List (ℕ × List ℕ) };
 
     ghost view = { λ r. A.kept r.blocks };
+
+    ghost invariant = { λ r. N.disk ≡ Some (A.reads r.blocks) };
 }
 
-impl<A: Store> Reader<A> {
-    /// A reader that keeps up to so many blocks, and none yet.
-    pub fn new<N: Named, G: Gate + Drop>(
+impl<A: Store, N: Named + OnDisk<A::Disk>> Reader<A, N> {
+    /// A reader that keeps up to so many blocks, 1 to 1,024, and none yet.
+    pub fn new<G: Gate + Drop>(
         rt: &impl Wait,
+        alloc: Global,
         shared: &Shared<A, N, G>,
         capacity: usize,
-    ) -> Result<Reader<A>, Trouble>
+    ) -> Result<Reader<A, N>, Trouble>
+        requires some { 1 ≤ capacity }
+        requires few { capacity ≤ 1024 }
         ensures empty { IfOk result (λ r. r ≡ []) }
     {
-        let blocks = shared.desk.lock(rt).reader(capacity)?;
-        Ok(Reader { blocks })
+        let blocks = shared.desk.lock(rt).reader(alloc, capacity)?;
+        Ok(Reader {
+            alloc,
+            blocks,
+            of: PhantomData,
+        })
     }
 
     // Reads the blocks of an errand. No lock is held.
@@ -71,20 +85,20 @@ impl<A: Store> Reader<A> {
         errand: A::Errand,
         cursor: &mut A::Cursor,
     ) -> Result<(), Trouble>
-        requires kept { Among self.old (A.known seen.old) }
-        requires stands { (p : Past) × A.lies errand cursor.old p × Among p.blocks (A.known seen.old) }
-        ensures kept { Among self.new (A.known seen.old) }
+        requires stands { (p : Past) × IfSome N.disk (IsErrandOn (λ e. A.lies e cursor.old) A.honest A.block_count A.known p errand seen.old) × Among self.old p.blocks }
+        ensures kept { (p : Past) → IfSome N.disk (IsErrandOn (λ e. A.lies e cursor.old) A.honest A.block_count A.known p errand seen.old) → Among self.old p.blocks → Among self.new p.blocks }
         ensures asks { A.asks cursor.new ≡ A.asks cursor.old }
-        ensures gathered { OnOk result ((p : Past) → A.lies errand cursor.old p → Among p.blocks (A.known seen.old) → A.gathered cursor.new p.history) }
+        ensures gathered { OnOk result ((p : Past) → IfSome N.disk (IsErrandOn (λ e. A.lies e cursor.old) A.honest A.block_count A.known p errand seen.old) → A.gathered cursor.new p.history) }
     {
-        A::finish(&mut self.blocks, seen, errand, cursor)
+        A::finish(&mut self.blocks, seen, self.alloc, errand, cursor)
     }
 }
 
-impl<A: Store, N: Named, G: Gate + Drop> Shared<A, N, G> {
-    /// Shares an archive, where this is the board named `N`. The pass knows its past.
+impl<A: Store, N: Named + OnDisk<A::Disk>, G: Gate + Drop> Shared<A, N, G> {
+    /// Shares an archive, where this is the board named `N`, and its disk the one named so. The pass knows its past.
     pub fn new(opened: Opened, archive: A, gate: G) -> (Shared<A, N, G>, Pass<N>)
         requires named { name_of opened ≡ N.table }
+        requires disk { N.disk ≡ Some (A.disk_of archive) }
         requires carried { (p : Past) × A.carries archive p × (length p.history.intakes ≡ opened.collectors) }
         ensures carried { A.carries archive result.1.past }
         ensures caught_up { IsCaughtUp result.1 }
@@ -210,7 +224,7 @@ impl<A: Store, N: Named, G: Gate + Drop> Shared<A, N, G> {
         ensures right { IsHistory pass.new.past.history }
         ensures asks { A.asks cursor.new ≡ query.now }
         ensures settled { OnOk result (last_moment query.now < settled pass.new.past.history) }
-        ensures gives { A.gathered cursor.old pass.new.past.history → IfOk result (λ turn. TurnGives (λ e. A.lies e.0 cursor.new pass.new.past × Among (A.known e.1) pass.new.past.blocks × Among pass.new.past.blocks (A.known e.1)) (A.gathered cursor.new pass.new.past.history) (λ answer. IsAnswered (applied pass.new.past.history) query.now answer) turn) }
+        ensures gives { A.gathered cursor.old pass.new.past.history → IfOk result (λ turn. TurnGives (λ e. IfSome N.disk (IsErrandOn (λ errand. A.lies errand cursor.new) A.honest A.block_count A.known pass.new.past e.0 e.1)) (A.gathered cursor.new pass.new.past.history) (λ answer. IsAnswered (applied pass.new.past.history) query.now answer) turn) }
         ensures told { IfErr result (λ e. IsTold e pass.new.past.history query.now) }
         ensures not_refused { IfErr result (λ e. IsAbove e → watermark_of pass.old ≤ last_moment query.now) }
     {
@@ -224,7 +238,7 @@ impl<A: Store, N: Named, G: Gate + Drop> Shared<A, N, G> {
         &self,
         rt: &impl Wait,
         pass: &mut Pass<N>,
-        reader: &mut Reader<A>,
+        reader: &mut Reader<A, N>,
         request: u64,
         query: Query,
     ) -> Result<Answer, AskError>
@@ -236,7 +250,7 @@ impl<A: Store, N: Named, G: Gate + Drop> Shared<A, N, G> {
         ensures told { IfErr result (λ e. IsTold e pass.new.past.history query) }
         ensures not_refused { IfErr result (λ e. IsAbove e → watermark_of pass.old ≤ last_moment query) }
     {
-        let mut cursor = A::start(&query);
+        let mut cursor = A::start(reader.alloc, &query);
         let mut untold = Some(request);
         for _ in rt.forever() {
             let turn = self.turn(rt, pass, &mut cursor, &query, &mut untold)?;
@@ -260,7 +274,7 @@ impl<A: Store, N: Named, G: Gate + Drop> Shared<A, N, G> {
         &self,
         rt: &impl Wait,
         pass: &mut Pass<N>,
-        reader: &mut Reader<A>,
+        reader: &mut Reader<A, N>,
         request: u64,
         query: Query,
     ) -> Result<Answer, AskError>

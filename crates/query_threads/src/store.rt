@@ -1,23 +1,40 @@
 //! What threads ask of an archive.
-ghost use Rattle.std.specs.Prelude.{◌≡◌, ◌<◌, ◌≤◌, ℕ, List, [], length, OnOk, IfOk, IfErr, Err};
+ghost use Rattle.std.specs.Prelude.{◌≡◌, ◌<◌, ◌≤◌, ℕ, List, [], length, Option, OnOk, IfOk, IfErr, Err};
 ghost use Rattle.route_model.specs.Admission.{Admitted};
 ghost use Rattle.route_meaning.specs.History.{History, IsHistory, Begins, applied, settled};
 ghost use Rattle.interleaving_core.specs.declared.query.Query.{Query};
 ghost use Rattle.interleaving_core.specs.Does.{last_moment};
 ghost use Rattle.interleaving_core.specs.Headline.{IsAnswered};
 ghost use Rattle.interleaving_core.specs.Steps.{IsCollector};
-ghost use Rattle.board.specs.Past.{Past, Among, GoesOnAs, count_of};
+ghost use Rattle.board.specs.Past.{Past, GoesOnAs, count_of};
 ghost use Rattle.query_threads.specs.Steps.{IsCrowded, DoesAdmit, DoesMark, DoesApply, DoesFlush};
 ghost use Rattle.query_threads.specs.Turns.{TurnGives, IsTold};
+ghost use Rattle.query_threads.specs.Looks.{AreSettled, AreTheSettled};
 
 use crate::refusal::{AdmitError, AskError, Flush, MarkError, Step, Trouble, Turn};
 use interleaving_core::{BatchReply, Query};
 use route_model::{Admission, Mark};
+use std::alloc::Global;
+use std::marker::Brand;
+
+/// Which disk the blocks of a shared archive are on. Each call of a program picks it.
+pub trait OnDisk<D> {
+    ghost disk: { Option D };
+}
+
+impl<D> OnDisk<D> for Brand {
+    ghost use Rattle.std.specs.Prelude.{None};
+
+    ghost disk = { None };
+}
 
 /// An archive, as threads use it.
 pub trait Store {
+    /// The disk that the blocks are on. It stands in proofs alone.
+    type Disk;
+
     /// Blocks that a reader keeps.
-    type Reader: Send;
+    type Reader: Drop + Send;
 
     /// A look that found blocks settled.
     type Seen: Drop + Send;
@@ -35,11 +52,23 @@ pub trait Store {
     /// The pages of each ring.
     ghost pages: { Self → ℕ };
 
+    /// The disk that its blocks are on.
+    ghost disk_of: { Self → Self.Disk };
+
+    /// How many blocks a disk has.
+    ghost block_count: { Self.Disk → ℕ };
+
+    /// The disk that a reader reads.
+    ghost reads: { Self.Reader → Self.Disk };
+
     /// The blocks that a reader keeps, with their octets.
     ghost kept: { Self.Reader → List (ℕ × List ℕ) };
 
-    /// The blocks that a look found settled, with their octets.
-    ghost known: { Self.Seen → List (ℕ × List ℕ) };
+    /// The look was one at this disk, which follows its model.
+    ghost honest: { Self.Disk → Self.Seen → Type 0 };
+
+    /// The octets of the block of this number, where a look found it settled.
+    ghost known: { Self.Seen → ℕ → Option (List ℕ) };
 
     /// The question.
     ghost asks: { Self.Cursor → Query };
@@ -47,8 +76,8 @@ pub trait Store {
     /// What the question has gathered is so over this history.
     ghost gathered: { Self.Cursor → History → Type 0 };
 
-    /// With the blocks of this past, finishing the errand gathers what comes next.
-    ghost lies: { Self.Errand → Self.Cursor → Past → Type 0 };
+    /// With the blocks of this past, on this disk, finishing the errand gathers what comes next.
+    ghost lies: { Self.Errand → Self.Cursor → Self.Disk → Past → Type 0 };
 
     /// How many collectors there are.
     fn collectors(&self) -> u8
@@ -70,25 +99,29 @@ pub trait Store {
     fn admit(&mut self, collector: u8, batch: &[Admission]) -> Result<BatchReply, AdmitError>
         ensures done { (p : Past) → carries self.old p → (q : Past) × GoesOnAs p q × carries self.new q × DoesAdmit collector batch.now result p.history q.history }
         ensures full { (p : Past) → carries self.old p → result ≡ Err AdmitError.IntakeFull → IsCrowded (pages self.old) p.history collector batch.now }
+        ensures disk { disk_of self.new ≡ disk_of self.old }
         ensures pages { pages self.new ≡ pages self.old };
 
     /// Raises the mark of a collector.
     fn mark(&mut self, collector: u8, mark: Mark) -> Result<(), MarkError>
         ensures done { (p : Past) → carries self.old p → (q : Past) × GoesOnAs p q × carries self.new q × DoesMark collector mark result p.history q.history }
+        ensures disk { disk_of self.new ≡ disk_of self.old }
         ensures pages { pages self.new ≡ pages self.old };
 
     /// Applies what is next.
     fn apply_step(&mut self) -> Result<Step, Trouble>
         ensures done { (p : Past) → carries self.old p → (q : Past) × GoesOnAs p q × carries self.new q × DoesApply result p.history q.history }
+        ensures disk { disk_of self.new ≡ disk_of self.old }
         ensures pages { pages self.new ≡ pages self.old };
 
     /// Writes a page home that waits.
     fn flush_step(&mut self) -> Result<Flush, Trouble>
         ensures done { (p : Past) → carries self.old p → (q : Past) × GoesOnAs p q × carries self.new q × DoesFlush result p.history q.history }
+        ensures disk { disk_of self.new ≡ disk_of self.old }
         ensures pages { pages self.new ≡ pages self.old };
 
     /// The start of a question.
-    fn start(query: &Query) -> Self::Cursor
+    fn start(alloc: Global, query: &Query) -> Self::Cursor
         ensures asks { asks result ≡ query.now }
         ensures gathered { (h : History) → gathered result h };
 
@@ -97,33 +130,41 @@ pub trait Store {
         ensures carries { (p : Past) → carries self.old p → carries self.new p }
         ensures asks { asks cursor.new ≡ asks cursor.old }
         ensures settled { (p : Past) → carries self.old p → OnOk result (last_moment (asks cursor.old) < settled p.history) }
-        ensures gives { (p : Past) → carries self.old p → gathered cursor.old p.history → IfOk result (λ turn. TurnGives (λ errand. lies errand cursor.new p) (gathered cursor.new p.history) (λ answer. IsAnswered (applied p.history) (asks cursor.old) answer) turn) }
+        ensures gives { (p : Past) → carries self.old p → gathered cursor.old p.history → IfOk result (λ turn. TurnGives (λ errand. lies errand cursor.new (disk_of self.old) p) (gathered cursor.new p.history) (λ answer. IsAnswered (applied p.history) (asks cursor.old) answer) turn) }
         ensures told { (p : Past) → carries self.old p → IfErr result (λ e. IsTold e p.history (asks cursor.old)) }
+        ensures disk { disk_of self.new ≡ disk_of self.old }
         ensures pages { pages self.new ≡ pages self.old };
 
     /// A look at which blocks are settled.
     fn seen(&mut self) -> Result<Self::Seen, Trouble>
         ensures carries { (p : Past) → carries self.old p → carries self.new p }
-        ensures among { (p : Past) → carries self.old p → IfOk result (λ s. Among (known s) p.blocks) }
-        ensures all { (p : Past) → carries self.old p → IfOk result (λ s. Among p.blocks (known s)) }
+        ensures honest { (p : Past) → carries self.old p → IfOk result (λ s. honest (disk_of self.old) s) }
+        ensures known { (p : Past) → carries self.old p → IfOk result (λ s. AreTheSettled (block_count (disk_of self.old)) (known s) p.blocks) }
+        ensures disk { disk_of self.new ≡ disk_of self.old }
         ensures pages { pages self.new ≡ pages self.old };
 
-    /// A reader that keeps up to so many blocks, and none yet.
-    fn reader(&self, capacity: usize) -> Result<Self::Reader, Trouble>
+    /// A reader that keeps up to so many blocks, 1 to 1,024, and none yet.
+    fn reader(&self, alloc: Global, capacity: usize) -> Result<Self::Reader, Trouble>
+        requires some { 1 ≤ capacity }
+        requires few { capacity ≤ 1024 }
+        ensures disk { IfOk result (λ r. reads r ≡ disk_of self.now) }
         ensures empty { IfOk result (λ r. kept r ≡ []) };
 
     /// Reads the blocks of an errand without the archive.
     fn finish(
         reader: &mut Self::Reader,
         seen: &mut Self::Seen,
+        alloc: Global,
         errand: Self::Errand,
         cursor: &mut Self::Cursor,
     ) -> Result<(), Trouble>
-        requires kept { Among (kept reader.old) (known seen.old) }
-        requires stands { (p : Past) × lies errand cursor.old p × Among p.blocks (known seen.old) }
-        ensures kept { Among (kept reader.new) (known seen.old) }
+        requires kept { AreSettled (block_count (reads reader.old)) (known seen.old) (kept reader.old) }
+        requires honest { honest (reads reader.old) seen.old }
+        requires stands { (p : Past) × lies errand cursor.old (reads reader.old) p × AreTheSettled (block_count (reads reader.old)) (known seen.old) p.blocks }
+        ensures kept { AreSettled (block_count (reads reader.old)) (known seen.old) (kept reader.new) }
+        ensures disk { reads reader.new ≡ reads reader.old }
         ensures asks { asks cursor.new ≡ asks cursor.old }
-        ensures gathered { OnOk result ((p : Past) → lies errand cursor.old p → Among p.blocks (known seen.old) → gathered cursor.new p.history) };
+        ensures gathered { OnOk result ((p : Past) → lies errand cursor.old (reads reader.old) p → AreTheSettled (block_count (reads reader.old)) (known seen.old) p.blocks → gathered cursor.new p.history) };
 
     /// A past that is stored is right.
     ghost right: { (store : Self) (p : Past) → carries store p → IsHistory p.history };

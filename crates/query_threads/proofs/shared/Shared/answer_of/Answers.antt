@@ -1,9 +1,9 @@
-use Rattle.std.proofs.Common.{◌<◌, inr, sym, ◌∙◌, subst}
+use Rattle.std.proofs.Common.{◌<◌, IfSome, inr, sym, ◌∙◌, subst}
 use Rattle.route_meaning.specs.History.{applied, settled}
 use Rattle.interleaving_core.specs.Does.{last_moment}
 use Rattle.interleaving_core.specs.Headline.{IsAnswered}
-use Rattle.board.specs.Past.{Among}
 use Rattle.query_threads.specs.Turns.{TurnGives}
+use Rattle.query_threads.specs.Looks.{IsErrandOn}
 use Rattle.query_threads.proofs.Seen.{since_then}
 use Rattle.query_threads.proofs.shared.Shared.answer_of.Goals as goal
 
@@ -23,7 +23,7 @@ pub returns-in-Done-clause-answer : goal.returns-in-Done-clause-answer
 returns-in-Done-clause-answer g c =
     let p = c.turn.new.pass.past in
     let gathered = c.loop.invariant.gathered p.history c.turn.ensures.begins.past.begins in
-    subst (λ t. TurnGives (λ e. g.A.Store.lies e.0 c.turn.new.cursor p × Among (g.A.Store.known e.1) p.blocks × Among p.blocks (g.A.Store.known e.1)) (g.A.Store.gathered c.turn.new.cursor p.history) (λ answer. IsAnswered (applied p.history) c.args.query answer) t)
+    subst (λ t. TurnGives (λ e. IfSome g.N.OnDisk.disk (IsErrandOn (λ errand. g.A.Store.lies errand c.turn.new.cursor) g.A.Store.honest g.A.Store.block_count g.A.Store.known p e.0 e.1)) (g.A.Store.gathered c.turn.new.cursor p.history) (λ answer. IsAnswered (applied p.history) c.args.query answer) t)
     c.in-Done.is (c.in_ok-turn.ensures.gives gathered)
 
 pub loop-preserved-in-Again : goal.loop-preserved-in-Again
@@ -33,7 +33,7 @@ loop-preserved-in-Again g c =
     let e = c.in_ok-turn.ensures in
     let begins = c.turn.ensures.begins in
     let gathered = i.gathered p.history begins.past.begins in
-    let here = subst (λ t. TurnGives (λ e. g.A.Store.lies e.0 c.turn.new.cursor p × Among (g.A.Store.known e.1) p.blocks × Among p.blocks (g.A.Store.known e.1)) (g.A.Store.gathered c.turn.new.cursor p.history) (λ answer. IsAnswered (applied p.history) c.args.query answer) t)
+    let here = subst (λ t. TurnGives (λ e. IfSome g.N.OnDisk.disk (IsErrandOn (λ errand. g.A.Store.lies errand c.turn.new.cursor) g.A.Store.honest g.A.Store.block_count g.A.Store.known p e.0 e.1)) (g.A.Store.gathered c.turn.new.cursor p.history) (λ answer. IsAnswered (applied p.history) c.args.query answer) t)
     c.in-Again.is (e.gives gathered) in
     let low = subst (λ q. last_moment q < settled p.history) (sym c.turn.ensures.asks) e.settled in
     record {
@@ -45,23 +45,23 @@ loop-preserved-in-Again g c =
       gathered = λ h later. g.met.A.Store.stays c.turn.new.cursor p.history h c.turn.ensures.right later low here;
     }
 
-pub finish-requires-clause-kept : goal.finish-requires-clause-kept
-finish-requires-clause-kept g c =
+pub finish-requires-clause-stands : goal.finish-requires-clause-stands
+finish-requires-clause-stands g c =
     let i = c.loop.invariant in
     let p = c.turn.new.pass.past in
     let begins = c.turn.ensures.begins in
-    let told = subst (λ t. TurnGives (λ e. g.A.Store.lies e.0 c.turn.new.cursor p × Among (g.A.Store.known e.1) p.blocks × Among p.blocks (g.A.Store.known e.1)) (g.A.Store.gathered c.turn.new.cursor p.history) (λ answer. IsAnswered (applied p.history) c.args.query answer) t)
+    let told = subst (λ t. TurnGives (λ e. IfSome g.N.OnDisk.disk (IsErrandOn (λ errand. g.A.Store.lies errand c.turn.new.cursor) g.A.Store.honest g.A.Store.block_count g.A.Store.known p e.0 e.1)) (g.A.Store.gathered c.turn.new.cursor p.history) (λ answer. IsAnswered (applied p.history) c.args.query answer) t)
     c.in-Historical.is (c.in_ok-turn.ensures.gives (i.gathered p.history begins.past.begins)) in
-    λ _ _ n octets is. told.2 n octets (begins.past.blocks n octets (i.reader n octets is))
+    λ _ _. (p, told, λ n octets is. begins.past.blocks n octets (i.reader n octets is))
 
 pub returns-in_err-finish-in-Historical-clause-reader : goal.returns-in_err-finish-in-Historical-clause-reader
 returns-in_err-finish-in-Historical-clause-reader g c =
     let i = c.loop.invariant in
     let p = c.turn.new.pass.past in
     let begins = c.turn.ensures.begins in
-    let told = subst (λ t. TurnGives (λ e. g.A.Store.lies e.0 c.turn.new.cursor p × Among (g.A.Store.known e.1) p.blocks × Among p.blocks (g.A.Store.known e.1)) (g.A.Store.gathered c.turn.new.cursor p.history) (λ answer. IsAnswered (applied p.history) c.args.query answer) t)
+    let told = subst (λ t. TurnGives (λ e. IfSome g.N.OnDisk.disk (IsErrandOn (λ errand. g.A.Store.lies errand c.turn.new.cursor) g.A.Store.honest g.A.Store.block_count g.A.Store.known p e.0 e.1)) (g.A.Store.gathered c.turn.new.cursor p.history) (λ answer. IsAnswered (applied p.history) c.args.query answer) t)
     c.in-Historical.is (c.in_ok-turn.ensures.gives (i.gathered p.history begins.past.begins)) in
-    λ n octets is. told.1 n octets (c.in_err-finish-in-Historical.ensures.kept n octets is)
+    c.finish.ensures.kept p told (λ n octets is. begins.past.blocks n octets (i.reader n octets is))
 
 pub returns-in_err-finish-in-Historical-clause-begins : goal.returns-in_err-finish-in-Historical-clause-begins
 returns-in_err-finish-in-Historical-clause-begins g c = since_then c.args.pass.now c.loop.pass c.turn.new.pass c.loop.invariant.since c.turn.ensures.begins
@@ -71,7 +71,7 @@ loop-preserved g c =
     let i = c.loop.invariant in
     let p = c.turn.new.pass.past in
     let begins = c.turn.ensures.begins in
-    let told = subst (λ t. TurnGives (λ e. g.A.Store.lies e.0 c.turn.new.cursor p × Among (g.A.Store.known e.1) p.blocks × Among p.blocks (g.A.Store.known e.1)) (g.A.Store.gathered c.turn.new.cursor p.history) (λ answer. IsAnswered (applied p.history) c.args.query answer) t)
+    let told = subst (λ t. TurnGives (λ e. IfSome g.N.OnDisk.disk (IsErrandOn (λ errand. g.A.Store.lies errand c.turn.new.cursor) g.A.Store.honest g.A.Store.block_count g.A.Store.known p e.0 e.1)) (g.A.Store.gathered c.turn.new.cursor p.history) (λ answer. IsAnswered (applied p.history) c.args.query answer) t)
     c.in-Historical.is (c.in_ok-turn.ensures.gives (i.gathered p.history begins.past.begins)) in
     let f = c.in_ok-finish-in-Historical.ensures in
     let asks = f.asks ∙ c.turn.ensures.asks in
@@ -80,7 +80,7 @@ loop-preserved g c =
       next = tt;
       finite = tt;
       since = inr (since_then c.args.pass.now c.loop.pass c.turn.new.pass i.since begins);
-      reader = λ n octets is. told.1 n octets (f.kept n octets is);
+      reader = f.kept p told (λ n octets is. begins.past.blocks n octets (i.reader n octets is));
       asks = asks;
-      gathered = λ h later. g.met.A.Store.stays _ p.history h c.turn.ensures.right later low (f.gathered p told.0 told.2);
+      gathered = λ h later. g.met.A.Store.stays _ p.history h c.turn.ensures.right later low (f.gathered p told);
     }

@@ -1,12 +1,12 @@
-use Rattle.std.proofs.Common.{◌≡◌, ◌≤◌, ◌<◌, ℕ, Result, Ok, Err, IfErr, IfOk, OnOk, ◌∙◌, subst}
+use Rattle.std.proofs.Common.{◌≡◌, ◌≤◌, ◌<◌, ℕ, Result, Ok, Err, IfErr, IfOk, IfSome, OnOk, ◌∙◌, subst}
 use Rattle.route_meaning.specs.History.{applied, settled}
 use Rattle.interleaving_core.specs.declared.query.Query.{Query}
 use Rattle.interleaving_core.specs.Does.{last_moment}
 use Rattle.interleaving_core.specs.Headline.{IsAnswered}
-use Rattle.board.specs.Past.{Among}
 use Rattle.board.specs.Views.{watermark_of}
 use Rattle.query_threads.specs.declared.refusal.AskError.{AskError}
 use Rattle.query_threads.specs.Turns.{TurnGives, IsTold, IsAbove}
+use Rattle.query_threads.specs.Looks.{IsErrandOn}
 use Rattle.query_threads.proofs.Seen.{told_low}
 use Rattle.query_threads.proofs.shared.Shared.turn.Goals as goal
 
@@ -23,7 +23,7 @@ returns-clause-settled g c = subst (λ (q : Query). OnOk c.turn-told.result (las
 pub returns-clause-gives : goal.returns-clause-gives
 returns-clause-gives g c gathered =
     let p = c.turn-told.new.pass.past in
-    subst (λ (q : Query). IfOk c.turn-told.result (λ turn. TurnGives (λ e. g.A.Store.lies e.0 c.turn-told.new.cursor p × Among (g.A.Store.known e.1) p.blocks × Among p.blocks (g.A.Store.known e.1)) (g.A.Store.gathered c.turn-told.new.cursor p.history) (λ answer. IsAnswered (applied p.history) q answer) turn))
+    subst (λ (q : Query). IfOk c.turn-told.result (λ turn. TurnGives (λ e. IfSome g.N.OnDisk.disk (IsErrandOn (λ errand. g.A.Store.lies errand c.turn-told.new.cursor) g.A.Store.honest g.A.Store.block_count g.A.Store.known p e.0 e.1)) (g.A.Store.gathered c.turn-told.new.cursor p.history) (λ answer. IsAnswered (applied p.history) q answer) turn))
     c.requires.asks (c.turn-told.ensures.gives gathered)
 
 pub returns-clause-told : goal.returns-clause-told
