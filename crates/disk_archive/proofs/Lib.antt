@@ -7,4 +7,6 @@ mod Lasting
 mod BatchSizes
 mod Plans
 mod Replies
+mod Steps
+mod Homecoming
 pub mod api

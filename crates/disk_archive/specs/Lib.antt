@@ -3,4 +3,5 @@ pub mod Sites
 pub mod Mirrors
 pub mod Archives
 pub mod Crashes
+pub mod Homes
 pub mod inner

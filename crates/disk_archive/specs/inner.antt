@@ -1,3 +1,4 @@
 pub mod Committing
 pub mod Planning
 pub mod Idle
+pub mod Flushed

@@ -7,8 +7,13 @@ mod archive;
 mod batches;
 mod committing;
 mod error;
+mod flush_error;
+mod flushing;
 mod planning;
+mod reading;
 
 pub use archive::Archive;
 pub use batches::MAX_BATCH_LEN;
 pub use error::AdmitError;
+pub use flush_error::FlushError;
+pub use flushing::Flush;

@@ -1,0 +1,60 @@
+use Rattle.std.proofs.Common.{◌≡◌, inl, inr, ◌∙◌, ap, subst, refl}
+use Rattle.disk_models.specs.Erase.{Leaves}
+use Rattle.disk_models.proofs.api.Moments.{leaves_weaker}
+use Rattle.page_journal.specs.Journal.{disk_of, home_pages, needs_recovery}
+use Rattle.page_journal.specs.Recovers.{Recovers, RecoversEither}
+use Rattle.buffer_pool.specs.Pool.{journal_of}
+use Rattle.page_tx.specs.Start.{Start}
+use Rattle.page_tx.specs.Tx.{pool_of}
+use Rattle.route_meaning.proofs.api.Beginning.{Begins-refl}
+use Rattle.disk_archive.specs.Archives.{once_state, site_of}
+use Rattle.disk_archive.proofs.Calling.{Ready, start_of, headed_of, grows_none, written, refused}
+use Rattle.disk_archive.proofs.Outcomes.{down_or}
+use Rattle.disk_archive.proofs.Telling.{carries_same}
+use Rattle.disk_archive.proofs.archive.Archive.try_flush.Goals as goal
+
+pub returns-clause-goes_on : goal.returns-clause-goes_on
+returns-clause-goes_on g c h k =
+    let a = c.args.self.now in
+    let start : Start = start_of a h k in
+    let s0 = c.in_ok-begin.ensures.shown k.honest.0 k.pages k.maps in
+    let s1 = c.write_home.ensures.shown start k.pages s0 c.in_ok-write_home.ensures.ok in
+    inl (carries_same a _ h k refl refl refl refl (c.write_home.ensures.journal.serves.honest.0 s0.honest, k.honest.1) s1.1.maps k.mirrors)
+
+pub returns-clause-crash : goal.returns-clause-crash
+returns-clause-crash g c h k =
+    let a = c.args.self.now in
+    let sound = g.met.E.EraseDisk.sound in
+    let start : Start = start_of a h k in
+    let s0 = c.in_ok-begin.ensures.shown k.honest.0 k.pages k.maps in
+    let homes0 = ap home_pages c.begin.ensures.same in
+    let r : Ready a h k c.begin.new.tx k.pages = record { shows = s0; homes = homes0 } in
+    let homes = home_pages (journal_of (pool_of c.begin.new.tx)) in
+    let l = leaves_weaker _ _ (λ f. Recovers homes start.note f start.pages) (RecoversEither homes start.note start.pages k.pages) (λ f means. inl means) (c.write_home.ensures.crash start k.pages s0) in
+    written a _ h h k c.begin.new.tx k.pages a.head sound r (grows_none (once_state a)) (headed_of a h k) l
+
+pub returns-in_err-write_home-clause-goes_on : goal.returns-in_err-write_home-clause-goes_on
+returns-in_err-write_home-clause-goes_on g c h k =
+    let a = c.args.self.now in
+    let sound = g.met.E.EraseDisk.sound in
+    let start : Start = start_of a h k in
+    let s0 = c.in_ok-begin.ensures.shown k.honest.0 k.pages k.maps in
+    let homes0 = ap home_pages c.begin.ensures.same in
+    let r : Ready a h k c.begin.new.tx k.pages = record { shows = s0; homes = homes0 } in
+    let homes = home_pages (journal_of (pool_of c.begin.new.tx)) in
+    let l = leaves_weaker _ _ (λ f. Recovers homes start.note f start.pages) (RecoversEither homes start.note start.pages k.pages) (λ f means. inl means) (c.write_home.ensures.crash start k.pages s0) in
+    refused a _ h h k c.begin.new.tx k.pages a.head sound r c.write_home.ensures.journal.homes c.write_home.ensures.journal.note refl refl refl refl
+    (c.write_home.ensures.journal.serves.honest.0 s0.honest, k.honest.1) k.mirrors (Begins-refl h) (headed_of a h k) l
+    (down_or (needs_recovery (journal_of (pool_of c.write_home.new.tx))) _ (λ usable. (c.write_home.ensures.shown start k.pages s0 usable).1.maps))
+
+pub returns-in_err-write_home-clause-crash : goal.returns-in_err-write_home-clause-crash
+returns-in_err-write_home-clause-crash g c h k =
+    let a = c.args.self.now in
+    let sound = g.met.E.EraseDisk.sound in
+    let start : Start = start_of a h k in
+    let s0 = c.in_ok-begin.ensures.shown k.honest.0 k.pages k.maps in
+    let homes0 = ap home_pages c.begin.ensures.same in
+    let r : Ready a h k c.begin.new.tx k.pages = record { shows = s0; homes = homes0 } in
+    let homes = home_pages (journal_of (pool_of c.begin.new.tx)) in
+    let l = leaves_weaker _ _ (λ f. Recovers homes start.note f start.pages) (RecoversEither homes start.note start.pages k.pages) (λ f means. inl means) (c.write_home.ensures.crash start k.pages s0) in
+    written a _ h h k c.begin.new.tx k.pages a.head sound r (grows_none (once_state a)) (headed_of a h k) l

@@ -1,0 +1,92 @@
+//! What was committed goes home.
+
+ghost use Rattle.std.specs.Prelude.{◌≡◌, ◌↔◌, ◌==◌, ℕ, List, [], ◌∷◌, filter, length, not, OnOk, OnErr, IfOk, IfErr, IsErrOf, Err, true, false};
+ghost use Rattle.disk_models.specs.Erase.{Leaves};
+ghost use Rattle.page_journal.specs.Calls.{IsIdle, SameJournal};
+ghost use Rattle.page_journal.specs.Journal.{disk_of, home_pages, needs_recovery, unhomed_pages};
+ghost use Rattle.page_journal.specs.Recovers.{Recovers};
+ghost use Rattle.page_journal.specs.Refusals.{UseRefusal};
+ghost use Rattle.buffer_pool.specs.Pool.{journal_of};
+ghost use Rattle.page_tx.specs.Start.{Start};
+ghost use Rattle.page_tx.specs.Tx.{Shows, pool_of};
+ghost use Rattle.route_meaning.specs.History.{History};
+ghost use Rattle.disk_archive.specs.Homes.{IsHomed};
+
+use crate::archive::Archive;
+use crate::committing::begin;
+use crate::flush_error::FlushError;
+use disk_models::{EraseDisk, OnceDisk};
+use page_journal::UseError;
+use page_tx::Tx;
+
+/// What a step of flushing did.
+#[derive(Clone, Copy, Debug, PartialEq, Eq)]
+pub enum Flush {
+    /// A page went home.
+    Flushed,
+    /// No page waits to go home, and the whole journal is free again.
+    Clean,
+}
+
+// Writes a page home, or, where all are, closes the journal's slots. It is given no shelf: nothing is burnt.
+fn write_home<E: EraseDisk + Drop>(tx: &mut Tx<E>) -> Result<Flush, UseError>
+    ensures crash { (start : Start) (shown : List (List ℕ)) → Shows E.EraseDisk tx.old start shown
+        → Leaves (E.model (disk_of (journal_of (pool_of tx.old)))) (E.model (disk_of (journal_of (pool_of tx.new)))) (λ c. Recovers (home_pages (journal_of (pool_of tx.old))) start.note c start.pages) }
+    ensures shown { (start : Start) (shown : List (List ℕ)) → Shows E.EraseDisk tx.old start shown → needs_recovery (journal_of (pool_of tx.new)) ≡ false
+        → (clock : ℕ) × Shows E.EraseDisk tx.new (record { note = start.note; pages = start.pages; clock = clock }) shown }
+    ensures ok { OnOk result (needs_recovery (journal_of (pool_of tx.new)) ≡ false) }
+    ensures flushed { IfOk result (λ step. step ≡ Flush.Flushed → IsHomed (unhomed_pages (journal_of (pool_of tx.old))) (unhomed_pages (journal_of (pool_of tx.new)))) }
+    ensures clean { IfOk result (λ step. step ≡ Flush.Clean → IsIdle E.EraseDisk (journal_of (pool_of tx.new))) }
+    ensures only { IfOk result (λ step. (step ≡ Flush.Clean) ↔ (unhomed_pages (journal_of (pool_of tx.old)) ≡ [])) }
+    ensures refused { IfErr result (UseRefusal (needs_recovery (journal_of (pool_of tx.old)))) }
+    ensures journal { SameJournal E.EraseDisk (journal_of (pool_of tx.old)) (journal_of (pool_of tx.new)) (IsErrOf result UseError.Fault) }
+{
+    let written = tx.flush_one()?;
+    if written {
+        return Ok(Flush::Flushed);
+    }
+    tx.checkpoint()?;
+    Ok(Flush::Clean)
+}
+
+impl<E: EraseDisk + Drop, O: OnceDisk + Drop> Archive<E, O> {
+    ghost use Rattle.disk_archive.specs.Archives.{Carries, GoesOn, Holds, Stands, IsHonest, is_down, site_of};
+    ghost use Rattle.disk_archive.specs.Sites.{LeftCarries, LeftEither};
+    ghost use Rattle.disk_archive.specs.Crashes.{Crashes, Lasts};
+    ghost use Rattle.disk_archive.specs.Homes.{closed_in, dirty_pages};
+    ghost use Rattle.disk_archive.specs.inner.Idle.{IsAsBefore};
+
+    // A step of flushing where the archive carries a history.
+    fn try_flush(&mut self) -> Result<Flush, FlushError>
+        ensures usable { OnOk result ((is_down self.old ≡ false) × (is_down self.new ≡ false)) }
+        ensures idle { is_down self.old ≡ true → IsAsBefore self.old self.new }
+        ensures recovery { (result ≡ Err FlushError.NeedsRecovery) ↔ (is_down self.old ≡ true) }
+        ensures honest { IsHonest self.old ↔ IsHonest self.new }
+        ensures goes_on { (h : History) → Carries self.old h → GoesOn self.new h }
+        ensures crash { (h : History) → Carries self.old h → Crashes self.old self.new (LeftEither (site_of self.old) h h) }
+        ensures flushed { IfOk result (λ step. step ≡ Flush.Flushed → IsHomed (dirty_pages self.old) (dirty_pages self.new)) }
+        ensures clean { IfOk result (λ step. step ≡ Flush.Clean → (dirty_pages self.new ≡ []) × (closed_in self.new ≡ 8)) }
+        ensures only { IfOk result (λ step. (step ≡ Flush.Clean) ↔ (dirty_pages self.old ≡ [])) }
+    {
+        begin(&mut self.tx)?;
+        Ok(write_home(&mut self.tx)?)
+    }
+
+    /// A step of flushing: the page that waits for longest goes home, or, where none waits, the journal is made free. So calls
+    /// until it is `Clean` write each page home that was committed.
+    ///
+    /// The archive holds the same history, and so does what any crash leaves. After a write or a sync that failed it must be opened
+    /// again.
+    pub fn flush_step(&mut self) -> Result<Flush, FlushError>
+        ensures holds { (h : History) → Holds self.old h → Holds self.new h }
+        ensures crash { (h : History) → Carries self.old h → Crashes self.old self.new (LeftCarries (site_of self.old) h) }
+        ensures lasts { (h : History) → Stands self.old h → Lasts self.old self.new h }
+        ensures usable { OnOk result ((is_down self.old ≡ false) × (is_down self.new ≡ false)) }
+        ensures recovery { (result ≡ Err FlushError.NeedsRecovery) ↔ (is_down self.old ≡ true) }
+        ensures flushed { IfOk result (λ step. step ≡ Flush.Flushed → IsHomed (dirty_pages self.old) (dirty_pages self.new)) }
+        ensures clean { IfOk result (λ step. step ≡ Flush.Clean → (dirty_pages self.new ≡ []) × (closed_in self.new ≡ 8)) }
+        ensures only { IfOk result (λ step. (step ≡ Flush.Clean) ↔ (dirty_pages self.old ≡ [])) }
+    {
+        self.try_flush()
+    }
+}
