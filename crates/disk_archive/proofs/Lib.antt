@@ -8,5 +8,6 @@ mod BatchSizes
 mod Plans
 mod Replies
 mod Steps
+mod Limiting
 mod Homecoming
 pub mod api

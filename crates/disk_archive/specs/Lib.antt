@@ -4,4 +4,5 @@ pub mod Mirrors
 pub mod Archives
 pub mod Crashes
 pub mod Homes
+pub mod Limits
 pub mod inner

@@ -1,6 +1,6 @@
 //! A batch is admitted.
 
-ghost use Rattle.std.specs.Prelude.{◌≡◌, ◌≢◌, ◌<◌, ◌≤◌, ◌⊎◌, ◌↔◌, ℕ, List, length, sum_by, Some, IfOk, OnOk, OnErr, IfErr, Err, slice_get, true, false};
+ghost use Rattle.std.specs.Prelude.{◌≡◌, ◌≢◌, ◌<◌, ◌≤◌, ◌+◌, ◌⊎◌, ◌↔◌, ℕ, List, length, sum_by, Some, IfOk, OnOk, OnErr, IfErr, Err, slice_get, true, false};
 ghost use Rattle.std.specs.List.{AllByRecursion};
 ghost use Rattle.route_model.specs.Admission.{IsAdmission};
 ghost use Rattle.route_meaning.specs.History.{History, Intake};
@@ -32,8 +32,11 @@ fn may_take(
     ensures collector { OnOk result (collector < settings.collectors) }
     ensures octets { OnOk result (sum_by entry_octets batch.now ≤ 262144) }
     ensures valid { OnOk result (AllByRecursion IsAdmission batch.now) }
-    ensures no_collector { settings.collectors ≤ collector → result ≡ Err AdmitError.NoCollector }
-    ensures too_large { collector < settings.collectors → 262144 < sum_by entry_octets batch.now → result ≡ Err AdmitError.BatchTooLarge }
+    ensures counts { OnOk result ((lane : Lane) → HasLane head.now collector lane → lane.offered + length batch.now ≤ 18446744073709551615) }
+    ensures no_collector { (result ≡ Err AdmitError.NoCollector) ↔ (settings.collectors ≤ collector) }
+    ensures too_large { (result ≡ Err AdmitError.BatchTooLarge) ↔ ((collector < settings.collectors) × (262144 < sum_by entry_octets batch.now)) }
+    ensures counter_full { (lane : Lane) → HasLane head.now collector lane → (result ≡ Err AdmitError.CounterFull) ↔ ((sum_by entry_octets batch.now ≤ 262144) × (18446744073709551615 < lane.offered + length batch.now)) }
+    ensures refused { IfErr result (λ e. (e ≡ AdmitError.NoCollector) ⊎ (e ≡ AdmitError.BatchTooLarge) ⊎ (e ≡ AdmitError.CounterFull)) }
 {
     if collector >= settings.collectors {
         return Err(AdmitError::NoCollector);
@@ -52,15 +55,20 @@ impl<E: EraseDisk + Drop, O: OnceDisk + Drop> Archive<E, O> {
     ghost use Rattle.disk_archive.specs.Archives.{Carries, GoesOn, Holds, Stands, IsHonest, is_down, settings_of, site_of};
     ghost use Rattle.disk_archive.specs.Sites.{LeftEither};
     ghost use Rattle.disk_archive.specs.Crashes.{Crashes, Lasts};
+    ghost use Rattle.disk_archive.specs.Limits.{IsCounterFull, IsRingFull};
     ghost use Rattle.disk_archive.specs.inner.Idle.{IsAsBefore};
 
     // Admits a batch where the archive carries a history.
     fn try_admit(&mut self, collector: u8, batch: &[Admission]) -> Result<BatchReply, AdmitError>
         ensures usable { OnOk result (is_down self.old ≡ false) }
         ensures recovery { is_down self.old ≡ true → IsAsBefore self.old self.new }
-        ensures told { is_down self.old ≡ true → result ≡ Err AdmitError.NeedsRecovery }
-        ensures no_collector { is_down self.old ≡ false → (settings_of self.old).collectors ≤ collector → result ≡ Err AdmitError.NoCollector }
-        ensures too_large { is_down self.old ≡ false → collector < (settings_of self.old).collectors → 262144 < sum_by entry_octets batch.now → result ≡ Err AdmitError.BatchTooLarge }
+        ensures told { (result ≡ Err AdmitError.NeedsRecovery) ↔ (is_down self.old ≡ true) }
+        ensures no_collector { (result ≡ Err AdmitError.NoCollector) ↔ ((is_down self.old ≡ false) × ((settings_of self.old).collectors ≤ collector)) }
+        ensures too_large { (result ≡ Err AdmitError.BatchTooLarge) ↔ ((is_down self.old ≡ false) × (collector < (settings_of self.old).collectors) × (262144 < sum_by entry_octets batch.now)) }
+        ensures counter_full { (h : History) → Carries self.old h → (result ≡ Err AdmitError.CounterFull) ↔ ((sum_by entry_octets batch.now ≤ 262144) × IsCounterFull h collector (length batch.now)) }
+        ensures intake_full { (h : History) → Carries self.old h → result ≡ Err AdmitError.IntakeFull → IsRingFull (settings_of self.old) h collector batch.now }
+        ensures room { (h : History) → Carries self.old h → OnOk result (IsRingFull (settings_of self.old) h collector batch.now → ⊥) }
+        ensures undamaged { (h : History) → Carries self.old h → (page : ℕ) → result ≡ Err (AdmitError.BadNode page) → ⊥ }
         ensures honest { IsHonest self.old ↔ IsHonest self.new }
         ensures ok { OnOk result ((h : History) → Carries self.old h → Carries self.new (given h collector batch.now)) }
         ensures reply { (h : History) → Carries self.old h → (i : Intake) → slice_get h.intakes collector ≡ Some i → IfOk result (IsReply i collector batch.now) }
@@ -106,9 +114,13 @@ impl<E: EraseDisk + Drop, O: OnceDisk + Drop> Archive<E, O> {
         ensures crash { (h : History) → Carries self.old h → Crashes self.old self.new (LeftEither (site_of self.old) h (given h collector batch.now)) }
         ensures lasts { (h : History) → Stands self.old h → Lasts self.old self.new h }
         ensures usable { OnOk result (is_down self.old ≡ false) }
-        ensures recovery { is_down self.old ≡ true → result ≡ Err AdmitError.NeedsRecovery }
-        ensures no_collector { is_down self.old ≡ false → (settings_of self.old).collectors ≤ collector → result ≡ Err AdmitError.NoCollector }
-        ensures too_large { is_down self.old ≡ false → collector < (settings_of self.old).collectors → 262144 < sum_by entry_octets batch.now → result ≡ Err AdmitError.BatchTooLarge }
+        ensures recovery { (result ≡ Err AdmitError.NeedsRecovery) ↔ (is_down self.old ≡ true) }
+        ensures no_collector { (result ≡ Err AdmitError.NoCollector) ↔ ((is_down self.old ≡ false) × ((settings_of self.old).collectors ≤ collector)) }
+        ensures too_large { (result ≡ Err AdmitError.BatchTooLarge) ↔ ((is_down self.old ≡ false) × (collector < (settings_of self.old).collectors) × (262144 < sum_by entry_octets batch.now)) }
+        ensures counter_full { IsHonest self.old → (h : History) → Holds self.old h → (result ≡ Err AdmitError.CounterFull) ↔ ((is_down self.old ≡ false) × (sum_by entry_octets batch.now ≤ 262144) × IsCounterFull h collector (length batch.now)) }
+        ensures intake_full { IsHonest self.old → (h : History) → Holds self.old h → result ≡ Err AdmitError.IntakeFull → IsRingFull (settings_of self.old) h collector batch.now }
+        ensures room { IsHonest self.old → (h : History) → Holds self.old h → OnOk result (IsRingFull (settings_of self.old) h collector batch.now → ⊥) }
+        ensures undamaged { IsHonest self.old → (h : History) → Holds self.old h → (page : ℕ) → result ≡ Err (AdmitError.BadNode page) → ⊥ }
     {
         self.try_admit(collector, batch)
     }

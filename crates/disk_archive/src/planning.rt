@@ -32,6 +32,7 @@ fn of_page(error: PageError) -> AdmitError
     ensures fault { (result ≡ AdmitError.Fault) ↔ (error ≡ PageError.Fault) }
     ensures refused { (down : Bool) → (error ≡ PageError.NeedsRecovery → down ≡ true) → (error ≡ PageError.Fault → down ≡ false) → PlanRefusal down result }
     ensures room_left { result ≢ AdmitError.IntakeFull }
+    ensures undamaged { (page : ℕ) → result ≢ AdmitError.BadNode page }
 {
     match error {
         PageError::Fault => AdmitError::Fault,
@@ -46,6 +47,7 @@ fn of_intake(error: IntakeError) -> AdmitError
     requires few { error ≢ IntakeError.Pages pages_refusals.TooManyImages }
     requires room { error ≢ IntakeError.Pages pages_refusals.PagesFull }
     ensures full { (result ≡ AdmitError.IntakeFull) ↔ (error ≡ IntakeError.IntakeFull) }
+    ensures undamaged { (page : ℕ) → result ≢ AdmitError.BadNode page }
     ensures fault { (result ≡ AdmitError.Fault) ↔ (error ≡ IntakeError.Pages pages_refusals.Fault) }
     ensures refused { (down : Bool) → (error ≡ IntakeError.Pages pages_refusals.NeedsRecovery → down ≡ true) → (error ≡ IntakeError.Pages pages_refusals.Fault → down ≡ false) → PlanRefusal down result }
 {
@@ -78,6 +80,9 @@ pub(crate) fn plan_batch<P: Pages>(
         → (now : List (List ℕ)) × P.shows pages.new start now }
     ensures full { result ≡ Err AdmitError.IntakeFull → (lane : Lane) → HasLane head.now collector lane → size_of (ring_of settings collector lane) < lane.used + octets_for batch.now.timely }
     ensures room { OnOk result ((lane : Lane) → HasLane head.now collector lane → lane.used + octets_for batch.now.timely ≤ size_of (ring_of settings collector lane)) }
+    ensures undamaged { (count : ℕ) (o : OnceState) (start : Start) (shown : List (List ℕ)) (h : History) (i : Intake) (offered : List Admitted) (lane : Lane) → P.shows pages.old start shown
+        → Bears (TreeLies count) settings (settled_in o) head.now shown h → slice_get h.intakes collector ≡ Some i → IsKeptOf i.mark offered batch.now → HasLane head.now collector lane
+        → lane.offered + length offered ≤ 18446744073709551615 → (page : ℕ) → result ≡ Err (AdmitError.BadNode page) → ⊥ }
     ensures refused { IfErr result (PlanRefusal (P.down pages.old)) }
     ensures homes { P.homes pages.new ≡ P.homes pages.old }
     ensures honest { P.honest pages.old ↔ P.honest pages.new }

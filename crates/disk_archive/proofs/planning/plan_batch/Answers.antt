@@ -1,9 +1,10 @@
 use Rattle.std.proofs.Common.{◌≡◌, ◌<◌, ◌≤◌, ◌∙◌, ℕ, List, length, sym, ap, subst, arith, length-set, slice_get}
 use Rattle.archive_head.specs.Head.{Contents}
 use Rattle.intake.specs.Calls.{AppendRefusal}
-use Rattle.archive_pages.specs.Batches.{HasLane, lane_with}
+use Rattle.archive_pages.specs.Batches.{CanTake, HasLane, lane_with}
 use Rattle.archive_pages.specs.Changes.{with_lane}
 use Rattle.archive_pages.specs.Refusals.{HeadRefusal}
+use Rattle.disk_archive.proofs.Limiting.{can_take}
 use Rattle.disk_archive.proofs.Plans.{lane_at, set_there, given_shown, plan_done}
 use Rattle.disk_archive.proofs.planning.plan_batch.Goals as goal
 
@@ -68,3 +69,18 @@ returns-clause-planned g c count o start shown h i offered shows b here valid is
     c.put_head.ensures.valid
     (λ pages shown. let n = g.met.P.Pages.count c.give.new.pages start pages shown in let m = c.give.ensures.homes in let some = c.requires.some in omega (arith, n, m, some))
     (λ pages shown. c.in_default-put_head.ensures.written start pages shown)
+
+pub returns-then-not-can_give-clause-undamaged : goal.returns-then-not-can_give-clause-undamaged
+returns-then-not-can_give-clause-undamaged g c count o start shown h i offered lane shows b here is at fits page told =
+    let copy = c.in_ok-next.ensures.copy in
+    let there = subst (λ (x : Contents). HasLane x c.args.collector lane) (sym copy) at in
+    let n = g.met.P.Pages.count c.args.pages.now start shown shows in
+    let takes = can_take count c.args.settings o c.args.head.now shown h c.args.collector (g.P.Pages.homes c.args.pages.now) lane i offered c.args.batch.now b at here is n fits in
+    let homes = c.home_pages.ensures in
+    absurd (cc (c.can_give.ensures.only lane there (subst (λ (k : ℕ). CanTake k c.args.settings c.args.collector lane c.args.batch.now) (sym homes) takes), c.if-not-can_give.true))
+
+pub returns-in-Err-clause-undamaged : goal.returns-in-Err-clause-undamaged
+returns-in-Err-clause-undamaged g c count o start shown h i offered lane shows b here is at fits page told = c.of_intake.ensures.undamaged page (cc told)
+
+pub returns-in-Err-put_head-clause-undamaged : goal.returns-in-Err-put_head-clause-undamaged
+returns-in-Err-put_head-clause-undamaged g c count o start shown h i offered lane shows b here is at fits page told = c.of_page.ensures.undamaged page (cc told)

@@ -1,7 +1,9 @@
 use Rattle.std.proofs.Common.{◌≡◌, inl, inr, ⊎_elim, sym, ◌∙◌, true≢false}
 use Rattle.interleaving_core.specs.Steps.{given}
 use Rattle.interleaving_core.proofs.api.Right.{begins_given}
-use Rattle.disk_archive.proofs.Outcomes.{err_then, from_result, ok_both, if_ok_as}
+use Rattle.disk_archive.specs.declared.error.AdmitError.TheVariants as admits
+use Rattle.disk_archive.proofs.Limiting.{not_both}
+use Rattle.disk_archive.proofs.Outcomes.{err_then, from_result, ok_both, ok_then, if_ok_as}
 use Rattle.disk_archive.proofs.Lasting.{held_ok, held_err, lasts_of}
 use Rattle.disk_archive.proofs.archive.Archive.admit.Goals as goal
 
@@ -29,3 +31,27 @@ returns-clause-lasts g c =
 pub returns-clause-reply : goal.returns-clause-reply
 returns-clause-reply g c honest h held i here = if_ok_as c.try_admit.result _ _ c.try_admit.ensures.usable
     (λ usable. ⊎_elim (λ k. c.try_admit.ensures.reply h k i here) (λ w. absurd (true≢false (sym w.unusable ∙ usable))) (held honest))
+
+pub returns-clause-counter_full : goal.returns-clause-counter_full
+returns-clause-counter_full g c honest h held = ⊎_elim
+    (λ k. let e = c.try_admit.ensures.counter_full h k in (λ r. (k.maps.keeps.usable, (e.0 r).0, (e.0 r).1), λ is. e.1 (is.1, is.2)))
+    (λ w. let r = c.try_admit.ensures.told.1 w.unusable in (λ full. absurd (not_both c.try_admit.result admits.CounterFull r (λ e. cc) full), λ is. absurd (true≢false (sym w.unusable ∙ is.0))))
+    (held honest)
+
+pub returns-clause-intake_full : goal.returns-clause-intake_full
+returns-clause-intake_full g c honest h held told = ⊎_elim
+    (λ k. c.try_admit.ensures.intake_full h k told)
+    (λ w. absurd (not_both c.try_admit.result admits.IntakeFull (c.try_admit.ensures.told.1 w.unusable) (λ e. cc) told))
+    (held honest)
+
+pub returns-clause-room : goal.returns-clause-room
+returns-clause-room g c honest h held = ⊎_elim
+    (λ k. c.try_admit.ensures.room h k)
+    (λ w. ok_then c.try_admit.result _ _ (λ usable. absurd (true≢false (sym w.unusable ∙ usable))) c.try_admit.ensures.usable)
+    (held honest)
+
+pub returns-clause-undamaged : goal.returns-clause-undamaged
+returns-clause-undamaged g c honest h held page told = ⊎_elim
+    (λ k. c.try_admit.ensures.undamaged h k page told)
+    (λ w. absurd (not_both c.try_admit.result (admits.BadNode page) (c.try_admit.ensures.told.1 w.unusable) (λ e. cc) told))
+    (held honest)

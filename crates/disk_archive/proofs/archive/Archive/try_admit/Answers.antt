@@ -1,7 +1,7 @@
-use Rattle.std.proofs.Common.{rules, ◌≡◌, ◌<◌, ◌≤◌, inl, inr, ℕ, List, [], length, map, refl, sym, ◌∙◌, ap, subst, arith, slice_get}
+use Rattle.std.proofs.Common.{rules, ◌≡◌, ◌<◌, ◌≤◌, inl, inr, ℕ, List, [], length, map, refl, sym, ◌∙◌, ap, subst, arith, slice_get, Err}
 use Rattle.std.specs.Prelude.{sum_by}
 use Rattle.disk_models.specs.Once.{OnceState}
-use Rattle.page_journal.specs.Journal.{home_pages}
+use Rattle.page_journal.specs.Journal.{home_pages, needs_recovery}
 use Rattle.page_tx.specs.Start.{Start}
 use Rattle.route_model.specs.Admission.{Admitted}
 use Rattle.route_meaning.specs.History.{Intake, History}
@@ -14,6 +14,9 @@ use Rattle.disk_archive.proofs.BatchSizes.{octets_timely}
 use Rattle.disk_archive.proofs.Mirroring.{intake_at, mark_at, mark_there, mirror_same, mirror_given}
 use Rattle.disk_archive.proofs.Outcomes.{on_each_err}
 use Rattle.sequencer.proofs.api.Setting.{one_there}
+use Rattle.disk_archive.specs.declared.error.AdmitError.TheVariants as admits
+use Rattle.disk_archive.proofs.Plans.{lane_at}
+use Rattle.disk_archive.proofs.Limiting.{ring_full, ring_room, not_full, no_counter, counter_told, plan_later, commit_later, memory_later, as_told, told_err}
 use Rattle.disk_archive.proofs.Replies.{reply_is}
 use Rattle.disk_archive.proofs.Calling.{Ready, start_of, grows_none, unwritten, written, kept, refused, done}
 use Rattle.disk_archive.proofs.archive.Archive.try_admit.Goals as goal
@@ -186,3 +189,97 @@ returns-clause-reply g c h k i here =
     let own = k.bears.lanes c.args.collector c.lane_of-before.result i c.lane_of-before.ensures.lane here in
     let after = one_there (slice_get c.in_ok-next.next.lanes c.args.collector) c.lane_of-after.result _ c.lane_of-after.ensures.lane (c.in_ok-next.ensures.lane c.lane_of-before.result c.lane_of-before.ensures.lane) in
     reply_is c.lane_of-before.result c.lane_of-after.result i c.args.collector c.args.batch.now _ c.in_ok-kept.field-0.sieved own.offered own.admitted (c.in_ok-kept.ensures.kept i.mark at) after (c.in_ok-kept.ensures.sieved i.mark at)
+
+-- ---- what is told: a batch is too much
+
+pub returns-in_err-may_take-clause-counter_full : goal.returns-in_err-may_take-clause-counter_full
+returns-in_err-may_take-clause-counter_full g c h k =
+    let a = c.args.self.now in
+    let r = c.from_residual-in_err-may_take.result in
+    counter_told (site_of a).blocks a.settings (once_state a) a.head k.pages h c.args.collector (sum_by entry_octets c.args.batch.now) (length c.args.batch.now) r c.in_err-may_take.field-0.0 k.bears
+    (told_err r _ c.from_residual-in_err-may_take.ensures.1)
+    (λ ge. let q = c.in_err-may_take.ensures.no_collector.1 ge in cc)
+    (λ lane at. let q = c.in_err-may_take.ensures.counter_full lane at in (λ e. q.0 (ap (λ x. Err x) e), λ is. let x = q.1 is in cc))
+
+-- ---- memory is refused
+
+pub returns-in_err-kept-clause-counter_full : goal.returns-in_err-kept-clause-counter_full
+returns-in_err-kept-clause-counter_full g c h k =
+    let a = c.args.self.now in
+    let r = c.from_residual-in_err-kept.result in
+    no_counter (site_of a).blocks a.settings (once_state a) a.head k.pages h c.args.collector (sum_by entry_octets c.args.batch.now) (length c.args.batch.now) r admits.OutOfMemory k.bears
+    (told_err r _ c.from_residual-in_err-kept.ensures.1) memory_later c.in_ok-may_take.ensures.collector c.in_ok-may_take.ensures.counts
+
+-- ---- nothing is planned
+
+pub returns-in_err-next-clause-counter_full : goal.returns-in_err-next-clause-counter_full
+returns-in_err-next-clause-counter_full g c h k =
+    let a = c.args.self.now in
+    let r = c.from_residual-in_err-next.result in
+    let usable = ap needs_recovery c.begin.ensures.same ∙ c.in_ok-begin.ensures.usable in
+    no_counter (site_of a).blocks a.settings (once_state a) a.head k.pages h c.args.collector (sum_by entry_octets c.args.batch.now) (length c.args.batch.now) r c.in_err-next.field-0.0 k.bears
+    (told_err r _ c.from_residual-in_err-next.ensures.1) (plan_later _ c.in_err-next.field-0.0 c.in_err-next.ensures.refused usable) c.in_ok-may_take.ensures.collector c.in_ok-may_take.ensures.counts
+
+pub returns-in_err-next-clause-intake_full : goal.returns-in_err-next-clause-intake_full
+returns-in_err-next-clause-intake_full g c h k told =
+    let a = c.args.self.now in
+    let r = c.from_residual-in_err-next.result in
+    let same = as_told r c.in_err-next.field-0.0 admits.IntakeFull (told_err r _ c.from_residual-in_err-next.ensures.1) told in
+    let number = k.bears.number in
+    let counted = k.bears.lanes_number in
+    let collector = c.in_ok-may_take.ensures.collector in
+    let low : c.args.collector < length h.intakes = omega (arith, number, collector) in
+    let it = intake_at c.args.collector h.intakes low in
+    let at = mark_there a.sequencer h c.args.collector it.0 k.mirrors it.1 in
+    let lane = lane_at c.args.collector a.head.lanes (omega (arith, counted, collector)) in
+    ring_full (site_of a).blocks a.settings (once_state a) a.head k.pages h c.args.collector c.args.batch.now lane.0 it.0 c.in_ok-kept.field-0.kept k.bears lane.1 it.1 (c.in_ok-kept.ensures.kept it.0.mark at)
+    (c.in_err-next.ensures.full (ap (λ x. Err x) same) lane.0 lane.1)
+
+pub returns-in_err-next-clause-undamaged : goal.returns-in_err-next-clause-undamaged
+returns-in_err-next-clause-undamaged g c h k page told =
+    let a = c.args.self.now in
+    let r = c.from_residual-in_err-next.result in
+    let same = as_told r c.in_err-next.field-0.0 (admits.BadNode page) (told_err r _ c.from_residual-in_err-next.ensures.1) told in
+    let start : Start = start_of a h k in
+    let s0 = c.in_ok-begin.ensures.shown k.honest.0 k.pages k.maps in
+    let number = k.bears.number in
+    let counted = k.bears.lanes_number in
+    let collector = c.in_ok-may_take.ensures.collector in
+    let low : c.args.collector < length h.intakes = omega (arith, number, collector) in
+    let it = intake_at c.args.collector h.intakes low in
+    let at = mark_there a.sequencer h c.args.collector it.0 k.mirrors it.1 in
+    let lane = lane_at c.args.collector a.head.lanes (omega (arith, counted, collector)) in
+    c.in_err-next.ensures.undamaged (site_of a).blocks (once_state a) start k.pages h it.0 c.args.batch.now lane.0 s0 k.bears it.1 (c.in_ok-kept.ensures.kept it.0.mark at) lane.1 (c.in_ok-may_take.ensures.counts lane.0 lane.1) page (ap (λ x. Err x) same)
+
+-- ---- the commit is refused
+
+pub returns-in_err-commit-clause-counter_full : goal.returns-in_err-commit-clause-counter_full
+returns-in_err-commit-clause-counter_full g c h k =
+    let a = c.args.self.now in
+    let r = c.from_residual-in_err-commit.result in
+    let usable = c.plan_batch.ensures.down ∙ (ap needs_recovery c.begin.ensures.same ∙ c.in_ok-begin.ensures.usable) in
+    no_counter (site_of a).blocks a.settings (once_state a) a.head k.pages h c.args.collector (sum_by entry_octets c.args.batch.now) (length c.args.batch.now) r _ k.bears
+    (told_err r _ c.from_residual-in_err-commit.ensures.1) (commit_later _ c.in_err-commit.field-0.0 c.in_err-commit.ensures.refused usable).later c.in_ok-may_take.ensures.collector c.in_ok-may_take.ensures.counts
+
+-- ---- the batch is taken
+
+pub returns-clause-counter_full : goal.returns-clause-counter_full
+returns-clause-counter_full g c h k =
+    let a = c.args.self.now in
+    (λ e. cc, λ full. absurd (not_full (site_of a).blocks a.settings (once_state a) a.head k.pages h c.args.collector (length c.args.batch.now) k.bears c.in_ok-may_take.ensures.collector c.in_ok-may_take.ensures.counts full.1))
+
+pub returns-clause-room : goal.returns-clause-room
+returns-clause-room g c h k full =
+    let a = c.args.self.now in
+    let number = k.bears.number in
+    let counted = k.bears.lanes_number in
+    let collector = c.in_ok-may_take.ensures.collector in
+    let low : c.args.collector < length h.intakes = omega (arith, number, collector) in
+    let it = intake_at c.args.collector h.intakes low in
+    let at = mark_there a.sequencer h c.args.collector it.0 k.mirrors it.1 in
+    let lane = lane_at c.args.collector a.head.lanes (omega (arith, counted, collector)) in
+    absurd (ring_room (site_of a).blocks a.settings (once_state a) a.head k.pages h c.args.collector c.args.batch.now lane.0 it.0 c.in_ok-kept.field-0.kept k.bears lane.1 it.1 (c.in_ok-kept.ensures.kept it.0.mark at)
+    (c.in_ok-next.ensures.room lane.0 lane.1) full)
+
+pub invariant_of-self-2-clause-lanes : goal.invariant_of-self-2-clause-lanes
+invariant_of-self-2-clause-lanes g c = c.in_ok-next.ensures.lanes ∙ c.args.self.now.lanes
