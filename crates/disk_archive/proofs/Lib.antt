@@ -7,6 +7,7 @@ mod Lasting
 mod BatchSizes
 mod Plans
 mod Replies
+mod Marks
 mod Steps
 mod Limiting
 mod Homecoming

@@ -1,4 +1,5 @@
 pub mod Committing
 pub mod Planning
 pub mod Idle
+pub mod Marked
 pub mod Flushed

@@ -9,6 +9,8 @@ mod committing;
 mod error;
 mod flush_error;
 mod flushing;
+mod mark_error;
+mod marking;
 mod planning;
 mod reading;
 
@@ -17,3 +19,4 @@ pub use batches::MAX_BATCH_LEN;
 pub use error::AdmitError;
 pub use flush_error::FlushError;
 pub use flushing::Flush;
+pub use mark_error::MarkError;

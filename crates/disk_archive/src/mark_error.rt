@@ -1,0 +1,58 @@
+//! Why a mark isn't taken.
+
+ghost use Rattle.std.specs.Prelude.{◌≡◌};
+ghost use Rattle.disk_archive.specs.declared.mark_error.MarkError.TheVariants as marks;
+
+use crate::error::{CommitError, NeedsRecovery};
+use std::alloc::AllocError;
+use thiserror::Error;
+
+/// Why a mark isn't taken. The first of these that holds is told, but for a failure, and memory.
+#[derive(Clone, Copy, Debug, PartialEq, Eq, Error)]
+pub enum MarkError {
+    /// An earlier write or sync failed, and the archive wasn't opened again since.
+    #[error("the archive must be opened again")]
+    NeedsRecovery,
+    /// The archive has no collector of this number.
+    #[error("no such collector")]
+    NoCollector,
+    /// The mark is below the collector's mark.
+    #[error("the mark is below the collector's mark")]
+    MarkBack,
+    /// A device failed. After a write or a sync the archive must be opened again.
+    #[error("the device failed")]
+    Fault,
+    /// A growth was refused, before anything was written.
+    #[error("out of memory")]
+    OutOfMemory,
+}
+
+impl From<AllocError> for MarkError {
+    ghost from_gives = { λ _ e. e ≡ marks.OutOfMemory };
+
+    fn from(_: AllocError) -> Self {
+        MarkError::OutOfMemory
+    }
+}
+
+impl From<CommitError> for MarkError {
+    ghost use Rattle.disk_archive.specs.inner.Marked.{mark_of_commit};
+
+    ghost from_gives = { λ refusal e. e ≡ mark_of_commit refusal };
+
+    fn from(refusal: CommitError) -> Self {
+        match refusal {
+            CommitError::Fault => MarkError::Fault,
+            CommitError::NeedsRecovery => MarkError::NeedsRecovery,
+            CommitError::OutOfMemory => MarkError::OutOfMemory,
+        }
+    }
+}
+
+impl From<NeedsRecovery> for MarkError {
+    ghost from_gives = { λ _ e. e ≡ marks.NeedsRecovery };
+
+    fn from(_: NeedsRecovery) -> Self {
+        MarkError::NeedsRecovery
+    }
+}

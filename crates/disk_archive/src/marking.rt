@@ -1,0 +1,159 @@
+//! A collector's mark is raised.
+
+ghost use Rattle.std.specs.Prelude.{◌≡◌, ◌<◌, ◌≤◌, ◌⊎◌, ◌↔◌, ℕ, List, [], length, Some, IfOk, OnOk, OnErr, IfErr, IsOk, Err, slice_get, slice_set, true, false};
+ghost use Rattle.disk_models.specs.Once.{OnceState, settled_in};
+ghost use Rattle.page_tx.specs.Start.{Start};
+ghost use Rattle.route_meaning.specs.History.{History, Intake};
+ghost use Rattle.sequencer.specs.Lanes.{HasMarkAbove, Raises, marks};
+ghost use Rattle.interleaving_core.specs.Steps.{IsMarkAbove, marked};
+ghost use Rattle.archive_head.specs.Head.{head_octets};
+ghost use Rattle.archive_pages.specs.Carried.{Bears};
+ghost use Rattle.disk_archive.specs.Trees.{TreeLies};
+ghost use Rattle.disk_archive.specs.inner.Planning.{Planned};
+
+use crate::archive::Archive;
+use crate::committing::{begin, commit};
+use crate::mark_error::MarkError;
+use archive_head::Head;
+use archive_pages::{Settings, copy_head, mark_head, put_head};
+use disk_models::{EraseDisk, OnceDisk};
+use page_tx::{PageError, Pages};
+use route_model::Mark;
+use sequencer::Sequencer;
+use std::alloc::Global;
+
+// Whether a mark is above the collector's, of which it may be the present one.
+fn is_raised(
+    settings: Settings,
+    sequencer: &Sequencer,
+    collector: u8,
+    mark: Mark,
+) -> Result<bool, MarkError>
+    requires lanes { length sequencer.now ≡ settings.collectors }
+    ensures collector { OnOk result (collector < settings.collectors) }
+    ensures no_collector { (result ≡ Err MarkError.NoCollector) ↔ (settings.collectors ≤ collector) }
+    ensures back { result ≡ Err MarkError.MarkBack → (present : ℕ) → slice_get (marks sequencer.now) collector ≡ Some present → mark < present }
+    ensures forward { OnOk result ((present : ℕ) → slice_get (marks sequencer.now) collector ≡ Some present → present ≤ mark) }
+    ensures above { IfOk result (λ above. (present : ℕ) → slice_get (marks sequencer.now) collector ≡ Some present → (above ≡ true) ↔ (present < mark)) }
+    ensures refused { IfErr result (λ e. (e ≡ MarkError.NoCollector) ⊎ (e ≡ MarkError.MarkBack)) }
+{
+    if collector >= settings.collectors {
+        return Err(MarkError::NoCollector);
+    }
+    let present = sequencer.mark(usize::from(collector)).seconds();
+    let seconds = mark.seconds();
+    if seconds < present {
+        return Err(MarkError::MarkBack);
+    }
+    Ok(present < seconds)
+}
+
+// The sequencer takes a mark that isn't below the collector's.
+fn raise(sequencer: &mut Sequencer, collector: u8, mark: Mark)
+    requires collector { collector < length sequencer.old }
+    requires forward { (present : ℕ) → slice_get (marks sequencer.old) collector ≡ Some present → present ≤ mark }
+    ensures raised { Raises sequencer.old collector mark sequencer.new }
+{
+    match sequencer.raise(usize::from(collector), mark) {
+        Ok(()) => {}
+        Err(_) => unreachable!(),
+    }
+}
+
+// Why the head wasn't laid over its page, where no other image is held.
+fn of_head(error: PageError) -> MarkError
+    requires memory { error ≡ PageError.OutOfMemory }
+    ensures memory { result ≡ MarkError.OutOfMemory }
+{
+    match error {
+        PageError::OutOfMemory => MarkError::OutOfMemory,
+        PageError::Fault
+        | PageError::NeedsRecovery
+        | PageError::TooManyImages
+        | PageError::PagesFull => unreachable!(),
+    }
+}
+
+// Shows the head with a collector's mark, and answers it.
+fn plan_mark<P: Pages>(
+    alloc: Global,
+    pages: &mut P,
+    head: &Head,
+    collector: u8,
+    mark: Mark,
+) -> Result<Head, MarkError>
+    requires collector { collector < length head.now.lanes }
+    requires lanes { length head.now.lanes ≤ 16 }
+    requires some { 0 < P.homes pages.old }
+    requires none { P.named pages.old ≡ [] }
+    ensures planned { IfOk result (λ next. (settings : Settings) (count : ℕ) (o : OnceState) (start : Start) (shown : List (List ℕ)) (h : History) → P.shows pages.old start shown
+        → Bears (TreeLies count) settings (settled_in o) head.now shown h → (IsMarkAbove h collector mark → ⊥)
+        → Planned count settings (settled_in o) (P.shows pages.new start) next (marked h collector mark)) }
+    ensures lanes { IfOk result (λ next. length next.lanes ≡ length head.now.lanes) }
+    ensures same { OnErr result ((start : Start) (shown : List (List ℕ)) → P.shows pages.old start shown → P.shows pages.new start shown) }
+    ensures refused { IfErr result (λ e. e ≡ MarkError.OutOfMemory) }
+    ensures homes { P.homes pages.new ≡ P.homes pages.old }
+    ensures honest { P.honest pages.old ↔ P.honest pages.new }
+    ensures down { P.down pages.new ≡ P.down pages.old }
+{
+    let _range = mark.seconds();
+    let mut next = copy_head(alloc, head)?;
+    mark_head(&mut next, collector, mark);
+    if let Err(error) = put_head(alloc, pages, &next) {
+        return Err(of_head(error));
+    }
+    Ok(next)
+}
+
+impl<E: EraseDisk + Drop, O: OnceDisk + Drop> Archive<E, O> {
+    ghost use Rattle.disk_archive.specs.Archives.{Carries, GoesOn, Holds, Stands, IsHonest, erase_of, is_down, settings_of, site_of};
+    ghost use Rattle.disk_archive.specs.Sites.{LeftEither};
+    ghost use Rattle.disk_archive.specs.Crashes.{Crashes, Lasts};
+    ghost use Rattle.disk_archive.specs.inner.Idle.{IsAsBefore};
+    ghost use Rattle.disk_archive.specs.inner.Marked.{LeftMarked};
+
+    // Raises a mark where the archive carries a history.
+    fn try_mark(&mut self, collector: u8, mark: Mark) -> Result<(), MarkError>
+        ensures usable { OnOk result (is_down self.old ≡ false) }
+        ensures idle { is_down self.old ≡ true → IsAsBefore self.old self.new }
+        ensures recovery { (result ≡ Err MarkError.NeedsRecovery) ↔ (is_down self.old ≡ true) }
+        ensures no_collector { (result ≡ Err MarkError.NoCollector) ↔ ((is_down self.old ≡ false) × ((settings_of self.old).collectors ≤ collector)) }
+        ensures mark_back { (h : History) → Carries self.old h → (result ≡ Err MarkError.MarkBack) ↔ IsMarkAbove h collector mark }
+        ensures forward { (h : History) → Carries self.old h → OnOk result (IsMarkAbove h collector mark → ⊥) }
+        ensures present { (h : History) → Carries self.old h → (i : Intake) → slice_get h.intakes collector ≡ Some i → mark ≡ i.mark → IsOk result × IsAsBefore self.old self.new }
+        ensures honest { IsHonest self.old ↔ IsHonest self.new }
+        ensures ok { OnOk result ((h : History) → Carries self.old h → Carries self.new (marked h collector mark)) }
+        ensures err { OnErr result ((h : History) → Carries self.old h → GoesOn self.new h) }
+        ensures crash { (h : History) → Carries self.old h → Crashes self.old self.new (LeftMarked (site_of self.old) h collector mark) }
+    {
+        begin(&mut self.tx)?;
+        let raised = is_raised(self.settings, &self.sequencer, collector, mark)?;
+        if !raised {
+            return Ok(());
+        }
+        let next = plan_mark(self.alloc, &mut self.tx, &self.head, collector, mark)?;
+        commit(&mut self.tx)?;
+        self.head = next;
+        raise(&mut self.sequencer, collector, mark);
+        Ok(())
+    }
+
+    /// Raises the mark of a collector: what it gives from now on isn't earlier. The present mark may be given again, and then
+    /// nothing is written.
+    ///
+    /// From an Ok on each crash leaves a history with the mark. After a refusal the archive holds the history of before; where a write
+    /// or a sync failed, it must be opened again, and the collector has then the mark of before, or this one.
+    pub fn mark(&mut self, collector: u8, mark: Mark) -> Result<(), MarkError>
+        ensures ok { OnOk result ((h : History) → Holds self.old h → Holds self.new (marked h collector mark)) }
+        ensures err { OnErr result ((h : History) → Holds self.old h → Holds self.new h) }
+        ensures crash { (h : History) → Carries self.old h → Crashes self.old self.new (LeftEither (site_of self.old) h (marked h collector mark)) }
+        ensures lasts { (h : History) → Stands self.old h → Lasts self.old self.new h }
+        ensures usable { OnOk result (is_down self.old ≡ false) }
+        ensures recovery { (result ≡ Err MarkError.NeedsRecovery) ↔ (is_down self.old ≡ true) }
+        ensures no_collector { (result ≡ Err MarkError.NoCollector) ↔ ((is_down self.old ≡ false) × ((settings_of self.old).collectors ≤ collector)) }
+        ensures mark_back { IsHonest self.old → (h : History) → Holds self.old h → (result ≡ Err MarkError.MarkBack) ↔ ((is_down self.old ≡ false) × IsMarkAbove h collector mark) }
+        ensures present { IsHonest self.old → is_down self.old ≡ false → (h : History) → Holds self.old h → (i : Intake) → slice_get h.intakes collector ≡ Some i → mark ≡ i.mark → IsOk result × (erase_of self.new ≡ erase_of self.old) }
+    {
+        self.try_mark(collector, mark)
+    }
+}
