@@ -1,5 +1,6 @@
 -- Octets that stand wrapped: what is written behind them, and what stays when the first are dropped.
-use Rattle.std.proofs.Common.{◌≡◌, ◌⊎◌, ◌<◌, ◌≤◌, ℕ, ◌+◌, ◌-◌, List, ◌++◌, length, get_or, cond, refl, sym, ◌∙◌, ap, inl, inr, arith, length-append}
+use Rattle.std.proofs.Common.{◌≡◌, ◌⊎◌, ◌<◌, ◌≤◌, ◌↔◌, ℕ, ◌+◌, ◌-◌, ◌%◌, List, ◌++◌, length, get_or, cond, refl, sym, ◌∙◌, ap, inl, inr, arith, length-append}
+use Rattle.std.proofs.Math.Nat.{mod-eq_of_lt, add-mod_left}
 use Rattle.std.proofs.lemmas.Bool.{cases_lt, lt-ltb, le-ltb}
 use Rattle.std.proofs.lemmas.List.{get_or_append_left, get_or-append_right, get_or-append-add}
 use Rattle.intake.specs.Ring.{wrapped, Reads}
@@ -91,3 +92,22 @@ reads_same f g size first octets lt few same reads k below = same (wrapped size 
 -- the place behind n octets lies in the ring
 pub wrapped_low : (size first n : ℕ) → first < size → n ≤ size → wrapped size (first + n) < size
 wrapped_low size first n lt few = elim (wrapped_is size (first + n)) [ inl w ↦ let w0 = w.0 in let w1 = w.1 in omega arith | inr w ↦ let w1 = w.1 in omega arith ]
+
+-- a place of less than twice the size is the remainder
+pub wrapped_mod : (size at : ℕ) → at < size + size → wrapped size at ≡ at % size
+wrapped_mod size at lt =
+    elim (wrapped_is size at) [
+      | inl w ↦ w.1 ∙ sym (mod-eq_of_lt w.0)
+      | inr w ↦
+          let w1 = w.1 in
+          let low : wrapped size at < size = omega arith in
+          let is : at ≡ size + wrapped size at = omega arith in
+          sym (ap (λ (n : ℕ). n % size) is ∙ (add-mod_left size (wrapped size at) ∙ mod-eq_of_lt low))
+    ]
+
+-- octets stand exactly where each has the place that the remainder tells
+pub reads_mod : (f : ℕ → ℕ) (size first : ℕ) (octets : List ℕ) → first < size → length octets ≤ size → Reads f size first octets ↔ ((k : ℕ) → k < length octets → f ((first + k) % size) ≡ get_or octets k 0)
+reads_mod f size first octets lt few = (
+  λ reads k below. ap f (sym (wrapped_mod size (first + k) (omega arith))) ∙ reads k below,
+  λ reads k below. ap f (wrapped_mod size (first + k) (omega arith)) ∙ reads k below,
+)

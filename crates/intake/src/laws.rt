@@ -1,9 +1,9 @@
 //! Laws of rings.
 
-ghost use Rattle.std.specs.Prelude.{◌≡◌, ◌<◌, ◌≤◌, ◌+◌, ◌⊎◌, ℕ, List, sum_by};
+ghost use Rattle.std.specs.Prelude.{◌≡◌, ◌<◌, ◌≤◌, ◌+◌, ◌%◌, ◌⊎◌, ◌↔◌, ℕ, List, length, slice_index, sum_by};
 ghost use Rattle.route_model.specs.Admission.{Admitted};
 ghost use Rattle.intake.specs.declared.ring.Ring.{Ring};
-ghost use Rattle.intake.specs.Ring.{page_at, entry_octets, octets_for, ChangesOnly, Holds, IsRing};
+ghost use Rattle.intake.specs.Ring.{page_at, entry_octets, octets_for, size_of, wrapped, ring_octet, StandsIn, ChangesOnly, Holds, IsRing};
 
 use route_model::spellings_are_one;
 
@@ -21,3 +21,11 @@ pub fn rings_hold_one_list()
 {
     spellings_are_one();
 }
+
+/// Places go round: the place of an octet is the remainder by the ring's size. So octets stand in a ring exactly where it has each of
+/// them at the place that the remainder tells.
+pub fn rings_go_round()
+    ensures place { (size at : ℕ) → at < size + size → wrapped size at ≡ at % size }
+    ensures stands { (homes : ℕ) (pages : List (List ℕ)) (ring : Ring) (octets : List ℕ) → IsRing homes ring → length octets ≤ size_of ring
+        → StandsIn pages ring octets ↔ ((k : ℕ) → k < length octets → ring_octet pages ring.low ((ring.first + k) % size_of ring) ≡ slice_index octets k) }
+{}

@@ -11,5 +11,5 @@ mod ring;
 mod waiting;
 
 pub use error::{IntakeError, ReadError};
-pub use laws::{rings_hold_one_list, rings_keep_what_they_hold};
+pub use laws::{rings_go_round, rings_hold_one_list, rings_keep_what_they_hold};
 pub use ring::Ring;
