@@ -27,6 +27,10 @@ const FREE: [(usize, usize); 8] = [
     (64, 65),
 ];
 
+// The octets of an admission of ends of a session that may have any value: the time's last four, the collector, and the
+// peer's address and AS number.
+const FREE_OF_ENDS: [(usize, usize); 4] = [(4, 8), (10, 11), (12, 16), (28, 32)];
+
 // Changes one octet at a place of the ring. Done twice, it is as before.
 fn spoil(alloc: Global, tx: &mut Tx<MemErase>, ring: &Ring, place: u64) -> Result<(), Fail> {
     let number = ring.low.saturating_add(place / PAGE);
@@ -211,6 +215,100 @@ fn octets_that_are_not_used_change_nothing(rt: HostRuntime) -> Result<(), Fail> 
         spoil(alloc, &mut tx, &ring, place)?;
         assert!(rt; is_first(alloc, &mut tx, &ring, Ok(&ONE))?, "{place}");
         assert!(rt; are_times(alloc, &mut tx, &ring, Ok(TIMES))?, "{place}");
+    }
+    Ok(())
+}
+
+// The times that are read of a ring full of entries of 1,024 octets, at the seconds 0 to 15, where the octet k of all is
+// changed: which of them is another, and what it is then; or the page that is told.
+fn time_changed(k: u32) -> Reading<(u32, u32)> {
+    let (entry, octet) = (k / 1024, (k % 1024) as usize);
+    if octet < 8 {
+        Err(3)
+    } else if octet < 12 {
+        Ok((entry, changed(entry, octet - 4)))
+    } else {
+        Ok((entry, entry))
+    }
+}
+
+// Whether just this was wanted to be read as the times of a full ring.
+fn are_seconds(
+    alloc: Global,
+    tx: &mut Tx<MemErase>,
+    ring: &Ring,
+    wanted: Reading<(u32, u32)>,
+) -> Result<bool, Fail> {
+    let times = match waiting_times(alloc, tx, ring) {
+        Ok(times) => times,
+        Err(ReadError::BadNode(page)) => return Ok(wanted == Err(page)),
+        Err(other) => return Err(other.into()),
+    };
+    let Ok((other, time)) = wanted else {
+        return Ok(false);
+    };
+    Ok(
+        times.len() == 16
+            && times.iter().zip(0..16u32).all(|(found, n)| {
+                *found == Moment::from(if n == other { time } else { n })
+            }),
+    )
+}
+
+// Whether the first of a full ring is read as is wanted where the octet k of all is changed, and this is its spelling.
+fn is_first_of_full(
+    alloc: Global,
+    tx: &mut Tx<MemErase>,
+    ring: &Ring,
+    spelled: &[u8],
+    k: usize,
+) -> Result<bool, Fail> {
+    if k >= 1024 {
+        return is_first(alloc, tx, ring, Ok(spelled));
+    }
+    let at = k.saturating_sub(4);
+    let answers = FREE_OF_ENDS
+        .iter()
+        .any(|(low, high)| *low <= at && at < *high);
+    if k < 4 || !answers {
+        return is_first(alloc, tx, ring, Err(3));
+    }
+    let mut changed = spelled.to_vec(alloc)?;
+    if let Some(octet) = changed.get_mut(at) {
+        *octet ^= 0x81;
+    }
+    is_first(alloc, tx, ring, Ok(changed.as_slice()))
+}
+
+// A ring of one page, all of whose octets are used: by 16 admissions of 328 ends of a session, of 1,020 octets each. The
+// last one wraps within its length.
+fn full(alloc: Global, tx: &mut Tx<MemErase>) -> Result<Ring, Fail> {
+    let mut ring = Ring::empty(3, 1);
+    ring.first = 1022;
+    let mut batch = Vec::new(alloc);
+    for second in 0..16u32 {
+        batch.push(ends(alloc, second, 328)?)?;
+    }
+    append(alloc, tx, &mut ring, &batch)?;
+    Ok(ring)
+}
+
+#[test]
+fn each_octet_of_a_full_ring_is_read_or_told(rt: HostRuntime) -> Result<(), Fail> {
+    let alloc = rt.alloc();
+    let mut tx = begun(alloc)?;
+    let ring = full(alloc, &mut tx)?;
+    assert!(rt; ring.used == PAGE);
+    let spelled = ends(alloc, 0, 328)?.encode(alloc)?;
+    for k in 0..16_384u32 {
+        let place = (1022 + u64::from(k)) % PAGE;
+        spoil(alloc, &mut tx, &ring, place)?;
+        assert!(rt;
+            is_first_of_full(alloc, &mut tx, &ring, &spelled, k as usize)?,
+            "{k}"
+        );
+        assert!(rt; are_seconds(alloc, &mut tx, &ring, time_changed(k))?, "{k}");
+        spoil(alloc, &mut tx, &ring, place)?;
     }
     Ok(())
 }
