@@ -11,7 +11,7 @@ use Rattle.sequencer.specs.Lanes.{Waiting, marks, waiting_times, SameLanes}
 use Rattle.sequencer.specs.Taking.{IsSieved, TakesIn}
 use Rattle.sequencer.proofs.api.Setting.{one_there}
 use Rattle.interleaving_core.proofs.api.Right.{timely-map}
-use Rattle.archive.specs.Limits.{batch_octets}
+use Rattle.archive_calls.specs.Limits.{batch_octets}
 
 -- ---- the loops
 

@@ -16,7 +16,7 @@ use Rattle.interleaving_core.specs.declared.reply.BatchReply.{BatchReply as Repl
 use Rattle.interleaving_core.specs.Does.{IsReply}
 use Rattle.archive.specs.inner.Taking.{IsTaken, SameQueue}
 use Rattle.interleaving_core.specs.Steps.{changed, with_batch, given}
-use Rattle.archive.specs.Limits.{IsCounterFull}
+use Rattle.archive_calls.specs.Limits.{IsCounterFull}
 use Rattle.archive.proofs.Keeping.{same_number}
 use Rattle.archive.proofs.Marking.{same_marks}
 use Rattle.interleaving_core.proofs.api.Right.{whole_given, right_given}

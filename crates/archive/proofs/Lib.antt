@@ -6,3 +6,4 @@ pub mod Batches
 pub mod Giving
 pub mod Applying
 pub mod Answering
+pub mod Calling

@@ -4,18 +4,16 @@ ghost use Rattle.std.specs.Prelude.{◌≡◌, ◌≤◌, ◌<◌, ◌+◌, ℕ,
 ghost use Rattle.std.specs.List.{AllByRecursion};
 ghost use Rattle.route_model.specs.Admission.{IsAdmission};
 ghost use Rattle.sequencer.specs.Lanes.{SameLanes, marks};
-ghost use Rattle.archive.specs.Limits.{batch_octets};
+ghost use Rattle.archive_calls.specs.Limits.{batch_octets};
 ghost use Rattle.archive.specs.inner.Taking.{IsTaken, SameQueue};
 
 use crate::queue::Queue;
+use archive_calls::MAX_BATCH_LEN;
 use interleaving_core::{BatchReply, Receipt};
 use route_model::Admission;
 use sequencer::{Sequencer, timely_of, times_of};
 use std::alloc::{AllocError, Global};
 use thiserror::Error;
-
-/// The most octets of a batch: for each admission the octets of its spelling and 4 more.
-pub const MAX_BATCH_LEN: usize = 262_144;
 
 /// Why a batch isn't taken. The first of these that holds is told.
 #[derive(Clone, Copy, Debug, PartialEq, Eq, Error)]

@@ -6,37 +6,20 @@ ghost use Rattle.archive.specs.Carries.{Carries};
 ghost use Rattle.interleaving_core.specs.Steps.{empty, marked, given, IsCollector, IsMarkAbove, Applies, NothingToApply};
 ghost use Rattle.interleaving_core.specs.World.{resume_of};
 ghost use Rattle.interleaving_core.specs.Does.{last_moment, IsReply};
-ghost use Rattle.archive.specs.Limits.{batch_octets, IsCounterFull};
+ghost use Rattle.archive_calls.specs.Limits.{batch_octets, IsCounterFull};
 ghost use Rattle.archive.specs.Replies.{IsTurn};
 
 use crate::admit::{AdmitRefusal, fits, take_in};
 use crate::applied::{AppliedAdmission, put};
 use crate::question::{Cursor, DescendRefusal, Turn, answer_over};
 use crate::queue::Queue;
+use archive_calls::{Flush, Step};
 use interleaving_core::{BatchReply, Query, Resume};
 use route_model::{Admission, Mark};
 use sequencer::Sequencer;
 use std::alloc::{AllocError, Global};
 use std::marker::Model;
 use thiserror::Error;
-
-/// What a step of applying did.
-#[derive(Clone, Copy, Debug, PartialEq, Eq)]
-pub enum Step {
-    /// A change is applied, or an admission without changes.
-    Applied,
-    /// No admission may be applied: each that waits isn't below every mark.
-    Idle,
-}
-
-/// What a step of flushing did.
-#[derive(Clone, Copy, Debug, PartialEq, Eq)]
-pub enum Flush {
-    /// A page went home.
-    Flushed,
-    /// No page waits to go home.
-    Clean,
-}
 
 /// Why a mark isn't taken.
 #[derive(Clone, Copy, Debug, PartialEq, Eq, Error)]

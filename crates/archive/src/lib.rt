@@ -4,10 +4,12 @@
 mod admit;
 mod applied;
 mod archive;
+mod calls;
 mod question;
 mod queue;
 
-pub use admit::{AdmitRefusal, MAX_BATCH_LEN};
-pub use archive::{Archive, Flush, MarkRefusal, Step};
+pub use admit::AdmitRefusal;
+pub use archive::{Archive, MarkRefusal};
+pub use archive_calls::{Flush, MAX_BATCH_LEN, RouteArchive, Step};
 pub use interleaving_core::{Answer, BatchReply as Admitted, Query, Receipt, Resume};
 pub use question::{Cursor, DescendRefusal, Turn};

@@ -1,7 +1,7 @@
 use Rattle.std.proofs.Common.{◌≡◌, ◌≤◌, take}
 use Rattle.std.specs.List.{AllByRecursion}
 use Rattle.route_model.specs.Admission.{IsAdmission}
-use Rattle.archive.specs.Limits.{batch_octets}
+use Rattle.archive_calls.specs.Limits.{batch_octets}
 use Rattle.archive.proofs.admit.fits.Given as goal
 
 abbrev pub invariant-loop-admission : goal.invariant-loop-admission

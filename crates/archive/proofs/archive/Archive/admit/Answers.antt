@@ -4,7 +4,7 @@ use Rattle.std.proofs.lemmas.Bool.{false≢true, cases_lt}
 use Rattle.route_meaning.specs.History.{Intake, IsHistory}
 use Rattle.archive.specs.Carries.{Carries}
 use Rattle.interleaving_core.specs.Steps.{IsCollector, given}
-use Rattle.archive.specs.Limits.{IsCounterFull, batch_octets}
+use Rattle.archive_calls.specs.Limits.{IsCounterFull, batch_octets}
 use Rattle.interleaving_core.specs.Does.{IsReply}
 use Rattle.archive.specs.Kept.{history_of}
 use Rattle.sequencer.proofs.api.Setting.{get_some}

@@ -1,0 +1,66 @@
+-- What a call on an archive does to the history that it carries, and what it tells.
+use Rattle.std.specs.Prelude.{◌≡◌, ◌<◌, ◌≤◌, ⊤, ℕ, List, length, Some, slice_get, Result, Ok, Err}
+use Rattle.route_model.specs.Admission.{Admitted}
+use Rattle.route_meaning.specs.History.{Intake, History, applied, settled}
+use Rattle.interleaving_core.specs.declared.reply.BatchReply.{BatchReply}
+use Rattle.interleaving_core.specs.declared.query.Query.{Query}
+use Rattle.interleaving_core.specs.declared.query.Answer.{Answer}
+use Rattle.interleaving_core.specs.Does.{IsReply, last_moment}
+use Rattle.interleaving_core.specs.Headline.{IsAnswered}
+use Rattle.interleaving_core.specs.Steps.{IsCollector, IsMarkAbove, given, marked, Applies, AppliesMore, NothingToApply}
+use Rattle.archive_calls.specs.Limits.{batch_octets, IsCounterFull}
+use Rattle.archive_calls.specs.declared.refusal.Trouble.{Trouble}
+use Rattle.archive_calls.specs.declared.refusal.AdmitError.{AdmitError}
+use Rattle.archive_calls.specs.declared.refusal.AdmitError.TheVariants as admits
+use Rattle.archive_calls.specs.declared.refusal.MarkError.{MarkError}
+use Rattle.archive_calls.specs.declared.refusal.MarkError.TheVariants as marks
+use Rattle.archive_calls.specs.declared.refusal.AskError.{AskError}
+use Rattle.archive_calls.specs.declared.refusal.AskError.TheVariants as asks
+use Rattle.archive_calls.specs.declared.told.Step.{Step}
+use Rattle.archive_calls.specs.declared.told.Step.TheVariants.{Applied, Idle}
+
+-- Why no batch is taken. How full a ring is, the archive alone tells.
+abbrev pub IsRefusal : History → ℕ → List Admitted → AdmitError → Type 0
+IsRefusal h c batch admits.NoCollector = IsCollector h c → ⊥
+IsRefusal h c batch admits.BatchTooLarge = 262144 < batch_octets batch
+IsRefusal h c batch admits.CounterFull = IsCounterFull h c (length batch)
+IsRefusal h c batch admits.IntakeFull = IsCollector h c
+IsRefusal h c batch (admits.Trouble trouble) = ⊤
+
+-- a batch was taken, as the reply tells
+pub record IsTaken (h : History) (c : ℕ) (batch : List Admitted) (reply : BatchReply) (g : History) : Type 0 where
+  pub intake : Intake
+  pub here : slice_get h.intakes c ≡ Some intake
+  pub reply_is : IsReply intake c batch reply
+  pub after : g ≡ given h c batch
+
+-- the batch is taken but for its late records; or it is refused for its reason, and nothing changes
+abbrev pub DoesAdmit : ℕ → List Admitted → Result BatchReply AdmitError → History → History → Type 0
+DoesAdmit c batch (Ok reply) h g = IsTaken h c batch reply g
+DoesAdmit c batch (Err refusal) h g = (g ≡ h) × IsRefusal h c batch refusal
+
+-- the mark is set; or there is no such collector, or its mark is above, and nothing changes
+abbrev pub DoesMark : ℕ → ℕ → Result (Unit {0}) MarkError → History → History → Type 0
+DoesMark c mark (Ok done) h g = IsCollector h c × (g ≡ marked h c mark)
+DoesMark c mark (Err marks.NoCollector) h g = (IsCollector h c → ⊥) × (g ≡ h)
+DoesMark c mark (Err marks.MarkBack) h g = IsMarkAbove h c mark × (g ≡ h)
+DoesMark c mark (Err (marks.Trouble trouble)) h g = g ≡ h
+
+-- the next change is applied, and perhaps some more
+pub record AppliesSome (h g : History) : Type 0 where
+  pub first : History
+  pub next : Applies h first
+  pub more : ℕ
+  pub others : AppliesMore more first g
+
+-- the next change was applied at least; or nothing may be applied, or the call failed, and nothing changes
+abbrev pub DoesApply : Result Step Trouble → History → History → Type 0
+DoesApply (Ok Applied) h g = AppliesSome h g
+DoesApply (Ok Idle) h g = NothingToApply h × (g ≡ h)
+DoesApply (Err trouble) h g = g ≡ h
+
+-- the question's last moment is settled, and this is the answer over what is applied; or it isn't, and the watermark is told
+abbrev pub IsAnswerOf : History → Query → Result Answer AskError → Type 0
+IsAnswerOf h query (Ok answer) = (last_moment query < settled h) × IsAnswered (applied h) query answer
+IsAnswerOf h query (Err (asks.AboveWatermark watermark)) = (watermark ≡ settled h) × (settled h ≤ last_moment query)
+IsAnswerOf h query (Err (asks.Trouble trouble)) = ⊤

@@ -1,0 +1,73 @@
+//! An archive, as feeds and questions use it.
+
+ghost use Rattle.std.specs.Prelude.{◌≡◌, ◌≤◌, ℕ, length, map, slice_get};
+ghost use Rattle.route_meaning.specs.History.{History, IsHistory, settled};
+ghost use Rattle.interleaving_core.specs.World.{resume_of};
+ghost use Rattle.archive_calls.specs.Does.{DoesAdmit, DoesMark, DoesApply, IsAnswerOf};
+
+use crate::refusal::{AdmitError, AskError, MarkError, Trouble};
+use crate::told::{Flush, Step};
+use interleaving_core::{Answer, BatchReply, Query, Resume};
+use route_model::{Admission, Mark};
+
+/// An archive with one owner: it takes batches and marks, applies them step by step, and answers questions.
+pub trait RouteArchive {
+    /// The archive carries this history. After a failed write or sync it is the one of before the call that failed, which
+    /// what is found when the archive is opened again goes on from.
+    ghost carries: { Self → History → Type 0 };
+
+    /// The most octets that a batch may have.
+    ghost most: { Self → ℕ };
+
+    /// How many collectors there are, 1 to 16. Their numbers begin with 0.
+    fn collectors(&self) -> u8
+        ensures count { (h : History) → carries self.now h → result ≡ length h.intakes }
+        ensures some { 1 ≤ result }
+        ensures few { result ≤ 16 };
+
+    /// The most octets that a batch may have: [`crate::MAX_BATCH_LEN`], or those of a ring where these are fewer. Each
+    /// admission fits.
+    fn batch_limit(&self) -> usize
+        ensures most { result ≡ most self.now }
+        ensures one { 131076 ≤ result }
+        ensures few { result ≤ 262144 };
+
+    /// The settled watermark: a question of a moment below it is answered.
+    fn settled(&self) -> Mark
+        ensures settled { (h : History) → carries self.now h → result ≡ settled h };
+
+    /// Where the collector goes on, if there is one of this number.
+    fn resume(&self, collector: u8) -> Option<Resume>
+        ensures resume { (h : History) → carries self.now h → result ≡ slice_get (map resume_of h.intakes) collector };
+
+    /// Admits the records of a collector, in their order, but for those that come late: whose time is below the collector's
+    /// mark or below an earlier time of the batch. Each of these is told. The mark is raised to the greatest of these times.
+    fn admit(&mut self, collector: u8, batch: &[Admission]) -> Result<BatchReply, AdmitError>
+        ensures done { (h : History) → carries self.old h → (g : History) × carries self.new g × DoesAdmit collector batch.now result h g }
+        ensures most { most self.new ≡ most self.old };
+
+    /// Raises the mark of a collector: what it gives from now on isn't earlier. The present mark may be given again.
+    fn mark(&mut self, collector: u8, mark: Mark) -> Result<(), MarkError>
+        ensures done { (h : History) → carries self.old h → (g : History) × carries self.new g × DoesMark collector mark result h g }
+        ensures most { most self.new ≡ most self.old };
+
+    /// Applies what is next: the next change of the first admission that waits, where that is below every mark, and perhaps
+    /// some more. An admission without changes is applied at once.
+    fn apply_step(&mut self) -> Result<Step, Trouble>
+        ensures done { (h : History) → carries self.old h → (g : History) × carries self.new g × DoesApply result h g }
+        ensures most { most self.new ≡ most self.old };
+
+    /// Writes a page home that waits.
+    fn flush_step(&mut self) -> Result<Flush, Trouble>
+        ensures done { (h : History) → carries self.old h → carries self.new h }
+        ensures most { most self.new ≡ most self.old };
+
+    /// Answers a question whose last moment is below the settled watermark.
+    fn answer(&mut self, query: Query) -> Result<Answer, AskError>
+        ensures done { (h : History) → carries self.old h → IsAnswerOf h query result }
+        ensures carries { (h : History) → carries self.old h → carries self.new h }
+        ensures most { most self.new ≡ most self.old };
+
+    /// A history that is carried is right.
+    ghost right: { (archive : Self) (h : History) → carries archive h → IsHistory h };
+}
