@@ -91,7 +91,7 @@ fn load_marked(alloc: Global, archive: &mut Archive, octets: &[u8]) -> Told {
 /// Asks a question: what standard error was told, and the status.
 fn ask_to<W: Write>(
     alloc: Global,
-    archive: &Archive,
+    archive: &mut Archive,
     line: &str,
     out: &mut Output<W>,
 ) -> (Vec<u8>, Status) {
@@ -100,7 +100,7 @@ fn ask_to<W: Write>(
     (err, status)
 }
 
-fn ask_line(alloc: Global, archive: &Archive, line: &str) -> Told {
+fn ask_line(alloc: Global, archive: &mut Archive, line: &str) -> Told {
     let mut out = Vec::new(alloc);
     let (err, status) = ask_to(alloc, archive, line, &mut Output::new(&mut out));
     Told { out, err, status }
@@ -337,7 +337,7 @@ fn is_as_wanted(alloc: Global, example: &Example) -> Result<bool, Fail> {
     };
     let loaded = load_octets(alloc, &mut archive, how, &octets);
     let answered = match example.answer {
-        Some(answer) => ask_line(alloc, &archive, QUESTION).is(answer, "", Status::Done),
+        Some(answer) => ask_line(alloc, &mut archive, QUESTION).is(answer, "", Status::Done),
         None => true,
     };
     Ok(answered && loaded.is(example.lines, example.err, example.status))
@@ -558,7 +558,7 @@ fn loaded(alloc: Global) -> Result<Archive, Fail> {
 }
 
 /// Whether the reply to the question is its answer.
-fn is_replied(alloc: Global, archive: &Archive) -> bool {
+fn is_replied(alloc: Global, archive: &mut Archive) -> bool {
     match reply(alloc, archive, QUESTION) {
         Ok(text) => text.as_str() == ANSWER,
         Err(_) => false,
@@ -568,14 +568,14 @@ fn is_replied(alloc: Global, archive: &Archive) -> bool {
 #[test]
 fn questions_are_answered_below_the_watermark(rt: HostRuntime) -> Result<(), Fail> {
     let alloc = rt.alloc();
-    let archive = loaded(alloc)?;
+    let mut archive = loaded(alloc)?;
     for (line, lines, status) in &QUESTIONS {
         assert!(rt;
-            ask_line(alloc, &archive, line).is(lines, "", *status),
+            ask_line(alloc, &mut archive, line).is(lines, "", *status),
             "{line}"
         );
     }
-    assert!(rt; is_replied(alloc, &archive));
+    assert!(rt; is_replied(alloc, &mut archive));
     Ok(())
 }
 
@@ -735,7 +735,7 @@ fn is_failed(alloc: Global) -> Result<bool, Fail> {
         mark: None,
     };
     let (told, loaded) = load_to(alloc, &mut archive, how, &[], &mut full);
-    let (untold, asked) = ask_to(alloc, &archive, QUESTION, &mut full);
+    let (untold, asked) = ask_to(alloc, &mut archive, QUESTION, &mut full);
     Ok(
         end == End::Refused(FeedStop::Outside)
             && loaded == Status::Failed
@@ -749,7 +749,7 @@ fn is_failed(alloc: Global) -> Result<bool, Fail> {
 fn is_too_long(alloc: Global) -> Result<bool, Fail> {
     let mut small = [0u8; 4];
     let full: &mut [u8] = &mut small;
-    let (told, asked) = ask_to(alloc, &loaded(alloc)?, QUESTION, &mut Output::new(full));
+    let (told, asked) = ask_to(alloc, &mut loaded(alloc)?, QUESTION, &mut Output::new(full));
     Ok(asked == Status::Failed && told.as_slice() == "rha: 29 Outside\n".as_bytes())
 }
 

@@ -6,6 +6,8 @@ mod commands;
 #[cfg(test)]
 mod feeds;
 #[cfg(test)]
+mod full_rings;
+#[cfg(test)]
 mod lines;
 #[cfg(test)]
 mod plain;

@@ -1,25 +1,46 @@
 -- Applying changes no intake.
-use Rattle.std.proofs.Common.{◌≡◌, List, suc, length, ap, ◌∙◌, refl, inl, inr}
+use Rattle.std.proofs.Common.{◌≡◌, ◌∙◌, ℕ, zero, suc, List, length, ap, refl, inl, inr, ⊎_elim, Option, Some, None, Ok, Err, Result, OnOk, OnErr, sym, subst}
 use Rattle.std.proofs.lemmas.Bool.{cases_lt}
 use Rattle.route_meaning.specs.History.{Intake, History}
-use Rattle.archive.specs.Carries.{Carries}
-use Rattle.interleaving_core.specs.Steps.{Applies, NothingToApply}
-use Rattle.service.specs.Loads.{HasIntakes, IsSettled}
+use Rattle.interleaving_core.specs.Steps.{Applies, AppliesMore, NothingToApply}
+use Rattle.archive_calls.specs.Does.{AppliesSome, DoesApply}
+use Rattle.archive_calls.specs.declared.told.Step.{Step}
+use Rattle.archive_calls.specs.declared.told.Step.TheVariants.{Applied, Idle}
+use Rattle.archive_calls.specs.declared.refusal.Trouble.{Trouble}
+use Rattle.service.specs.Carried.{Carried, HasIntakes}
+use Rattle.service.specs.Loads.{IsSettled}
 
 intakes_stay : (h g : History) → Applies h g → g.intakes ≡ h.intakes
 intakes_stay h g a = elim (cases_lt (suc h.some) (length a.next.item.changes)) [ inl lt ↦ ap (λ (t : History). t.intakes) (a.part lt) | inr ge ↦ ap (λ (t : History). t.intakes) (a.whole ge) ]
 
-pub carries_some : (h archive : History) → Carries archive h → HasIntakes h.intakes archive
+intakes_stay_more : (n : ℕ) (h g : History) → AppliesMore n h g → g.intakes ≡ h.intakes
+intakes_stay_more zero h g a = ap (λ (t : History). t.intakes) a
+intakes_stay_more (suc n) h g (inl a) = intakes_stay_more n a.0 g a.2 ∙ intakes_stay h a.0 a.1
+intakes_stay_more (suc n) h g (inr a) = ap (λ (t : History). t.intakes) a.1
+
+some_stay : (h g : History) → AppliesSome h g → g.intakes ≡ h.intakes
+some_stay h g a = intakes_stay_more a.more a.first g a.others ∙ intakes_stay h a.first a.next
+
+pub carries_some : (h : History) (archive : Carried) → archive h → HasIntakes h.intakes archive
 carries_some h archive c = record { now = h; are = refl; carried = c }
 
-pub applied_more : (intakes : List Intake) (was now : History) → ((h : History) → Carries was h → (g : History) × Applies h g × Carries now g) → HasIntakes intakes was → HasIntakes intakes now
+-- some more was applied
+pub applied_more : (intakes : List Intake) (was now : Carried) → ((h : History) → was h → (g : History) × now g × DoesApply (Ok Applied) h g) → HasIntakes intakes was → HasIntakes intakes now
 applied_more intakes was now applies w =
     let next = applies w.now w.carried in
-    record { now = next.0; are = intakes_stay w.now next.0 next.1 ∙ w.are; carried = next.2 }
+    record { now = next.0; are = some_stay w.now next.0 next.2 ∙ w.are; carried = next.1 }
 
-pub idle_now : (intakes : List Intake) (was now : History) → ((h : History) → Carries was h → NothingToApply h) → ((h : History) → Carries was h → Carries now h)
-    → HasIntakes intakes was → IsSettled intakes now
-idle_now intakes was now idle same w = record { now = w.now; intakes_are = w.are; idle = idle w.now w.carried; carried = same w.now w.carried }
+-- nothing may be applied
+pub idle_now : (intakes : List Intake) (was now : Carried) → ((h : History) → was h → (g : History) × now g × DoesApply (Ok Idle) h g) → HasIntakes intakes was → IsSettled intakes now
+idle_now intakes was now idle w =
+    let next = idle w.now w.carried in
+    record { now = next.0; intakes_are = ap (λ (t : History). t.intakes) next.2.1 ∙ w.are; idle = subst NothingToApply (sym next.2.1) next.2.0; carried = next.1 }
 
-pub flushed : (intakes : List Intake) (was now : History) → ((h : History) → Carries was h → Carries now h) → IsSettled intakes was → IsSettled intakes now
+-- it couldn't be applied
+pub stopped_now : (intakes : List Intake) (was now : Carried) (trouble : Trouble) → ((h : History) → was h → (g : History) × now g × DoesApply (Err trouble) h g) → HasIntakes intakes was → HasIntakes intakes now
+stopped_now intakes was now trouble stops w =
+    let next = stops w.now w.carried in
+    record { now = next.0; are = ap (λ (t : History). t.intakes) next.2 ∙ w.are; carried = next.1 }
+
+pub flushed : (intakes : List Intake) (was now : Carried) → ((h : History) → was h → now h) → IsSettled intakes was → IsSettled intakes now
 flushed intakes was now same s = record { now = s.now; intakes_are = s.intakes_are; idle = s.idle; carried = same s.now s.carried }

@@ -1,6 +1,6 @@
 -- A feed that is taken in record by record.
 use Rattle.service.specs.Outputs.{OutputState}
-use Rattle.std.proofs.Common.{◌≡◌, ℕ, ◌+◌, ◌<◌, length, length-append, take, get_or, map, suc, List, [], ◌∷◌, ◌++◌, Option, None, Result, Ok, Err, OnOk, inl, refl, sym, ap, ◌∙◌, subst, append_assoc, arith}
+use Rattle.std.proofs.Common.{◌≡◌, ℕ, ◌+◌, ◌<◌, ◌≤◌, length, length-append, take, get_or, map, suc, List, [], ◌∷◌, ◌++◌, Option, None, Result, Ok, Err, OnOk, inl, refl, sym, ap, ◌∙◌, subst, append_assoc, arith}
 use Rattle.std.proofs.lemmas.List.{append-nil, map-append}
 use Rattle.service.proofs.Outputs.{Tells-nil}
 use Rattle.route_model.proofs.api.Admissions.{take_item}
@@ -13,8 +13,7 @@ use Rattle.resolve.specs.Records.{Gives}
 use Rattle.resolve.specs.declared.fault.ResolveFault.{ResolveFault}
 use Rattle.resolve.specs.declared.fault.ResolveFault.TheVariants as faults
 use Rattle.resolve.proofs.api.Feeds.{one_more}
-use Rattle.archive.specs.Carries.{Carries}
-use Rattle.archive.specs.Limits.{batch_octets}
+use Rattle.archive_calls.specs.Limits.{batch_octets}
 use Rattle.service.specs.Turns.{Turn, turns_at, waits_after, turns_for, waits_behind}
 use Rattle.service.specs.FeedTexts.{capped, skips}
 use Rattle.service.specs.inner.Feeding.{HasDone, IsCounted, IsBehind}
@@ -22,8 +21,10 @@ use Rattle.service.specs.declared.feed_lines.FeedCounts.{FeedCounts}
 use Rattle.service.specs.declared.feeding.Feeding.{Feeding}
 use Rattle.service.specs.declared.faults.FeedStop.{FeedStop}
 use Rattle.interleaving_core.proofs.api.Joining.{given_none}
+use Rattle.service.specs.declared.limits.BatchLimits.{BatchLimits}
+use Rattle.service.specs.Carried.{Carried}
 
-pub turns_snoc : (limit place : ℕ) (waiting : List Admitted) (results : List (Result (Option Admitted) ResolveFault)) (r : Result (Option Admitted) ResolveFault)
+pub turns_snoc : (limit : BatchLimits) (place : ℕ) (waiting : List Admitted) (results : List (Result (Option Admitted) ResolveFault)) (r : Result (Option Admitted) ResolveFault)
     → turns_for limit place waiting (results ++ r ∷ []) ≡ turns_for limit place waiting results ++ turns_at limit (place + length results) (waits_behind limit waiting results) r
 turns_snoc limit place waiting [] r =
     append-nil (turns_at limit place waiting r) ∙ ap (λ (n : ℕ). turns_at limit n waiting r) (let e : place ≡ place + 0 = omega arith in e)
@@ -34,7 +35,7 @@ turns_snoc limit place waiting (q ∷ results) r =
     (let e : suc place + length results ≡ place + suc (length results) = omega arith in e))
     ∙ sym (append_assoc (turns_at limit place waiting q) (turns_for limit (suc place) (waits_after limit waiting q) results) _)
 
-pub waits_snoc : (limit : ℕ) (waiting : List Admitted) (results : List (Result (Option Admitted) ResolveFault)) (r : Result (Option Admitted) ResolveFault)
+pub waits_snoc : (limit : BatchLimits) (waiting : List Admitted) (results : List (Result (Option Admitted) ResolveFault)) (r : Result (Option Admitted) ResolveFault)
     → waits_behind limit waiting (results ++ r ∷ []) ≡ waits_after limit (waits_behind limit waiting results) r
 waits_snoc limit waiting [] r = refl
 waits_snoc limit waiting (q ∷ results) r = waits_snoc limit (waits_after limit waiting q) results r
@@ -46,7 +47,7 @@ skips_both (Read reading ∷ xs) ys = skips_both xs ys
 skips_both (Malformed kind subtype ∷ xs) ys = skips_both xs ys
 
 -- what comes behind one more record, once its turns are made
-pub behind_more : (c limit : ℕ) (h : History) (records : List Told) (r : Told) (x : Result (Option Admitted) ResolveFault) (old new : Feeding) (archive later : History) (was mid now : OutputState)
+pub behind_more : (c : ℕ) (limit : BatchLimits) (h : History) (records : List Told) (r : Told) (x : Result (Option Admitted) ResolveFault) (old new : Feeding) (archive later : Carried) (was mid now : OutputState)
     (b : IsBehind c limit h records old archive was mid)
     → new.collector ≡ old.collector → new.limit ≡ old.limit → new.resolver.collector ≡ old.resolver.collector
     → Gives old.resolver.collector old.resolver.table r x → (x ≡ Err faults.OutOfMemory → ⊥)
@@ -77,7 +78,7 @@ behind_more c limit h records r x old new archive later was mid now b collector 
     }
 
 -- the same where the turns may fail
-pub behind_where : (t : Result (Unit {0}) FeedStop) (c limit : ℕ) (h : History) (records : List Told) (r : Told) (x : Result (Option Admitted) ResolveFault) (old new : Feeding) (archive later : History) (was mid now : OutputState)
+pub behind_where : (t : Result (Unit {0}) FeedStop) (c : ℕ) (limit : BatchLimits) (h : History) (records : List Told) (r : Told) (x : Result (Option Admitted) ResolveFault) (old new : Feeding) (archive later : Carried) (was mid now : OutputState)
     (b : IsBehind c limit h records old archive was mid)
     → new.collector ≡ old.collector → new.limit ≡ old.limit → new.resolver.collector ≡ old.resolver.collector
     → Gives old.resolver.collector old.resolver.table r x → OnOk t (x ≡ Err faults.OutOfMemory → ⊥)
@@ -91,20 +92,21 @@ behind_where (Ok done_) c limit h records r x old new archive later was mid now 
 behind_where (Err e) c limit h records r x old new archive later was mid now b collector limits fed gives enough known waits counted done counts skipped = tt
 
 -- the place of the next record
-pub place_of : (c limit : ℕ) (h : History) (records : List Told) (old : Feeding) (archive : History) (was mid : OutputState) (b : IsBehind c limit h records old archive was mid) → old.counts.records ≡ capped (length b.results)
+pub place_of : (c : ℕ) (limit : BatchLimits) (h : History) (records : List Told) (old : Feeding) (archive : Carried) (was mid : OutputState) (b : IsBehind c limit h records old archive was mid) → old.counts.records ≡ capped (length b.results)
 place_of c limit h records old archive was mid b = b.recorded ∙ ap capped (sym b.means.count)
 
 -- counts of records and skipped ones tell nothing of what was done
-pub done_counted : (c : ℕ) (h : History) (turns : List Turn) (old new : FeedCounts) (archive : History) (was now : OutputState)
+pub done_counted : (c : ℕ) (h : History) (turns : List Turn) (old new : FeedCounts) (archive : Carried) (was now : OutputState)
     → new.admitted ≡ old.admitted → new.late ≡ old.late → new.refused ≡ old.refused → HasDone c h turns old archive was now → HasDone c h turns new archive was now
 done_counted c h turns old new archive was now admitted late refused d = record { carried = d.carried; wrote = d.wrote; admitted = admitted ∙ d.admitted; late = late ∙ d.late; refused = refused ∙ d.refused; there = d.there }
 
 -- no record came yet
-pub behind_none : (c limit : ℕ) (h archive : History) (feeding : Feeding) (was : OutputState)
+pub behind_none : (c : ℕ) (limit : BatchLimits) (h : History) (archive : Carried) (feeding : Feeding) (was : OutputState)
     → feeding.collector ≡ c → feeding.limit ≡ limit → feeding.resolver.collector ≡ c → feeding.resolver.table ≡ None → feeding.gathered.items ≡ [] → feeding.octets ≡ 0
     → feeding.counts ≡ record { records = 0; admitted = 0; late = 0; refused = 0; skipped = 0 }
-    → Carries archive h → IsBehind c limit h [] feeding archive was was
-behind_none c limit h archive feeding was collector limits fed none empty octets counts carried = record {
+    → 131076 ≤ feeding.limit.octets → feeding.limit.octets ≤ 262144
+    → archive h → IsBehind c limit h [] feeding archive was was
+behind_none c limit h archive feeding was collector limits fed none empty octets counts one few carried = record {
   results = [];
   collector = collector;
   limited = limits;
@@ -112,9 +114,9 @@ behind_none c limit h archive feeding was collector limits fed none empty octets
   known = inl (tt, none);
   means = record { count = refl; each = λ n next result e f. absurd cc };
   waits = empty;
-  counted = record { octets = octets ∙ sym (ap batch_octets empty); fit = omega (arith, octets) };
+  counted = record { octets = octets ∙ sym (ap batch_octets empty); fit = omega (arith, octets, one); one = one; few = few };
   done = record {
-    carried = subst (λ (t : History). Carries archive t) (sym (given_none h c)) carried;
+    carried = record { now = h; are = ap (λ (t : History). t.intakes) (sym (given_none h c)); carried = carried };
     wrote = Tells-nil was;
     admitted = ap (λ (t : FeedCounts). t.admitted) counts;
     late = ap (λ (t : FeedCounts). t.late) counts;
@@ -132,6 +134,21 @@ on_ok P (Err e) p = tt
 pub on_ok_more : {E : Type 0} (P Q : Type 0) (r : Result (Unit {0}) E) → OnOk r P → (P → Q) → OnOk r Q
 on_ok_more P Q (Ok x) p f = f p
 on_ok_more P Q (Err e) p f = tt
+
+pub both_ok : {E : Type 0} (P Q : Type 0) (r : Result (Unit {0}) E) → OnOk r P → OnOk r Q → OnOk r (P × Q)
+both_ok P Q (Ok x) p q = (p, q)
+both_ok P Q (Err e) p q = tt
+
+-- a refused record changes nothing of what waits
+pub refused_counted : (old new : Feeding) → new.octets ≡ old.octets → new.gathered.items ≡ old.gathered.items → new.limit ≡ old.limit → IsCounted old → IsCounted new
+refused_counted old new octets gathered limits counted =
+    let l = ap (λ (b : BatchLimits). b.octets) limits in
+    record {
+      octets = octets ∙ counted.octets ∙ sym (ap batch_octets gathered);
+      fit = let f = counted.fit in omega (arith, octets, f, l);
+      one = let o = counted.one in omega (arith, o, l);
+      few = let o = counted.few in omega (arith, o, l);
+    }
 
 pub ok_is_none : (o : Option Admitted) → (◌≡◌ {A = Result (Option Admitted) ResolveFault} (Ok o) (Err faults.OutOfMemory)) → ⊥
 ok_is_none o e = absurd cc

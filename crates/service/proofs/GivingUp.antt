@@ -1,6 +1,6 @@
 -- Feeds that are given up.
-use Rattle.std.proofs.Common.{◌≡◌, ◌↔◌, ℕ, ◌+◌, ◌<◌, ◌≤◌, List, [], ◌∷◌, ◌++◌, length, map, take, drop, get_or, Option, Result, Ok, Err, IfErr, inl, refl, sym, ap, ◌∙◌, subst, append_assoc, arith}
-use Rattle.std.specs.List.{AllByRecursion}
+use Rattle.std.proofs.Common.{◌≡◌, ◌↔◌, ℕ, ◌+◌, ◌<◌, ◌≤◌, List, [], ◌∷◌, ◌++◌, length, map, take, drop, get_or, Option, Result, Ok, Err, IfErr, OnErr, inl, refl, sym, ap, ◌∙◌, subst, append_assoc, arith}
+use Rattle.std.specs.List.{AllByRecursion, slice_get}
 use Rattle.service.specs.Outputs.{OutputState, Tells}
 use Rattle.service.proofs.Outputs.{Tells-trans}
 use Rattle.std.proofs.lemmas.List.{append-nil, map-append, take-append-drop}
@@ -14,12 +14,12 @@ use Rattle.mrt_records.specs.Records.{IsRecord}
 use Rattle.mrt_records.specs.Streams.{IsItem, GainsFrames}
 use Rattle.mrt_records.specs.declared.item.Item.{Item}
 use Rattle.mrt_records.proofs.api.Streams.{part_begins_none}
-use Rattle.archive.specs.Carries.{Carries}
-use Rattle.interleaving_core.specs.Steps.{with_batch, given, IsCollector}
-use Rattle.archive.specs.Limits.{batch_octets, IsCounterFull}
-use Rattle.interleaving_core.specs.declared.reply.BatchReply.{BatchReply as Reply}
-use Rattle.archive.specs.declared.admit.AdmitRefusal.{AdmitRefusal}
-use Rattle.archive.specs.declared.admit.AdmitRefusal.TheVariants as admits
+use Rattle.interleaving_core.specs.Steps.{with_batch, given, NothingToApply}
+use Rattle.archive_calls.specs.Limits.{batch_octets}
+use Rattle.service.specs.inner.Taking.{IsTaken}
+use Rattle.archive_calls.specs.Does.{IsRefusal}
+use Rattle.archive_calls.specs.declared.refusal.AdmitError.{AdmitError}
+use Rattle.archive_calls.specs.declared.refusal.AdmitError.TheVariants as admits
 use Rattle.resolve.specs.Records.{Gives}
 use Rattle.resolve.specs.Meanings.{Means}
 use Rattle.resolve.specs.declared.fault.ResolveFault.{ResolveFault}
@@ -34,18 +34,21 @@ use Rattle.service.specs.declared.feed_lines.FeedCounts.{FeedCounts}
 use Rattle.service.specs.declared.feeding.Feeding.{Feeding}
 use Rattle.service.specs.declared.faults.FeedStop.{FeedStop}
 use Rattle.service.specs.declared.faults.FeedStop.TheVariants as stops
-use Rattle.interleaving_core.proofs.api.Joining.{given_both}
-use Rattle.service.proofs.Turning.{offered_both, as_many, collector_there}
+use Rattle.service.proofs.Turning.{as_many}
 use Rattle.service.proofs.Following.{turns_snoc}
+use Rattle.service.specs.declared.limits.BatchLimits.{BatchLimits}
+use Rattle.service.specs.Carried.{Carried}
+use Rattle.archive_calls.specs.declared.refusal.Trouble.TheVariants as troubles
 
 -- a reason stays one where more turns would have followed
 reason_more : (c : ℕ) (h : History) (made unmade later : List Turn) (why : FeedStop) → IsReason c h made unmade why → IsReason c h made (unmade ++ later) why
 reason_more c h made unmade later stops.NoCollector r = r
 reason_more c h made unmade later stops.CounterFull r = (r.0, r.1 ++ later, ap (λ (t : List Turn). t ++ later) r.2, r.3)
-reason_more c h made unmade later stops.OutOfMemory r = tt
+reason_more c h made unmade later stops.IntakeFull r = r
+reason_more c h made unmade later (stops.Trouble trouble) r = tt
 reason_more c h made unmade later stops.Outside r = tt
 
-pub gives_more : (c : ℕ) (h : History) (turns later : List Turn) (archive : History) (was now : OutputState) (why : FeedStop) → GivesUp c h turns archive was now why → GivesUp c h (turns ++ later) archive was now why
+pub gives_more : (c : ℕ) (h : History) (turns later : List Turn) (archive : Carried) (was now : OutputState) (why : FeedStop) → GivesUp c h turns archive was now why → GivesUp c h (turns ++ later) archive was now why
 gives_more c h turns later archive was now why g = record {
   made = g.made;
   unmade = g.unmade ++ later;
@@ -57,65 +60,59 @@ gives_more c h turns later archive was now why g = record {
 }
 
 -- all of these turns were made and written, and memory was wanting for what comes then, or the device failed
-pub gives_all : (c : ℕ) (h : History) (turns : List Turn) (counts : FeedCounts) (archive : History) (was now : OutputState) (why : FeedStop) → IsReason c h turns [] why → HasDone c h turns counts archive was now → GivesUp c h turns archive was now why
+pub gives_all : (c : ℕ) (h : History) (turns : List Turn) (counts : FeedCounts) (archive : Carried) (was now : OutputState) (why : FeedStop) → IsReason c h turns [] why → HasDone c h turns counts archive was now → GivesUp c h turns archive was now why
 gives_all c h turns counts archive was now why reason d = record { made = turns; unmade = []; parts = sym (append-nil turns); carried = d.carried; reason = reason; wrote = d.wrote; there = d.there }
 
--- a batch was taken
-pub carries_batch : (b c : ℕ) (h : History) (turns : List Turn) (batch given_ : List Admitted) (archive later : History) → b ≡ c → given_ ≡ batch
-    → ((g : History) → Carries archive g → Carries later (given g b given_)) → Carries archive (given h c (offered turns)) → Carries later (given h c (offered (turns ++ Offer batch ∷ [])))
-carries_batch b c h turns batch given_ archive later one same gives carried =
-    let all : offered (turns ++ Offer batch ∷ []) ≡ offered turns ++ batch = offered_both turns (Offer batch ∷ []) ∙ ap (λ (t : List Admitted). offered turns ++ t) (append-nil batch) in
-    subst (λ (t : History). Carries later t) ((λ k. given (given h c (offered turns)) (one k) (same k)) ∙ given_both h c (offered turns) batch ∙ ap (given h c) (sym all)) (gives (given h c (offered turns)) carried)
+-- memory was wanting for a record that is refused: its line isn't written
+pub gives_wanting : (t : Result (Unit {0}) FeedStop) (c : ℕ) (h : History) (turns : List Turn) (counts : FeedCounts) (archive : Carried) (was mid now : OutputState)
+    → IfErr t (λ why. why ≡ stops.Trouble troubles.OutOfMemory) → OnErr t (now ≡ mid) → HasDone c h turns counts archive was mid → IfErr t (GivesUp c h turns archive was now)
+gives_wanting (Ok done_) c h turns counts archive was mid now wanting untold d = tt
+gives_wanting (Err why) c h turns counts archive was mid now wanting untold d =
+    subst (λ (e : FeedStop). GivesUp c h turns archive was now e) (sym wanting) (subst (λ (o : OutputState). GivesUp c h turns archive was o (stops.Trouble troubles.OutOfMemory)) (sym untold) (gives_all c h turns counts archive was mid (stops.Trouble troubles.OutOfMemory) tt d))
 
--- a batch was taken, so there is this collector
-pub collector_of : (c : ℕ) (h : History) (turns : List Turn) (b : ℕ) (r : Result Reply AdmitRefusal) (reply : Reply) {archive : History} → b ≡ c → r ≡ Ok reply
-    → ((g : History) → Carries archive g → ((r ≡ Err admits.NoCollector) ↔ (IsCollector g b → ⊥)))
-    → Carries archive (given h c (offered turns)) → IsCollector h c
-collector_of c h turns b r reply one is missing carried =
-    let g = given h c (offered turns) in
-    let here = collector_there g b r reply is (missing g carried) in
-    let n = as_many c (with_batch (offered turns)) h.intakes in
-    omega (arith, here, n, one)
+not_outside : (◌≡◌ {A = FeedStop} (stops.Trouble troubles.OutOfMemory) stops.Outside) → ⊥
+not_outside e = absurd cc
+
+pub never_outside : (t : Result (Unit {0}) FeedStop) → IfErr t (λ why. why ≡ stops.Trouble troubles.OutOfMemory) → t ≡ Err stops.Outside → ⊥
+never_outside (Ok done_) wanting e = absurd cc
+never_outside (Err why) wanting e = let is : why ≡ stops.Outside = cc in not_outside (sym wanting ∙ is)
 
 -- why a batch wasn't taken
-why_not : (c : ℕ) (h : History) (turns : List Turn) (batch : List Admitted) (r : Result Reply AdmitRefusal) (e : AdmitRefusal) → r ≡ Err e → batch_octets batch ≤ 262144
-    → ((r ≡ Err admits.NoCollector) ↔ (IsCollector (given h c (offered turns)) c → ⊥))
-    → ((r ≡ Err admits.BatchTooLarge) ↔ (IsCollector (given h c (offered turns)) c × (262144 < batch_octets batch)))
-    → ((r ≡ Err admits.CounterFull) ↔ ((batch_octets batch ≤ 262144) × IsCounterFull (given h c (offered turns)) c (length batch)))
+why_not : (b c : ℕ) (h : History) (turns : List Turn) (batch given_ : List Admitted) (at after : History) (e : AdmitError) → b ≡ c → given_ ≡ batch → batch_octets batch ≤ 262144
+    → at.intakes ≡ (given h c (offered turns)).intakes → IsRefusal at b given_ e → (e ≡ admits.IntakeFull → NothingToApply at)
     → IsReason c h turns (Offer batch ∷ []) (of_admit e)
-why_not c h turns batch r admits.NoCollector is fit missing large full = λ here. missing.0 is (let n = as_many c (with_batch (offered turns)) h.intakes in omega (arith, n, here))
-why_not c h turns batch r admits.BatchTooLarge is fit missing large full = let above = (large.0 is).1 in absurd (omega (arith, above, fit))
-why_not c h turns batch r admits.CounterFull is fit missing large full = (batch, [], refl, (full.0 is).1)
-why_not c h turns batch r admits.OutOfMemory is fit missing large full = tt
+why_not b c h turns batch given_ at after admits.NoCollector one same fit alike r full = λ here. r (let n = as_many c (with_batch (offered turns)) h.intakes in let m = ap length alike in omega (arith, n, m, here, one))
+why_not b c h turns batch given_ at after admits.BatchTooLarge one same fit alike r full = let n = ap batch_octets same in absurd (omega (arith, r, fit, n))
+why_not b c h turns batch given_ at after admits.CounterFull one same fit alike r full = (
+  batch,
+  [],
+  refl,
+  record { intake = r.intake; here = (λ k. slice_get (sym alike k) (sym one k)) ∙ r.here; above = let n = ap length same in let over = r.above in omega (arith, over, n) },
+)
+why_not b c h turns batch given_ at after admits.IntakeFull one same fit alike r full = ((let n = as_many c (with_batch (offered turns)) h.intakes in let m = ap length alike in omega (arith, n, m, r, one)), at, alike, full refl)
+why_not b c h turns batch given_ at after (admits.Trouble trouble) one same fit alike r full = tt
 
 -- a batch wasn't taken
-pub gives_refused : (b c : ℕ) (h : History) (turns : List Turn) (batch given_ : List Admitted) (counts : FeedCounts) (archive later : History) (was now : OutputState) (r : Result Reply AdmitRefusal) (e : AdmitRefusal)
-    → b ≡ c → given_ ≡ batch → r ≡ Err e → batch_octets batch ≤ 262144
-    → ((g : History) → Carries archive g → ((r ≡ Err admits.NoCollector) ↔ (IsCollector g b → ⊥)))
-    → ((g : History) → Carries archive g → ((r ≡ Err admits.BatchTooLarge) ↔ (IsCollector g b × (262144 < batch_octets given_))))
-    → ((g : History) → Carries archive g → ((r ≡ Err admits.CounterFull) ↔ ((batch_octets given_ ≤ 262144) × IsCounterFull g b (length given_))))
-    → ((g : History) → Carries archive g → Carries later g)
+pub gives_refused : (b c : ℕ) (h : History) (turns : List Turn) (batch given_ : List Admitted) (counts : FeedCounts) (archive later : Carried) (was now : OutputState) (e : AdmitError)
+    → b ≡ c → given_ ≡ batch → batch_octets batch ≤ 262144
+    → ((g : History) → archive g → IsTaken later b given_ (Err e) g)
     → HasDone c h turns counts archive was now → GivesUp c h (turns ++ Offer batch ∷ []) later was now (of_admit e)
-gives_refused b c h turns batch given_ counts archive later was now r e one same is fit missing large full stays d =
-    let g = given h c (offered turns) in
+gives_refused b c h turns batch given_ counts archive later was now e one same fit takes d =
+    let w = d.carried in
+    let t = takes w.now w.carried in
+    let alike = t.intakes ∙ w.are in
     record {
       made = turns;
       unmade = Offer batch ∷ [];
       parts = refl;
-      carried = stays g d.carried;
-      reason =
-          why_not c h turns batch r e is fit
-          (subst (λ (t : ℕ). (r ≡ Err admits.NoCollector) ↔ (IsCollector g t → ⊥)) one (missing g d.carried))
-          (subst (λ (t : ℕ). (r ≡ Err admits.BatchTooLarge) ↔ (IsCollector g t × (262144 < batch_octets batch))) one
-          (subst (λ (t : List Admitted). (r ≡ Err admits.BatchTooLarge) ↔ (IsCollector g b × (262144 < batch_octets t))) same (large g d.carried)))
-          (subst (λ (t : ℕ). (r ≡ Err admits.CounterFull) ↔ ((batch_octets batch ≤ 262144) × IsCounterFull g t (length batch))) one
-          (subst (λ (t : List Admitted). (r ≡ Err admits.CounterFull) ↔ ((batch_octets t ≤ 262144) × IsCounterFull g b (length t))) same (full g d.carried)));
+      carried = record { now = t.after; are = ap (λ (x : History). x.intakes) t.done.0 ∙ alike; carried = t.carried };
+      reason = why_not b c h turns batch given_ t.at t.after e one same fit alike t.done.1 (λ is. t.full (ap Err is));
       wrote = d.wrote;
       there = d.there;
     }
 
 -- the feed is given up at this record, whose meaning is known
-pub stops_at : (t : Result (Unit {0}) FeedStop) (c limit : ℕ) (h : History) (records : List Told) (item : Item) (x : Result (Option Admitted) ResolveFault) (old : Feeding) (archive later : History) (was mid now : OutputState)
+pub stops_at : (t : Result (Unit {0}) FeedStop) (c : ℕ) (limit : BatchLimits) (h : History) (records : List Told) (item : Item) (x : Result (Option Admitted) ResolveFault) (old : Feeding) (archive later : Carried) (was mid now : OutputState)
     (b : IsBehind c limit h records old archive was mid)
     → Gives old.resolver.collector old.resolver.table (told item) x → (x ≡ Err faults.OutOfMemory → ⊥)
     → IfErr t (GivesUp c h (turns_for limit 0 [] b.results ++ turns_at old.limit (length b.results) old.gathered.items x) later was now)
@@ -137,7 +134,7 @@ stops_at (Err why) c limit h records item x old archive later was mid now b give
     }
 
 -- the feed is given up before this record has a meaning
-pub stops_before : (t : Result (Unit {0}) FeedStop) (c limit : ℕ) (h : History) (records : List Told) (item : Item) (old : Feeding) (archive later : History) (was mid now : OutputState)
+pub stops_before : (t : Result (Unit {0}) FeedStop) (c : ℕ) (limit : BatchLimits) (h : History) (records : List Told) (item : Item) (old : Feeding) (archive later : Carried) (was mid now : OutputState)
     (b : IsBehind c limit h records old archive was mid)
     → IfErr t (GivesUp c h (turns_for limit 0 [] b.results) later was now) → IfErr t (StopsAmong c limit h records (item ∷ []) later was now)
 stops_before (Ok done_) c limit h records item old archive later was mid now b g = tt
@@ -145,7 +142,7 @@ stops_before (Err why) c limit h records item old archive later was mid now b g 
     record { front = []; back = item ∷ []; parts = refl; results = b.results; means = subst (λ (t : List Told). Means c t b.results) (sym (append-nil records)) b.means; gives_up = g }
 
 -- the feed is given up at one of the items, behind those that were taken
-pub stops_among : (c limit : ℕ) (h : History) (records : List Told) (items : List Item) (i : ℕ) (item : Item) (archive : History) (was now : OutputState) (why : FeedStop)
+pub stops_among : (c : ℕ) (limit : BatchLimits) (h : History) (records : List Told) (items : List Item) (i : ℕ) (item : Item) (archive : Carried) (was now : OutputState) (why : FeedStop)
     → i < length items → item ≡ get_or items i item → StopsAmong c limit h (records ++ map told (take i items)) (item ∷ []) archive was now why → StopsAmong c limit h records items archive was now why
 stops_among c limit h records items i item archive was now why lt is s =
     let first = take i items in
@@ -185,7 +182,7 @@ framed_front bytes rest front back g =
     )
 
 -- the feed is given up among the items of the whole records of the octets
-pub stops_within : (c limit : ℕ) (h : History) (bytes rest : List ℕ) (before items : List Item) (archive : History) (was now : OutputState) (why : FeedStop)
+pub stops_within : (c : ℕ) (limit : BatchLimits) (h : History) (bytes rest : List ℕ) (before items : List Item) (archive : Carried) (was now : OutputState) (why : FeedStop)
     → GainsFrames bytes rest [] (before ++ items) → StopsAmong c limit h (map told before) items archive was now why → StopsWithin c limit h bytes archive was now why
 stops_within c limit h bytes rest before items archive was now why framed s =
     let f = framed_front bytes rest (before ++ s.front) s.back (subst (λ (t : List Item). GainsFrames bytes rest [] t) (ap (λ (t : List Item). before ++ t) s.parts ∙ sym (append_assoc before s.front s.back)) framed) in
@@ -201,12 +198,12 @@ stops_within c limit h bytes rest before items archive was now why framed s =
     }
 
 -- what comes behind is left too
-pub within_more : (c limit : ℕ) (h : History) (bytes more : List ℕ) (archive : History) (was now : OutputState) (why : FeedStop) → StopsWithin c limit h bytes archive was now why → StopsWithin c limit h (bytes ++ more) archive was now why
+pub within_more : (c : ℕ) (limit : BatchLimits) (h : History) (bytes more : List ℕ) (archive : Carried) (was now : OutputState) (why : FeedStop) → StopsWithin c limit h bytes archive was now why → StopsWithin c limit h (bytes ++ more) archive was now why
 within_more c limit h bytes more archive was now why s =
     record { seen = s.seen; later = s.later ++ more; parts = ap (λ (t : List ℕ). t ++ more) s.parts ∙ append_assoc s.seen s.later more; items = s.items; framed = s.framed; results = s.results; means = s.means; gives_up = s.gives_up }
 
 -- the feed is given up behind all that was read, and nothing of it is untold
-pub stops_behind : (c limit : ℕ) (h : History) (bytes rest : List ℕ) (feeding : Feeding) (archive : History) (was now : OutputState) (why : FeedStop)
+pub stops_behind : (c : ℕ) (limit : BatchLimits) (h : History) (bytes rest : List ℕ) (feeding : Feeding) (archive : Carried) (was now : OutputState) (why : FeedStop)
     → ((made : List Turn) → IsReason c h made [] why) → Reads c limit h bytes rest feeding archive was now → StopsWithin c limit h bytes archive was now why
 stops_behind c limit h bytes rest feeding archive was now why reason r =
     let f = framed_front bytes rest r.items [] (subst (λ (t : List Item). GainsFrames bytes rest [] t) (sym (append-nil r.items)) r.framed) in
@@ -224,7 +221,7 @@ stops_behind c limit h bytes rest feeding archive was now why reason r =
     }
 
 -- the feed is given up while its last batch is offered, or its end told
-pub stops_last : (c limit : ℕ) (h : History) (bytes rest : List ℕ) (feeding : Feeding) (archive later : History) (was mid now : OutputState) (why : FeedStop)
+pub stops_last : (c : ℕ) (limit : BatchLimits) (h : History) (bytes rest : List ℕ) (feeding : Feeding) (archive later : Carried) (was mid now : OutputState) (why : FeedStop)
     (r : Reads c limit h bytes rest feeding archive was mid)
     → GivesUp c h (turns_for limit 0 [] r.behind.results ++ last_turns feeding.gathered.items) later was now why → StopsWithin c limit h bytes later was now why
 stops_last c limit h bytes rest feeding archive later was mid now why r g =
@@ -242,7 +239,7 @@ stops_last c limit h bytes rest feeding archive later was mid now why r g =
     }
 
 -- the feed is given up, and the refusal was written
-pub given_up_told : (c limit : ℕ) (h : History) (bytes : List ℕ) (archive : History) (was mid now : OutputState) (why : FeedStop)
+pub given_up_told : (c : ℕ) (limit : BatchLimits) (h : History) (bytes : List ℕ) (archive : Carried) (was mid now : OutputState) (why : FeedStop)
     → StopsWithin c limit h bytes archive was mid why → Tells mid now (refusal_line (of_stop why)) → IsGivenUp c limit h bytes why archive was now
 given_up_told c limit h bytes archive was mid now why s line =
     let g = s.gives_up in

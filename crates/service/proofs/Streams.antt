@@ -13,7 +13,6 @@ use Rattle.mrt_records.specs.Streams.{GainsFrames, EndsOver}
 use Rattle.mrt_records.specs.declared.item.Item.{Item}
 use Rattle.mrt_records.proofs.api.Pieces.{frames_then}
 use Rattle.mrt_records.proofs.api.Streams.{frames_none, part_begins_none, over_begins_none, over-append}
-use Rattle.archive.specs.Carries.{Carries}
 use Rattle.interleaving_core.specs.Steps.{given}
 use Rattle.service.specs.Feeds.{IsCut, IsFed, IsReason, MayGive}
 use Rattle.service.specs.Turns.{Turn, turns_for, last_turns, feed_turns}
@@ -27,13 +26,15 @@ use Rattle.service.specs.declared.faults.FeedStop.TheVariants as stops
 use Rattle.service.proofs.GivingUp.{within_more, stops_behind}
 use Rattle.service.specs.declared.feeding.Feeding.{Feeding}
 use Rattle.service.proofs.Turning.{offered_feed}
+use Rattle.service.specs.declared.limits.BatchLimits.{BatchLimits}
+use Rattle.service.specs.Carried.{Carried, HasIntakes}
 
 -- the same items behind others
 gains_behind : (bytes now : List ℕ) (none items mid : List Item) → none ≡ [] → GainsFrames bytes now none items → GainsFrames bytes now mid (mid ++ items)
 gains_behind bytes now none items mid e p = (p.0, p.1, (p.2.0, p.2.1, ap (λ (t : List Item). mid ++ t) (p.2.2 ∙ ap (λ (t : List Item). t ++ p.2.0) e)))
 
 -- one more piece, behind which this rest is left
-pub piece_read : (c limit : ℕ) (h : History) (bytes held piece rest : List ℕ) (old new : Feeding) (archive later : History) (was mid now : OutputState) (none items got : List Item)
+pub piece_read : (c : ℕ) (limit : BatchLimits) (h : History) (bytes held piece rest : List ℕ) (old new : Feeding) (archive later : Carried) (was mid now : OutputState) (none items got : List Item)
     → none ≡ [] → got ≡ items → GainsFrames (held ++ piece) rest none items
     → ((records : List Told) → IsBehind c limit h records old archive was mid → IsBehind c limit h (records ++ map told got) new later was now)
     → Reads c limit h bytes held old archive was mid → Reads c limit h (bytes ++ piece) rest new later was now
@@ -51,7 +52,7 @@ piece_framed bytes held piece rest before none items got empty same gains framed
     subst (λ (t : List Item). GainsFrames (bytes ++ piece) rest [] (before ++ t)) (sym same) (frames_then bytes held piece rest [] before (before ++ items) framed (gains_behind (held ++ piece) rest none items before empty gains))
 
 -- one more piece, and the feed goes on
-pub piece_goes : (c limit : ℕ) (h : History) (bytes held piece now_held : List ℕ) (old new : Feeding) (archive later : History) (was mid now : OutputState) (none items got : List Item) (on : Bool)
+pub piece_goes : (c : ℕ) (limit : BatchLimits) (h : History) (bytes held piece now_held : List ℕ) (old new : Feeding) (archive later : Carried) (was mid now : OutputState) (none items got : List Item) (on : Bool)
     → on ≡ true → none ≡ [] → got ≡ items → GainsFrames (held ++ piece) now_held none items
     → ((records : List Told) → IsBehind c limit h records old archive was mid → IsBehind c limit h (records ++ map told got) new later was now)
     → Reads c limit h bytes held old archive was mid → IsRead c limit h (bytes ++ piece) now_held on new later was now
@@ -60,7 +61,7 @@ piece_goes c limit h bytes held piece now_held old new archive later was mid now
     (record { rest = now_held; holds = refl; reads = piece_read c limit h bytes held piece now_held old new archive later was mid now none items got empty same gains behind r })
 
 -- one more piece, and behind its records stands a Length above the limit
-pub piece_stops : (c limit : ℕ) (h : History) (bytes held piece now_held : List ℕ) (old new : Feeding) (archive later : History) (was mid now : OutputState) (none items got : List Item) (on : Bool)
+pub piece_stops : (c : ℕ) (limit : BatchLimits) (h : History) (bytes held piece now_held : List ℕ) (old new : Feeding) (archive later : Carried) (was mid now : OutputState) (none items got : List Item) (on : Bool)
     → on ≡ false → none ≡ [] → got ≡ items → EndsOver (held ++ piece) now_held none items
     → ((records : List Told) → IsBehind c limit h records old archive was mid → IsBehind c limit h (records ++ map told got) new later was now)
     → Reads c limit h bytes held old archive was mid → IsRead c limit h (bytes ++ piece) now_held on new later was now
@@ -97,12 +98,12 @@ pieces_join : (bytes done piece rest : List ℕ) → ((bytes ++ done) ++ piece) 
 pieces_join bytes done piece rest = append_assoc (bytes ++ done) piece rest ∙ append_assoc bytes done (piece ++ rest) ∙ ap (λ (t : List ℕ). bytes ++ t) (sym (append_assoc done piece rest))
 
 -- of what a reader gives, known beforehand or not, these octets are read
-pub record Taken (c limit : ℕ) (h : History) (bytes : List ℕ) (known reader : Option (List ℕ)) (held : List ℕ) (feeding : Feeding) (archive : History) (was now : OutputState) : Type 0 where
+pub record Taken (c : ℕ) (limit : BatchLimits) (h : History) (bytes : List ℕ) (known reader : Option (List ℕ)) (held : List ℕ) (feeding : Feeding) (archive : Carried) (was now : OutputState) : Type 0 where
   pub done : List ℕ
   pub gone : Consumes known reader done
   pub reads : Reads c limit h (bytes ++ done) held feeding archive was now
 
-pub taken_first : (c limit : ℕ) (h : History) (bytes : List ℕ) (reader : Option (List ℕ)) (held : List ℕ) (feeding : Feeding) (archive : History) (was now : OutputState)
+pub taken_first : (c : ℕ) (limit : BatchLimits) (h : History) (bytes : List ℕ) (reader : Option (List ℕ)) (held : List ℕ) (feeding : Feeding) (archive : Carried) (was now : OutputState)
     → Reads c limit h bytes held feeding archive was now → Taken c limit h bytes reader reader held feeding archive was now
 taken_first c limit h bytes reader held feeding archive was now r = record {
   done = [];
@@ -111,7 +112,7 @@ taken_first c limit h bytes reader held feeding archive was now r = record {
 }
 
 -- the reader is at its end
-pub taken_none : (c limit : ℕ) (h : History) (bytes : List ℕ) (known reader new : Option (List ℕ)) (held : List ℕ) (feeding : Feeding) (archive : History) (was now : OutputState)
+pub taken_none : (c : ℕ) (limit : BatchLimits) (h : History) (bytes : List ℕ) (known reader new : Option (List ℕ)) (held : List ℕ) (feeding : Feeding) (archive : Carried) (was now : OutputState)
     → Consumes reader new [] → IsAtEnd new → Taken c limit h bytes known reader held feeding archive was now
     → (more : List ℕ) × MayGive known more × IsReadOut c limit h (bytes ++ more) held feeding archive was now
 taken_none c limit h bytes known reader new held feeding archive was now gone end l =
@@ -120,7 +121,7 @@ taken_none c limit h bytes known reader new held feeding archive was now gone en
     (l.done, subst (MayGive known) same gives, (true, record { rest = held; holds = refl; reads = l.reads }))
 
 -- some more is read and taken, and the feed goes on
-pub taken_more : (c limit : ℕ) (h : History) (bytes piece : List ℕ) (known reader next : Option (List ℕ)) (held left : List ℕ) (old new : Feeding) (archive later : History) (was mid now : OutputState) (on : Bool)
+pub taken_more : (c : ℕ) (limit : BatchLimits) (h : History) (bytes piece : List ℕ) (known reader next : Option (List ℕ)) (held left : List ℕ) (old new : Feeding) (archive later : Carried) (was mid now : OutputState) (on : Bool)
     → on ≡ true → Consumes reader next piece → Taken c limit h bytes known reader held old archive was mid
     → ((seen : List ℕ) → Reads c limit h seen held old archive was mid → IsRead c limit h (seen ++ piece) left on new later was now)
     → Taken c limit h bytes known next left new later was now
@@ -134,7 +135,7 @@ taken_more c limit h bytes piece known reader next held left old new archive lat
     }
 
 -- the feed is given up where nothing more is read
-pub taken_gives : (c limit : ℕ) (h : History) (bytes : List ℕ) (known reader : Option (List ℕ)) (held : List ℕ) (feeding : Feeding) (archive : History) (was now : OutputState)
+pub taken_gives : (c : ℕ) (limit : BatchLimits) (h : History) (bytes : List ℕ) (known reader : Option (List ℕ)) (held : List ℕ) (feeding : Feeding) (archive : Carried) (was now : OutputState)
     → (why : FeedStop) → ((made : List Turn) → IsReason c h made [] why) → Taken c limit h bytes known reader held feeding archive was now
     → (more : List ℕ) × MayGive known more × StopsWithin c limit h (bytes ++ more) archive was now why
 taken_gives c limit h bytes known reader held feeding archive was now why reason l =
@@ -146,7 +147,7 @@ taken_gives c limit h bytes known reader held feeding archive was now why reason
     )
 
 -- the feed is given up in the next piece
-pub taken_piece_gives : (c limit : ℕ) (h : History) (bytes piece : List ℕ) (known reader next : Option (List ℕ)) (held : List ℕ) (feeding : Feeding) (archive later : History) (was mid now : OutputState) (why : FeedStop)
+pub taken_piece_gives : (c : ℕ) (limit : BatchLimits) (h : History) (bytes piece : List ℕ) (known reader next : Option (List ℕ)) (held : List ℕ) (feeding : Feeding) (archive later : Carried) (was mid now : OutputState) (why : FeedStop)
     → Consumes reader next piece → Taken c limit h bytes known reader held feeding archive was mid
     → ((seen : List ℕ) → Reads c limit h seen held feeding archive was mid → StopsWithin c limit h (seen ++ piece) later was now why)
     → (more : List ℕ) × MayGive known more × StopsWithin c limit h (bytes ++ more) later was now why
@@ -159,7 +160,7 @@ taken_piece_gives c limit h bytes piece known reader next held feeding archive l
     )
 
 -- the next piece is taken, and the feed is given up behind it
-pub taken_failed : (c limit : ℕ) (h : History) (bytes piece : List ℕ) (known reader next : Option (List ℕ)) (held left : List ℕ) (old new : Feeding) (archive later : History) (was mid now : OutputState) (on : Bool)
+pub taken_failed : (c : ℕ) (limit : BatchLimits) (h : History) (bytes piece : List ℕ) (known reader next : Option (List ℕ)) (held left : List ℕ) (old new : Feeding) (archive later : Carried) (was mid now : OutputState) (on : Bool)
     → Consumes reader next piece → Taken c limit h bytes known reader held old archive was mid
     → ((seen : List ℕ) → Reads c limit h seen held old archive was mid → IsRead c limit h (seen ++ piece) left on new later was now)
     → (more : List ℕ) × MayGive known more × StopsWithin c limit h (bytes ++ more) later was now stops.Outside
@@ -178,7 +179,7 @@ over_more : (bytes rest more : List ℕ) (items : List Item) → Over rest → G
 over_more bytes rest more items over g = (g.0, record { whole = ap (λ (t : List ℕ). t ++ more) g.1.whole ∙ append_assoc _ rest more; each = g.1.each; ended = over_begins_none (rest ++ more) (over-append rest more over) }, g.2)
 
 -- some more is read and taken, and the feed stops
-pub taken_stops : (c limit : ℕ) (h : History) (bytes piece : List ℕ) (known reader next : Option (List ℕ)) (held left : List ℕ) (old new : Feeding) (archive later : History) (was mid now : OutputState) (on : Bool)
+pub taken_stops : (c : ℕ) (limit : BatchLimits) (h : History) (bytes piece : List ℕ) (known reader next : Option (List ℕ)) (held left : List ℕ) (old new : Feeding) (archive later : Carried) (was mid now : OutputState) (on : Bool)
     → on ≡ false → Consumes reader next piece → Taken c limit h bytes known reader held old archive was mid
     → ((seen : List ℕ) → Reads c limit h seen held old archive was mid → IsRead c limit h (seen ++ piece) left on new later was now)
     → (more : List ℕ) × MayGive known more × IsReadOut c limit h (bytes ++ more) left new later was now
@@ -204,7 +205,7 @@ taken_stops c limit h bytes piece known reader next held left old new archive la
     )
 
 -- nothing is read yet
-pub reads_none : (c limit : ℕ) (h : History) (held : List ℕ) (feeding : Feeding) (archive : History) (was : OutputState)
+pub reads_none : (c : ℕ) (limit : BatchLimits) (h : History) (held : List ℕ) (feeding : Feeding) (archive : Carried) (was : OutputState)
     → held ≡ [] → IsBehind c limit h [] feeding archive was was → Reads c limit h [] held feeding archive was was
 reads_none c limit h held feeding archive was empty b = record {
   items = [];
@@ -220,7 +221,7 @@ cut_short held rest false (Some cuts.Truncated) over is = absurd (is.1 over.2)
 cut_short held rest false (Some cuts.TooLong) over is = subst Over (sym over.1) (over-append held over.0 over.2)
 
 -- all is read, and its end is told
-pub all_fed : (c limit : ℕ) (h : History) (bytes held : List ℕ) (cut : Option FeedCut) (old new : Feeding) (archive later : History) (was mid then now : OutputState)
+pub all_fed : (c : ℕ) (limit : BatchLimits) (h : History) (bytes held : List ℕ) (cut : Option FeedCut) (old new : Feeding) (archive later : Carried) (was mid then now : OutputState)
     → IsReadOut c limit h bytes held old archive was mid → IsCut held cut → IsSameFeed old new
     → ((turns : List Turn) → old.collector ≡ c → HasDone c h turns old.counts archive was mid → HasDone c h (turns ++ last_turns old.gathered.items) new.counts later was then)
     → Tells then now (cut_line cut new.counts.records ++ counts_line new.counts)
@@ -241,7 +242,7 @@ all_fed c limit h bytes held cut old new archive later was mid then now out is s
       results = b.results;
       feed = record { items = read.reads.items; framed = read.reads.framed; told_are = refl; means = b.means };
       cut_is = cut_short held read.rest out.0 cut read.holds is;
-      carried = subst (λ (t : List Admitted). Carries later (given h c t)) (offered_feed limit b.results) done.carried;
+      carried = subst (λ (t : List Admitted). HasIntakes (given h c t).intakes later) (offered_feed limit b.results) done.carried;
       there = λ some. done.there (λ none. some (sym (offered_feed limit b.results) ∙ none));
       wrote =
           Tells-trans was then now _ _ done.wrote

@@ -9,13 +9,10 @@ use Rattle.route_model.specs.Admission.{Admitted, admission_octets}
 use Rattle.route_meaning.specs.Holds.{admitted_time}
 use Rattle.route_meaning.specs.History.{Intake, History}
 use Rattle.sequencer.specs.Late.{lates}
-use Rattle.archive.specs.Carries.{Carries}
 use Rattle.interleaving_core.specs.Does.{IsReply}
 use Rattle.interleaving_core.specs.Steps.{changed, with_batch, given, IsCollector}
-use Rattle.archive.specs.Limits.{batch_octets}
+use Rattle.archive_calls.specs.Limits.{batch_octets}
 use Rattle.interleaving_core.specs.declared.reply.BatchReply.{BatchReply as Reply}
-use Rattle.archive.specs.declared.admit.AdmitRefusal.{AdmitRefusal}
-use Rattle.archive.specs.declared.admit.AdmitRefusal.TheVariants as admits
 use Rattle.resolve.specs.declared.fault.ResolveFault.{ResolveFault}
 use Rattle.service.specs.Faults.{of_record}
 use Rattle.service.specs.FeedLines.{admitted_text, batch_line, late_line}
@@ -23,8 +20,12 @@ use Rattle.service.specs.Refusals.{refused_record_line}
 use Rattle.service.specs.Turns.{Turn, Offer, Refuse, offered, refusals, admissions_of, is_crowded, is_full, offer_where, wait_unless, waiting_with, turns_at, waits_after, turns_for, waits_behind, last_turns, feed_turns}
 use Rattle.service.specs.FeedTexts.{capped, intake_in, admitted_of, batch_text, turns_text}
 use Rattle.service.specs.inner.Feeding.{HasDone}
+use Rattle.service.specs.inner.Taking.{IsTaken}
+use Rattle.std.proofs.lemmas.Option.{slice_get_within}
 use Rattle.service.specs.declared.feed_lines.FeedCounts.{FeedCounts}
 use Rattle.interleaving_core.proofs.api.Joining.{timely_both, lates_both, with_both, with_none, given_both}
+use Rattle.service.specs.declared.limits.BatchLimits.{BatchLimits}
+use Rattle.service.specs.Carried.{Carried, HasIntakes}
 
 pub offered_both : (xs ys : List Turn) → offered (xs ++ ys) ≡ offered xs ++ offered ys
 offered_both [] ys = refl
@@ -67,27 +68,41 @@ reply_text i c batch reply r = λ k. batch_line (r.from k) (r.to k) (r.offered k
 pub kept_count : (i : Intake) (c : ℕ) (batch : List Admitted) (reply : Reply) → IsReply i c batch reply → reply.receipt.to - reply.receipt.from ≡ length (admitted_of i batch)
 kept_count i c batch reply r = let to = r.to in let from = r.from in omega (arith, to, from)
 
+-- a batch of a collector that had these intakes is offered, wherever they are applied
+given_alike : (b c : ℕ) (batch given_ : List Admitted) (old new : List Intake) → b ≡ c → given_ ≡ batch → old ≡ new → changed b (with_batch given_) old ≡ changed c (with_batch batch) new
+given_alike b c batch given_ old new one same alike = λ k. changed (one k) (with_batch (same k)) (alike k)
+
+one_intake : (i j : Intake) → Some i ≡ Some j → i ≡ j
+one_intake i j e = cc
+
 -- a batch more
-pub done_offer : (b c : ℕ) (h : History) (turns : List Turn) (batch given_ : List Admitted) (old new : FeedCounts) (reply : Reply) (archive later : History) (was mid now : OutputState)
+pub done_offer : (b c : ℕ) (h : History) (turns : List Turn) (batch given_ : List Admitted) (old new : FeedCounts) (reply : Reply) (archive later : Carried) (was mid now : OutputState)
     → b ≡ c → given_ ≡ batch
-    → ((g : History) → Carries archive g → Carries later (given g b given_))
-    → ((g : History) → Carries archive g → IsCollector g b)
-    → ((g : History) → Carries archive g → (i : Intake) → slice_get g.intakes b ≡ Some i → IsReply i b given_ reply)
+    → ((g : History) → archive g → IsTaken later b given_ (Ok reply) g)
     → Tells mid now (admitted_text reply)
     → new.admitted ≡ capped (old.admitted + (reply.receipt.to - reply.receipt.from)) → new.late ≡ capped (old.late + length reply.late.items) → new.refused ≡ old.refused
     → HasDone c h turns old archive was mid → HasDone c h (turns ++ Offer batch ∷ []) new later was now
-done_offer b c h turns batch given_ old new reply archive later was mid now one same gives is_collector replies wrote admitted late refused d =
+done_offer b c h turns batch given_ old new reply archive later was mid now one same takes wrote admitted late refused d =
     let g = given h c (offered turns) in
     let i = intake_in h.intakes c in
     let j = with_batch (offered turns) i in
     let all : offered (turns ++ Offer batch ∷ []) ≡ offered turns ++ batch = offered_both turns (Offer batch ∷ []) ∙ ap (λ (t : List Admitted). offered turns ++ t) (append-nil batch) in
-    let within : c < length h.intakes = let n = is_collector g d.carried in let m = as_many c (with_batch (offered turns)) h.intakes in omega (arith, n, m, one) in
+    let w = d.carried in
+    let t = takes w.now w.carried in
+    let alike : t.at.intakes ≡ g.intakes = t.intakes ∙ w.are in
+    let in_all : slice_get g.intakes b ≡ Some t.done.intake = ap (λ (is : List Intake). slice_get is b) (sym alike) ∙ t.done.here in
+    let within : c < length h.intakes = let n = slice_get_within g.intakes b t.done.intake in_all in let m = as_many c (with_batch (offered turns)) h.intakes in omega (arith, n, m, one) in
     let there : slice_get g.intakes b ≡ Some j = ap (slice_get g.intakes) one ∙ changed_there c (with_batch (offered turns)) h.intakes _ within in
-    let r : IsReply j b batch reply = subst (λ (t : List Admitted). IsReply j b t reply) same (replies g d.carried j there) in
+    let is = one_intake t.done.intake j (sym in_all ∙ there) in
+    let r : IsReply j b batch reply = subst (λ (l : List Admitted). IsReply j b l reply) same (subst (λ (k : Intake). IsReply k b given_ reply) is t.done.reply_is) in
     let kept = kept_count j b batch reply r in
     let gone = ap length r.late in
     record {
-      carried = subst (λ (t : History). Carries later t) ((λ k. given g (one k) (same k)) ∙ given_both h c (offered turns) batch ∙ ap (given h c) (sym all)) (gives g d.carried);
+      carried = record {
+        now = t.after;
+        are = ap (λ (x : History). x.intakes) t.done.after ∙ given_alike b c batch given_ t.at.intakes g.intakes one same alike ∙ ap (λ (x : History). x.intakes) (given_both h c (offered turns) batch ∙ ap (given h c) (sym all));
+        carried = t.carried;
+      };
       wrote =
           subst (λ (t : List ℕ). Tells was now t) (ap (λ (t : List ℕ). turns_text i turns ++ t) (reply_text j b batch reply r ∙ sym (append-nil (batch_text j batch))) ∙ sym (turns_text_both i turns (Offer batch ∷ [])))
           (Tells-trans was mid now (turns_text i turns) (admitted_text reply) d.wrote wrote);
@@ -106,12 +121,12 @@ done_offer b c h turns batch given_ old new reply archive later was mid now one 
     }
 
 -- nothing more is done
-pub done_no_more : (c : ℕ) (h : History) (turns : List Turn) (counts : FeedCounts) (archive : History) (was now : OutputState)
+pub done_no_more : (c : ℕ) (h : History) (turns : List Turn) (counts : FeedCounts) (archive : Carried) (was now : OutputState)
     → HasDone c h turns counts archive was now → HasDone c h (turns ++ []) counts archive was now
 done_no_more c h turns counts archive was now d = subst (λ (t : List Turn). HasDone c h t counts archive was now) (sym (append-nil turns)) d
 
 -- a record more is refused
-pub done_refuse : (c : ℕ) (h : History) (turns : List Turn) (old new : FeedCounts) (archive : History) (was mid now : OutputState) (place n : ℕ) (fault : ResolveFault)
+pub done_refuse : (c : ℕ) (h : History) (turns : List Turn) (old new : FeedCounts) (archive : Carried) (was mid now : OutputState) (place n : ℕ) (fault : ResolveFault)
     → place ≡ capped n → Tells mid now (refused_record_line (of_record fault) place)
     → new.admitted ≡ old.admitted → new.late ≡ old.late → new.refused ≡ capped (old.refused + 1)
     → HasDone c h turns old archive was mid → HasDone c h (turns ++ Refuse n fault ∷ []) new archive was now
@@ -120,7 +135,7 @@ done_refuse c h turns old new archive was mid now place n fault is wrote admitte
     let line = refused_record_line (of_record fault) (capped n) in
     let same : offered (turns ++ Refuse n fault ∷ []) ≡ offered turns = offered_both turns (Refuse n fault ∷ []) ∙ append-nil (offered turns) in
     record {
-      carried = subst (λ (t : List Admitted). Carries archive (given h c t)) (sym same) d.carried;
+      carried = subst (λ (t : List Admitted). HasIntakes (given h c t).intakes archive) (sym same) d.carried;
       wrote =
           subst (λ (t : List ℕ). Tells was now t) (ap (λ (t : List ℕ). turns_text i turns ++ t) (ap (refused_record_line (of_record fault)) is ∙ sym (append-nil line)) ∙ sym (turns_text_both i turns (Refuse n fault ∷ [])))
           (Tells-trans was mid now (turns_text i turns) (refused_record_line (of_record fault) place) d.wrote wrote);
@@ -139,10 +154,10 @@ offer_wait : (b : Bool) (waiting : List Admitted) → offered (offer_where b wai
 offer_wait true waiting = append-nil (waiting ++ []) ∙ append-nil waiting
 offer_wait false waiting = refl
 
-admission_turns : (limit place : ℕ) (waiting : List Admitted) (a : Admitted) → offered (turns_at limit place waiting (Ok (Some a))) ++ waits_after limit waiting (Ok (Some a)) ≡ waiting ++ a ∷ []
+admission_turns : (limit : BatchLimits) (place : ℕ) (waiting : List Admitted) (a : Admitted) → offered (turns_at limit place waiting (Ok (Some a))) ++ waits_after limit waiting (Ok (Some a)) ≡ waiting ++ a ∷ []
 admission_turns limit place waiting a =
-    let b = is_crowded waiting a in
-    let j = waiting_with waiting a in
+    let b = is_crowded limit waiting a in
+    let j = waiting_with limit waiting a in
     ap (λ (t : List Admitted). t ++ wait_unless (is_full limit j) j) (offered_both (offer_where b waiting) (offer_where (is_full limit j) j))
     ∙ append_assoc (offered (offer_where b waiting)) (offered (offer_where (is_full limit j) j)) (wait_unless (is_full limit j) j)
     ∙ ap (λ (t : List Admitted). offered (offer_where b waiting) ++ t) (offer_wait (is_full limit j) j)
@@ -150,7 +165,7 @@ admission_turns limit place waiting a =
     ∙ ap (λ (t : List Admitted). t ++ a ∷ []) (offer_wait b waiting)
 
 -- what is offered and what waits still are what waited and what came
-pub offered_turns : (limit place : ℕ) (waiting : List Admitted) (results : List (Result (Option Admitted) ResolveFault))
+pub offered_turns : (limit : BatchLimits) (place : ℕ) (waiting : List Admitted) (results : List (Result (Option Admitted) ResolveFault))
     → offered (turns_for limit place waiting results) ++ waits_behind limit waiting results ≡ waiting ++ admissions_of results
 offered_turns limit place waiting [] = sym (append-nil waiting)
 offered_turns limit place waiting (Ok (Some a) ∷ results) =
@@ -171,12 +186,8 @@ offered_last [] = refl
 offered_last (a ∷ waiting) = append-nil (a ∷ waiting)
 
 -- a feed offers its admissions, in their order
-pub offered_feed : (limit : ℕ) (results : List (Result (Option Admitted) ResolveFault)) → offered (feed_turns limit results) ≡ admissions_of results
+pub offered_feed : (limit : BatchLimits) (results : List (Result (Option Admitted) ResolveFault)) → offered (feed_turns limit results) ≡ admissions_of results
 offered_feed limit results =
     offered_both (turns_for limit 0 [] results) (last_turns (waits_behind limit [] results))
     ∙ ap (λ (t : List Admitted). offered (turns_for limit 0 [] results) ++ t) (offered_last (waits_behind limit [] results))
     ∙ offered_turns limit 0 [] results
-
--- a batch was taken, so there is this collector
-pub collector_there : (h : History) (c : ℕ) (r : Result Reply AdmitRefusal) (reply : Reply) → r ≡ Ok reply → (r ≡ Err admits.NoCollector) ↔ (IsCollector h c → ⊥) → IsCollector h c
-collector_there h c r reply is refuses = elim (cases_lt c (length h.intakes)) [ inl lt ↦ lt | inr ge ↦ let e = refuses.1 (λ lt. absurd (omega (arith, lt, ge))) in absurd cc ]

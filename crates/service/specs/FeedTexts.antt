@@ -13,6 +13,7 @@ use Rattle.service.specs.FeedLines.{batch_line, late_line, counts_line}
 use Rattle.service.specs.Refusals.{refused_record_line}
 use Rattle.service.specs.Turns.{Turn, Offer, Refuse, offered, refusals, feed_turns}
 use Rattle.service.specs.declared.feed_lines.FeedCounts.{FeedCounts}
+use Rattle.service.specs.declared.limits.BatchLimits.{BatchLimits}
 use Rattle.service.specs.declared.faults.FeedCut.{FeedCut}
 
 -- a count that stops at 18446744073709551615
@@ -62,6 +63,6 @@ cut_line None records = []
 cut_line (Some why) records = refused_record_line (of_cut why) records
 
 -- all that a feed writes: its turns, why it was cut if it was, and its counts
-abbrev pub feed_text : Intake → ℕ → List Told → List (Result (Option Admitted) ResolveFault) → Option FeedCut → List ℕ
+abbrev pub feed_text : Intake → BatchLimits → List Told → List (Result (Option Admitted) ResolveFault) → Option FeedCut → List ℕ
 feed_text i limit records results cut =
     turns_text i (feed_turns limit results) ++ (cut_line cut (capped (length records)) ++ counts_line (counts_of i records (feed_turns limit results)))

@@ -1,5 +1,6 @@
 -- What a feed of MRT records is, and what an archive carries once it took it in.
 use Rattle.std.specs.Prelude.{◌≡◌, ◌⊎◌, Bool, true, false, ℕ, map, length, List, [], ◌∷◌, ◌++◌, Option, Some, None, Result}
+use Rattle.service.specs.Carried.{Carried, HasIntakes}
 use Rattle.service.specs.Outputs.{OutputState, Tells}
 use Rattle.route_model.specs.Admission.{Admitted}
 use Rattle.route_meaning.specs.History.{History}
@@ -9,13 +10,13 @@ use Rattle.mrt_records.specs.Streams.{GainsFrames}
 use Rattle.mrt_records.specs.declared.item.Item.{Item}
 use Rattle.resolve.specs.Meanings.{Means}
 use Rattle.resolve.specs.declared.fault.ResolveFault.{ResolveFault}
-use Rattle.archive.specs.Carries.{Carries}
-use Rattle.interleaving_core.specs.Steps.{given, IsCollector}
-use Rattle.archive.specs.Limits.{IsCounterFull}
+use Rattle.interleaving_core.specs.Steps.{given, IsCollector, NothingToApply}
+use Rattle.archive_calls.specs.Limits.{IsCounterFull}
 use Rattle.service.specs.Turns.{Turn, Offer, offered, admissions_of, feed_turns}
 use Rattle.service.specs.FeedTexts.{intake_in, turns_text, feed_text}
 use Rattle.service.specs.Refusals.{refusal_line}
 use Rattle.service.specs.Faults.{of_stop}
+use Rattle.service.specs.declared.limits.BatchLimits.{BatchLimits}
 use Rattle.service.specs.declared.faults.FeedCut.{FeedCut}
 use Rattle.service.specs.declared.faults.FeedCut.TheVariants as cuts
 use Rattle.service.specs.declared.faults.FeedStop.{FeedStop}
@@ -41,29 +42,31 @@ IsCut rest None = rest ≡ []
 IsCut rest (Some cuts.Truncated) = (rest ≡ [] → ⊥) × (Over rest → ⊥)
 IsCut rest (Some cuts.TooLong) = Over rest
 
--- The archive carried h; now it carries all that the feed gives too, and what the feed writes was written. It was cut short for
--- this, or it wasn't. Where the feed gives anything, there is the collector.
-pub record IsFed (c limit : ℕ) (h : History) (bytes : List ℕ) (cut : Option FeedCut) (archive : History) (was now : OutputState) : Type 0 where
+-- The archive carried h; now it carries all that the feed gives too, wherever it is applied, and what the feed writes was written. It
+-- was cut short for this, or it wasn't. Where the feed gives anything, there is the collector.
+pub record IsFed (c : ℕ) (limit : BatchLimits) (h : History) (bytes : List ℕ) (cut : Option FeedCut) (archive : Carried) (was now : OutputState) : Type 0 where
   pub rest : List ℕ
   pub records : List Told
   pub results : List (Result (Option Admitted) ResolveFault)
   pub feed : IsFeed c bytes rest records results
   pub cut_is : IsCut rest cut
-  pub carried : Carries archive (given h c (admissions_of results))
+  pub carried : HasIntakes (given h c (admissions_of results)).intakes archive
   pub wrote : Tells was now (feed_text (intake_in h.intakes c) limit records results cut)
   pub there : (admissions_of results ≡ [] → ⊥) → IsCollector h c
 
 -- why a feed is given up of which these turns were made and the next ones weren't: there is no such collector, the next batch would
--- pass the last count of offered records, memory was wanting, or a reader or a writer failed
+-- pass the last count of offered records, the collector's ring was full where nothing could be applied any more, the archive had another
+-- trouble, or a reader or a writer failed
 abbrev pub IsReason : ℕ → History → List Turn → List Turn → FeedStop → Type 0
 IsReason c h made unmade stops.NoCollector = IsCollector h c → ⊥
 IsReason c h made unmade stops.CounterFull = (batch : List Admitted) × (later : List Turn) × (unmade ≡ Offer batch ∷ later) × IsCounterFull (given h c (offered made)) c (length batch)
-IsReason c h made unmade stops.OutOfMemory = Unit {0}
+IsReason c h made unmade stops.IntakeFull = IsCollector h c × (past : History) × (past.intakes ≡ (given h c (offered made)).intakes) × NothingToApply past
+IsReason c h made unmade (stops.Trouble trouble) = Unit {0}
 IsReason c h made unmade stops.Outside = Unit {0}
 
--- The archive carried h; now it carries what the first turns for the first records of the feed offer too. These turns were written and
--- then the refusal.
-pub record IsGivenUp (c limit : ℕ) (h : History) (bytes : List ℕ) (why : FeedStop) (archive : History) (was now : OutputState) : Type 0 where
+-- The archive carried h; now it carries what the first turns for the first records of the feed offer too, wherever it is applied. These
+-- turns were written and then the refusal.
+pub record IsGivenUp (c : ℕ) (limit : BatchLimits) (h : History) (bytes : List ℕ) (why : FeedStop) (archive : Carried) (was now : OutputState) : Type 0 where
   pub seen : List ℕ
   pub later : List ℕ
   pub parts : bytes ≡ seen ++ later
@@ -73,13 +76,13 @@ pub record IsGivenUp (c limit : ℕ) (h : History) (bytes : List ℕ) (why : Fee
   pub made : List Turn
   pub unmade : List Turn
   pub turns : feed_turns limit results ≡ made ++ unmade
-  pub carried : Carries archive (given h c (offered made))
+  pub carried : HasIntakes (given h c (offered made)).intakes archive
   pub reason : IsReason c h made unmade why
   pub wrote : Tells was now (turns_text (intake_in h.intakes c) made ++ refusal_line (of_stop why))
   pub there : (offered made ≡ [] → ⊥) → IsCollector h c
 
 -- how a feed of these octets ended: all of it was read, or it was cut short, or it was given up for this
-abbrev pub IsEnd : ℕ → ℕ → History → List ℕ → End → History → OutputState → OutputState → Type 0
+abbrev pub IsEnd : ℕ → BatchLimits → History → List ℕ → End → Carried → OutputState → OutputState → Type 0
 IsEnd c limit h bytes ends.Well archive was now = IsFed c limit h bytes None archive was now
 IsEnd c limit h bytes ends.Cut archive was now = (why : FeedCut) × IsFed c limit h bytes (Some why) archive was now
 IsEnd c limit h bytes (ends.Refused why) archive was now = IsGivenUp c limit h bytes why archive was now

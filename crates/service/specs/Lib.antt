@@ -8,6 +8,7 @@ pub mod Faults
 pub mod Outputs
 pub mod Turns
 pub mod FeedTexts
+pub mod Carried
 pub mod Feeds
 pub mod Loads
 pub mod CommandLines

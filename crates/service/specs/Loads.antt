@@ -1,10 +1,10 @@
 -- What an archive carries once a file is loaded.
 use Rattle.std.specs.Prelude.{◌≡◌, ◌⊎◌, Bool, true, false, ℕ, ◌++◌, List, [], Option, Some, None, Result}
+use Rattle.service.specs.Carried.{Carried, HasIntakes, whatever}
 use Rattle.service.specs.Outputs.{OutputState, Tells}
 use Rattle.route_model.specs.Admission.{Admitted}
 use Rattle.route_meaning.specs.History.{History, Intake, settled}
 use Rattle.mrt_records.specs.Values.{Told}
-use Rattle.archive.specs.Carries.{Carries}
 use Rattle.interleaving_core.specs.Steps.{given, marked, NothingToApply, IsCollector, IsMarkAbove}
 use Rattle.resolve.specs.declared.fault.ResolveFault.{ResolveFault}
 use Rattle.service.specs.Turns.{offered, admissions_of}
@@ -13,6 +13,7 @@ use Rattle.service.specs.FeedLines.{settled_line}
 use Rattle.service.specs.Refusals.{error_line, TellsFailure}
 use Rattle.service.specs.Feeds.{IsFeed, IsCut, IsFed, IsGivenUp, FitsFailures}
 use Rattle.service.specs.Faults.{of_load}
+use Rattle.service.specs.declared.limits.BatchLimits.{BatchLimits}
 use Rattle.service.specs.declared.faults.FeedCut.{FeedCut}
 use Rattle.service.specs.declared.faults.FeedStop.{FeedStop}
 use Rattle.service.specs.declared.faults.FeedStop.TheVariants as reasons
@@ -27,22 +28,16 @@ abbrev pub marked_if : ℕ → Option ℕ → History → History
 marked_if c None h = h
 marked_if c (Some mark) h = marked h c mark
 
--- the archive carries a history with these intakes
-pub record HasIntakes (intakes : List Intake) (archive : History) : Type 0 where
-  pub now : History
-  pub are : now.intakes ≡ intakes
-  pub carried : Carries archive now
-
 -- the archive carries a history with these intakes, of which nothing may be applied any more
-pub record IsSettled (intakes : List Intake) (archive : History) : Type 0 where
+pub record IsSettled (intakes : List Intake) (archive : Carried) : Type 0 where
   pub now : History
   pub intakes_are : now.intakes ≡ intakes
   pub idle : NothingToApply now
-  pub carried : Carries archive now
+  pub carried : archive now
 
 -- The archive carried h; now it carries all that the feed of the collector gives too, and its mark, applied as far as may be.
 -- What the feed writes was written, and then the settled watermark.
-pub record IsLoaded (c limit : ℕ) (mark : Option ℕ) (h : History) (bytes : List ℕ) (cut : Option FeedCut) (archive : History) (was now : OutputState) : Type 0 where
+pub record IsLoaded (c : ℕ) (limit : BatchLimits) (mark : Option ℕ) (h : History) (bytes : List ℕ) (cut : Option FeedCut) (archive : Carried) (was now : OutputState) : Type 0 where
   pub rest : List ℕ
   pub records : List Told
   pub results : List (Result (Option Admitted) ResolveFault)
@@ -53,18 +48,17 @@ pub record IsLoaded (c limit : ℕ) (mark : Option ℕ) (h : History) (bytes : L
 
 -- The feed was given up, for what is outside only where the reader failed, and for anything else only where no read failed; the archive
 -- carries what it gave until then too, applied as far as may be. What the feed wrote is followed by the settled watermark.
-pub record IsGivenUpLoad (c limit : ℕ) (h : History) (bytes : List ℕ) (lost_was lost : Bool) (archive : History) (was now : OutputState) : Type 0 where
+pub record IsGivenUpLoad (c : ℕ) (limit : BatchLimits) (h : History) (bytes : List ℕ) (lost_was lost : Bool) (archive : Carried) (was now : OutputState) : Type 0 where
   pub why : FeedStop
   pub outside : why ≡ reasons.Outside → lost ≡ true
   pub inside : (why ≡ reasons.Outside → ⊥) → lost ≡ lost_was
-  pub fed : History
   pub between : OutputState
-  pub given_up : IsGivenUp c limit h bytes why fed was between
+  pub given_up : IsGivenUp c limit h bytes why whatever was between
   pub applied : IsSettled (given h c (offered given_up.made)).intakes archive
   pub wrote : Tells between now (settled_line (settled applied.now))
 
 -- the whole feed was taken in, and the mark that was asked for is below the collector's, which stays
-pub record IsMarkedBack (c limit : ℕ) (mark : Option ℕ) (h : History) (bytes : List ℕ) (archive : History) (was now : OutputState) : Type 0 where
+pub record IsMarkedBack (c : ℕ) (limit : BatchLimits) (mark : Option ℕ) (h : History) (bytes : List ℕ) (archive : Carried) (was now : OutputState) : Type 0 where
   pub lower : ℕ
   pub asked : mark ≡ Some lower
   pub records : List Told
@@ -72,24 +66,25 @@ pub record IsMarkedBack (c limit : ℕ) (mark : Option ℕ) (h : History) (bytes
   pub feed : IsFeed c bytes [] records results
   pub above : IsMarkAbove (given h c (admissions_of results)) c lower
   pub wrote : Tells was now (feed_text (intake_in h.intakes c) limit records results None)
-  pub carried : Carries archive (given h c (admissions_of results))
+  pub carried : HasIntakes (given h c (admissions_of results)).intakes archive
 
 -- This history has the intakes of what the feed gave, and its mark where the feed ended well and all of its lines were written. The feed
 -- was given up for what is outside only where the reader failed, or the writer, and no read failed where it ended otherwise.
-abbrev pub IsPartLoaded : ℕ → ℕ → Option ℕ → History → List ℕ → Bool → Bool → History → OutputState → OutputState → Type 0
+abbrev pub IsPartLoaded : ℕ → BatchLimits → Option ℕ → History → List ℕ → Bool → Bool → History → OutputState → OutputState → Type 0
 IsPartLoaded c limit mark h bytes lost_was lost past was now =
-    ((fed : History) × (f : IsFed c limit h bytes None fed was now) × (now.failed ≡ false) × (lost ≡ lost_was) × (past.intakes ≡ (marked_if c mark (given h c (admissions_of f.results))).intakes))
-    ⊎ (((fed : History) × (cut : Option FeedCut) × (f : IsFed c limit h bytes cut fed was now) × (cut ≡ None → now.failed ≡ true) × (lost ≡ lost_was) × (past.intakes ≡ (given h c (admissions_of f.results)).intakes))
-    ⊎ ((fed : History) × (why : FeedStop) × (g : IsGivenUp c limit h bytes why fed was now) × FitsFailures (ends.Refused why) lost_was lost now.failed × (past.intakes ≡ (given h c (offered g.made)).intakes)))
+    ((f : IsFed c limit h bytes None whatever was now) × (now.failed ≡ false) × (lost ≡ lost_was) × (past.intakes ≡ (marked_if c mark (given h c (admissions_of f.results))).intakes))
+    ⊎ (((cut : Option FeedCut) × (f : IsFed c limit h bytes cut whatever was now) × (cut ≡ None → now.failed ≡ true) × (lost ≡ lost_was) × (past.intakes ≡ (given h c (admissions_of f.results)).intakes))
+    ⊎ ((why : FeedStop) × (g : IsGivenUp c limit h bytes why whatever was now) × FitsFailures (ends.Refused why) lost_was lost now.failed × (past.intakes ≡ (given h c (offered g.made)).intakes)))
 
--- why a load ends outside its feed: there is no such collector, the mark is below the collector's, or memory was wanting while changes were applied
-abbrev pub IsUnloaded : ℕ → ℕ → Option ℕ → History → List ℕ → Bool → Bool → History → OutputState → OutputState → LoadStop → Type 0
-IsUnloaded c limit mark h bytes lost_was lost archive was now stops.NoCollector = (IsCollector h c → ⊥) × Carries archive h × (now ≡ was) × (lost ≡ lost_was)
+-- why a load ends outside its feed: there is no such collector, the mark is below the collector's, or the archive had another
+-- trouble behind the feed, before the mark was set or after it
+abbrev pub IsUnloaded : ℕ → BatchLimits → Option ℕ → History → List ℕ → Bool → Bool → Carried → OutputState → OutputState → LoadStop → Type 0
+IsUnloaded c limit mark h bytes lost_was lost archive was now stops.NoCollector = (IsCollector h c → ⊥) × archive h × (now ≡ was) × (lost ≡ lost_was)
 IsUnloaded c limit mark h bytes lost_was lost archive was now stops.MarkBack = IsMarkedBack c limit mark h bytes archive was now × (lost ≡ lost_was)
-IsUnloaded c limit mark h bytes lost_was lost archive was now stops.OutOfMemory = (past : History) × Carries archive past × IsPartLoaded c limit mark h bytes lost_was lost past was now
+IsUnloaded c limit mark h bytes lost_was lost archive was now (stops.Trouble trouble) = (set : Option ℕ) × ((set ≡ mark) ⊎ (set ≡ None)) × (past : History) × archive past × IsPartLoaded c limit set h bytes lost_was lost past was now
 
 -- something was refused, and told: the feed was cut short, or it was given up, or the load ended outside its feed
-abbrev pub IsRefusedLoad : ℕ → ℕ → Option ℕ → History → List ℕ → Bool → Bool → History → OutputState → OutputState → OutputState → OutputState → Type 0
+abbrev pub IsRefusedLoad : ℕ → BatchLimits → Option ℕ → History → List ℕ → Bool → Bool → Carried → OutputState → OutputState → OutputState → OutputState → Type 0
 IsRefusedLoad c limit mark h bytes lost_was lost archive was now err_was err_now =
     ((why : FeedCut) × IsLoaded c limit None h bytes (Some why) archive was now × (err_now ≡ err_was) × (lost ≡ lost_was))
     ⊎ ((IsGivenUpLoad c limit h bytes lost_was lost archive was now × (err_now ≡ err_was))
@@ -97,14 +92,14 @@ IsRefusedLoad c limit mark h bytes lost_was lost archive was now err_was err_now
 
 -- Not all lines could be written. The archive carries all the same what the feed gave, applied as far as may be, and the watermark was
 -- told behind its lines as far as it could be; or the load ended outside its feed. Standard error is told of standard output.
-abbrev pub IsFailedLoad : ℕ → ℕ → Option ℕ → History → List ℕ → Bool → Bool → History → OutputState → OutputState → OutputState → OutputState → Type 0
+abbrev pub IsFailedLoad : ℕ → BatchLimits → Option ℕ → History → List ℕ → Bool → Bool → Carried → OutputState → OutputState → OutputState → OutputState → Type 0
 IsFailedLoad c limit mark h bytes lost_was lost archive was now err_was err_now =
-    ((mid : OutputState) × (past : History) × Carries archive past × NothingToApply past × IsPartLoaded c limit mark h bytes lost_was lost past was mid × Tells mid now (settled_line (settled past)) × TellsFailure now.failed err_was err_now)
+    ((mid : OutputState) × (past : History) × archive past × NothingToApply past × IsPartLoaded c limit mark h bytes lost_was lost past was mid × Tells mid now (settled_line (settled past)) × TellsFailure now.failed err_was err_now)
     ⊎ ((why : LoadStop) × IsUnloaded c limit mark h bytes lost_was lost archive was now why × ((err_mid : OutputState) × Tells err_was err_mid (error_line (of_load why)) × TellsFailure now.failed err_mid err_now))
 
 -- How a load of these octets ended, by its status, where the reader had failed before it or not, and has behind it or not. It is
 -- `Failed` exactly where a writer has.
-abbrev pub IsLoadEnd : ℕ → ℕ → Option ℕ → History → List ℕ → Bool → Bool → Status → History → OutputState → OutputState → OutputState → OutputState → Type 0
+abbrev pub IsLoadEnd : ℕ → BatchLimits → Option ℕ → History → List ℕ → Bool → Bool → Status → Carried → OutputState → OutputState → OutputState → OutputState → Type 0
 IsLoadEnd c limit mark h bytes lost_was lost statuses.Done archive was now err_was err_now = IsCollector h c × IsLoaded c limit mark h bytes None archive was now × (now.failed ≡ false) × (err_now.failed ≡ false) × (err_now ≡ err_was) × (lost ≡ lost_was)
 IsLoadEnd c limit mark h bytes lost_was lost statuses.Refused archive was now err_was err_now = IsRefusedLoad c limit mark h bytes lost_was lost archive was now err_was err_now × (now.failed ≡ false) × (err_now.failed ≡ false)
 IsLoadEnd c limit mark h bytes lost_was lost statuses.Failed archive was now err_was err_now = IsFailedLoad c limit mark h bytes lost_was lost archive was now err_was err_now × ((now.failed ≡ true) ⊎ (err_now.failed ≡ true))

@@ -4,8 +4,15 @@ use Rattle.service.specs.Outputs.{OutputState, Tells}
 use Rattle.service.specs.declared.refusal.Refusal.{Refusal}
 use Rattle.service.specs.declared.refusal.Refusal.TheVariants as refusals
 
--- its number, 12 to 29
+-- its number, 1 to 29
 abbrev pub number_of : Refusal → ℕ
+number_of refusals.Fault = 1
+number_of refusals.NeedsRecovery = 5
+number_of refusals.PagesFull = 6
+number_of refusals.OnceFull = 7
+number_of (refusals.Damaged block) = 8
+number_of (refusals.BadNode page) = 9
+number_of refusals.TooHigh = 11
 number_of refusals.BadText = 12
 number_of refusals.Truncated = 13
 number_of refusals.TooLong = 14
@@ -16,6 +23,7 @@ number_of refusals.BadPeerIndex = 18
 number_of refusals.AdmissionTooLarge = 19
 number_of refusals.MarkBack = 21
 number_of refusals.NoCollector = 22
+number_of refusals.IntakeFull = 23
 number_of (refusals.AboveWatermark settled) = 24
 number_of refusals.BatchTooLarge = 25
 number_of refusals.CounterFull = 26
@@ -25,6 +33,13 @@ number_of refusals.Outside = 29
 
 -- its name
 abbrev pub name_of : Refusal → List ℕ
+name_of refusals.Fault = codes "Fault"
+name_of refusals.NeedsRecovery = codes "NeedsRecovery"
+name_of refusals.PagesFull = codes "PagesFull"
+name_of refusals.OnceFull = codes "OnceFull"
+name_of (refusals.Damaged block) = codes "Damaged"
+name_of (refusals.BadNode page) = codes "BadNode"
+name_of refusals.TooHigh = codes "TooHigh"
 name_of refusals.BadText = codes "BadText"
 name_of refusals.Truncated = codes "Truncated"
 name_of refusals.TooLong = codes "TooLong"
@@ -35,6 +50,7 @@ name_of refusals.BadPeerIndex = codes "BadPeerIndex"
 name_of refusals.AdmissionTooLarge = codes "AdmissionTooLarge"
 name_of refusals.MarkBack = codes "MarkBack"
 name_of refusals.NoCollector = codes "NoCollector"
+name_of refusals.IntakeFull = codes "IntakeFull"
 name_of (refusals.AboveWatermark settled) = codes "AboveWatermark"
 name_of refusals.BatchTooLarge = codes "BatchTooLarge"
 name_of refusals.CounterFull = codes "CounterFull"
@@ -46,16 +62,18 @@ name_of refusals.Outside = codes "Outside"
 abbrev pub line_end : List ℕ
 line_end = 10 ∷ []
 
--- what the line of a refusal tells behind its name: the watermark of AboveWatermark
+-- what the line of a refusal tells behind its name: the watermark of AboveWatermark, the block of Damaged, the page of BadNode
 abbrev pub told_of : Refusal → List ℕ
 told_of (refusals.AboveWatermark settled) = codes "|" ++ decimal settled
+told_of (refusals.Damaged block) = codes "|" ++ decimal block
+told_of (refusals.BadNode page) = codes "|" ++ decimal page
 told_of _ = []
 
 -- X, the number and the name
 abbrev pub refusal_head : Refusal → List ℕ
 refusal_head r = codes "X|" ++ decimal (number_of r) ++ codes "|" ++ name_of r
 
--- the same, and for AboveWatermark the watermark
+-- the same, and what is told behind it
 abbrev pub refusal_line : Refusal → List ℕ
 refusal_line r = refusal_head r ++ told_of r ++ line_end
 

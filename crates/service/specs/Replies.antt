@@ -32,11 +32,11 @@ pub record IsUnsettled (h : History) (line : List ℕ) (watermark : ℕ) : Type 
   pub above : settled h ≤ last_moment query
   pub watermark_is : watermark ≡ settled h
 
--- why there is no answer: the line is no request, its moment isn't settled, or memory was wanting
+-- why there is no answer: the line is no request, its moment isn't settled, or the archive had another trouble
 abbrev pub IsRefused : History → List ℕ → Unanswered → Type 0
 IsRefused h line whys.BadRequest = (query : Query) → IsQueryLine line query → ⊥
 IsRefused h line (whys.AboveWatermark watermark) = IsUnsettled h line watermark
-IsRefused h line whys.OutOfMemory = Unit {0}
+IsRefused h line (whys.Trouble trouble) = Unit {0}
 
 -- this is the text of an answer to the line, or the line of a refusal of it
 abbrev pub IsTold : History → List ℕ → List ℕ → Type 0

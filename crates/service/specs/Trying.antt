@@ -23,7 +23,7 @@ pub record IsTried (asked : Attempt) (known : Option (List ℕ)) (lost_was lost 
   pub loaded : Status
   pub loaded_to : OutputState
   pub loaded_err : OutputState
-  pub load : IsLoadEnd 0 1000 asked.mark (empty 1) bytes lost_was lost loaded archive was loaded_to err_was loaded_err
+  pub load : IsLoadEnd 0 (record { records = 1000; octets = 262144 }) asked.mark (empty 1) bytes lost_was lost loaded (Carries archive) was loaded_to err_was loaded_err
   pub answered : Status
   pub answered_to : OutputState
   pub answered_err : OutputState

@@ -1,8 +1,9 @@
 -- What is done for the records of a feed, one after another: admissions are offered in batches, and refused records told.
 use Rattle.std.specs.Prelude.{ℕ, ◌≤◌, ltb, leb, suc, length, Bool, true, false, List, [], ◌∷◌, ◌++◌, Option, Some, None, Result, Ok, Err}
 use Rattle.route_model.specs.Admission.{Admitted}
-use Rattle.archive.specs.Limits.{batch_octets}
+use Rattle.archive_calls.specs.Limits.{batch_octets}
 use Rattle.resolve.specs.declared.fault.ResolveFault.{ResolveFault}
+use Rattle.service.specs.declared.limits.BatchLimits.{BatchLimits}
 
 -- a batch is offered, or the record at this place is told as refused; the first record has the place 0
 pub data Turn : Type 0 where
@@ -29,12 +30,12 @@ admissions_of (Ok None ∷ results) = admissions_of results
 admissions_of (Err fault ∷ results) = admissions_of results
 
 -- with one more admission these would have more octets than a batch may have
-abbrev pub is_crowded : List Admitted → Admitted → Bool
-is_crowded waiting a = ltb 262144 (batch_octets (waiting ++ a ∷ []))
+abbrev pub is_crowded : BatchLimits → List Admitted → Admitted → Bool
+is_crowded limit waiting a = ltb limit.octets (batch_octets (waiting ++ a ∷ []))
 
 -- these are as many admissions as a batch may have
-abbrev pub is_full : ℕ → List Admitted → Bool
-is_full limit waiting = leb limit (length waiting)
+abbrev pub is_full : BatchLimits → List Admitted → Bool
+is_full limit waiting = leb limit.records (length waiting)
 
 -- where it is so, all that waits is offered
 abbrev pub offer_where : Bool → List Admitted → List Turn
@@ -47,28 +48,28 @@ wait_unless true waiting = []
 wait_unless false waiting = waiting
 
 -- what waits with one more admission, for which room is made first
-abbrev pub waiting_with : List Admitted → Admitted → List Admitted
-waiting_with waiting a = wait_unless (is_crowded waiting a) waiting ++ a ∷ []
+abbrev pub waiting_with : BatchLimits → List Admitted → Admitted → List Admitted
+waiting_with limit waiting a = wait_unless (is_crowded limit waiting a) waiting ++ a ∷ []
 
 -- what is done for the record at this place, where these admissions wait
-abbrev pub turns_at : ℕ → ℕ → List Admitted → Result (Option Admitted) ResolveFault → List Turn
-turns_at limit place waiting (Ok (Some a)) = offer_where (is_crowded waiting a) waiting ++ offer_where (is_full limit (waiting_with waiting a)) (waiting_with waiting a)
+abbrev pub turns_at : BatchLimits → ℕ → List Admitted → Result (Option Admitted) ResolveFault → List Turn
+turns_at limit place waiting (Ok (Some a)) = offer_where (is_crowded limit waiting a) waiting ++ offer_where (is_full limit (waiting_with limit waiting a)) (waiting_with limit waiting a)
 turns_at limit place waiting (Ok None) = []
 turns_at limit place waiting (Err fault) = Refuse place fault ∷ []
 
 -- what waits after it
-abbrev pub waits_after : ℕ → List Admitted → Result (Option Admitted) ResolveFault → List Admitted
-waits_after limit waiting (Ok (Some a)) = wait_unless (is_full limit (waiting_with waiting a)) (waiting_with waiting a)
+abbrev pub waits_after : BatchLimits → List Admitted → Result (Option Admitted) ResolveFault → List Admitted
+waits_after limit waiting (Ok (Some a)) = wait_unless (is_full limit (waiting_with limit waiting a)) (waiting_with limit waiting a)
 waits_after limit waiting (Ok None) = waiting
 waits_after limit waiting (Err fault) = waiting
 
 -- what is done for the records of these meanings, the first of which has this place, where these admissions wait
-abbrev pub turns_for : ℕ → ℕ → List Admitted → List (Result (Option Admitted) ResolveFault) → List Turn
+abbrev pub turns_for : BatchLimits → ℕ → List Admitted → List (Result (Option Admitted) ResolveFault) → List Turn
 turns_for limit place waiting [] = []
 turns_for limit place waiting (r ∷ results) = turns_at limit place waiting r ++ turns_for limit (suc place) (waits_after limit waiting r) results
 
 -- what waits after them
-abbrev pub waits_behind : ℕ → List Admitted → List (Result (Option Admitted) ResolveFault) → List Admitted
+abbrev pub waits_behind : BatchLimits → List Admitted → List (Result (Option Admitted) ResolveFault) → List Admitted
 waits_behind limit waiting [] = waiting
 waits_behind limit waiting (r ∷ results) = waits_behind limit (waits_after limit waiting r) results
 
@@ -77,11 +78,11 @@ abbrev pub last_turns : List Admitted → List Turn
 last_turns [] = []
 last_turns (a ∷ waiting) = Offer (a ∷ waiting) ∷ []
 
--- what is done for a whole feed whose records mean this, in batches of at most so many admissions
-abbrev pub feed_turns : ℕ → List (Result (Option Admitted) ResolveFault) → List Turn
+-- what is done for a whole feed whose records mean this, in batches within these limits
+abbrev pub feed_turns : BatchLimits → List (Result (Option Admitted) ResolveFault) → List Turn
 feed_turns limit results = turns_for limit 0 [] results ++ last_turns (waits_behind limit [] results)
 
--- an offered batch has at most so many admissions, and no more octets than a batch may have
-abbrev pub IsWithinLimits : ℕ → Turn → Type 0
-IsWithinLimits limit (Offer batch) = (length batch ≤ limit) × (batch_octets batch ≤ 262144)
+-- an offered batch has no more admissions and no more octets than a batch may have
+abbrev pub IsWithinLimits : BatchLimits → Turn → Type 0
+IsWithinLimits limit (Offer batch) = (length batch ≤ limit.records) × (batch_octets batch ≤ limit.octets)
 IsWithinLimits limit (Refuse place fault) = Unit {0}

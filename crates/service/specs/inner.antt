@@ -1,3 +1,4 @@
+pub mod Taking
 pub mod Asking
 pub mod Feeding
 pub mod Loading

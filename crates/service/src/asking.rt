@@ -2,10 +2,9 @@
 
 ghost use Rattle.std.specs.Prelude.{◌≡◌, IfOk, IfErr, IfSome, IfNone, string_bytes};
 ghost use Rattle.route_meaning.specs.History.{History};
-ghost use Rattle.archive.specs.Carries.{Carries};
 ghost use Rattle.service.specs.AnswerLines.{answer_text};
 ghost use Rattle.service.specs.Replies.{IsReplyText, IsRefused, IsAskEnd};
-ghost use Rattle.service.specs.inner.Asking.{IsEventsTurn, of_descend};
+ghost use Rattle.service.specs.inner.Asking.{HasEvents, of_ask};
 
 use crate::answer_lines::write_answer;
 use crate::faults::Unanswered;
@@ -13,7 +12,8 @@ use crate::output::Output;
 use crate::refusal::{Refusal, write_refusal};
 use crate::request::{RequestError, read_query};
 use crate::status::{Status, told};
-use archive::{Answer, Archive, DescendRefusal, Turn};
+use archive_calls::{AskError, RouteArchive, Trouble};
+use interleaving_core::Answer;
 use route_meaning::RowsAnswer;
 use std::alloc::{AllocError, Global};
 use std::io::Write;
@@ -27,63 +27,68 @@ fn text_of(alloc: Global, answer: &RowsAnswer) -> Result<String, AllocError>
     Ok(text)
 }
 
-/// The rows that a turn gave, or none where it gave events.
-fn rows_of(turn: Turn) -> Option<RowsAnswer>
-    ensures rows { IfSome result (λ answer. turn ≡ Turn.Done (Answer.Rows answer)) }
-    ensures events { IfNone result (IsEventsTurn turn) }
+/// The rows of an answer, or none where it has events.
+fn rows_of(answer: Answer) -> Option<RowsAnswer>
+    ensures rows { IfSome result (λ rows. answer ≡ Answer.Rows rows) }
+    ensures events { IfNone result (HasEvents answer) }
 {
-    match turn {
-        Turn::Done(Answer::Rows(answer)) => Some(answer),
-        Turn::Done(Answer::Events(_)) => None,
+    match answer {
+        Answer::Rows(rows) => Some(rows),
+        Answer::Events(_) => None,
     }
 }
 
 /// Why a question isn't answered, as a line is told of it.
-fn unanswered(refusal: DescendRefusal) -> Unanswered
-    ensures why { result ≡ of_descend refusal }
+fn unanswered(refusal: AskError) -> Unanswered
+    ensures why { result ≡ of_ask refusal }
 {
     match refusal {
-        DescendRefusal::AboveWatermark(settled) => Unanswered::AboveWatermark(settled),
-        DescendRefusal::OutOfMemory => Unanswered::OutOfMemory,
+        AskError::AboveWatermark(settled) => Unanswered::AboveWatermark(settled),
+        AskError::Trouble(trouble) => Unanswered::Trouble(trouble),
     }
 }
 
 /// What the archive answers to a request line, which is without its end: the lines of the answer, or why there is
 /// none. The lines that are read are those of [`read_query`].
-pub fn reply(alloc: Global, archive: &Archive, line: &str) -> Result<String, Unanswered>
-    ensures answered { (h : History) → Carries archive.now h → IfOk result (λ text. IsReplyText h line.now (string_bytes text)) }
-    ensures refused { (h : History) → Carries archive.now h → IfErr result (IsRefused h line.now) }
+pub fn reply<A: RouteArchive>(
+    alloc: Global,
+    archive: &mut A,
+    line: &str,
+) -> Result<String, Unanswered>
+    ensures answered { (h : History) → A.carries archive.old h → IfOk result (λ text. IsReplyText h line.now (string_bytes text)) }
+    ensures refused { (h : History) → A.carries archive.old h → IfErr result (IsRefused h line.now) }
+    ensures kept { (h : History) → A.carries archive.old h → A.carries archive.new h }
 {
     let query = match read_query(alloc, line) {
         Ok(query) => query,
         Err(RequestError::BadRequest) => return Err(Unanswered::BadRequest),
-        Err(RequestError::OutOfMemory) => return Err(Unanswered::OutOfMemory),
+        Err(RequestError::OutOfMemory) => return Err(Unanswered::Trouble(Trouble::OutOfMemory)),
     };
-    let mut cursor = archive.start(query);
-    let turn = match archive.descend(&mut cursor) {
-        Ok(turn) => turn,
+    let answer = match archive.answer(query) {
+        Ok(answer) => answer,
         Err(refusal) => return Err(unanswered(refusal)),
     };
-    let Some(answer) = rows_of(turn) else {
+    let Some(rows) = rows_of(answer) else {
         // No line that is read has an answer of events.
         return Err(Unanswered::BadRequest);
     };
-    match text_of(alloc, &answer) {
+    match text_of(alloc, &rows) {
         Ok(text) => Ok(text),
-        Err(_) => Err(Unanswered::OutOfMemory),
+        Err(_) => Err(Unanswered::Trouble(Trouble::OutOfMemory)),
     }
 }
 
 /// Writes what the archive answers to a request line: the lines of the answer, or the line of the refusal. Where these
 /// can't all be written, `err` is told so; where `out` had failed before, nothing is done.
-pub fn ask<W: Write, E: Write>(
+pub fn ask<A: RouteArchive, W: Write, E: Write>(
     alloc: Global,
-    archive: &Archive,
+    archive: &mut A,
     line: &str,
     out: &mut Output<W>,
     err: &mut Output<E>,
 ) -> Status
-    ensures ended { (h : History) → Carries archive.now h → IsAskEnd h line.now result out.old out.new err.old err.new }
+    ensures ended { (h : History) → A.carries archive.old h → IsAskEnd h line.now result out.old out.new err.old err.new }
+    ensures kept { (h : History) → A.carries archive.old h → A.carries archive.new h }
 {
     if out.has_failed() {
         return Status::Failed;

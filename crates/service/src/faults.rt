@@ -1,15 +1,14 @@
 //! The refusals of each call, and their place in the one list.
 
 ghost use Rattle.std.specs.Prelude.{◌≡◌};
-ghost use Rattle.service.specs.Faults.{of_cut, of_load, of_record, of_stop, of_unanswered};
+ghost use Rattle.service.specs.Faults.{of_cut, of_load, of_record, of_stop, of_trouble, of_unanswered};
 ghost use Rattle.service.specs.inner.Feeding.{of_admit};
 ghost use Rattle.service.specs.declared.faults.LoadStop.TheVariants as ends;
 
 use crate::refusal::Refusal;
-use archive::AdmitRefusal;
+use archive_calls::{AdmitError, Trouble};
 use resolve::ResolveFault;
 use route_model::Mark;
-use std::alloc::AllocError;
 use thiserror::Error;
 
 /// Why a feed is cut short. What came before is admitted.
@@ -32,9 +31,12 @@ pub enum FeedStop {
     /// The count of offered records would pass 18446744073709551615.
     #[error("the count of offered records is full")]
     CounterFull,
-    /// A growth of memory was refused.
-    #[error("out of memory")]
-    OutOfMemory,
+    /// The collector's ring has too few free octets for a batch, and nothing more can be applied.
+    #[error("the intake is full")]
+    IntakeFull,
+    /// The archive couldn't take a batch that it could have taken, or memory was wanting.
+    #[error("{0}")]
+    Trouble(Trouble),
     /// The reader or the writer failed.
     #[error("the reader or the writer failed")]
     Outside,
@@ -49,9 +51,9 @@ pub enum LoadStop {
     /// The mark to be set is below the collector's mark.
     #[error("the mark is below the collector's mark")]
     MarkBack,
-    /// A growth of memory was refused while changes were applied.
-    #[error("out of memory")]
-    OutOfMemory,
+    /// The archive couldn't set the mark, apply or flush.
+    #[error("{0}")]
+    Trouble(Trouble),
 }
 
 /// Why a request line isn't answered.
@@ -63,28 +65,47 @@ pub enum Unanswered {
     /// The question's moment isn't below the settled watermark, which this is.
     #[error("the moment isn't below the settled watermark")]
     AboveWatermark(Mark),
-    /// A growth of memory was refused.
-    #[error("out of memory")]
-    OutOfMemory,
+    /// The archive couldn't answer, or memory was wanting.
+    #[error("{0}")]
+    Trouble(Trouble),
 }
 
 /// Why a batch of a feed isn't taken, as the feed is given up for it.
-pub(crate) fn stop_of(refusal: AdmitRefusal) -> FeedStop
+pub(crate) fn stop_of(refusal: AdmitError) -> FeedStop
     ensures { result ≡ of_admit refusal }
 {
     match refusal {
-        AdmitRefusal::NoCollector => FeedStop::NoCollector,
-        AdmitRefusal::CounterFull => FeedStop::CounterFull,
+        AdmitError::NoCollector => FeedStop::NoCollector,
+        AdmitError::CounterFull => FeedStop::CounterFull,
+        AdmitError::IntakeFull => FeedStop::IntakeFull,
         // What a feed offers is never too large for a batch.
-        AdmitRefusal::BatchTooLarge | AdmitRefusal::OutOfMemory => FeedStop::OutOfMemory,
+        AdmitError::BatchTooLarge => FeedStop::Trouble(Trouble::OutOfMemory),
+        AdmitError::Trouble(trouble) => FeedStop::Trouble(trouble),
     }
 }
 
-impl From<AllocError> for LoadStop {
-    ghost from_gives = { λ error stop. stop ≡ ends.OutOfMemory };
+impl From<Trouble> for LoadStop {
+    ghost from_gives = { λ trouble stop. stop ≡ ends.Trouble trouble };
 
-    fn from(_: AllocError) -> LoadStop {
-        LoadStop::OutOfMemory
+    fn from(trouble: Trouble) -> LoadStop {
+        LoadStop::Trouble(trouble)
+    }
+}
+
+impl From<Trouble> for Refusal {
+    ghost from_gives = { λ trouble refusal. refusal ≡ of_trouble trouble };
+
+    fn from(trouble: Trouble) -> Refusal {
+        match trouble {
+            Trouble::Fault => Refusal::Fault,
+            Trouble::NeedsRecovery => Refusal::NeedsRecovery,
+            Trouble::PagesFull => Refusal::PagesFull,
+            Trouble::OnceFull => Refusal::OnceFull,
+            Trouble::Damaged(block) => Refusal::Damaged(block),
+            Trouble::BadNode(page) => Refusal::BadNode(page),
+            Trouble::TooHigh => Refusal::TooHigh,
+            Trouble::OutOfMemory => Refusal::OutOfMemory,
+        }
     }
 }
 
@@ -121,7 +142,8 @@ impl From<FeedStop> for Refusal {
         match stop {
             FeedStop::NoCollector => Refusal::NoCollector,
             FeedStop::CounterFull => Refusal::CounterFull,
-            FeedStop::OutOfMemory => Refusal::OutOfMemory,
+            FeedStop::IntakeFull => Refusal::IntakeFull,
+            FeedStop::Trouble(trouble) => Refusal::from(trouble),
             FeedStop::Outside => Refusal::Outside,
         }
     }
@@ -134,7 +156,7 @@ impl From<LoadStop> for Refusal {
         match stop {
             LoadStop::NoCollector => Refusal::NoCollector,
             LoadStop::MarkBack => Refusal::MarkBack,
-            LoadStop::OutOfMemory => Refusal::OutOfMemory,
+            LoadStop::Trouble(trouble) => Refusal::from(trouble),
         }
     }
 }
@@ -146,7 +168,7 @@ impl From<Unanswered> for Refusal {
         match why {
             Unanswered::BadRequest => Refusal::BadRequest,
             Unanswered::AboveWatermark(settled) => Refusal::AboveWatermark(settled),
-            Unanswered::OutOfMemory => Refusal::OutOfMemory,
+            Unanswered::Trouble(trouble) => Refusal::from(trouble),
         }
     }
 }

@@ -7,7 +7,7 @@ ghost use Rattle.mrt_records.specs.Values.{told};
 ghost use Rattle.service.specs.FeedTexts.{capped, skips};
 
 use crate::output::Output;
-use archive::Admitted;
+use interleaving_core::BatchReply;
 use mrt_records::Item;
 use route_model::Mark;
 use sequencer::Late;
@@ -26,7 +26,7 @@ pub struct FeedCounts {
 
 impl FeedCounts {
     /// Counts what became of a batch.
-    pub(crate) fn count_batch(&mut self, admitted: &Admitted)
+    pub(crate) fn count_batch(&mut self, admitted: &BatchReply)
         ensures admitted { self.new.admitted ≡ capped (self.old.admitted + (admitted.now.receipt.to - admitted.now.receipt.from)) }
         ensures late { self.new.late ≡ capped (self.old.late + length admitted.now.late.items) }
         ensures records { self.new.records ≡ self.old.records }
@@ -86,7 +86,7 @@ fn write_late<W: Write>(out: &mut Output<W>, late: &Late)
 
 /// Writes what became of a batch: `B|FROM|TO|OFFERED`, then `L|INDEX|TIME|MARK` for each late record. No memory
 /// is needed.
-pub fn write_admitted<W: Write>(out: &mut Output<W>, admitted: &Admitted)
+pub fn write_admitted<W: Write>(out: &mut Output<W>, admitted: &BatchReply)
     ensures lines { Tells out.old out.new (admitted_text admitted.now) }
 {
     let receipt = &admitted.receipt;

@@ -1,19 +1,23 @@
 //! A feed under way: its records are resolved, and their admissions offered in batches.
 
-ghost use Rattle.std.specs.Prelude.{◌≡◌, ◌≤◌, ◌∷◌, ◌++◌, ◌+◌, ltb, ℕ, List, [], Option, Some, Ok, map, OnOk, IfErr};
+ghost use Rattle.std.specs.Prelude.{◌≡◌, ◌≤◌, ◌∷◌, ◌++◌, ◌+◌, ltb, ℕ, List, [], Option, Some, Ok, map, OnOk, OnErr, IfErr};
 ghost use Rattle.route_meaning.specs.History.{History};
 ghost use Rattle.mrt_records.specs.Values.{Told, told};
-ghost use Rattle.archive.specs.Carries.{Carries};
 ghost use Rattle.service.specs.Turns.{Turn, Offer, Refuse, offer_where, wait_unless, is_full, turns_at, waits_after, last_turns};
 ghost use Rattle.service.specs.FeedTexts.{capped};
-ghost use Rattle.service.specs.Outputs.{OutputState};
+ghost use Rattle.service.specs.declared.limits.BatchLimits.{BatchLimits};
+ghost use Rattle.service.specs.Outputs.{OutputState, Tells};
+ghost use Rattle.service.specs.Refusals.{refused_record_line};
+ghost use Rattle.service.specs.Faults.{of_record};
 ghost use Rattle.service.specs.inner.Feeding.{HasDone, IsSameFeed, IsCounted, IsBehind, GivesUp, StopsAmong};
 
 use crate::faults::{FeedStop, stop_of};
 use crate::feed_lines::{FeedCounts, write_admitted};
+use crate::limits::BatchLimits;
+use crate::making_room::admit_with_room;
 use crate::output::Output;
 use crate::refusal::{Refusal, write_refused_record};
-use archive::{Archive, MAX_BATCH_LEN};
+use archive_calls::{RouteArchive, Trouble};
 use mrt_records::Item;
 use resolve::{ResolveFault, Resolver};
 use route_model::Admission;
@@ -25,18 +29,37 @@ use std::io::Write;
 #[derive(Drop)]
 pub(crate) struct Feeding {
     pub(crate) collector: u8,
-    pub(crate) limit: usize,
+    pub(crate) limit: BatchLimits,
     pub(crate) resolver: Resolver,
     pub(crate) gathered: Vec<Admission>,
     pub(crate) octets: usize,
     pub(crate) counts: FeedCounts,
 }
 
+/// Whether so many octets with so many more are more than there may be.
+fn is_over(octets: usize, more: usize, most: usize) -> bool
+    ensures over { result ≡ ltb most (octets + more) }
+{
+    match octets.checked_add(more) {
+        Some(sum) => sum > most,
+        None => true,
+    }
+}
+
 impl Feeding {
-    /// The beginning of a feed of the collector, whose batches have at most so many admissions.
-    pub(crate) fn new(alloc: Global, collector: u8, limit: usize) -> Feeding
-        ensures begins { (h : History) (archive : History) (was : OutputState) → Carries archive h → IsBehind collector limit h [] result archive was was }
+    /// The beginning of a feed of the collector into the archive, whose batches have at most so many admissions.
+    pub(crate) fn new<A: RouteArchive>(
+        alloc: Global,
+        archive: &A,
+        collector: u8,
+        limit: usize,
+    ) -> Feeding
+        ensures begins { (h : History) (was : OutputState) → A.carries archive.now h → IsBehind collector (record { records = limit; octets = A.most archive.now }) h [] result (A.carries archive.now) was was }
     {
+        let limit = BatchLimits {
+            records: limit,
+            octets: archive.batch_limit(),
+        };
         Feeding {
             collector,
             limit,
@@ -54,19 +77,19 @@ impl Feeding {
     }
 
     /// Offers what is gathered as a batch, and writes what became of it.
-    fn offer<W: Write>(
+    fn offer<A: RouteArchive, W: Write>(
         &mut self,
-        archive: &mut Archive,
+        archive: &mut A,
         out: &mut Output<W>,
     ) -> Result<(), FeedStop>
         ensures same { IsSameFeed self.old self.new }
         ensures gathered { OnOk result (self.new.gathered.items ≡ []) }
         ensures octets { OnOk result (self.new.octets ≡ 0) }
-        ensures done { (c : ℕ) (h : History) (turns : List Turn) (was : OutputState) → self.old.collector ≡ c → HasDone c h turns self.old.counts archive.old was out.old → OnOk result (HasDone c h (turns ++ Offer self.old.gathered.items ∷ []) self.new.counts archive.new was out.new) }
+        ensures done { (c : ℕ) (h : History) (turns : List Turn) (was : OutputState) → self.old.collector ≡ c → HasDone c h turns self.old.counts (A.carries archive.old) was out.old → OnOk result (HasDone c h (turns ++ Offer self.old.gathered.items ∷ []) self.new.counts (A.carries archive.new) was out.new) }
         ensures inside { result ≡ Err FeedStop.Outside → ⊥ }
-        ensures given_up { (c : ℕ) (h : History) (turns : List Turn) (was : OutputState) → self.old.collector ≡ c → IsCounted self.old → HasDone c h turns self.old.counts archive.old was out.old → IfErr result (GivesUp c h (turns ++ Offer self.old.gathered.items ∷ []) archive.new was out.new) }
+        ensures given_up { (c : ℕ) (h : History) (turns : List Turn) (was : OutputState) → self.old.collector ≡ c → IsCounted self.old → HasDone c h turns self.old.counts (A.carries archive.old) was out.old → IfErr result (GivesUp c h (turns ++ Offer self.old.gathered.items ∷ []) (A.carries archive.new) was out.new) }
     {
-        let admitted = match archive.admit(self.collector, &self.gathered) {
+        let admitted = match admit_with_room(archive, self.collector, &self.gathered) {
             Ok(admitted) => admitted,
             Err(refusal) => return Err(stop_of(refusal)),
         };
@@ -78,54 +101,54 @@ impl Feeding {
     }
 
     /// Offers what is gathered where it would be too large with so many octets more.
-    fn make_room<W: Write>(
+    fn make_room<A: RouteArchive, W: Write>(
         &mut self,
         octets: usize,
-        archive: &mut Archive,
+        archive: &mut A,
         out: &mut Output<W>,
     ) -> Result<(), FeedStop>
         ensures same { IsSameFeed self.old self.new }
-        ensures gathered { OnOk result (self.new.gathered.items ≡ wait_unless (ltb 262144 (self.old.octets + octets)) self.old.gathered.items) }
+        ensures gathered { OnOk result (self.new.gathered.items ≡ wait_unless (ltb self.old.limit.octets (self.old.octets + octets)) self.old.gathered.items) }
         ensures counted { IsCounted self.old → OnOk result (IsCounted self.new) }
-        ensures done { (c : ℕ) (h : History) (turns : List Turn) (was : OutputState) → self.old.collector ≡ c → HasDone c h turns self.old.counts archive.old was out.old → OnOk result (HasDone c h (turns ++ offer_where (ltb 262144 (self.old.octets + octets)) self.old.gathered.items) self.new.counts archive.new was out.new) }
+        ensures done { (c : ℕ) (h : History) (turns : List Turn) (was : OutputState) → self.old.collector ≡ c → HasDone c h turns self.old.counts (A.carries archive.old) was out.old → OnOk result (HasDone c h (turns ++ offer_where (ltb self.old.limit.octets (self.old.octets + octets)) self.old.gathered.items) self.new.counts (A.carries archive.new) was out.new) }
         ensures inside { result ≡ Err FeedStop.Outside → ⊥ }
-        ensures given_up { (c : ℕ) (h : History) (turns : List Turn) (was : OutputState) → self.old.collector ≡ c → IsCounted self.old → HasDone c h turns self.old.counts archive.old was out.old → IfErr result (GivesUp c h (turns ++ offer_where (ltb 262144 (self.old.octets + octets)) self.old.gathered.items) archive.new was out.new) }
+        ensures given_up { (c : ℕ) (h : History) (turns : List Turn) (was : OutputState) → self.old.collector ≡ c → IsCounted self.old → HasDone c h turns self.old.counts (A.carries archive.old) was out.old → IfErr result (GivesUp c h (turns ++ offer_where (ltb self.old.limit.octets (self.old.octets + octets)) self.old.gathered.items) (A.carries archive.new) was out.new) }
     {
-        if self.octets.saturating_add(octets) > MAX_BATCH_LEN {
+        if is_over(self.octets, octets, self.limit.octets) {
             return self.offer(archive, out);
         }
         Ok(())
     }
 
     /// Offers what is gathered where it has as many admissions as a batch may have.
-    fn offer_full<W: Write>(
+    fn offer_full<A: RouteArchive, W: Write>(
         &mut self,
-        archive: &mut Archive,
+        archive: &mut A,
         out: &mut Output<W>,
     ) -> Result<(), FeedStop>
         ensures same { IsSameFeed self.old self.new }
         ensures gathered { OnOk result (self.new.gathered.items ≡ wait_unless (is_full self.old.limit self.old.gathered.items) self.old.gathered.items) }
         ensures counted { IsCounted self.old → OnOk result (IsCounted self.new) }
-        ensures done { (c : ℕ) (h : History) (turns : List Turn) (was : OutputState) → self.old.collector ≡ c → HasDone c h turns self.old.counts archive.old was out.old → OnOk result (HasDone c h (turns ++ offer_where (is_full self.old.limit self.old.gathered.items) self.old.gathered.items) self.new.counts archive.new was out.new) }
+        ensures done { (c : ℕ) (h : History) (turns : List Turn) (was : OutputState) → self.old.collector ≡ c → HasDone c h turns self.old.counts (A.carries archive.old) was out.old → OnOk result (HasDone c h (turns ++ offer_where (is_full self.old.limit self.old.gathered.items) self.old.gathered.items) self.new.counts (A.carries archive.new) was out.new) }
         ensures inside { result ≡ Err FeedStop.Outside → ⊥ }
-        ensures given_up { (c : ℕ) (h : History) (turns : List Turn) (was : OutputState) → self.old.collector ≡ c → IsCounted self.old → HasDone c h turns self.old.counts archive.old was out.old → IfErr result (GivesUp c h (turns ++ offer_where (is_full self.old.limit self.old.gathered.items) self.old.gathered.items) archive.new was out.new) }
+        ensures given_up { (c : ℕ) (h : History) (turns : List Turn) (was : OutputState) → self.old.collector ≡ c → IsCounted self.old → HasDone c h turns self.old.counts (A.carries archive.old) was out.old → IfErr result (GivesUp c h (turns ++ offer_where (is_full self.old.limit self.old.gathered.items) self.old.gathered.items) (A.carries archive.new) was out.new) }
     {
-        if self.gathered.len() >= self.limit {
+        if self.gathered.len() >= self.limit.records {
             return self.offer(archive, out);
         }
         Ok(())
     }
 
     /// Offers what is gathered, if there is any.
-    pub(crate) fn offer_rest<W: Write>(
+    pub(crate) fn offer_rest<A: RouteArchive, W: Write>(
         &mut self,
-        archive: &mut Archive,
+        archive: &mut A,
         out: &mut Output<W>,
     ) -> Result<(), FeedStop>
         ensures same { IsSameFeed self.old self.new }
-        ensures done { (c : ℕ) (h : History) (turns : List Turn) (was : OutputState) → self.old.collector ≡ c → HasDone c h turns self.old.counts archive.old was out.old → OnOk result (HasDone c h (turns ++ last_turns self.old.gathered.items) self.new.counts archive.new was out.new) }
+        ensures done { (c : ℕ) (h : History) (turns : List Turn) (was : OutputState) → self.old.collector ≡ c → HasDone c h turns self.old.counts (A.carries archive.old) was out.old → OnOk result (HasDone c h (turns ++ last_turns self.old.gathered.items) self.new.counts (A.carries archive.new) was out.new) }
         ensures inside { result ≡ Err FeedStop.Outside → ⊥ }
-        ensures given_up { (c : ℕ) (h : History) (turns : List Turn) (was : OutputState) → self.old.collector ≡ c → IsCounted self.old → HasDone c h turns self.old.counts archive.old was out.old → IfErr result (GivesUp c h (turns ++ last_turns self.old.gathered.items) archive.new was out.new) }
+        ensures given_up { (c : ℕ) (h : History) (turns : List Turn) (was : OutputState) → self.old.collector ≡ c → IsCounted self.old → HasDone c h turns self.old.counts (A.carries archive.old) was out.old → IfErr result (GivesUp c h (turns ++ last_turns self.old.gathered.items) (A.carries archive.new) was out.new) }
     {
         if self.gathered.is_empty() {
             return Ok(());
@@ -147,24 +170,24 @@ impl Feeding {
 
     /// Gathers one more admission. What was gathered is offered first where it would be too large with it, and all of
     /// it where it has as many admissions as a batch may have.
-    fn gather<W: Write>(
+    fn gather<A: RouteArchive, W: Write>(
         &mut self,
-        archive: &mut Archive,
+        archive: &mut A,
         admission: Admission,
         out: &mut Output<W>,
     ) -> Result<(), FeedStop>
         ensures same { IsSameFeed self.old self.new }
         ensures gathered { IsCounted self.old → OnOk result (self.new.gathered.items ≡ waits_after self.old.limit self.old.gathered.items (Ok (Some admission))) }
         ensures counted { IsCounted self.old → OnOk result (IsCounted self.new) }
-        ensures done { (c : ℕ) (h : History) (turns : List Turn) (was : OutputState) (place : ℕ) → IsCounted self.old → self.old.collector ≡ c → HasDone c h turns self.old.counts archive.old was out.old → OnOk result (HasDone c h (turns ++ turns_at self.old.limit place self.old.gathered.items (Ok (Some admission))) self.new.counts archive.new was out.new) }
+        ensures done { (c : ℕ) (h : History) (turns : List Turn) (was : OutputState) (place : ℕ) → IsCounted self.old → self.old.collector ≡ c → HasDone c h turns self.old.counts (A.carries archive.old) was out.old → OnOk result (HasDone c h (turns ++ turns_at self.old.limit place self.old.gathered.items (Ok (Some admission))) self.new.counts (A.carries archive.new) was out.new) }
         ensures inside { result ≡ Err FeedStop.Outside → ⊥ }
-        ensures given_up { (c : ℕ) (h : History) (turns : List Turn) (was : OutputState) (place : ℕ) → self.old.collector ≡ c → IsCounted self.old → HasDone c h turns self.old.counts archive.old was out.old → IfErr result (GivesUp c h (turns ++ turns_at self.old.limit place self.old.gathered.items (Ok (Some admission))) archive.new was out.new) }
+        ensures given_up { (c : ℕ) (h : History) (turns : List Turn) (was : OutputState) (place : ℕ) → self.old.collector ≡ c → IsCounted self.old → HasDone c h turns self.old.counts (A.carries archive.old) was out.old → IfErr result (GivesUp c h (turns ++ turns_at self.old.limit place self.old.gathered.items (Ok (Some admission))) (A.carries archive.new) was out.new) }
     {
         let octets = admission.encoded_len() + 4;
         self.make_room(octets, archive, out)?;
         match self.push(admission, octets) {
             Ok(()) => self.offer_full(archive, out),
-            Err(_) => Err(FeedStop::OutOfMemory),
+            Err(_) => Err(FeedStop::Trouble(Trouble::OutOfMemory)),
         }
     }
 
@@ -178,13 +201,17 @@ impl Feeding {
         ensures same { IsSameFeed self.old self.new }
         ensures gathered { self.new.gathered.items ≡ self.old.gathered.items }
         ensures octets { self.new.octets ≡ self.old.octets }
+        ensures admitted { self.new.counts.admitted ≡ self.old.counts.admitted }
+        ensures late { self.new.counts.late ≡ self.old.counts.late }
         ensures remembered { OnOk result (fault ≡ ResolveFault.OutOfMemory → ⊥) }
-        ensures done { (c : ℕ) (h archive : History) (turns : List Turn) (was : OutputState) (n : ℕ) → place ≡ capped n → HasDone c h turns self.old.counts archive was out.old → OnOk result (HasDone c h (turns ++ Refuse n fault ∷ []) self.new.counts archive was out.new) }
-        ensures inside { result ≡ Err FeedStop.Outside → ⊥ }
-        ensures given_up { (c : ℕ) (h archive : History) (turns : List Turn) (was : OutputState) → HasDone c h turns self.old.counts archive was out.old → IfErr result (GivesUp c h turns archive was out.new) }
+        ensures counted { OnOk result (self.new.counts.refused ≡ capped (self.old.counts.refused + 1)) }
+        ensures told { OnOk result (Tells out.old out.new (refused_record_line (of_record fault) place)) }
+        ensures untold { OnErr result (out.new ≡ out.old) }
+        ensures uncounted { OnErr result (self.new.counts ≡ self.old.counts) }
+        ensures wanting { IfErr result (λ why. why ≡ FeedStop.Trouble Trouble.OutOfMemory) }
     {
         if fault == ResolveFault::OutOfMemory {
-            return Err(FeedStop::OutOfMemory);
+            return Err(FeedStop::Trouble(Trouble::OutOfMemory));
         }
         self.counts.refused = self.counts.refused.saturating_add(1);
         write_refused_record(out, &Refusal::from(fault), place);
@@ -192,16 +219,16 @@ impl Feeding {
     }
 
     /// Takes the next record of the feed.
-    fn take<W: Write>(
+    fn take<A: RouteArchive, W: Write>(
         &mut self,
         alloc: Global,
-        archive: &mut Archive,
+        archive: &mut A,
         item: &Item,
         out: &mut Output<W>,
     ) -> Result<(), FeedStop>
-        ensures behind { (c limit : ℕ) (h : History) (records : List Told) (was : OutputState) → IsBehind c limit h records self.old archive.old was out.old → OnOk result (IsBehind c limit h (records ++ told item.now ∷ []) self.new archive.new was out.new) }
+        ensures behind { (c : ℕ) (limit : BatchLimits) (h : History) (records : List Told) (was : OutputState) → IsBehind c limit h records self.old (A.carries archive.old) was out.old → OnOk result (IsBehind c limit h (records ++ told item.now ∷ []) self.new (A.carries archive.new) was out.new) }
         ensures inside { result ≡ Err FeedStop.Outside → ⊥ }
-        ensures given_up { (c limit : ℕ) (h : History) (records : List Told) (was : OutputState) → IsBehind c limit h records self.old archive.old was out.old → IfErr result (StopsAmong c limit h records (item.now ∷ []) archive.new was out.new) }
+        ensures given_up { (c : ℕ) (limit : BatchLimits) (h : History) (records : List Told) (was : OutputState) → IsBehind c limit h records self.old (A.carries archive.old) was out.old → IfErr result (StopsAmong c limit h records (item.now ∷ []) (A.carries archive.new) was out.new) }
     {
         let place = self.counts.records;
         self.counts.count_record(item);
@@ -213,16 +240,16 @@ impl Feeding {
     }
 
     /// Takes the next records of the feed, in their order.
-    pub(crate) fn take_all<W: Write>(
+    pub(crate) fn take_all<A: RouteArchive, W: Write>(
         &mut self,
         alloc: Global,
-        archive: &mut Archive,
+        archive: &mut A,
         items: &[Item],
         out: &mut Output<W>,
     ) -> Result<(), FeedStop>
-        ensures behind { (c limit : ℕ) (h : History) (records : List Told) (was : OutputState) → IsBehind c limit h records self.old archive.old was out.old → OnOk result (IsBehind c limit h (records ++ map told items.now) self.new archive.new was out.new) }
+        ensures behind { (c : ℕ) (limit : BatchLimits) (h : History) (records : List Told) (was : OutputState) → IsBehind c limit h records self.old (A.carries archive.old) was out.old → OnOk result (IsBehind c limit h (records ++ map told items.now) self.new (A.carries archive.new) was out.new) }
         ensures inside { result ≡ Err FeedStop.Outside → ⊥ }
-        ensures given_up { (c limit : ℕ) (h : History) (records : List Told) (was : OutputState) → IsBehind c limit h records self.old archive.old was out.old → IfErr result (StopsAmong c limit h records items.now archive.new was out.new) }
+        ensures given_up { (c : ℕ) (limit : BatchLimits) (h : History) (records : List Told) (was : OutputState) → IsBehind c limit h records self.old (A.carries archive.old) was out.old → IfErr result (StopsAmong c limit h records items.now (A.carries archive.new) was out.new) }
     {
         for item in items {
             self.take(alloc, archive, item, out)?;

@@ -2,10 +2,10 @@
 
 ghost use Rattle.std.specs.Prelude.{◌≡◌, ◌⊎◌, ◌++◌, ℕ, true, List, [], OnOk, IfOk, IfErr};
 ghost use Rattle.route_meaning.specs.History.{History};
-ghost use Rattle.archive.specs.Carries.{Carries};
 ghost use Rattle.service.specs.FeedLines.{counts_line};
 ghost use Rattle.service.specs.FeedTexts.{cut_line};
 ghost use Rattle.service.specs.Feeds.{FitsFailures, IsCut, IsEnd, IsFed, MayGive, as_told};
+ghost use Rattle.service.specs.declared.limits.BatchLimits.{BatchLimits};
 ghost use Rattle.service.specs.Outputs.{OutputState, Tells};
 ghost use Rattle.service.specs.declared.intake.End.{End};
 ghost use Rattle.service.specs.inner.Feeding.{Reads, IsRead, IsReadOut, StopsWithin};
@@ -15,7 +15,7 @@ use crate::feed_lines::{FeedCounts, write_counts};
 use crate::feeding::Feeding;
 use crate::output::{Input, Output};
 use crate::refusal::{Refusal, write_refusal, write_refused_record};
-use archive::Archive;
+use archive_calls::{RouteArchive, Trouble};
 use mrt_records::{FrameError, Framer};
 use std::alloc::Global;
 use std::io::{Read, Write};
@@ -36,39 +36,39 @@ pub enum End {
 
 impl Feeding {
     /// Takes the records that are whole with the next piece. Answers whether the feed goes on.
-    fn take_piece<W: Write>(
+    fn take_piece<A: RouteArchive, W: Write>(
         &mut self,
         alloc: Global,
         framer: &mut Framer,
         piece: &[u8],
-        archive: &mut Archive,
+        archive: &mut A,
         out: &mut Output<W>,
     ) -> Result<bool, FeedStop>
-        ensures read { (c limit : ℕ) (h : History) (bytes : List ℕ) (was : OutputState) → Reads c limit h bytes framer.old self.old archive.old was out.old → IfOk result (λ goes_on. IsRead c limit h (bytes ++ piece.now) framer.new goes_on self.new archive.new was out.new) }
+        ensures read { (c : ℕ) (limit : BatchLimits) (h : History) (bytes : List ℕ) (was : OutputState) → Reads c limit h bytes framer.old self.old (A.carries archive.old) was out.old → IfOk result (λ goes_on. IsRead c limit h (bytes ++ piece.now) framer.new goes_on self.new (A.carries archive.new) was out.new) }
         ensures inside { result ≡ Err FeedStop.Outside → ⊥ }
-        ensures given_up { (c limit : ℕ) (h : History) (bytes : List ℕ) (was : OutputState) → Reads c limit h bytes framer.old self.old archive.old was out.old → IfErr result (StopsWithin c limit h (bytes ++ piece.now) archive.new was out.new) }
+        ensures given_up { (c : ℕ) (limit : BatchLimits) (h : History) (bytes : List ℕ) (was : OutputState) → Reads c limit h bytes framer.old self.old (A.carries archive.old) was out.old → IfErr result (StopsWithin c limit h (bytes ++ piece.now) (A.carries archive.new) was out.new) }
     {
         let mut items = Vec::new(alloc);
         let goes_on = match framer.feed(piece, &mut items) {
             Ok(()) => true,
             Err(FrameError::TooLong) => false,
-            Err(_) => return Err(FeedStop::OutOfMemory),
+            Err(_) => return Err(FeedStop::Trouble(Trouble::OutOfMemory)),
         };
         self.take_all(alloc, archive, &items, out)?;
         Ok(goes_on)
     }
 
     /// Takes the records of all that a reader has left, or those before a Length above the limit.
-    fn take_stream<R: Read, W: Write>(
+    fn take_stream<A: RouteArchive, R: Read, W: Write>(
         &mut self,
         alloc: Global,
         framer: &mut Framer,
         reader: &mut Input<R>,
-        archive: &mut Archive,
+        archive: &mut A,
         out: &mut Output<W>,
     ) -> Result<(), FeedStop>
-        ensures read { (c limit : ℕ) (h : History) (bytes : List ℕ) (was : OutputState) → Reads c limit h bytes framer.old self.old archive.old was out.old → OnOk result ((more : List ℕ) × MayGive reader.old.left more × IsReadOut c limit h (bytes ++ more) framer.new self.new archive.new was out.new) }
-        ensures given_up { (c limit : ℕ) (h : History) (bytes : List ℕ) (was : OutputState) → Reads c limit h bytes framer.old self.old archive.old was out.old → IfErr result (λ why. (more : List ℕ) × MayGive reader.old.left more × StopsWithin c limit h (bytes ++ more) archive.new was out.new why) }
+        ensures read { (c : ℕ) (limit : BatchLimits) (h : History) (bytes : List ℕ) (was : OutputState) → Reads c limit h bytes framer.old self.old (A.carries archive.old) was out.old → OnOk result ((more : List ℕ) × MayGive reader.old.left more × IsReadOut c limit h (bytes ++ more) framer.new self.new (A.carries archive.new) was out.new) }
+        ensures given_up { (c : ℕ) (limit : BatchLimits) (h : History) (bytes : List ℕ) (was : OutputState) → Reads c limit h bytes framer.old self.old (A.carries archive.old) was out.old → IfErr result (λ why. (more : List ℕ) × MayGive reader.old.left more × StopsWithin c limit h (bytes ++ more) (A.carries archive.new) was out.new why) }
         ensures outside { result ≡ Err FeedStop.Outside → (reader.new.failed ≡ true) ⊎ (out.new.failed ≡ true) }
         ensures sound { (result ≡ Err FeedStop.Outside → ⊥) → reader.new.failed ≡ reader.old.failed }
     {
@@ -90,7 +90,7 @@ impl Feeding {
             }
         }
         // No memory holds a count of so many pieces.
-        Err(FeedStop::OutOfMemory)
+        Err(FeedStop::Trouble(Trouble::OutOfMemory))
     }
 }
 
@@ -123,20 +123,20 @@ fn tell_end<W: Write>(cut: &Option<FeedCut>, counts: &FeedCounts, out: &mut Outp
 }
 
 /// Takes a feed in to its end. Answers why it is cut short, if it is.
-fn take_in<R: Read, W: Write>(
+fn take_in<A: RouteArchive, R: Read, W: Write>(
     alloc: Global,
-    archive: &mut Archive,
+    archive: &mut A,
     collector: u8,
     limit: usize,
     reader: &mut Input<R>,
     out: &mut Output<W>,
 ) -> Result<Option<FeedCut>, FeedStop>
-    ensures fed { (h : History) → Carries archive.old h → IfOk result (λ cut. (bytes : List ℕ) × MayGive reader.old.left bytes × IsFed collector limit h bytes cut archive.new out.old out.new) }
-    ensures given_up { (h : History) → Carries archive.old h → IfErr result (λ why. (bytes : List ℕ) × MayGive reader.old.left bytes × StopsWithin collector limit h bytes archive.new out.old out.new why) }
+    ensures fed { (h : History) → A.carries archive.old h → IfOk result (λ cut. (bytes : List ℕ) × MayGive reader.old.left bytes × IsFed collector (record { records = limit; octets = A.most archive.old }) h bytes cut (A.carries archive.new) out.old out.new) }
+    ensures given_up { (h : History) → A.carries archive.old h → IfErr result (λ why. (bytes : List ℕ) × MayGive reader.old.left bytes × StopsWithin collector (record { records = limit; octets = A.most archive.old }) h bytes (A.carries archive.new) out.old out.new why) }
     ensures outside { result ≡ Err FeedStop.Outside → (reader.new.failed ≡ true) ⊎ (out.new.failed ≡ true) }
     ensures sound { (result ≡ Err FeedStop.Outside → ⊥) → reader.new.failed ≡ reader.old.failed }
 {
-    let mut feeding = Feeding::new(alloc, collector, limit);
+    let mut feeding = Feeding::new(alloc, archive, collector, limit);
     let mut framer = Framer::new(alloc);
     feeding.take_stream(alloc, &mut framer, reader, archive, out)?;
     feeding.offer_rest(archive, out)?;
@@ -158,19 +158,20 @@ fn as_told<W: Write>(end: End, out: &Output<W>) -> End
 }
 
 /// Takes a feed of a collector in. Its admissions are offered in batches, as soon as one has `limit` admissions, before
-/// it would have more than [`archive::MAX_BATCH_LEN`] octets, and at the end. A refused record writes its line when it
+/// it would have more octets than the archive takes, and at the end. Where the collector's ring is too full for one, what
+/// may be applied is applied, and the batch offered once more. A refused record writes its line when it
 /// is met, each batch what became of it, and the end the counts of the feed; where the feed ends inside a record or
 /// at a Length above the limit, a line before them. Another refusal writes its line and ends the feed. Where not all
 /// lines can be written, the answer is that the feed is given up for the writer, `Outside`.
-pub fn feed<R: Read, W: Write>(
+pub fn feed<A: RouteArchive, R: Read, W: Write>(
     alloc: Global,
-    archive: &mut Archive,
+    archive: &mut A,
     collector: u8,
     limit: usize,
     reader: &mut Input<R>,
     out: &mut Output<W>,
 ) -> End
-    ensures ended { (h : History) → Carries archive.old h → (bytes : List ℕ) × MayGive reader.old.left bytes × (end : End) × (result ≡ as_told out.new.failed end) × IsEnd collector limit h bytes end archive.new out.old out.new × FitsFailures end reader.old.failed reader.new.failed out.new.failed }
+    ensures ended { (h : History) → A.carries archive.old h → (bytes : List ℕ) × MayGive reader.old.left bytes × (end : End) × (result ≡ as_told out.new.failed end) × IsEnd collector (record { records = limit; octets = A.most archive.old }) h bytes end (A.carries archive.new) out.old out.new × FitsFailures end reader.old.failed reader.new.failed out.new.failed }
     ensures outside { result ≡ End.Refused FeedStop.Outside → (reader.new.failed ≡ true) ⊎ (out.new.failed ≡ true) }
     ensures sound { (result ≡ End.Refused FeedStop.Outside → ⊥) → reader.new.failed ≡ reader.old.failed }
 {

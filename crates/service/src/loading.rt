@@ -2,20 +2,20 @@
 
 ghost use Rattle.std.specs.Prelude.{◌≡◌, ℕ, List, OnOk, OnErr, IfErr};
 ghost use Rattle.route_meaning.specs.History.{History};
-ghost use Rattle.archive.specs.Carries.{Carries};
 ghost use Rattle.service.specs.Feeds.{MayGive};
-ghost use Rattle.service.specs.Loads.{IsLoadEnd, IsSettled, HasIntakes, marked_if};
+ghost use Rattle.service.specs.Loads.{IsLoadEnd, IsSettled, marked_if};
 ghost use Rattle.service.specs.inner.Loading.{HasNotSettled, mark_after, status_after};
 
 use crate::faults::LoadStop;
 use crate::feed_lines::write_settled;
 use crate::intake::{End, feed};
+use crate::making_room::apply_all;
 use crate::output::{Input, Output};
 use crate::refusal::{Refusal, write_error};
 use crate::status::{Status, told};
-use archive::{Archive, Flush, MarkRefusal, Step};
+use archive_calls::{Flush, MarkError, RouteArchive, Trouble};
 use route_model::Mark;
-use std::alloc::{AllocError, Global};
+use std::alloc::Global;
 use std::io::{Read, Write};
 
 /// How a file is loaded.
@@ -30,55 +30,51 @@ pub struct LoadSettings {
 }
 
 /// Sets the mark of a collector, if there is one to set.
-fn set_mark(archive: &mut Archive, collector: u8, mark: Option<Mark>) -> Result<(), LoadStop>
-    ensures marked { (h : History) → Carries archive.old h → OnOk result (Carries archive.new (marked_if collector mark h)) }
-    ensures unmarked { (h : History) → Carries archive.old h → IfErr result (HasNotSettled collector mark h archive.new) }
+fn set_mark<A: RouteArchive>(
+    archive: &mut A,
+    collector: u8,
+    mark: Option<Mark>,
+) -> Result<(), LoadStop>
+    ensures marked { (h : History) → A.carries archive.old h → OnOk result (A.carries archive.new (marked_if collector mark h)) }
+    ensures unmarked { (h : History) → A.carries archive.old h → IfErr result (HasNotSettled collector mark h (A.carries archive.new)) }
 {
     let Some(mark) = mark else {
         return Ok(());
     };
     match archive.mark(collector, mark) {
         Ok(()) => Ok(()),
-        Err(MarkRefusal::NoCollector) => Err(LoadStop::NoCollector),
-        Err(MarkRefusal::MarkBack) => Err(LoadStop::MarkBack),
+        Err(MarkError::NoCollector) => Err(LoadStop::NoCollector),
+        Err(MarkError::MarkBack) => Err(LoadStop::MarkBack),
+        Err(MarkError::Trouble(trouble)) => Err(LoadStop::Trouble(trouble)),
     }
-}
-
-/// Applies what may be applied.
-fn apply_all(archive: &mut Archive) -> Result<(), AllocError>
-    ensures settled { (h : History) → Carries archive.old h → OnOk result (IsSettled h.intakes archive.new) }
-    ensures kept { (h : History) → Carries archive.old h → OnErr result (HasIntakes h.intakes archive.new) }
-{
-    for _ in 0..u64::MAX {
-        match archive.apply_step() {
-            Ok(Step::Applied) => {}
-            Ok(Step::Idle) => return Ok(()),
-            Err(error) => return Err(error),
-        }
-    }
-    Err(AllocError)
 }
 
 /// Flushes until no page waits to go home.
-fn flush_all(archive: &mut Archive)
-    ensures same { (h : History) → Carries archive.old h → Carries archive.new h }
+fn flush_all<A: RouteArchive>(archive: &mut A) -> Result<(), Trouble>
+    ensures same { (h : History) → A.carries archive.old h → A.carries archive.new h }
 {
     for _ in 0..u64::MAX {
         match archive.flush_step() {
-            Flush::Flushed => {}
-            Flush::Clean => return,
+            Ok(Flush::Flushed) => {}
+            Ok(Flush::Clean) => return Ok(()),
+            Err(trouble) => return Err(trouble),
         }
     }
+    Err(Trouble::OutOfMemory)
 }
 
 /// Sets the mark, applies what may be applied, and flushes.
-fn settle(archive: &mut Archive, collector: u8, mark: Option<Mark>) -> Result<(), LoadStop>
-    ensures settled { (h : History) → Carries archive.old h → OnOk result (IsSettled (marked_if collector mark h).intakes archive.new) }
-    ensures unsettled { (h : History) → Carries archive.old h → IfErr result (HasNotSettled collector mark h archive.new) }
+fn settle<A: RouteArchive>(
+    archive: &mut A,
+    collector: u8,
+    mark: Option<Mark>,
+) -> Result<(), LoadStop>
+    ensures settled { (h : History) → A.carries archive.old h → OnOk result (IsSettled (marked_if collector mark h).intakes (A.carries archive.new)) }
+    ensures unsettled { (h : History) → A.carries archive.old h → IfErr result (HasNotSettled collector mark h (A.carries archive.new)) }
 {
     set_mark(archive, collector, mark)?;
     apply_all(archive)?;
-    flush_all(archive);
+    flush_all(archive)?;
     Ok(())
 }
 
@@ -104,15 +100,15 @@ fn status_after(end: End) -> Status
 
 /// Loads a file: takes it in as a feed, sets the mark where the feed ended well, applies what may be applied, flushes,
 /// and writes the settled watermark. A refusal outside the feed is told to `err` and ends the load.
-pub fn load<R: Read, W: Write, E: Write>(
+pub fn load<A: RouteArchive, R: Read, W: Write, E: Write>(
     alloc: Global,
-    archive: &mut Archive,
+    archive: &mut A,
     how: LoadSettings,
     reader: &mut Input<R>,
     out: &mut Output<W>,
     err: &mut Output<E>,
 ) -> Status
-    ensures ended { (h : History) → Carries archive.old h → (bytes : List ℕ) × MayGive reader.old.left bytes × IsLoadEnd how.collector how.limit how.mark h bytes reader.old.failed reader.new.failed result archive.new out.old out.new err.old err.new }
+    ensures ended { (h : History) → A.carries archive.old h → (bytes : List ℕ) × MayGive reader.old.left bytes × IsLoadEnd how.collector (record { records = how.limit; octets = A.most archive.old }) how.mark h bytes reader.old.failed reader.new.failed result (A.carries archive.new) out.old out.new err.old err.new }
     ensures sound { result ≡ Status.Done → reader.new.failed ≡ reader.old.failed }
 {
     if how.collector >= archive.collectors() {

@@ -1,6 +1,6 @@
 //! Why something isn't done, by number and name.
 
-ghost use Rattle.std.specs.Prelude.{◌≡◌};
+ghost use Rattle.std.specs.Prelude.{◌≡◌, ◌++◌, [], IfSome, IfNone, codes, decimal};
 ghost use Rattle.service.specs.Outputs.{Tells};
 ghost use Rattle.service.specs.Refusals.{number_of, name_of, refusal_head, refusal_line, told_of, refused_record_line, error_line, reason_line};
 
@@ -12,6 +12,27 @@ use thiserror::Error;
 /// Why something isn't done. Each refusal has a number and a name, by which lines tell it.
 #[derive(Clone, Copy, Debug, Error, PartialEq, Eq)]
 pub enum Refusal {
+    /// A device failed.
+    #[error("a device failed")]
+    Fault,
+    /// An earlier write or sync failed, and the archive wasn't opened again since.
+    #[error("the archive must be opened again")]
+    NeedsRecovery,
+    /// No page is left.
+    #[error("no page is left")]
+    PagesFull,
+    /// No blank block is left.
+    #[error("no block is left")]
+    OnceFull,
+    /// The block of this number isn't what may stand there.
+    #[error("block {0} is damaged")]
+    Damaged(u64),
+    /// The page of this number isn't what may stand there.
+    #[error("page {0} is damaged")]
+    BadNode(u64),
+    /// The tree would need a seventh level of key nodes.
+    #[error("the tree is too high")]
+    TooHigh,
     /// An argument of the command line isn't a text of the kind that was asked for.
     #[error("an argument isn't a text of the kind that was asked for")]
     BadText,
@@ -42,6 +63,9 @@ pub enum Refusal {
     /// There is no collector of this number.
     #[error("no such collector")]
     NoCollector,
+    /// The collector's ring has too few free octets.
+    #[error("the intake is full")]
+    IntakeFull,
     /// The question's moment isn't below the settled watermark, which this is.
     #[error("the moment isn't below the settled watermark")]
     AboveWatermark(Mark),
@@ -63,11 +87,18 @@ pub enum Refusal {
 }
 
 impl Refusal {
-    /// Its number, 12 to 29.
+    /// Its number, 1 to 29.
     pub fn number(&self) -> u8
         ensures number { result ≡ number_of self.now }
     {
         match self {
+            Refusal::Fault => 1,
+            Refusal::NeedsRecovery => 5,
+            Refusal::PagesFull => 6,
+            Refusal::OnceFull => 7,
+            Refusal::Damaged(_) => 8,
+            Refusal::BadNode(_) => 9,
+            Refusal::TooHigh => 11,
             Refusal::BadText => 12,
             Refusal::Truncated => 13,
             Refusal::TooLong => 14,
@@ -78,6 +109,7 @@ impl Refusal {
             Refusal::AdmissionTooLarge => 19,
             Refusal::MarkBack => 21,
             Refusal::NoCollector => 22,
+            Refusal::IntakeFull => 23,
             Refusal::AboveWatermark(_) => 24,
             Refusal::BatchTooLarge => 25,
             Refusal::CounterFull => 26,
@@ -92,6 +124,13 @@ impl Refusal {
         ensures name { result.now ≡ name_of self.now }
     {
         match self {
+            Refusal::Fault => "Fault",
+            Refusal::NeedsRecovery => "NeedsRecovery",
+            Refusal::PagesFull => "PagesFull",
+            Refusal::OnceFull => "OnceFull",
+            Refusal::Damaged(_) => "Damaged",
+            Refusal::BadNode(_) => "BadNode",
+            Refusal::TooHigh => "TooHigh",
             Refusal::BadText => "BadText",
             Refusal::Truncated => "Truncated",
             Refusal::TooLong => "TooLong",
@@ -102,6 +141,7 @@ impl Refusal {
             Refusal::AdmissionTooLarge => "AdmissionTooLarge",
             Refusal::MarkBack => "MarkBack",
             Refusal::NoCollector => "NoCollector",
+            Refusal::IntakeFull => "IntakeFull",
             Refusal::AboveWatermark(_) => "AboveWatermark",
             Refusal::BatchTooLarge => "BatchTooLarge",
             Refusal::CounterFull => "CounterFull",
@@ -122,19 +162,31 @@ fn write_head<W: Write>(out: &mut Output<W>, refusal: &Refusal)
     out.text(refusal.name());
 }
 
+/// The number that the line of a refusal tells behind its name, if it tells one.
+fn number_told(refusal: &Refusal) -> Option<u64>
+    ensures some { IfSome result (λ number. told_of refusal.now ≡ codes "|" ++ decimal number) }
+    ensures none { IfNone result (told_of refusal.now ≡ []) }
+{
+    match refusal {
+        Refusal::AboveWatermark(settled) => Some(settled.seconds()),
+        Refusal::Damaged(number) | Refusal::BadNode(number) => Some(*number),
+        _ => None,
+    }
+}
+
 /// Writes what the line of a refusal tells behind its name.
 fn write_told<W: Write>(out: &mut Output<W>, refusal: &Refusal)
     ensures told { Tells out.old out.new (told_of refusal.now) }
 {
-    let Refusal::AboveWatermark(settled) = refusal else {
+    let Some(number) = number_told(refusal) else {
         return;
     };
     out.text("|");
-    out.number(settled.seconds());
+    out.number(number);
 }
 
-/// Writes the line of a refusal: `X|NUMBER|NAME`, and behind `AboveWatermark` a bar and the watermark. No memory is
-/// needed.
+/// Writes the line of a refusal: `X|NUMBER|NAME`, and behind `AboveWatermark` a bar and the watermark, behind
+/// `Damaged` and `BadNode` a bar and the number of the block or page. No memory is needed.
 pub fn write_refusal<W: Write>(out: &mut Output<W>, refusal: &Refusal)
     ensures line { Tells out.old out.new (refusal_line refusal.now) }
 {

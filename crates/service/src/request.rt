@@ -7,7 +7,7 @@ ghost use Rattle.route_model.specs.declared.peer.Peer.{Peer};
 ghost use Rattle.interleaving_core.specs.declared.query.Query.{Query};
 ghost use Rattle.service.specs.Requests.{words_of, ArePeerWords, AreSpotWords, AreAfterWords, AreByPrefixWords, IsQueryLine};
 
-use archive::Query;
+use interleaving_core::Query;
 use route_meaning::{RowsQuestion, Select, Spot};
 use route_model::Peer;
 use route_text::{BadText, read_address, read_moment, read_number, read_prefix};

@@ -61,7 +61,7 @@ pub fn try_file<R: Read, W: Write, E: Write>(
         mark: asked.mark,
     };
     let loaded = load(alloc, &mut archive, how, file, out, err);
-    let answered = ask(alloc, &archive, asked.line.as_str(), out, err);
+    let answered = ask(alloc, &mut archive, asked.line.as_str(), out, err);
     // The process ends: the system takes its memory back at once, sooner than an archive lets go of its parts.
     mem::forget(archive);
     let flushed = write_out(out, err);

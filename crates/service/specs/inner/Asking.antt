@@ -1,18 +1,17 @@
--- The turns of a question, for contracts of private functions.
+-- Answers to questions. Contracts of private functions alone cite this file.
+use Rattle.interleaving_core.specs.declared.query.Answer.{Answer}
 use Rattle.interleaving_core.specs.declared.query.Answer.TheVariants.{Rows, Events}
-use Rattle.archive.specs.declared.question.DescendRefusal.{DescendRefusal}
-use Rattle.archive.specs.declared.question.DescendRefusal.TheVariants as descends
-use Rattle.archive.specs.declared.question.Turn.{Turn}
-use Rattle.archive.specs.declared.question.Turn.TheVariants.{Done}
+use Rattle.archive_calls.specs.declared.refusal.AskError.{AskError}
+use Rattle.archive_calls.specs.declared.refusal.AskError.TheVariants as asks
 use Rattle.service.specs.declared.faults.Unanswered.{Unanswered}
 use Rattle.service.specs.declared.faults.Unanswered.TheVariants as whys
 
--- the turn gave events
-abbrev pub IsEventsTurn : Turn → Type 0
-IsEventsTurn (Done (Rows answer)) = ⊥
-IsEventsTurn (Done (Events answer)) = Unit {0}
+-- the answer has events
+abbrev pub HasEvents : Answer → Type 0
+HasEvents (Rows answer) = ⊥
+HasEvents (Events answer) = Unit {0}
 
 -- why a question isn't answered, as a line is told of it
-abbrev pub of_descend : DescendRefusal → Unanswered
-of_descend (descends.AboveWatermark settled) = whys.AboveWatermark settled
-of_descend descends.OutOfMemory = whys.OutOfMemory
+abbrev pub of_ask : AskError → Unanswered
+of_ask (asks.AboveWatermark settled) = whys.AboveWatermark settled
+of_ask (asks.Trouble trouble) = whys.Trouble trouble

@@ -1,5 +1,6 @@
 -- A feed under way. Contracts of private functions alone cite this file.
 use Rattle.std.specs.Prelude.{◌≡◌, ◌≤◌, ℕ, map, length, Bool, true, false, List, [], ◌++◌, Option, Result}
+use Rattle.service.specs.Carried.{Carried, HasIntakes}
 use Rattle.service.specs.Outputs.{OutputState, Tells}
 use Rattle.route_model.specs.Admission.{Admitted}
 use Rattle.route_meaning.specs.Holds.{admitted_time}
@@ -12,13 +13,14 @@ use Rattle.mrt_records.specs.declared.item.Item.{Item}
 use Rattle.resolve.specs.Tables.{LastTable}
 use Rattle.resolve.specs.Meanings.{Means}
 use Rattle.resolve.specs.declared.fault.ResolveFault.{ResolveFault}
-use Rattle.archive.specs.Carries.{Carries}
 use Rattle.interleaving_core.specs.Steps.{given, IsCollector}
-use Rattle.archive.specs.Limits.{batch_octets}
+use Rattle.archive_calls.specs.Limits.{batch_octets}
 use Rattle.service.specs.Turns.{Turn, offered, refusals, turns_for, waits_behind, feed_turns}
 use Rattle.service.specs.Feeds.{IsReason}
-use Rattle.archive.specs.declared.admit.AdmitRefusal.{AdmitRefusal}
-use Rattle.archive.specs.declared.admit.AdmitRefusal.TheVariants as admits
+use Rattle.archive_calls.specs.declared.refusal.AdmitError.{AdmitError}
+use Rattle.archive_calls.specs.declared.refusal.AdmitError.TheVariants as admits
+use Rattle.archive_calls.specs.declared.refusal.Trouble.TheVariants as troubles
+use Rattle.service.specs.declared.limits.BatchLimits.{BatchLimits}
 use Rattle.service.specs.declared.faults.FeedStop.{FeedStop}
 use Rattle.service.specs.declared.faults.FeedStop.TheVariants as stops
 use Rattle.service.specs.FeedTexts.{capped, intake_in, admitted_of, turns_text, skips}
@@ -26,15 +28,16 @@ use Rattle.service.specs.declared.feed_lines.FeedCounts.{FeedCounts}
 use Rattle.service.specs.declared.feeding.Feeding.{Feeding}
 
 -- why a batch of a feed isn't taken; it is never too large
-abbrev pub of_admit : AdmitRefusal → FeedStop
+abbrev pub of_admit : AdmitError → FeedStop
 of_admit admits.NoCollector = stops.NoCollector
 of_admit admits.CounterFull = stops.CounterFull
-of_admit admits.BatchTooLarge = stops.OutOfMemory
-of_admit admits.OutOfMemory = stops.OutOfMemory
+of_admit admits.IntakeFull = stops.IntakeFull
+of_admit admits.BatchTooLarge = stops.Trouble troubles.OutOfMemory
+of_admit (admits.Trouble trouble) = stops.Trouble trouble
 
 -- these turns were made for a collector of an archive that carried h
-pub record HasDone (c : ℕ) (h : History) (turns : List Turn) (counts : FeedCounts) (archive : History) (was now : OutputState) : Type 0 where
-  pub carried : Carries archive (given h c (offered turns))
+pub record HasDone (c : ℕ) (h : History) (turns : List Turn) (counts : FeedCounts) (archive : Carried) (was now : OutputState) : Type 0 where
+  pub carried : HasIntakes (given h c (offered turns)).intakes archive
   pub wrote : Tells was now (turns_text (intake_in h.intakes c) turns)
   pub admitted : counts.admitted ≡ capped (length (admitted_of (intake_in h.intakes c) (offered turns)))
   pub late : counts.late ≡ capped (length (lates admitted_time (intake_in h.intakes c).mark [] 0 (offered turns)))
@@ -49,13 +52,15 @@ pub record IsSameFeed (old new : Feeding) : Type 0 where
   pub records : new.counts.records ≡ old.counts.records
   pub skipped : new.counts.skipped ≡ old.counts.skipped
 
--- the octets of what waits are counted, and fit a batch
+-- the octets of what waits are counted, and fit a batch, as each admission does
 pub record IsCounted (feeding : Feeding) : Type 0 where
   pub octets : feeding.octets ≡ batch_octets feeding.gathered.items
-  pub fit : feeding.octets ≤ 262144
+  pub fit : feeding.octets ≤ feeding.limit.octets
+  pub one : 131076 ≤ feeding.limit.octets
+  pub few : feeding.limit.octets ≤ 262144
 
 -- the feed came behind these records
-pub record IsBehind (c limit : ℕ) (h : History) (records : List Told) (feeding : Feeding) (archive : History) (was now : OutputState) : Type 0 where
+pub record IsBehind (c : ℕ) (limit : BatchLimits) (h : History) (records : List Told) (feeding : Feeding) (archive : Carried) (was now : OutputState) : Type 0 where
   pub results : List (Result (Option Admitted) ResolveFault)
   pub collector : feeding.collector ≡ c
   pub limited : feeding.limit ≡ limit
@@ -69,7 +74,7 @@ pub record IsBehind (c limit : ℕ) (h : History) (records : List Told) (feeding
   pub skipped : feeding.counts.skipped ≡ capped (skips records)
 
 -- the octets are whole records, behind which the feed came, and this rest
-pub record Reads (c limit : ℕ) (h : History) (bytes rest : List ℕ) (feeding : Feeding) (archive : History) (was now : OutputState) : Type 0 where
+pub record Reads (c : ℕ) (limit : BatchLimits) (h : History) (bytes rest : List ℕ) (feeding : Feeding) (archive : Carried) (was now : OutputState) : Type 0 where
   pub items : List Item
   pub framed : GainsFrames bytes rest [] items
   pub behind : IsBehind c limit h (map told items) feeding archive was now
@@ -80,27 +85,27 @@ IsHeld held rest true = held ≡ rest
 IsHeld held rest false = (more : List ℕ) × (rest ≡ held ++ more) × Over held
 
 -- the octets were read as far as the feed goes on
-pub record IsRead (c limit : ℕ) (h : History) (bytes held : List ℕ) (goes_on : Bool) (feeding : Feeding) (archive : History) (was now : OutputState) : Type 0 where
+pub record IsRead (c : ℕ) (limit : BatchLimits) (h : History) (bytes held : List ℕ) (goes_on : Bool) (feeding : Feeding) (archive : Carried) (was now : OutputState) : Type 0 where
   pub rest : List ℕ
   pub holds : IsHeld held rest goes_on
   pub reads : Reads c limit h bytes rest feeding archive was now
 
 -- all the octets were read, or those behind a Length above the limit are left
-abbrev pub IsReadOut : ℕ → ℕ → History → List ℕ → List ℕ → Feeding → History → OutputState → OutputState → Type 0
+abbrev pub IsReadOut : ℕ → BatchLimits → History → List ℕ → List ℕ → Feeding → Carried → OutputState → OutputState → Type 0
 IsReadOut c limit h bytes held feeding archive was now = (goes_on : Bool) × IsRead c limit h bytes held goes_on feeding archive was now
 
 -- Some of these turns were made and written when the feed was given up for this, which isn't written yet.
-pub record GivesUp (c : ℕ) (h : History) (turns : List Turn) (archive : History) (was now : OutputState) (why : FeedStop) : Type 0 where
+pub record GivesUp (c : ℕ) (h : History) (turns : List Turn) (archive : Carried) (was now : OutputState) (why : FeedStop) : Type 0 where
   pub made : List Turn
   pub unmade : List Turn
   pub parts : turns ≡ made ++ unmade
-  pub carried : Carries archive (given h c (offered made))
+  pub carried : HasIntakes (given h c (offered made)).intakes archive
   pub reason : IsReason c h made unmade why
   pub wrote : Tells was now (turns_text (intake_in h.intakes c) made)
   pub there : (offered made ≡ [] → ⊥) → IsCollector h c
 
 -- the feed was given up at one of the items that came behind these records, or before the first of them
-pub record StopsAmong (c limit : ℕ) (h : History) (records : List Told) (items : List Item) (archive : History) (was now : OutputState) (why : FeedStop) : Type 0 where
+pub record StopsAmong (c : ℕ) (limit : BatchLimits) (h : History) (records : List Told) (items : List Item) (archive : Carried) (was now : OutputState) (why : FeedStop) : Type 0 where
   pub front : List Item
   pub back : List Item
   pub parts : items ≡ front ++ back
@@ -109,7 +114,7 @@ pub record StopsAmong (c limit : ℕ) (h : History) (records : List Told) (items
   pub gives_up : GivesUp c h (turns_for limit 0 [] results) archive was now why
 
 -- the feed was given up among the whole records of the octets
-pub record StopsWithin (c limit : ℕ) (h : History) (bytes : List ℕ) (archive : History) (was now : OutputState) (why : FeedStop) : Type 0 where
+pub record StopsWithin (c : ℕ) (limit : BatchLimits) (h : History) (bytes : List ℕ) (archive : Carried) (was now : OutputState) (why : FeedStop) : Type 0 where
   pub seen : List ℕ
   pub later : List ℕ
   pub parts : bytes ≡ seen ++ later

@@ -1,9 +1,9 @@
 -- What a load does behind its feed. Contracts of private functions alone cite this file.
-use Rattle.std.specs.Prelude.{◌≡◌, Bool, true, false, ℕ, Option, Some, None}
+use Rattle.std.specs.Prelude.{◌≡◌, ◌⊎◌, Bool, true, false, ℕ, Option, Some, None}
 use Rattle.route_meaning.specs.History.{History}
-use Rattle.archive.specs.Carries.{Carries}
 use Rattle.interleaving_core.specs.Steps.{IsCollector, IsMarkAbove}
-use Rattle.service.specs.Loads.{HasIntakes, marked_if}
+use Rattle.service.specs.Carried.{Carried, HasIntakes}
+use Rattle.service.specs.Loads.{marked_if}
 use Rattle.service.specs.declared.faults.LoadStop.{LoadStop}
 use Rattle.service.specs.declared.faults.LoadStop.TheVariants as stops
 use Rattle.service.specs.declared.intake.End.{End}
@@ -24,10 +24,10 @@ status_after ends.Cut = statuses.Refused
 status_after (ends.Refused why) = statuses.Refused
 
 -- why a mark isn't set, or what may be applied isn't
-abbrev pub HasNotSettled : ℕ → Option ℕ → History → History → LoadStop → Type 0
-HasNotSettled c mark h archive stops.NoCollector = (IsCollector h c → ⊥) × Carries archive h
-HasNotSettled c mark h archive stops.MarkBack = (lower : ℕ) × (mark ≡ Some lower) × IsMarkAbove h c lower × Carries archive h
-HasNotSettled c mark h archive stops.OutOfMemory = HasIntakes (marked_if c mark h).intakes archive
+abbrev pub HasNotSettled : ℕ → Option ℕ → History → Carried → LoadStop → Type 0
+HasNotSettled c mark h archive stops.NoCollector = (IsCollector h c → ⊥) × HasIntakes h.intakes archive
+HasNotSettled c mark h archive stops.MarkBack = (lower : ℕ) × (mark ≡ Some lower) × IsMarkAbove h c lower × HasIntakes h.intakes archive
+HasNotSettled c mark h archive (stops.Trouble trouble) = (set : Option ℕ) × ((set ≡ mark) ⊎ (set ≡ None)) × HasIntakes (marked_if c set h).intakes archive
 
 -- the status that is told where a write to standard output failed, or one to standard error
 abbrev pub told_as : Bool → Bool → Status → Status

@@ -5,6 +5,7 @@ use Rattle.service.proofs.asking.ask.Goals as goal
 
 pub returns-in-Ok : goal.returns-in-Ok
 returns-in-Ok g c = record {
+  kept = λ h carried. c.reply.ensures.kept h carried;
   ended = λ h carried.
       let same : c.as_str.result.now ≡ string_bytes c.in-Ok.text = cc in
       answered h c.args.line.now _ c.told.result c.args.out.now c.text.new.self c.args.err.now c.told.new.err (sym c.has_failed.ensures.failed ∙ c.if-has_failed.false) c.told.ensures.status (record { told = c.told.ensures.told; quiet = c.told.ensures.quiet }) (c.in-Ok.ensures.answered h carried)
@@ -13,6 +14,7 @@ returns-in-Ok g c = record {
 
 pub returns-in-Err : goal.returns-in-Err
 returns-in-Err g c = record {
+  kept = λ h carried. c.reply.ensures.kept h carried;
   ended = λ h carried.
       refused h c.args.line.now c.in-Err.why c.told-in-Err.result c.args.out.now c.write_refusal.new.out c.args.err.now c.told-in-Err.new.err (sym c.has_failed.ensures.failed ∙ c.if-has_failed.false) c.told-in-Err.ensures.status
       (record { told = c.told-in-Err.ensures.told; quiet = c.told-in-Err.ensures.quiet })

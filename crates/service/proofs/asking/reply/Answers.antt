@@ -1,36 +1,33 @@
-use Rattle.std.proofs.Common.{◌≡◌, ℕ, ◌≤◌, ◌↔◌, List, Result, Err, refl, sym, subst}
-use Rattle.route_meaning.specs.History.{History, applied, settled}
-use Rattle.interleaving_core.specs.Does.{last_moment}
-use Rattle.archive.specs.Replies.{IsTurn}
-use Rattle.archive.specs.declared.question.Turn.{Turn}
+use Rattle.std.proofs.Common.{◌≡◌, ℕ, List, Ok, Err, sym, subst}
+use Rattle.route_meaning.specs.History.{History, applied}
+use Rattle.interleaving_core.specs.Headline.{IsAnswered}
 use Rattle.interleaving_core.specs.declared.query.Query.{Query}
-use Rattle.archive.specs.declared.question.DescendRefusal.{DescendRefusal}
-use Rattle.archive.specs.declared.question.DescendRefusal.TheVariants as descends
+use Rattle.interleaving_core.specs.declared.query.Answer.{Answer}
+use Rattle.archive_calls.specs.Does.{IsAnswerOf}
+use Rattle.archive_calls.specs.declared.refusal.AskError.{AskError}
+use Rattle.archive_calls.specs.declared.refusal.AskError.TheVariants as asks
 use Rattle.service.specs.Requests.{IsQueryLine}
 use Rattle.service.specs.Replies.{IsRefused}
-use Rattle.service.specs.inner.Asking.{of_descend}
+use Rattle.service.specs.inner.Asking.{of_ask}
 use Rattle.service.proofs.asking.reply.Goals as goal
 
-told_above : {A : Type 0} (h : History) (line : List ℕ) (query : Query) (e : DescendRefusal) → IsQueryLine line query
-    → ((mark : ℕ) → (◌≡◌ {A = Result A DescendRefusal} (Err e) (Err (descends.AboveWatermark mark))) ↔ ((mark ≡ settled h) × (settled h ≤ last_moment query))) → IsRefused h line (of_descend e)
-told_above h line query (descends.AboveWatermark mark) asked above =
-    let told = (above mark).0 refl in
-    record { query = query; asked = asked; above = told.1; watermark_is = told.0 }
-told_above h line query descends.OutOfMemory asked above = tt
+told_above : (h : History) (line : List ℕ) (query : Query) (e : AskError) → IsQueryLine line query → IsAnswerOf h query (Err e) → IsRefused h line (of_ask e)
+told_above h line query (asks.AboveWatermark mark) asked above = record { query = query; asked = asked; above = above.1; watermark_is = above.0 }
+told_above h line query (asks.Trouble trouble) asked above = tt
 
 pub returns-in-Err-clause-refused : goal.returns-in-Err-clause-refused
-returns-in-Err-clause-refused c = λ h carried.
+returns-in-Err-clause-refused g c = λ h carried.
     rw c.unanswered.ensures.why
-    (told_above h c.args.line.now c.start-cursor.result c.in-Err.refusal
-    (subst (λ (q : Query). IsQueryLine c.args.line.now q) (sym c.start-cursor.ensures.query) c.in-Ok.ensures.found) (c.in-Err.ensures.above h carried))
+    (told_above h c.args.line.now c.in-Ok.query c.in-Err.refusal c.in-Ok.ensures.found (c.in-Err.ensures.done h carried))
 
 pub returns-in-Ok-text_of-clause-answered : goal.returns-in-Ok-text_of-clause-answered
-returns-in-Ok-text_of-clause-answered c = λ h carried.
+returns-in-Ok-text_of-clause-answered g c = λ h carried.
+    let told = c.in-Ok-answer.ensures.done h carried in
     record {
-      query = c.start-cursor.result;
-      answer = c.in-Some.answer;
-      asked = subst (λ (q : Query). IsQueryLine c.args.line.now q) (sym c.start-cursor.ensures.query) c.in-Ok.ensures.found;
-      below = c.in-Ok-descend.ensures.settled h carried refl;
-      answered = subst (λ (t : Turn). IsTurn (applied h) c.start-cursor.result t) c.in-Some.ensures.rows (c.in-Ok-descend.ensures.answer h carried);
+      query = c.in-Ok.query;
+      answer = c.in-Some.rows;
+      asked = c.in-Ok.ensures.found;
+      below = told.0;
+      answered = subst (λ (t : Answer). IsAnswered (applied h) c.in-Ok.query t) c.in-Some.ensures.rows told.1;
       told = c.in-Ok-text_of.ensures.text;
     }

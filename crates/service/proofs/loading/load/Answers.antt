@@ -1,6 +1,5 @@
 use Rattle.std.proofs.Common.{◌∙◌, ℕ, Option, arith, subst, sym, ap, refl}
 use Rattle.route_meaning.specs.History.{History}
-use Rattle.archive.specs.Carries.{Carries}
 use Rattle.interleaving_core.specs.Steps.{IsCollector}
 use Rattle.service.specs.Loads.{IsSettled, marked_if}
 use Rattle.service.specs.Outputs.{Tells}
@@ -20,7 +19,7 @@ returns-then-how-collectors g c = record {
       let given = some_given c.args.reader.now.left in (
         given.0,
         given.1,
-        load_nowhere c.told.result how.collector how.limit how.mark h given.0 c.args.reader.now.failed c.args.archive.now c.args.out.now c.args.err.now c.write_error.new.out c.told.new.err (λ here. absurd (omega (arith, here, count, few))) carried c.told.ensures.status (record { told = c.told.ensures.told; quiet = c.told.ensures.quiet })
+        load_nowhere c.told.result how.collector (record { records = how.limit; octets = g.A.RouteArchive.most c.args.archive.now }) how.mark h given.0 c.args.reader.now.failed (g.A.RouteArchive.carries c.args.archive.now) c.args.out.now c.args.err.now c.write_error.new.out c.told.new.err (λ here. absurd (omega (arith, here, count, few))) carried c.told.ensures.status (record { told = c.told.ensures.told; quiet = c.told.ensures.quiet })
             (rw c.from.ensures at c.write_error.ensures.line),
       );
   sound = λ done. refl;
@@ -36,8 +35,8 @@ returns-in-Ok g c = record {
       let fed = c.feed-end.ensures.ended h carried in (
         fed.0,
         fed.1,
-        load_ends fed.2 c.told-in-Ok.result how.collector how.limit how.mark h fed.0 c.args.reader.now.failed c.feed-end.new.reader.failed c.feed-end.new.archive c.settle.new.archive c.args.out.now c.feed-end.new.out c.write_settled.new.out c.args.err.now c.told-in-Ok.new.err here fed.4 fed.5
-            (subst (λ (m : Option ℕ). (past : History) → Carries c.feed-end.new.archive past → IsSettled (marked_if how.collector m past).intakes c.settle.new.archive)
+        load_ends fed.2 c.told-in-Ok.result how.collector (record { records = how.limit; octets = g.A.RouteArchive.most c.args.archive.now }) how.mark h fed.0 c.args.reader.now.failed c.feed-end.new.reader.failed (g.A.RouteArchive.carries c.feed-end.new.archive) (g.A.RouteArchive.carries c.settle.new.archive) c.args.out.now c.feed-end.new.out c.write_settled.new.out c.args.err.now c.told-in-Ok.new.err here fed.4 fed.5
+            (subst (λ (m : Option ℕ). (past : History) → g.A.RouteArchive.carries c.feed-end.new.archive past → IsSettled (marked_if how.collector m past).intakes (g.A.RouteArchive.carries c.settle.new.archive))
             (c.mark_after.ensures.mark ∙ ap (λ (e : End). mark_after e how.mark) fed.3) c.in-Ok.ensures.settled)
             (λ past stands. subst (λ (n : ℕ). Tells c.feed-end.new.out c.write_settled.new.out (settled_line n)) (c.settled.ensures.settled past stands) c.write_settled.ensures.line)
             (c.told-in-Ok.ensures.status ∙ ap (told_as c.write_settled.new.out.failed c.args.err.now.failed) (c.status_after.ensures.status ∙ ap status_after fed.3)) (record { told = c.told-in-Ok.ensures.told; quiet = c.told-in-Ok.ensures.quiet }),
@@ -55,8 +54,8 @@ returns-in-Err g c = record {
       let fed = c.feed-end.ensures.ended h carried in (
         fed.0,
         fed.1,
-        load_stops fed.2 c.told-in-Err.result how.collector how.limit how.mark h fed.0 c.args.reader.now.failed c.feed-end.new.reader.failed c.feed-end.new.archive c.settle.new.archive c.args.out.now c.feed-end.new.out c.args.err.now c.write_error-in-Err.new.out c.told-in-Err.new.err c.in-Err.why here fed.4 fed.5
-            (subst (λ (m : Option ℕ). (past : History) → Carries c.feed-end.new.archive past → HasNotSettled how.collector m past c.settle.new.archive c.in-Err.why)
+        load_stops fed.2 c.told-in-Err.result how.collector (record { records = how.limit; octets = g.A.RouteArchive.most c.args.archive.now }) how.mark h fed.0 c.args.reader.now.failed c.feed-end.new.reader.failed (g.A.RouteArchive.carries c.feed-end.new.archive) (g.A.RouteArchive.carries c.settle.new.archive) c.args.out.now c.feed-end.new.out c.args.err.now c.write_error-in-Err.new.out c.told-in-Err.new.err c.in-Err.why here fed.4 fed.5
+            (subst (λ (m : Option ℕ). (past : History) → g.A.RouteArchive.carries c.feed-end.new.archive past → HasNotSettled how.collector m past (g.A.RouteArchive.carries c.settle.new.archive) c.in-Err.why)
             (c.mark_after.ensures.mark ∙ ap (λ (e : End). mark_after e how.mark) fed.3) c.in-Err.ensures.unsettled)
             c.told-in-Err.ensures.status (record { told = c.told-in-Err.ensures.told; quiet = c.told-in-Err.ensures.quiet }) (rw c.from-in-Err.ensures at c.write_error-in-Err.ensures.line),
       );

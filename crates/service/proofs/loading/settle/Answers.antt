@@ -1,8 +1,9 @@
+use Rattle.std.proofs.Common.{inl, refl}
 use Rattle.service.proofs.Applying.{flushed}
 use Rattle.service.proofs.loading.settle.Goals as goal
 
 pub returns : goal.returns
-returns c = record {
+returns g c = record {
   settled = λ h carried. flushed _ _ _ c.flush_all.ensures.same (c.in_ok-apply_all.ensures.settled _ (c.in_ok-set_mark.ensures.marked h carried));
   unsettled = λ h carried. tt;
 }

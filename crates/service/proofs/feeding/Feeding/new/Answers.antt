@@ -3,4 +3,8 @@ use Rattle.service.proofs.Following.{behind_none}
 use Rattle.service.proofs.feeding.Feeding.new.Goals as goal
 
 pub returns : goal.returns
-returns c = record { begins = λ h archive was carried. behind_none c.args.collector c.args.limit h archive _ was refl refl c.new.ensures.collector c.new.ensures.none c.new-2.ensures.items refl refl carried }
+returns g c = record {
+  begins = λ h was carried.
+      behind_none c.args.collector (record { records = c.args.limit; octets = g.A.RouteArchive.most c.args.archive.now }) h (g.A.RouteArchive.carries c.args.archive.now) _ was refl
+      (λ k. record { records = c.args.limit; octets = c.batch_limit.ensures.most k }) c.new.ensures.collector c.new.ensures.none c.new-2.ensures.items refl refl c.batch_limit.ensures.one c.batch_limit.ensures.few carried;
+}

@@ -4,8 +4,9 @@ use Rattle.route_meaning.specs.History.{History}
 use Rattle.mrt_records.specs.Values.{Told, told}
 use Rattle.service.specs.inner.Feeding.{IsBehind}
 use Rattle.service.proofs.feeding.Feeding.take_all.Given as goal
+use Rattle.service.specs.declared.limits.BatchLimits.{BatchLimits}
 
 abbrev pub invariant-loop-item : goal.invariant-loop-item
 invariant-loop-item g l =
-    (c limit : ℕ) (h : History) (records : List Told) (was : OutputState) → IsBehind c limit h records l.initial.self l.initial.archive was l.initial.out
-    → IsBehind c limit h (records ++ map told (take l.item-index l.items)) l.self l.archive was l.out
+    (c : ℕ) (limit : BatchLimits) (h : History) (records : List Told) (was : OutputState) → IsBehind c limit h records l.initial.self (g.A.RouteArchive.carries l.initial.archive) was l.initial.out
+    → IsBehind c limit h (records ++ map told (take l.item-index l.items)) l.self (g.A.RouteArchive.carries l.archive) was l.out

@@ -7,6 +7,7 @@ use Rattle.service.proofs.GivingUp.{within_more, stops_behind, stops_within}
 use Rattle.service.proofs.Streams.{piece_goes, piece_stops, piece_framed}
 use Rattle.service.proofs.feeding.Feeding.take_piece.Goals.{in-Ok, in-Err-TooLong}
 use Rattle.service.proofs.feeding.Feeding.take_piece.Goals as goal
+use Rattle.archive_calls.specs.declared.refusal.Trouble.TheVariants as troubles
 
 pub returns : goal.returns
 returns g c = record {
@@ -28,7 +29,7 @@ returns-in-Err g c = record {
   read = λ k limit h bytes was r. tt;
   inside = λ e. absurd cc;
   given_up = λ k limit h bytes was r.
-      within_more k limit h bytes c.args.piece.now c.args.archive.now was _ stops.OutOfMemory (stops_behind k limit h bytes c.args.framer.now c.args.self.now c.args.archive.now was _ stops.OutOfMemory (λ made. tt) r);
+      within_more k limit h bytes c.args.piece.now (g.A.RouteArchive.carries c.args.archive.now) was _ (stops.Trouble troubles.OutOfMemory) (stops_behind k limit h bytes c.args.framer.now c.args.self.now (g.A.RouteArchive.carries c.args.archive.now) was _ (stops.Trouble troubles.OutOfMemory) (λ made. tt) r);
 }
 
 pub returns-in_err-take_all-clause-given_up : goal.returns-in_err-take_all-clause-given_up
@@ -42,4 +43,4 @@ returns-in_err-take_all-clause-given_up g c = λ k limit h bytes was r.
           (_, piece_framed bytes c.args.framer.now c.args.piece.now _ r.items c.new-items.result.items c.feed.new.out.items c.deref.result.now c.new-items.ensures.items c.deref.ensures.value ends.1 r.framed)
     ] in
     rw p.1 (rw p.2
-    (stops_within k limit h (bytes ++ c.args.piece.now) framed.0 r.items c.deref.result.now c.take_all.new.archive was _ _ framed.1 (c.in_err-take_all.ensures.given_up k limit h (map told r.items) was r.behind)))
+    (stops_within k limit h (bytes ++ c.args.piece.now) framed.0 r.items c.deref.result.now (g.A.RouteArchive.carries c.take_all.new.archive) was _ _ framed.1 (c.in_err-take_all.ensures.given_up k limit h (map told r.items) was r.behind)))

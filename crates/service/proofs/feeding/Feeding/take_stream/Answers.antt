@@ -4,6 +4,7 @@ use Rattle.std.proofs.lemmas.Result.{err_from_is_err_and}
 use Rattle.service.specs.declared.faults.FeedStop.TheVariants as stops
 use Rattle.service.proofs.Streams.{taken_first, taken_none, taken_more, taken_stops, taken_gives, taken_failed, taken_piece_gives}
 use Rattle.service.proofs.feeding.Feeding.take_stream.Goals as goal
+use Rattle.archive_calls.specs.declared.refusal.Trouble.TheVariants as troubles
 
 pub loop-init : goal.loop-init
 loop-init g c = record {
@@ -51,14 +52,14 @@ returns-then-has_failed-clause-given_up g c = λ k limit h bytes was r.
     taken_failed k limit h bytes _ _ _ _ _ _ _ _ _ _ was _ _ _ c.in-Some.ensures.read (c.loop.invariant.taken k limit h bytes was r) (λ seen s. c.in_ok-goes_on.ensures.read k limit h seen was s)
 
 pub returns-in-None-clause-given_up : goal.returns-in-None-clause-given_up
-returns-in-None-clause-given_up g c = λ k limit h bytes was r. taken_gives k limit h bytes _ _ _ c.loop.self c.loop.archive was _ stops.Outside (λ made. tt) (c.loop.invariant.taken k limit h bytes was r)
+returns-in-None-clause-given_up g c = λ k limit h bytes was r. taken_gives k limit h bytes _ _ _ c.loop.self (g.A.RouteArchive.carries c.loop.archive) was _ stops.Outside (λ made. tt) (c.loop.invariant.taken k limit h bytes was r)
 
 pub returns-clause-given_up : goal.returns-clause-given_up
-returns-clause-given_up g c = λ k limit h bytes was r. taken_gives k limit h bytes _ _ _ c.loop.self c.loop.archive was _ stops.OutOfMemory (λ made. tt) (c.loop.invariant.taken k limit h bytes was r)
+returns-clause-given_up g c = λ k limit h bytes was r. taken_gives k limit h bytes _ _ _ c.loop.self (g.A.RouteArchive.carries c.loop.archive) was _ (stops.Trouble troubles.OutOfMemory) (λ made. tt) (c.loop.invariant.taken k limit h bytes was r)
 
 pub returns-in_err-goes_on-clause-given_up : goal.returns-in_err-goes_on-clause-given_up
 returns-in_err-goes_on-clause-given_up g c = λ k limit h bytes was r.
     let p = err_from_is_err_and c.from_residual.result c.from_residual.ensures.1 in
     rw p.1 (rw p.2
-    (taken_piece_gives k limit h bytes _ _ _ _ _ c.loop.self c.loop.archive c.take_piece.new.archive was _ _ _ c.in-Some.ensures.read (c.loop.invariant.taken k limit h bytes was r)
+    (taken_piece_gives k limit h bytes _ _ _ _ _ c.loop.self (g.A.RouteArchive.carries c.loop.archive) (g.A.RouteArchive.carries c.take_piece.new.archive) was _ _ _ c.in-Some.ensures.read (c.loop.invariant.taken k limit h bytes was r)
     (λ seen s. c.in_err-goes_on.ensures.given_up k limit h seen was s)))
