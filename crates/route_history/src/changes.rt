@@ -1,9 +1,11 @@
 //! Changes as versions.
 
-ghost use Rattle.std.specs.Prelude.{◌≡◌, ◌<◌, ◌≤◌, ◌^◌, ℕ, List, Option, length, option_map, IfOk, IfSome, OnOk, OnErr};
+ghost use Rattle.std.specs.Prelude.{◌≡◌, ◌<◌, ◌≤◌, ◌+◌, ◌^◌, ℕ, List, Option, length, option_map, IfOk, IfSome, OnOk, OnErr};
 ghost use Rattle.route_model.specs.Admission.{IsChange};
 ghost use Rattle.version_model.specs.Blocks.{BlockNode};
 ghost use Rattle.version_model.specs.Entries.{version_of};
+ghost use Rattle.version_model.specs.Ranges.{key_end};
+ghost use Rattle.version_model.specs.Sizes.{entry_octets};
 ghost use Rattle.version_model.specs.Versions.{Version};
 ghost use Rattle.route_history.specs.Stamps.{stamp_of};
 ghost use Rattle.route_history.specs.Kept.{IsVersion, HasValue, at_time, key_of};
@@ -56,6 +58,10 @@ pub fn version_of_change(
     change: &Change,
 ) -> Result<Entry, AllocError>
     ensures version { IsChange change.now → IfOk result (λ entry. IsVersion order (at_time time change.now) (version_of entry)) }
+
+    // A tree can take it: a leaf has room for it, and its key isn't the highest of all.
+    ensures small { IsChange change.now → IfOk result (λ entry. entry_octets (version_of entry) ≤ 3131) }
+    ensures inside { IsChange change.now → IfOk result (λ entry. entry.key + 1 < key_end) }
 {
     let stamp = Stamp::new(time.seconds(), order);
     let key = key_of(change);
