@@ -9,7 +9,7 @@ use Rattle.page_journal.specs.Journal.{disk_of as erase_disk}
 use Rattle.buffer_pool.specs.Pool.{journal_of}
 use Rattle.page_tx.specs.Tx.{pool_of}
 use Rattle.route_meaning.specs.History.{History, Begins}
-use Rattle.route_meaning.proofs.api.Beginning.{Begins-trans}
+use Rattle.route_meaning.proofs.api.Beginning.{Begins-refl, Begins-trans}
 use Rattle.disk_archive.specs.declared.archive.Archive.{Archive}
 use Rattle.disk_archive.specs.Sites.{LeftEither, LeftFrom}
 use Rattle.disk_archive.specs.Archives.{Carries, Waits, GoesOn, Holds, Stands, IsHonest, erase_state, once_of, once_state, site_of, is_down}
@@ -32,21 +32,22 @@ held_err a z h back idle step held honest = ⊎_elim (λ k. step k)
     (λ w. let s = idle w.unusable in inr (waits_same a z h w s.journal s.disk s.state s.settings s.head s.lanes honest))
     (held (back honest))
 
--- A call that carries the history on or leaves it, and does nothing while the archive must be opened again.
-pub lasts_of : {E O Pen Seen : Type 0} {erase : EraseGhosts E} {once : OnceGhosts O Pen Seen} (a z : Archive E O Pen Seen erase once) (to : History → History) → ((g : History) → Begins g (to g)) → AllSound erase → (IsHonest a → IsHonest z) → (is_down a ≡ true → IsAsBefore a z)
-    → ((g : History) → Carries a g → Carries z (to g) ⊎ GoesOn z g) → ((g : History) → Carries a g → Crashes a z (LeftEither (site_of a) g (to g))) → (h : History) → Stands a h → Lasts a z h
-lasts_of {erase = erase} a z to beg sound honest idle after crash h stands =
+-- A call that goes on with the history, or with one that it begins, and does nothing while the archive must be opened again.
+pub lasts_by : {E O Pen Seen : Type 0} {erase : EraseGhosts E} {once : OnceGhosts O Pen Seen} (a z : Archive E O Pen Seen erase once) → AllSound erase → (IsHonest a → IsHonest z) → (is_down a ≡ true → IsAsBefore a z)
+    → ((g : History) → Carries a g → (k : History) × Begins g k × GoesOn z k) → ((g : History) → Carries a g → (k : History) × Begins g k × Crashes a z (LeftEither (site_of a) g k)) → (h : History) → Stands a h → Lasts a z h
+lasts_by {erase = erase} a z sound honest idle after crash h stands =
     let g = stands.0 in
     ⊎_elim
     (λ k.
+    let then' = after g k in
     let each = crash g k in
     record {
-      stands = ⊎_elim (λ moved. (to g, Begins-trans h g (to g) stands.1 (beg g), inl moved)) (λ same. (g, stands.1, same)) (after g k);
+      stands = (then'.0, Begins-trans h g then'.0 stands.1 then'.1, then'.2);
       inside = record {
-        first = each.first;
-        from = each.from;
-        to = each.to;
-        each = λ left pair. ⊎_elim (λ was. (g, stands.1, was)) (λ is. (to g, Begins-trans h g (to g) stands.1 (beg g), is)) (each.each left pair);
+        first = each.2.first;
+        from = each.2.from;
+        to = each.2.to;
+        each = λ left pair. ⊎_elim (λ was. (g, stands.1, was)) (λ is. (each.0, Begins-trans h g each.0 stands.1 each.1, is)) (each.2.each left pair);
       };
     })
     (λ w.
@@ -70,3 +71,10 @@ lasts_of {erase = erase} a z to beg sound honest idle after crash h stands =
       };
     })
     stands.2
+
+-- A call that carries the history on or leaves it, and does nothing while the archive must be opened again.
+pub lasts_of : {E O Pen Seen : Type 0} {erase : EraseGhosts E} {once : OnceGhosts O Pen Seen} (a z : Archive E O Pen Seen erase once) (to : History → History) → ((g : History) → Begins g (to g)) → AllSound erase → (IsHonest a → IsHonest z) → (is_down a ≡ true → IsAsBefore a z)
+    → ((g : History) → Carries a g → Carries z (to g) ⊎ GoesOn z g) → ((g : History) → Carries a g → Crashes a z (LeftEither (site_of a) g (to g))) → (h : History) → Stands a h → Lasts a z h
+lasts_of a z to beg sound honest idle after crash h stands = lasts_by a z sound honest idle
+    (λ g k. ⊎_elim (λ moved. (to g, beg g, inl moved)) (λ same. (g, Begins-refl g, same)) (after g k))
+    (λ g k. (to g, beg g, crash g k)) h stands

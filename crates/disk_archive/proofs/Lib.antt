@@ -11,4 +11,10 @@ mod Marks
 mod Steps
 mod Limiting
 mod Homecoming
+mod Fronts
+mod Keeping
+mod Taking
+mod Stepping
+mod Burning
+mod Applied
 pub mod api

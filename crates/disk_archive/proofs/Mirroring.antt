@@ -24,7 +24,7 @@ map_get f [] c x e = cc
 map_get f (y ∷ xs) zero x e = let same : y ≡ x = cc in ap (λ z. Some (f z)) same
 map_get f (y ∷ xs) (suc c) x e = map_get f xs c x e
 
-map_set : {X Y : Type 0} (f : X → Y) (xs : List X) (c : ℕ) (x : X) → map f (slice_set xs c x) ≡ slice_set (map f xs) c (f x)
+pub map_set : {X Y : Type 0} (f : X → Y) (xs : List X) (c : ℕ) (x : X) → map f (slice_set xs c x) ≡ slice_set (map f xs) c (f x)
 map_set f [] c x = refl
 map_set f (y ∷ xs) zero x = refl
 map_set {Y = Y} f (y ∷ xs) (suc c) x = ap (λ (l : List Y). f y ∷ l) (map_set f xs c x)
@@ -82,7 +82,7 @@ same_parts d (suc n) v w each =
     ap (λ l. l ∷ parts (suc d) n w) (subst (λ k. part k w ≡ part k v) e (each 0 (omega arith)))
     ∙ ap (λ l. part d v ∷ l) (same_parts (suc d) n v w (λ k low. let f : d + suc k ≡ suc d + k = omega arith in subst (λ j. part j w ≡ part j v) f (each (suc k) (omega arith))))
 
-parts_changed : (d n c : ℕ) (v w : List (Placed Admitted)) (xs : List Admitted) → c < n → part (d + c) w ≡ xs → ((k : ℕ) → k < n → k ≢ c → part (d + k) w ≡ part (d + k) v) → parts d n w ≡ slice_set (parts d n v) c xs
+pub parts_changed : (d n c : ℕ) (v w : List (Placed Admitted)) (xs : List Admitted) → c < n → part (d + c) w ≡ xs → ((k : ℕ) → k < n → k ≢ c → part (d + k) w ≡ part (d + k) v) → parts d n w ≡ slice_set (parts d n v) c xs
 parts_changed d zero c v w xs lt here others = absurd (omega arith)
 parts_changed d (suc n) zero v w xs lt here others =
     let e : d + 0 ≡ d = omega arith in
@@ -99,7 +99,7 @@ marks_given c batch [] i e = cc
 marks_given zero batch (j ∷ is) i e = let same : j ≡ i = cc in ap (λ (x : Intake). greatest x.mark (map admitted_time batch) ∷ map (λ y. y.mark) is) same
 marks_given (suc c) batch (j ∷ is) i e = ap (λ l. j.mark ∷ l) (marks_given c batch is i e)
 
-times_at : (lanes : List Waiting) (c : ℕ) (w : Waiting) → slice_get lanes c ≡ Some w → slice_get (waiting_times lanes) c ≡ Some w.times
+pub times_at : (lanes : List Waiting) (c : ℕ) (w : Waiting) → slice_get lanes c ≡ Some w → slice_get (waiting_times lanes) c ≡ Some w.times
 times_at lanes c w e = map_get (λ (x : Waiting). x.times) lanes c w e
 
 mirror_with : (lanes new : List Waiting) (h : History) (c : ℕ) (batch : List Admitted) (i : Intake) → IsHistory h → IsHistory (given h c batch) → slice_get h.intakes c ≡ Some i → Mirrors lanes h

@@ -1,13 +1,14 @@
 -- By cases on what a call answers.
-use Rattle.std.proofs.Common.{◌≡◌, ◌≢◌, ◌⊎◌, inl, inr, Bool, true, false, refl, subst, Result, Ok, Err}
-use Rattle.std.specs.Prelude.{OnOk, OnErr, IfOk}
+use Rattle.std.proofs.Common.{◌≡◌, ◌≢◌, ◌⊎◌, inl, inr, Bool, true, false, refl, subst, Result, Ok, Err, Option, Some, None}
+use Rattle.std.specs.Prelude.{OnOk, OnErr, IfOk, IfSome, IfNone}
 use Rattle.page_journal.specs.Refusals.{PostRefusal}
 use Rattle.page_journal.specs.declared.error.PostError.{PostError}
 use Rattle.page_journal.specs.declared.error.PostError.TheVariants as posts
 use Rattle.disk_archive.specs.declared.error.CommitError.{CommitError}
 use Rattle.disk_archive.specs.declared.error.CommitError.TheVariants as commits
 use Rattle.disk_archive.specs.inner.Committing.{CommitRefusal}
-use Rattle.std.proofs.Common.{ℕ}
+use Rattle.std.proofs.Common.{ℕ, ◌<◌, arith, nat_cmp, is_lt}
+use Rattle.std.proofs.lemmas.Bool.Decides.{nat_tests}
 
 pub on_each_err : {X E : Type 0} (r : Result X E) (P : Type 0) → P → OnErr r P
 on_each_err (Ok x) P p = tt
@@ -50,3 +51,16 @@ err_then (Err e) P Q f p = f p
 pub if_ok_as : {X E : Type 0} (r : Result X E) (P : Type 0) (Q : X → Type 0) → OnOk r P → (P → IfOk r Q) → IfOk r Q
 if_ok_as (Ok x) P Q p step = step p
 if_ok_as (Err e) P Q p step = tt
+
+-- what is said of an option where it is known which it is
+pub if_none_at : {X : Type 0} (o : Option X) (P : Type 0) → o ≡ None → IfNone o P → P
+if_none_at None P e p = p
+if_none_at (Some x) P e p = cc
+
+pub if_some_at : {X : Type 0} (o : Option X) (x : X) (P : X → Type 0) → o ≡ Some x → IfSome o P → P x
+if_some_at None x P e p = cc
+if_some_at (Some y) x P e p = let same : y ≡ x = cc in subst P same p
+
+-- a test that says that one number is below another
+pub is_less : (r : Bool) (a b : ℕ) → r ≡ is_lt (nat_cmp a b) → r ≡ true → a < b
+is_less r a b is h = grind (arith, nat_tests)

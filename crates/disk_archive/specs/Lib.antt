@@ -5,4 +5,6 @@ pub mod Archives
 pub mod Crashes
 pub mod Homes
 pub mod Limits
+pub mod Moves
+pub mod Blanks
 pub mod inner

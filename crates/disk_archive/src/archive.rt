@@ -3,6 +3,7 @@
 ghost use Rattle.std.specs.Prelude.{◌≡◌, ◌<◌, ◌≤◌, ℕ, List, length, map, Some, IfOk, slice_get};
 ghost use Rattle.page_journal.specs.Journal.{home_pages};
 ghost use Rattle.buffer_pool.specs.Pool.{journal_of};
+ghost use Rattle.once_store.specs.Shelves.{next_of};
 ghost use Rattle.page_tx.specs.Tx.{pool_of};
 ghost use Rattle.disk_models.specs.Erase.{Counts};
 ghost use Rattle.route_meaning.specs.History.{History, settled};
@@ -36,6 +37,7 @@ pub struct Archive<E: EraseDisk + Drop, O: OnceDisk + Drop> {
     ghost lanes: { length head.lanes ≡ settings.collectors },
     ghost numbers: { length sequencer ≡ settings.collectors },
     ghost homes: { 0 < home_pages (journal_of (pool_of tx)) },
+    ghost blocks: { head.block ≤ next_of shelf },
 }
 
 impl<E: EraseDisk + Drop, O: OnceDisk + Drop> Archive<E, O> {

@@ -3,6 +3,8 @@
 #![tactic(auto)]
 
 mod admitting;
+mod apply_error;
+mod applying;
 mod archive;
 mod batches;
 mod committing;
@@ -12,8 +14,11 @@ mod flushing;
 mod mark_error;
 mod marking;
 mod planning;
+mod planning_application;
 mod reading;
 
+pub use apply_error::ApplyError;
+pub use applying::Step;
 pub use archive::Archive;
 pub use batches::MAX_BATCH_LEN;
 pub use error::AdmitError;

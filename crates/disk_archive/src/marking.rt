@@ -90,6 +90,7 @@ fn plan_mark<P: Pages>(
         → Bears (TreeLies count) settings (settled_in o) head.now shown h → (IsMarkAbove h collector mark → ⊥)
         → Planned count settings (settled_in o) (P.shows pages.new start) next (marked h collector mark)) }
     ensures lanes { IfOk result (λ next. length next.lanes ≡ length head.now.lanes) }
+    ensures block { IfOk result (λ next. next.block ≡ head.now.block) }
     ensures same { OnErr result ((start : Start) (shown : List (List ℕ)) → P.shows pages.old start shown → P.shows pages.new start shown) }
     ensures refused { IfErr result (λ e. e ≡ MarkError.OutOfMemory) }
     ensures homes { P.homes pages.new ≡ P.homes pages.old }

@@ -75,6 +75,7 @@ pub(crate) fn plan_batch<P: Pages>(
         → Bears (TreeLies count) settings (settled_in o) head.now shown h → slice_get h.intakes collector ≡ Some i → AllByRecursion IsAdmission offered → IsKeptOf i.mark offered batch.now
         → Planned count settings (settled_in o) (P.shows pages.new start) next (given h collector offered)) }
     ensures lanes { IfOk result (λ next. length next.lanes ≡ length head.now.lanes) }
+    ensures block { IfOk result (λ next. next.block ≡ head.now.block) }
     ensures lane { IfOk result (λ next. (lane : Lane) → HasLane head.now collector lane → HasLane next collector (lane_with lane batch.now)) }
     ensures shown { (count : ℕ) (o : OnceState) (start : Start) (shown : List (List ℕ)) (h : History) → P.shows pages.old start shown → Bears (TreeLies count) settings (settled_in o) head.now shown h
         → (now : List (List ℕ)) × P.shows pages.new start now }

@@ -27,6 +27,13 @@ returns-clause-lanes g c =
     let e = c.mark_head.ensures.head lane.0 lane.1 in
     ap (λ (x : Contents). length x.lanes) e ∙ (length-set _ c.args.collector (record lane.0 { mark = c.args.mark }) ∙ ap (λ (x : Contents). length x.lanes) copy)
 
+pub returns-clause-block : goal.returns-clause-block
+returns-clause-block g c =
+    let copy = c.in_ok-next.ensures.copy in
+    let low : c.args.collector < length c.in_ok-next.next.lanes = subst (λ (x : Contents). c.args.collector < length x.lanes) (sym copy) c.requires.collector in
+    let lane = lane_at c.args.collector _ low in
+    ap (λ (x : Contents). x.block) (c.mark_head.ensures.head lane.0 lane.1) ∙ ap (λ (x : Contents). x.block) copy
+
 pub returns-clause-planned : goal.returns-clause-planned
 returns-clause-planned g c settings count o start shown h shows b below =
     let copy = c.in_ok-next.ensures.copy in

@@ -84,3 +84,10 @@ returns-in-Err-clause-undamaged g c count o start shown h i offered lane shows b
 
 pub returns-in-Err-put_head-clause-undamaged : goal.returns-in-Err-put_head-clause-undamaged
 returns-in-Err-put_head-clause-undamaged g c count o start shown h i offered lane shows b here is at fits page told = c.of_page.ensures.undamaged page (cc told)
+
+pub returns-clause-block : goal.returns-clause-block
+returns-clause-block g c =
+    let copy = c.in_ok-next.ensures.copy in
+    let low : c.args.collector < length c.in_ok-next.next.lanes = subst (λ (x : Contents). c.args.collector < length x.lanes) (sym copy) c.requires.collector in
+    let lane = lane_at c.args.collector _ low in
+    ap (λ (x : Contents). x.block) (c.in_default.ensures.head lane.0 lane.1) ∙ ap (λ (x : Contents). x.block) copy

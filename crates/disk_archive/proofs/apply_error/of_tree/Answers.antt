@@ -1,0 +1,6 @@
+use Rattle.std.proofs.Common.{◌∙◌, ap}
+use Rattle.tsb_tree.specs.declared.error.TreeError.TheVariants as trees
+use Rattle.disk_archive.proofs.apply_error.of_tree.Goals as goal
+
+pub returns-in-Pages-clause-refused : goal.returns-in-Pages-clause-refused
+returns-in-Pages-clause-refused c down f = c.of_pages.ensures.refused down (λ e. f (c.in-Pages.is ∙ ap (λ x. trees.Pages x) e))

@@ -1,0 +1,49 @@
+use Rattle.std.proofs.Common.{ap}
+use Rattle.page_journal.specs.Journal.{disk_of}
+use Rattle.disk_archive.proofs.Outcomes.{err_then}
+use Rattle.disk_archive.proofs.Lasting.{held_err, lasts_by}
+use Rattle.disk_archive.proofs.Applied.{applied_of, idle_of, idle_same, goes_of, never_bad, needs_recovery_of, none_blank, same_or_moved, both_same}
+use Rattle.disk_archive.proofs.archive.Archive.apply_step.Goals as goal
+
+pub returns-clause-applied : goal.returns-clause-applied
+returns-clause-applied g c = applied_of c.args.self.now c.try_apply.new.self c.try_apply.result c.try_apply.ensures.usable c.try_apply.ensures.ok
+
+pub returns-clause-idle : goal.returns-clause-idle
+returns-clause-idle g c = idle_of c.args.self.now c.try_apply.new.self c.try_apply.result c.try_apply.ensures.usable c.try_apply.ensures.ok
+
+pub returns-clause-idle_same : goal.returns-clause-idle_same
+returns-clause-idle_same g c = idle_same c.args.self.now c.try_apply.new.self c.try_apply.result (both_same _ _ _ _ c.try_apply.ensures.erase c.try_apply.ensures.shelf.honest).1 c.try_apply.ensures.usable c.try_apply.ensures.ok
+
+pub returns-clause-err : goal.returns-clause-err
+returns-clause-err g c =
+    let a = c.args.self.now in
+    let z = c.try_apply.new.self in
+    err_then c.try_apply.result _ _ (λ step h held. held_err a z h (both_same _ _ _ _ c.try_apply.ensures.erase c.try_apply.ensures.shelf.honest).1 c.try_apply.ensures.recovery (step h) held) c.try_apply.ensures.err
+
+pub returns-clause-crash : goal.returns-clause-crash
+returns-clause-crash g c h k = let x = c.try_apply.ensures.crash h k in (x.after, x.is, x.crashes)
+
+pub returns-clause-lasts : goal.returns-clause-lasts
+returns-clause-lasts g c =
+    let a = c.args.self.now in
+    let z = c.try_apply.new.self in
+    lasts_by a z g.met.E.EraseDisk.sound (both_same _ _ _ _ c.try_apply.ensures.erase c.try_apply.ensures.shelf.honest).0 c.try_apply.ensures.recovery (goes_of a z c.try_apply.result c.try_apply.ensures.ok c.try_apply.ensures.err)
+    (λ h k. let x = c.try_apply.ensures.crash h k in (x.after, same_or_moved h x.after k.bears.right x.is, x.crashes))
+
+pub returns-clause-recovery : goal.returns-clause-recovery
+returns-clause-recovery g c = (needs_recovery_of c.try_apply.result _ c.try_apply.ensures.refused, c.try_apply.ensures.told)
+
+pub returns-clause-sound : goal.returns-clause-sound
+returns-clause-sound g c = never_bad c.args.self.now c.try_apply.result c.try_apply.ensures.told c.try_apply.ensures.sound
+
+pub returns-clause-still : goal.returns-clause-still
+returns-clause-still g c e = ap disk_of (c.try_apply.ensures.still e).journal
+
+pub returns-clause-unspent : goal.returns-clause-unspent
+returns-clause-unspent g c e = (c.try_apply.ensures.still e).state
+
+pub returns-clause-spends : goal.returns-clause-spends
+returns-clause-spends g c honest = c.try_apply.ensures.shelf.spends honest.1
+
+pub returns-clause-full : goal.returns-clause-full
+returns-clause-full g c honest e = none_blank c.args.self.now c.try_apply.new.self c.try_apply.ensures.shelf.disk (c.try_apply.ensures.shelf.none_left honest.1 e)

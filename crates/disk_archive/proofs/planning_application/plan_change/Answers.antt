@@ -1,0 +1,57 @@
+use Rattle.std.proofs.Common.{rules, ◌≡◌, ◌<◌, ◌≤◌, ◌∷◌, ℕ, List, length, min, sym, ◌∙◌, ap, subst, arith}
+use Rattle.route_meaning.specs.Merged.{placed}
+use Rattle.disk_models.specs.Once.{settled_in}
+use Rattle.once_store.specs.Shelves.{disk_of, pen_of}
+use Rattle.archive_head.specs.Head.{Contents}
+use Rattle.archive_pages.proofs.api.Passing.{Passes}
+use Rattle.disk_archive.proofs.Outcomes.{is_less}
+use Rattle.disk_archive.proofs.Plans.{lane_at}
+use Rattle.disk_archive.proofs.Stepping.{moves_on, kept_passed, last_no_later, Kept}
+use Rattle.disk_archive.proofs.planning_application.plan_change.Goals as goal
+
+pub returns-in_err-place-clause-sound : goal.returns-in_err-place-clause-sound
+returns-in_err-place-clause-sound g c start shown h later shows honest b here page bad = c.take_next.ensures.sound start shown _ b.versions shows honest b.tree page (search (rules, bad))
+
+pub returns-clause-moves : goal.returns-clause-moves
+returns-clause-moves g c start shown h later shows honest b here below =
+    let head = c.args.head.now in
+    let lane = lane_at c.args.collector head.lanes c.requires.collector in
+    let place = c.in_ok-place.place in
+    let passes : Passes c.args.settings head c.pass_change.new.head (placed c.args.collector c.args.admission.now) place.fresh place.block place.root = record { stays = c.pass_change.ensures.stays; leaves = c.pass_change.ensures.leaves } in
+    moves_on _ c.args.settings _ _ _ head c.pass_change.new.head c.pass_change.result place.root place.fresh place.block shown h c.args.collector c.args.admission.now later lane.0 b here below lane.1 passes c.pass_change.ensures.whole
+    (c.in_ok-place.ensures.takes start shown c.args.collector b.versions shows honest c.args.settings b.tree)
+
+pub returns-clause-lanes : goal.returns-clause-lanes
+returns-clause-lanes g c =
+    let head = c.args.head.now in
+    let lane = lane_at c.args.collector head.lanes c.requires.collector in
+    let place = c.in_ok-place.place in
+    let passes : Passes c.args.settings head c.pass_change.new.head (placed c.args.collector c.args.admission.now) place.fresh place.block place.root = record { stays = c.pass_change.ensures.stays; leaves = c.pass_change.ensures.leaves } in
+    (kept_passed c.args.settings head c.pass_change.new.head (placed c.args.collector c.args.admission.now) place.fresh place.block place.root lane.0 lane.1 passes).lanes
+
+pub returns-clause-next : goal.returns-clause-next
+returns-clause-next g c =
+    let head = c.args.head.now in
+    let lane = lane_at c.args.collector head.lanes c.requires.collector in
+    let place = c.in_ok-place.place in
+    let passes : Passes c.args.settings head c.pass_change.new.head (placed c.args.collector c.args.admission.now) place.fresh place.block place.root = record { stays = c.pass_change.ensures.stays; leaves = c.pass_change.ensures.leaves } in
+    let k = kept_passed c.args.settings head c.pass_change.new.head (placed c.args.collector c.args.admission.now) place.fresh place.block place.root lane.0 lane.1 passes in
+    c.in_ok-place.ensures.fresh ∙ ap (λ (n : ℕ). min n (g.P.Pages.homes c.take_next.new.pages)) (sym k.fresh)
+
+pub returns-clause-block : goal.returns-clause-block
+returns-clause-block g c =
+    let head = c.args.head.now in
+    let lane = lane_at c.args.collector head.lanes c.requires.collector in
+    let place = c.in_ok-place.place in
+    let passes : Passes c.args.settings head c.pass_change.new.head (placed c.args.collector c.args.admission.now) place.fresh place.block place.root = record { stays = c.pass_change.ensures.stays; leaves = c.pass_change.ensures.leaves } in
+    let k = (kept_passed c.args.settings head c.pass_change.new.head (placed c.args.collector c.args.admission.now) place.fresh place.block place.root lane.0 lane.1 passes).block in
+    let low = c.in_ok-place.ensures.block in
+    omega (arith, k, low)
+
+pub returns-then-lt-clause-sound : goal.returns-then-lt-clause-sound
+returns-then-lt-clause-sound g c start shown h later shows honest b here page bad =
+    let low = last_no_later (g.O.OnceDisk.block_count (disk_of c.args.shelf.now)) c.args.settings (settled_in (g.O.OnceDisk.model (pen_of c.args.shelf.now))) c.args.head.now shown h (placed c.args.collector c.args.admission.now) later b here in
+    let lt = is_less c.lt.result c.time.result c.head.inside.last c.lt.ensures c.if-lt.true in
+    let time = c.time.ensures.time in
+    let last = ap (λ (x : Contents). x.last) c.head.view_is in
+    absurd (omega (arith, low, lt, time, last))

@@ -1,0 +1,25 @@
+use Rattle.std.proofs.Common.{◌≡◌, ℕ, List, sym, ◌∙◌, ap, subst}
+use Rattle.disk_models.specs.Once.{settled_in}
+use Rattle.once_store.specs.Shelves.{disk_of, pen_of}
+use Rattle.archive_head.specs.Head.{Contents}
+use Rattle.route_meaning.specs.Merged.{placed}
+use Rattle.version_model.specs.Entries.{version_of}
+use Rattle.sequencer.proofs.api.Calls.{if_ok}
+use Rattle.disk_archive.specs.inner.Applications.{TakesNext}
+use Rattle.disk_archive.proofs.Outcomes.{if_none_at, if_some_at}
+use Rattle.disk_archive.proofs.Stepping.{takes_none, takes_one}
+use Rattle.disk_archive.proofs.planning_application.take_next.Goals as goal
+
+pub returns-in-None-clause-takes : goal.returns-in-None-clause-takes
+returns-in-None-clause-takes g c start shown collector versions shows honest settings t =
+    let h = c.args.head.now in
+    let count = g.O.OnceDisk.block_count (disk_of c.args.shelf.now) in
+    let settled = settled_in (g.O.OnceDisk.model (pen_of c.args.shelf.now)) in
+    let k = takes_none count settings settled (g.P.Pages.shows c.args.pages.now start) h (placed collector c.args.admission.now) versions shown (if_none_at c.in_ok-next.next _ c.in-None.is c.in_ok-next.ensures.none collector) shows t in
+    subst (λ (x : Contents). TakesNext count settings settled (g.P.Pages.shows c.args.pages.now start) h (placed collector c.args.admission.now) x.root x.fresh x.block versions shown) (sym c.head.view_is) k
+
+pub returns-in-Some-clause-takes : goal.returns-in-Some-clause-takes
+returns-in-Some-clause-takes g c start shown collector versions shows honest settings t =
+    if_ok _ _ c.take_version.result
+    (λ place took. takes_one _ settings _ _ c.args.head.now (placed collector c.args.admission.now) place.root place.fresh place.block versions (version_of c.in-Some.entry) shown (if_some_at c.in_ok-next.next c.in-Some.entry _ c.in-Some.is c.in_ok-next.ensures.some collector) took)
+    (c.take_version.ensures.takes start shown _ versions shows honest t)

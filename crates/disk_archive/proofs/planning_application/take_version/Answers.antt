@@ -1,0 +1,72 @@
+use Rattle.std.proofs.Common.{◌≡◌, ◌≤◌, ◌+◌, ◌∷◌, ◌++◌, [], ℕ, List, length, min, sym, ◌∙◌, ap, subst, arith}
+use Rattle.disk_models.specs.Once.{settled_in}
+use Rattle.once_store.specs.Shelves.{disk_of, next_of, pen_of}
+use Rattle.archive_head.specs.Head.{Contents}
+use Rattle.route_history.specs.Stamps.{stamp_of}
+use Rattle.version_model.specs.Pages.{TreeStands}
+use Rattle.disk_archive.specs.declared.apply_error.ApplyError.TheVariants as applies
+use Rattle.version_model.specs.Entries.{version_of}
+use Rattle.tsb_tree.specs.Refusals.{BlamesNone, InsertRefusal, ReadRefusal}
+use Rattle.disk_archive.specs.inner.Applications.{TreeTakes}
+use Rattle.disk_archive.proofs.Keeping.{joined_few}
+use Rattle.disk_archive.proofs.Taking.{shown_at, taken_at}
+use Rattle.disk_archive.proofs.planning_application.take_version.Goals as goal
+
+pub returns-in-Err-clause-refused : goal.returns-in-Err-clause-refused
+returns-in-Err-clause-refused g c = c.of_tree.ensures.refused _ (λ e. subst (ReadRefusal _) e c.in-Err.ensures.refused)
+
+pub returns-in-Err-insert-clause-refused : goal.returns-in-Err-insert-clause-refused
+returns-in-Err-insert-clause-refused g c = c.of_tree-in-Err-insert.ensures.refused _ (λ e. sym c.open.ensures.reads.down ∙ subst (InsertRefusal _ _ _ _ _ _ _) e c.in-Err-insert.ensures.refused)
+
+pub returns-in-Ok-insert-clause-few : goal.returns-in-Ok-insert-clause-few
+returns-in-Ok-insert-clause-few g c =
+    let n = c.in-Ok-insert.ensures.named in
+    let len = ap length n.2 in
+    let some = joined_few (g.P.Pages.named c.open.new.pages) n.0 in
+    let was = ap length c.open.ensures.reads.named in
+    let few = c.in-Ok.ensures.few in
+    let most = n.1 in
+    omega (arith, len, some, was, few, most)
+
+pub returns-in-Ok-insert-clause-takes : goal.returns-in-Ok-insert-clause-takes
+returns-in-Ok-insert-clause-takes g c start shown low versions shows honest t =
+    let P = g.P.Pages in
+    let O = g.O.OnceDisk in
+    let h = c.args.head.now in
+    let view = c.head.view_is in
+    let reads = c.open.ensures.reads in
+    let shows' = reads.shown start shown shows in
+    let count : length shown ≡ P.homes c.open.new.pages = g.met.P.Pages.count c.args.pages.now start shown shows ∙ sym reads.homes in
+    let next' = reads.next ∙ (c.requires.next ∙ ap (λ n. min h.fresh n) (sym reads.homes)) in
+    let root = ap (λ (x : Contents). x.root) view in
+    let least : c.new-least.result ≡ stamp_of h.last h.applied = c.new-least.ensures.number ∙ (ap (λ (t : ℕ). stamp_of t c.head.inside.applied) (c.seconds.ensures.seconds ∙ ap (λ (x : Contents). x.last) view) ∙ ap (λ (n : ℕ). stamp_of h.last n) (ap (λ (x : Contents). x.applied) view)) in
+    let level = c.in-Ok.ensures.opened start shown shows t.store versions t.level t.says (subst (λ (r : ℕ). TreeStands t.store versions r t.level) (sym root) t.has.stands) in
+    let tree = shown_at P c.open.new.pages O c.args.shelf.now start shown low h.root h.fresh h.block (stamp_of h.last h.applied) versions shows' honest count next' c.requires.block t
+    c.in-Ok.place.root c.in-Ok.place.level c.in-Ok.place.least (c.in-Ok.ensures.root ∙ root) level (c.in-Ok.ensures.least ∙ least) in
+    let all = versions ++ version_of c.args.entry.now ∷ [] in
+    let k = c.in-Ok-insert.ensures.ok start shown versions tree in
+    let took = taken_at P c.open.new.pages O c.args.shelf.now start shown low h.root h.fresh h.block (stamp_of h.last h.applied) versions shows' honest count next' c.requires.block t
+    c.insert.new.pages c.insert.new.shelf c.in-Ok-insert.now all c.insert.ensures.shelf.disk
+    (λ after s. g.met.P.Pages.count c.insert.new.pages start after s ∙ c.insert.ensures.homes) k in
+    let T = λ (f b l : ℕ). TreeTakes (O.block_count (disk_of c.args.shelf.now)) (settled_in (O.model (pen_of c.insert.new.shelf))) (P.shows c.insert.new.pages start) low c.in-Ok-insert.now.root f b l all shown in
+    subst (λ (f : ℕ). T f c.next.result (c.args.entry.now.stamp + 1)) (sym c.next_page.ensures)
+    (subst (λ (b : ℕ). T (P.next c.insert.new.pages) b (c.args.entry.now.stamp + 1)) (sym c.next.ensures.next)
+    (subst (λ (l : ℕ). T (P.next c.insert.new.pages) (next_of c.insert.new.shelf) l) c.in-Ok-insert.ensures.least took))
+
+pub returns-in-Err-insert-clause-sound : goal.returns-in-Err-insert-clause-sound
+returns-in-Err-insert-clause-sound g c start shown low versions shows honest t page e =
+    let P = g.P.Pages in
+    let O = g.O.OnceDisk in
+    let h = c.args.head.now in
+    let view = c.head.view_is in
+    let reads = c.open.ensures.reads in
+    let shows' = reads.shown start shown shows in
+    let count : length shown ≡ P.homes c.open.new.pages = g.met.P.Pages.count c.args.pages.now start shown shows ∙ sym reads.homes in
+    let next' = reads.next ∙ (c.requires.next ∙ ap (λ n. min h.fresh n) (sym reads.homes)) in
+    let root = ap (λ (x : Contents). x.root) view in
+    let least : c.new-least.result ≡ stamp_of h.last h.applied = c.new-least.ensures.number ∙ (ap (λ (t : ℕ). stamp_of t c.head.inside.applied) (c.seconds.ensures.seconds ∙ ap (λ (x : Contents). x.last) view) ∙ ap (λ (n : ℕ). stamp_of h.last n) (ap (λ (x : Contents). x.applied) view)) in
+    let level = c.in-Ok.ensures.opened start shown shows t.store versions t.level t.says (subst (λ (r : ℕ). TreeStands t.store versions r t.level) (sym root) t.has.stands) in
+    let tree = shown_at P c.open.new.pages O c.args.shelf.now start shown low h.root h.fresh h.block (stamp_of h.last h.applied) versions shows' honest count next' c.requires.block t
+    c.in-Ok.place.root c.in-Ok.place.level c.in-Ok.place.least (c.in-Ok.ensures.root ∙ root) level (c.in-Ok.ensures.least ∙ least) in
+    let told : c.of_tree-in-Err-insert.result ≡ applies.BadNode page = cc in
+    subst BlamesNone (c.of_tree-in-Err-insert.ensures.bad page told) (c.in-Err-insert.ensures.honest start shown versions tree)

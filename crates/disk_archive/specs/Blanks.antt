@@ -1,0 +1,10 @@
+-- Whether blocks are left.
+use Rattle.disk_models.specs.declared.erase.EraseDisk.{Ghosts as EraseGhosts}
+use Rattle.disk_models.specs.declared.once.OnceDisk.{Ghosts as OnceGhosts}
+use Rattle.once_store.specs.Shelves.{AllTried, next_of}
+use Rattle.disk_archive.specs.declared.archive.Archive.{Archive}
+use Rattle.disk_archive.specs.Archives.{once_of, once_state}
+
+-- no block is blank from the one on that would be tried next
+abbrev pub NoneBlank : {E O Pen Seen : Type 0} {erase : EraseGhosts E} {once : OnceGhosts O Pen Seen} → Archive E O Pen Seen erase once → Type 0
+NoneBlank {once = once} a = AllTried (once_state a) (next_of a.shelf) (once.block_count (once_of a))

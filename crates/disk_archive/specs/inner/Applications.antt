@@ -1,0 +1,85 @@
+-- What is to be committed when a change is applied, and why it isn't.
+use Rattle.std.specs.Prelude.{◌≡◌, ◌↔◌, ◌≤◌, ◌+◌, ◌++◌, ⊤, ℕ, suc, List, length, Bool, true, false}
+use Rattle.disk_models.specs.declared.once.OnceDisk.{Ghosts as OnceGhosts}
+use Rattle.disk_models.specs.Once.{OnceState, Grows}
+use Rattle.once_store.specs.declared.shelf.Shelf.{Shelf}
+use Rattle.once_store.specs.Shelves.{AllTried, disk_of, pen_of, next_of}
+use Rattle.route_model.specs.Admission.{Admitted}
+use Rattle.route_meaning.specs.Merged.{Placed}
+use Rattle.route_meaning.specs.History.{History}
+use Rattle.interleaving_core.specs.Steps.{moved}
+use Rattle.version_model.specs.Versions.{Version}
+use Rattle.route_history.specs.Kept.{AreVersions}
+use Rattle.route_history.specs.Stamps.{stamp_of}
+use Rattle.tsb_tree.specs.Shelves.{SpendsAtMost}
+use Rattle.archive_head.specs.Head.{Contents}
+use Rattle.archive_pages.specs.declared.settings.Settings.{Settings}
+use Rattle.archive_pages.specs.Places.{ChangesFrom, tree_low}
+use Rattle.archive_pages.specs.Carried.{Bears, last_time}
+use Rattle.archive_pages.specs.Changes.{next_change}
+use Rattle.disk_archive.specs.declared.apply_error.ApplyError.{ApplyError}
+use Rattle.disk_archive.specs.declared.apply_error.ApplyError.TheVariants as applies
+use Rattle.disk_archive.specs.declared.error.CommitError.{CommitError}
+use Rattle.disk_archive.specs.declared.error.CommitError.TheVariants as commits
+use Rattle.disk_archive.specs.Trees.{TreeLies}
+use Rattle.disk_archive.specs.Moves.{Moves}
+use Rattle.disk_archive.specs.inner.Planning.{Planned}
+
+-- a refusal of the commit, told of a change
+abbrev pub apply_of_commit : CommitError → ApplyError
+apply_of_commit commits.Fault = applies.Fault
+apply_of_commit commits.NeedsRecovery = applies.NeedsRecovery
+apply_of_commit commits.OutOfMemory = applies.OutOfMemory
+
+-- that the archive must be opened again is told only where it must
+abbrev pub ApplyRefusal : Bool → ApplyError → Type 0
+ApplyRefusal down applies.NeedsRecovery = down ≡ true
+ApplyRefusal down applies.CounterFull = ⊤
+ApplyRefusal down applies.TooHigh = ⊤
+ApplyRefusal down applies.PagesFull = ⊤
+ApplyRefusal down applies.OnceFull = ⊤
+ApplyRefusal down (applies.BadNode page) = ⊤
+ApplyRefusal down applies.Fault = ⊤
+ApplyRefusal down applies.OutOfMemory = ⊤
+
+-- The shelf has its disk still, which follows its model as before; what is tried or settled stays so, two blocks at most are spent, and the
+-- next number doesn't fall. Where the disk is told to be full, no blank block is left.
+pub record KeepsBlocks {O Pen Seen : Type 0} (device : OnceGhosts O Pen Seen) (old new : Shelf O Pen Seen) (full : Type 0) : Type 0 where
+  pub disk : disk_of new ≡ disk_of old
+  pub honest : device.honest (disk_of old) (pen_of old) ↔ device.honest (disk_of new) (pen_of new)
+  pub forward : next_of old ≤ next_of new
+  pub grows : device.honest (disk_of old) (pen_of old) → Grows (device.model (pen_of old)) (device.model (pen_of new))
+  pub spends : device.honest (disk_of old) (pen_of old) → SpendsAtMost 2 (device.model (pen_of old)) (device.model (pen_of new))
+  pub none_left : device.honest (disk_of old) (pen_of old) → full → AllTried (device.model (pen_of new)) (next_of new) (device.block_count (disk_of old))
+
+-- Pages are shown on which the tree lies there and stands for these versions, and no page before its own is changed.
+pub record TreeTakes (count : ℕ) (settled : ℕ → List ℕ → Type 0) (shows : List (List ℕ) → Type 0) (low root fresh block next_stamp : ℕ) (versions : List Version) (old : List (List ℕ)) : Type 0 where
+  pub pages : List (List ℕ)
+  pub shown : shows pages
+  pub changes : ChangesFrom low old pages
+  pub tree : TreeLies count pages settled low root fresh block next_stamp versions
+
+-- Pages are shown on which the tree lies there and took the version of the next change, where the admission has one.
+pub record TakesNext (count : ℕ) (s : Settings) (settled : ℕ → List ℕ → Type 0) (shows : List (List ℕ) → Type 0) (head : Contents) (next : Placed Admitted) (root fresh block : ℕ) (before : List Version) (old : List (List ℕ)) : Type 0 where
+  pub more : List Version
+  pub versions : AreVersions head.applied (next_change head.begun next) more
+  pub takes : TreeTakes count settled shows (tree_low s) root fresh block (stamp_of (last_time head.last (next_change head.begun next)) (head.applied + length (next_change head.begun next))) (before ++ more) old
+
+-- The history moves on: pages are shown that carry it then, and it is told whether the first admission that waited is wholly applied. Until
+-- then no other one is begun.
+pub record MovesOn (count : ℕ) (s : Settings) (settled : ℕ → List ℕ → Type 0) (shows : List (List ℕ) → Type 0) (head : Contents) (whole : Bool) (h : History) : Type 0 where
+  pub after : History
+  pub moves : Moves h after
+  pub stays : whole ≡ false → (some : ℕ) × (after ≡ moved h h.whole some)
+  pub leaves : whole ≡ true → after ≡ moved h (suc h.whole) 0
+  pub pages : List (List ℕ)
+  pub shown : shows pages
+  pub bears : Bears (TreeLies count) s settled head pages after
+
+-- the same, with the head on its page
+pub record PlansMove (count : ℕ) (s : Settings) (settled : ℕ → List ℕ → Type 0) (shows : List (List ℕ) → Type 0) (head : Contents) (whole : Bool) (h : History) : Type 0 where
+  pub after : History
+  pub moves : Moves h after
+  pub stays : whole ≡ false → (some : ℕ) × (after ≡ moved h h.whole some)
+  pub leaves : whole ≡ true → after ≡ moved h (suc h.whole) 0
+  pub planned : Planned count s settled shows head after

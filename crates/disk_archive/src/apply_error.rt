@@ -1,0 +1,109 @@
+//! Why a change isn't applied.
+
+ghost use Rattle.std.specs.Prelude.{◌≡◌, ◌≢◌, ℕ, Bool, true};
+ghost use Rattle.once_store.specs.declared.error.AppendError.TheVariants as appends;
+ghost use Rattle.page_tx.specs.declared.error.PageError.TheVariants as pages;
+ghost use Rattle.disk_archive.specs.declared.apply_error.ApplyError.TheVariants as applies;
+ghost use Rattle.disk_archive.specs.inner.Applications.{ApplyRefusal};
+
+use crate::error::{CommitError, NeedsRecovery};
+use once_store::AppendError;
+use page_tx::PageError;
+use std::alloc::AllocError;
+use thiserror::Error;
+use tsb_tree::TreeError;
+
+/// Why a change isn't applied.
+#[derive(Clone, Copy, Debug, PartialEq, Eq, Error)]
+pub enum ApplyError {
+    /// An earlier write or sync failed, and the archive wasn't opened again since.
+    #[error("the archive must be opened again")]
+    NeedsRecovery,
+    /// So many changes can't be counted.
+    #[error("the count of applied changes is full")]
+    CounterFull,
+    /// The tree would need a seventh level of key nodes.
+    #[error("the tree would need a seventh level of key nodes")]
+    TooHigh,
+    /// The tree needs more pages than there are.
+    #[error("no page is left that was never used")]
+    PagesFull,
+    /// The tree needs a block, and no blank one is left.
+    #[error("the write-once disk is full")]
+    OnceFull,
+    /// What the home page of this number told isn't what an archive tells.
+    #[error("page {0} is damaged")]
+    BadNode(u64),
+    /// A device failed. After a write or a sync of pages the archive must be opened again.
+    #[error("the device failed")]
+    Fault,
+    /// A growth was refused, before a page was written.
+    #[error("out of memory")]
+    OutOfMemory,
+}
+
+impl From<AllocError> for ApplyError {
+    ghost from_gives = { λ _ e. e ≡ applies.OutOfMemory };
+
+    fn from(_: AllocError) -> Self {
+        ApplyError::OutOfMemory
+    }
+}
+
+impl From<CommitError> for ApplyError {
+    ghost use Rattle.disk_archive.specs.inner.Applications.{apply_of_commit};
+
+    ghost from_gives = { λ refusal e. e ≡ apply_of_commit refusal };
+
+    fn from(refusal: CommitError) -> Self {
+        match refusal {
+            CommitError::Fault => ApplyError::Fault,
+            CommitError::NeedsRecovery => ApplyError::NeedsRecovery,
+            CommitError::OutOfMemory => ApplyError::OutOfMemory,
+        }
+    }
+}
+
+impl From<NeedsRecovery> for ApplyError {
+    ghost from_gives = { λ _ e. e ≡ applies.NeedsRecovery };
+
+    fn from(_: NeedsRecovery) -> Self {
+        ApplyError::NeedsRecovery
+    }
+}
+
+/// A refusal of pages of which few are held as images.
+pub(crate) fn of_pages(refusal: PageError) -> ApplyError
+    requires few { refusal ≢ PageError.TooManyImages }
+    ensures bad { (page : ℕ) → result ≢ ApplyError.BadNode page }
+    ensures once { result ≢ ApplyError.OnceFull }
+    ensures refused { (down : Bool) → (refusal ≡ PageError.NeedsRecovery → down ≡ true) → ApplyRefusal down result }
+{
+    match refusal {
+        PageError::Fault => ApplyError::Fault,
+        PageError::NeedsRecovery => ApplyError::NeedsRecovery,
+        PageError::PagesFull => ApplyError::PagesFull,
+        PageError::OutOfMemory => ApplyError::OutOfMemory,
+        PageError::TooManyImages => unreachable!(),
+    }
+}
+
+/// A refusal of the tree, where the stamp isn't below the least one, and few pages are held as images.
+pub(crate) fn of_tree(refusal: TreeError) -> ApplyError
+    requires back { refusal ≢ TreeError.StampBack }
+    requires damaged { (block : ℕ) → refusal ≢ TreeError.Damaged block }
+    requires few { refusal ≢ TreeError.Pages pages.TooManyImages }
+    ensures bad { (page : ℕ) → result ≡ ApplyError.BadNode page → refusal ≡ TreeError.BadNode page }
+    ensures once { result ≡ ApplyError.OnceFull → refusal ≡ TreeError.Once appends.OnceFull }
+    ensures refused { (down : Bool) → (refusal ≡ TreeError.Pages pages.NeedsRecovery → down ≡ true) → ApplyRefusal down result }
+{
+    match refusal {
+        TreeError::TooHigh => ApplyError::TooHigh,
+        TreeError::BadNode(page) => ApplyError::BadNode(page),
+        TreeError::Pages(refusal) => of_pages(refusal),
+        TreeError::Once(AppendError::Fault) => ApplyError::Fault,
+        TreeError::Once(AppendError::OnceFull) => ApplyError::OnceFull,
+        TreeError::OutOfMemory => ApplyError::OutOfMemory,
+        TreeError::StampBack | TreeError::Damaged(_) => unreachable!(),
+    }
+}

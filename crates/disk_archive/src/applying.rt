@@ -1,0 +1,126 @@
+//! The next change is applied.
+
+ghost use Rattle.std.specs.Prelude.{◌≡◌, ◌⊎◌, ◌↔◌, ℕ, List, [], min, IfOk, OnOk, OnErr, IfErr, Ok, Err, true, false};
+ghost use Rattle.route_meaning.specs.History.{History};
+ghost use Rattle.interleaving_core.specs.Steps.{NothingToApply};
+ghost use Rattle.sequencer.specs.First.{IsNext};
+ghost use Rattle.sequencer.specs.Lanes.{Releases};
+ghost use Rattle.page_journal.specs.Journal.{disk_of, home_pages, needs_recovery, note_of};
+ghost use Rattle.buffer_pool.specs.Pool.{Maps, journal_of};
+ghost use Rattle.page_tx.specs.Tx.{Shows, named_pages, next_page, pool_of};
+ghost use Rattle.disk_archive.specs.Moves.{Moves};
+
+use crate::apply_error::ApplyError;
+use crate::archive::Archive;
+use crate::committing::{begin, commit};
+use crate::error::NeedsRecovery;
+use crate::planning_application::{Application, plan_application};
+use archive_head::Head;
+use disk_models::{EraseDisk, OnceDisk};
+use page_tx::{Pages, Tx};
+use sequencer::Sequencer;
+
+/// What a step of applying did.
+#[derive(Clone, Copy, Debug, PartialEq, Eq)]
+pub enum Step {
+    /// A change is applied, or an admission without changes.
+    Applied,
+    /// No admission may be applied: none that waits is below every mark.
+    Idle,
+}
+
+// Begins a transaction without an image, where the archive needn't be opened again. The pages are in use up to the first
+// that the head tells, or all that there are.
+fn begin_from<E: EraseDisk + Drop>(tx: &mut Tx<E>, head: &Head) -> Result<(), NeedsRecovery>
+    ensures shown { OnOk result (E.honest (disk_of (journal_of (pool_of tx.old))) → (pages : List (List ℕ)) → Maps E.EraseDisk (pool_of tx.old) pages
+        → Shows E.EraseDisk tx.new (record { note = note_of (journal_of (pool_of tx.old)); pages = pages; clock = (E.model (disk_of (journal_of (pool_of tx.old)))).clock }) pages) }
+    ensures down { OnErr result (needs_recovery (journal_of (pool_of tx.old)) ≡ true) }
+    ensures usable { OnOk result (needs_recovery (journal_of (pool_of tx.old)) ≡ false) }
+    ensures named { named_pages tx.new ≡ [] }
+    ensures next { OnOk result (next_page tx.new ≡ min head.now.fresh (home_pages (journal_of (pool_of tx.old)))) }
+    ensures same { journal_of (pool_of tx.new) ≡ journal_of (pool_of tx.old) }
+{
+    begin(tx)?;
+    let unused = head.fresh.min(tx.home_pages());
+    tx.begin(unused);
+    Ok(())
+}
+
+// The first time of the collector leaves, where its admission is wholly applied.
+fn leave(sequencer: &mut Sequencer, number: usize, whole: bool)
+    requires next { IsNext sequencer.old number }
+    ensures leaves { whole ≡ true → Releases sequencer.old number sequencer.new }
+    ensures stays { whole ≡ false → sequencer.new ≡ sequencer.old }
+{
+    if whole {
+        sequencer.take(number);
+    }
+}
+
+impl<E: EraseDisk + Drop, O: OnceDisk + Drop> Archive<E, O> {
+    ghost use Rattle.disk_archive.specs.Archives.{Carries, GoesOn, Holds, Stands, IsHonest, erase_of, is_down, once_state, site_of};
+    ghost use Rattle.disk_archive.specs.Blanks.{NoneBlank};
+    ghost use Rattle.tsb_tree.specs.Shelves.{SpendsAtMost};
+    ghost use Rattle.disk_archive.specs.Sites.{LeftEither};
+    ghost use Rattle.disk_archive.specs.Crashes.{Crashes, Lasts};
+    ghost use Rattle.disk_archive.specs.inner.Applications.{ApplyRefusal, KeepsBlocks};
+    ghost use Rattle.disk_archive.specs.inner.Idle.{IsAsBefore};
+    ghost use Rattle.disk_archive.specs.inner.Outcomes.{StepIs, CrashesOnStep};
+
+    // Applies the next change where the archive carries a history.
+    fn try_apply(&mut self) -> Result<Step, ApplyError>
+        ensures usable { OnOk result (is_down self.old ≡ false) }
+        ensures recovery { is_down self.old ≡ true → IsAsBefore self.old self.new }
+        ensures told { is_down self.old ≡ true → result ≡ Err ApplyError.NeedsRecovery }
+        ensures refused { IfErr result (ApplyRefusal (is_down self.old)) }
+        ensures erase { E.honest (erase_of self.old) ↔ E.honest (erase_of self.new) }
+        ensures shelf { KeepsBlocks O.OnceDisk self.old.shelf self.new.shelf (result ≡ Err ApplyError.OnceFull) }
+        ensures ok { IfOk result (λ step. (h : History) → Carries self.old h → StepIs self.new step h) }
+        ensures still { result ≡ Ok Step.Idle → IsAsBefore self.old self.new }
+        ensures err { OnErr result ((h : History) → Carries self.old h → GoesOn self.new h) }
+        ensures sound { (h : History) → Carries self.old h → (page : ℕ) → result ≡ Err (ApplyError.BadNode page) → ⊥ }
+        ensures crash { (h : History) → Carries self.old h → CrashesOnStep self.old self.new h }
+    {
+        begin_from(&mut self.tx, &self.head)?;
+        let Some(number) = self.sequencer.next() else {
+            return Ok(Step::Idle);
+        };
+        let collector = number as u8;
+        let Application { head, whole } = plan_application(
+            self.alloc,
+            &mut self.tx,
+            &mut self.shelf,
+            self.settings,
+            &self.head,
+            collector,
+        )?;
+        commit(&mut self.tx)?;
+        self.head = head;
+        leave(&mut self.sequencer, number, whole);
+        Ok(Step::Applied)
+    }
+
+    /// Applies the next change of the first admission that waits, where that admission is below every mark. An admission without changes is
+    /// applied at once. With its last change an admission is wholly applied, and leaves its ring.
+    ///
+    /// Blocks that are burnt for it are settled before a page is written. After a refusal the archive holds the history of before, and
+    /// nothing is left behind but blocks that are spent; where a write or a sync of pages failed, it must be opened again, and the change is
+    /// then applied or not.
+    pub fn apply_step(&mut self) -> Result<Step, ApplyError>
+        ensures applied { IfOk result (λ step. step ≡ Step.Applied → IsHonest self.old → (h : History) → Holds self.old h → (g : History) × Moves h g × Holds self.new g) }
+        ensures idle { IfOk result (λ step. IsHonest self.old → (h : History) → Holds self.old h → (step ≡ Step.Idle) ↔ NothingToApply h) }
+        ensures idle_same { result ≡ Ok Step.Idle → (h : History) → Holds self.old h → Holds self.new h }
+        ensures still { result ≡ Ok Step.Idle → erase_of self.new ≡ erase_of self.old }
+        ensures unspent { result ≡ Ok Step.Idle → once_state self.new ≡ once_state self.old }
+        ensures err { OnErr result ((h : History) → Holds self.old h → Holds self.new h) }
+        ensures crash { (h : History) → Carries self.old h → (g : History) × ((g ≡ h) ⊎ Moves h g) × Crashes self.old self.new (LeftEither (site_of self.old) h g) }
+        ensures lasts { (h : History) → Stands self.old h → Lasts self.old self.new h }
+        ensures usable { OnOk result (is_down self.old ≡ false) }
+        ensures recovery { (result ≡ Err ApplyError.NeedsRecovery) ↔ (is_down self.old ≡ true) }
+        ensures full { IsHonest self.old → result ≡ Err ApplyError.OnceFull → NoneBlank self.new }
+        ensures spends { IsHonest self.old → SpendsAtMost 2 (once_state self.old) (once_state self.new) }
+        ensures sound { IsHonest self.old → (h : History) → Holds self.old h → (page : ℕ) → result ≡ Err (ApplyError.BadNode page) → ⊥ }
+    {
+        self.try_apply()
+    }
+}

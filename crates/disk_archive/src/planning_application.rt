@@ -1,0 +1,274 @@
+//! What the application of a change is to commit: pages that are shown in a transaction, and their head. Blocks are burnt and settled
+//! on the way, and no page is written yet.
+
+ghost use Rattle.std.specs.Prelude.{◌≡◌, ◌≢◌, ◌<◌, ◌≤◌, ◌+◌, ◌^◌, ◌++◌, ◌∷◌, ◌↔◌, ℕ, List, [], length, min, Some, IfOk, OnOk, IfErr, Err, IfSome, IfNone, IsTrue, slice_get};
+ghost use Rattle.disk_models.specs.Once.{settled_in};
+ghost use Rattle.once_store.specs.Shelves.{disk_of, next_of, pen_of};
+ghost use Rattle.page_tx.specs.Start.{Start};
+ghost use Rattle.page_tx.specs.declared.error.PageError.TheVariants as pages_refusals;
+ghost use Rattle.route_model.specs.Admission.{Admitted, IsAdmission};
+ghost use Rattle.route_meaning.specs.Merged.{Placed, placed};
+ghost use Rattle.route_meaning.specs.History.{History, waiting, IsBelowMarks};
+ghost use Rattle.version_model.specs.Entries.{version_of};
+ghost use Rattle.version_model.specs.Ranges.{key_end};
+ghost use Rattle.version_model.specs.Sizes.{entry_octets};
+ghost use Rattle.version_model.specs.Versions.{Version};
+ghost use Rattle.route_history.specs.Kept.{AreVersions};
+ghost use Rattle.route_history.specs.Stamps.{stamp_of};
+ghost use Rattle.tsb_tree.specs.Refusals.{IsHonest};
+ghost use Rattle.archive_head.specs.declared.lane.Lane.{Lane};
+ghost use Rattle.intake.specs.Ring.{IsRing, Holds};
+ghost use Rattle.intake.specs.Calls.{OnlyReads};
+ghost use Rattle.archive_pages.specs.Batches.{CanPop, HasLane};
+ghost use Rattle.archive_pages.specs.Carried.{Bears};
+ghost use Rattle.archive_pages.specs.Changes.{next_change};
+ghost use Rattle.archive_pages.specs.Places.{ring_of, tree_low};
+ghost use Rattle.disk_archive.specs.Trees.{TreeLies};
+ghost use Rattle.disk_archive.specs.inner.Applications.{ApplyRefusal, KeepsBlocks, MovesOn, PlansMove, TakesNext, TreeTakes};
+
+use crate::apply_error::{ApplyError, of_pages, of_tree};
+use archive_head::Head;
+use archive_pages::{Settings, TreePlace, copy_head, lane_of, pass_change, put_head};
+use disk_models::OnceDisk;
+use intake::ReadError;
+use once_store::Shelf;
+use page_tx::Pages;
+use route_history::version_of_change;
+use route_model::Admission;
+use std::alloc::{AllocError, Global};
+use tsb_tree::{insert, open};
+use version_model::{Entry, Stamp};
+
+/// What is to be committed: the head that is on its page, and whether the admission is wholly applied.
+#[derive(Drop)]
+pub(crate) struct Application {
+    pub(crate) head: Head,
+    pub(crate) whole: bool,
+}
+
+// The first admission that waits of a collector.
+fn front_of<P: Pages>(
+    alloc: Global,
+    pages: &mut P,
+    settings: Settings,
+    head: &Head,
+    collector: u8,
+) -> Result<Admission, ApplyError>
+    requires collector { collector < length head.now.lanes }
+    ensures front { IfOk result (λ a. (start : Start) (shown : List (List ℕ)) (lane : Lane) (waits : List Admitted) → P.shows pages.old start shown → HasLane head.now collector lane → Holds shown (ring_of settings collector lane) waits → slice_get waits 0 ≡ Some a) }
+    ensures fits { IfOk result (λ a. (lane : Lane) → HasLane head.now collector lane → CanPop settings collector lane a) }
+    ensures sound { (start : Start) (shown : List (List ℕ)) (lane : Lane) (first : Admitted) (rest : List Admitted) → P.shows pages.old start shown → HasLane head.now collector lane → IsRing (P.homes pages.old) (ring_of settings collector lane)
+        → Holds shown (ring_of settings collector lane) (first ∷ rest) → (page : ℕ) → result ≡ Err (ApplyError.BadNode page) → ⊥ }
+    ensures once { result ≢ Err ApplyError.OnceFull }
+    ensures refused { IfErr result (ApplyRefusal (P.down pages.old)) }
+    ensures reads { (start : Start) (shown : List (List ℕ)) → P.shows pages.old start shown → P.shows pages.new start shown }
+    ensures homes { P.homes pages.new ≡ P.homes pages.old }
+    ensures next { P.next pages.new ≡ P.next pages.old }
+    ensures named { P.named pages.new ≡ P.named pages.old }
+    ensures down { P.down pages.new ≡ P.down pages.old }
+    ensures honest { P.honest pages.old ↔ P.honest pages.new }
+{
+    let ring = settings.ring(collector, &lane_of(head, collector));
+    if !ring.is_within(pages.home_pages()) {
+        return Err(ApplyError::BadNode(0));
+    }
+    match ring.front(alloc, pages) {
+        Ok(Some(admission)) => Ok(admission),
+        Ok(None) => Err(ApplyError::BadNode(0)),
+        Err(ReadError::BadNode(page)) => Err(ApplyError::BadNode(page)),
+        Err(ReadError::Pages(refusal)) => Err(of_pages(refusal)),
+    }
+}
+
+// The version of the next change of the admission, where it has one.
+fn next_version(
+    alloc: Global,
+    head: &Head,
+    admission: &Admission,
+) -> Result<Option<Entry>, AllocError>
+    requires applied { head.now.applied + 1 < 2 ^ 64 }
+    ensures some { IfOk result (λ next. IfSome next (λ entry. (collector : ℕ) → AreVersions head.now.applied (next_change head.now.begun (placed collector admission.now)) (version_of entry ∷ []))) }
+    ensures stamp { IfOk result (λ next. IfSome next (λ entry. entry.stamp ≡ stamp_of admission.now.time head.now.applied)) }
+    ensures end { IfOk result (λ next. IfSome next (λ entry. entry.stamp + 1 < 2 ^ 128)) }
+    ensures small { IfOk result (λ next. IfSome next (λ entry. entry_octets (version_of entry) ≤ 3131)) }
+    ensures inside { IfOk result (λ next. IfSome next (λ entry. entry.key + 1 < key_end)) }
+    ensures none { IfOk result (λ next. IfNone next ((collector : ℕ) → next_change head.now.begun (placed collector admission.now) ≡ [])) }
+{
+    let changes = admission.changes();
+    let begun = head.begun as usize;
+    if begun >= changes.len() {
+        return Ok(None);
+    }
+    let entry = version_of_change(alloc, admission.time(), head.applied, &changes[begun])?;
+    Ok(Some(entry))
+}
+
+// The tree takes a version. Tells where it lies then.
+fn take_version<P: Pages, O: OnceDisk + Drop>(
+    alloc: Global,
+    pages: &mut P,
+    shelf: &mut Shelf<O>,
+    head: &Head,
+    entry: &Entry,
+) -> Result<TreePlace, ApplyError>
+    requires next { P.next pages.old ≡ min head.now.fresh (P.homes pages.old) }
+    requires block { head.now.block ≤ next_of shelf.old }
+    requires few { length (P.named pages.old) ≤ 14 }
+    requires inside { entry.now.key + 1 < key_end }
+    requires size { entry_octets (version_of entry.now) ≤ 3131 }
+    requires end { entry.now.stamp + 1 < 2 ^ 128 }
+    requires later { stamp_of head.now.last head.now.applied ≤ entry.now.stamp }
+    ensures takes { (start : Start) (shown : List (List ℕ)) (low : ℕ) (versions : List Version) → P.shows pages.old start shown → O.honest (disk_of shelf.old) (pen_of shelf.old)
+        → TreeLies (O.block_count (disk_of shelf.old)) shown (settled_in (O.model (pen_of shelf.old))) low head.now.root head.now.fresh head.now.block (stamp_of head.now.last head.now.applied) versions
+        → IfOk result (λ place. TreeTakes (O.block_count (disk_of shelf.old)) (settled_in (O.model (pen_of shelf.new))) (P.shows pages.new start) low place.root place.fresh place.block (entry.now.stamp + 1) (versions ++ version_of entry.now ∷ []) shown) }
+    ensures sound { (start : Start) (shown : List (List ℕ)) (low : ℕ) (versions : List Version) → P.shows pages.old start shown → O.honest (disk_of shelf.old) (pen_of shelf.old)
+        → TreeLies (O.block_count (disk_of shelf.old)) shown (settled_in (O.model (pen_of shelf.old))) low head.now.root head.now.fresh head.now.block (stamp_of head.now.last head.now.applied) versions
+        → (page : ℕ) → result ≡ Err (ApplyError.BadNode page) → ⊥ }
+    ensures fresh { IfOk result (λ place. place.fresh ≡ P.next pages.new) }
+    ensures block { IfOk result (λ place. place.block ≡ next_of shelf.new) }
+    ensures few { OnOk result (length (P.named pages.new) ≤ length (P.named pages.old) + 17) }
+    ensures refused { IfErr result (ApplyRefusal (P.down pages.old)) }
+    ensures shows { (start : Start) (shown : List (List ℕ)) → P.shows pages.old start shown → (after : List (List ℕ)) × P.shows pages.new start after }
+    ensures shelf { KeepsBlocks O.OnceDisk shelf.old shelf.new (result ≡ Err ApplyError.OnceFull) }
+    ensures homes { P.homes pages.new ≡ P.homes pages.old }
+    ensures down { P.down pages.new ≡ P.down pages.old }
+    ensures honest { P.honest pages.old ↔ P.honest pages.new }
+{
+    let least = Stamp::new(head.last.seconds(), head.applied);
+    let place = match open(pages, head.root, least) {
+        Ok(place) => place,
+        Err(refusal) => return Err(of_tree(refusal)),
+    };
+    match insert(pages, shelf, alloc, place, entry) {
+        Ok(now) => Ok(TreePlace {
+            fresh: pages.next_page(),
+            block: shelf.next(),
+            root: now.root,
+        }),
+        Err(refusal) => Err(of_tree(refusal)),
+    }
+}
+
+// The tree takes the version of the next change of the admission, where it has one. Tells where the tree lies then.
+fn take_next<P: Pages, O: OnceDisk + Drop>(
+    alloc: Global,
+    pages: &mut P,
+    shelf: &mut Shelf<O>,
+    head: &Head,
+    admission: &Admission,
+) -> Result<TreePlace, ApplyError>
+    requires next { P.next pages.old ≡ min head.now.fresh (P.homes pages.old) }
+    requires block { head.now.block ≤ next_of shelf.old }
+    requires few { length (P.named pages.old) ≤ 14 }
+    requires applied { head.now.applied + 1 < 2 ^ 64 }
+    requires later { head.now.last ≤ admission.now.time }
+    ensures takes { (start : Start) (shown : List (List ℕ)) (collector : ℕ) (versions : List Version) → P.shows pages.old start shown → O.honest (disk_of shelf.old) (pen_of shelf.old) → (settings : Settings)
+        → TreeLies (O.block_count (disk_of shelf.old)) shown (settled_in (O.model (pen_of shelf.old))) (tree_low settings) head.now.root head.now.fresh head.now.block (stamp_of head.now.last head.now.applied) versions
+        → IfOk result (λ place. TakesNext (O.block_count (disk_of shelf.old)) settings (settled_in (O.model (pen_of shelf.new))) (P.shows pages.new start) head.now (placed collector admission.now) place.root place.fresh place.block versions shown) }
+    ensures sound { (start : Start) (shown : List (List ℕ)) (low : ℕ) (versions : List Version) → P.shows pages.old start shown → O.honest (disk_of shelf.old) (pen_of shelf.old)
+        → TreeLies (O.block_count (disk_of shelf.old)) shown (settled_in (O.model (pen_of shelf.old))) low head.now.root head.now.fresh head.now.block (stamp_of head.now.last head.now.applied) versions
+        → (page : ℕ) → result ≡ Err (ApplyError.BadNode page) → ⊥ }
+    ensures fresh { IfOk result (λ place. P.next pages.new ≡ min place.fresh (P.homes pages.new)) }
+    ensures block { IfOk result (λ place. place.block ≤ next_of shelf.new) }
+    ensures few { OnOk result (length (P.named pages.new) ≤ length (P.named pages.old) + 17) }
+    ensures refused { IfErr result (ApplyRefusal (P.down pages.old)) }
+    ensures shows { (start : Start) (shown : List (List ℕ)) → P.shows pages.old start shown → (after : List (List ℕ)) × P.shows pages.new start after }
+    ensures shelf { KeepsBlocks O.OnceDisk shelf.old shelf.new (result ≡ Err ApplyError.OnceFull) }
+    ensures homes { P.homes pages.new ≡ P.homes pages.old }
+    ensures down { P.down pages.new ≡ P.down pages.old }
+    ensures honest { P.honest pages.old ↔ P.honest pages.new }
+{
+    let next = next_version(alloc, head, admission)?;
+    match next {
+        Some(entry) => take_version(alloc, pages, shelf, head, &entry),
+        None => Ok(TreePlace {
+            fresh: head.fresh,
+            block: head.block,
+            root: head.root,
+        }),
+    }
+}
+
+// Applies the next change of an admission, the first that waits of its collector, or passes over it where it has no other. Tells whether
+// the admission is wholly applied then.
+fn plan_change<P: Pages, O: OnceDisk + Drop>(
+    alloc: Global,
+    pages: &mut P,
+    shelf: &mut Shelf<O>,
+    settings: Settings,
+    head: &mut Head,
+    collector: u8,
+    admission: &Admission,
+) -> Result<bool, ApplyError>
+    requires collector { collector < length head.old.lanes }
+    requires fits { (lane : Lane) → HasLane head.old collector lane → CanPop settings collector lane admission.now }
+    requires next { P.next pages.old ≡ min head.old.fresh (P.homes pages.old) }
+    requires block { head.old.block ≤ next_of shelf.old }
+    requires few { length (P.named pages.old) ≤ 14 }
+    ensures moves { IfOk result (λ whole. (start : Start) (shown : List (List ℕ)) (h : History) (later : List (Placed Admitted)) → P.shows pages.old start shown → O.honest (disk_of shelf.old) (pen_of shelf.old)
+        → Bears (TreeLies (O.block_count (disk_of shelf.old))) settings (settled_in (O.model (pen_of shelf.old))) head.old shown h → waiting h ≡ placed collector admission.now ∷ later → IsBelowMarks h admission.now.time
+        → MovesOn (O.block_count (disk_of shelf.old)) settings (settled_in (O.model (pen_of shelf.new))) (P.shows pages.new start) head.new whole h) }
+    ensures sound { (start : Start) (shown : List (List ℕ)) (h : History) (later : List (Placed Admitted)) → P.shows pages.old start shown → O.honest (disk_of shelf.old) (pen_of shelf.old)
+        → Bears (TreeLies (O.block_count (disk_of shelf.old))) settings (settled_in (O.model (pen_of shelf.old))) head.old shown h → waiting h ≡ placed collector admission.now ∷ later
+        → (page : ℕ) → result ≡ Err (ApplyError.BadNode page) → ⊥ }
+    ensures lanes { length head.new.lanes ≡ length head.old.lanes }
+    ensures next { OnOk result (P.next pages.new ≡ min head.new.fresh (P.homes pages.new)) }
+    ensures block { OnOk result (head.new.block ≤ next_of shelf.new) }
+    ensures few { OnOk result (length (P.named pages.new) ≤ length (P.named pages.old) + 17) }
+    ensures refused { IfErr result (ApplyRefusal (P.down pages.old)) }
+    ensures shows { (start : Start) (shown : List (List ℕ)) → P.shows pages.old start shown → (after : List (List ℕ)) × P.shows pages.new start after }
+    ensures shelf { KeepsBlocks O.OnceDisk shelf.old shelf.new (result ≡ Err ApplyError.OnceFull) }
+    ensures homes { P.homes pages.new ≡ P.homes pages.old }
+    ensures down { P.down pages.new ≡ P.down pages.old }
+    ensures honest { P.honest pages.old ↔ P.honest pages.new }
+{
+    if head.applied == u64::MAX {
+        return Err(ApplyError::CounterFull);
+    }
+    if admission.time() < head.last {
+        return Err(ApplyError::BadNode(0));
+    }
+    let place = take_next(alloc, pages, shelf, head, admission)?;
+    Ok(pass_change(settings, head, collector, admission, place))
+}
+
+/// Shows the pages behind the next change of the first admission that waits of a collector, and answers their head.
+pub(crate) fn plan_application<P: Pages, O: OnceDisk + Drop>(
+    alloc: Global,
+    pages: &mut P,
+    shelf: &mut Shelf<O>,
+    settings: Settings,
+    head: &Head,
+    collector: u8,
+) -> Result<Application, ApplyError>
+    requires collector { collector < length head.now.lanes }
+    requires lanes { length head.now.lanes ≤ 16 }
+    requires some { 0 < P.homes pages.old }
+    requires next { P.next pages.old ≡ min head.now.fresh (P.homes pages.old) }
+    requires block { head.now.block ≤ next_of shelf.old }
+    requires none { P.named pages.old ≡ [] }
+    ensures planned { IfOk result (λ plan. (start : Start) (shown : List (List ℕ)) (h : History) (first : Admitted) (later : List (Placed Admitted)) → P.shows pages.old start shown → O.honest (disk_of shelf.old) (pen_of shelf.old)
+        → Bears (TreeLies (O.block_count (disk_of shelf.old))) settings (settled_in (O.model (pen_of shelf.old))) head.now shown h → waiting h ≡ placed collector first ∷ later → IsBelowMarks h first.time
+        → PlansMove (O.block_count (disk_of shelf.old)) settings (settled_in (O.model (pen_of shelf.new))) (P.shows pages.new start) plan.head plan.whole h) }
+    ensures sound { (start : Start) (shown : List (List ℕ)) (h : History) (first : Admitted) (later : List (Placed Admitted)) → P.shows pages.old start shown → O.honest (disk_of shelf.old) (pen_of shelf.old)
+        → Bears (TreeLies (O.block_count (disk_of shelf.old))) settings (settled_in (O.model (pen_of shelf.old))) head.now shown h → waiting h ≡ placed collector first ∷ later
+        → (page : ℕ) → result ≡ Err (ApplyError.BadNode page) → ⊥ }
+    ensures lanes { IfOk result (λ plan. length plan.head.lanes ≡ length head.now.lanes) }
+    ensures block { IfOk result (λ plan. plan.head.block ≤ next_of shelf.new) }
+    ensures refused { IfErr result (ApplyRefusal (P.down pages.old)) }
+    ensures shows { (start : Start) (shown : List (List ℕ)) → P.shows pages.old start shown → (after : List (List ℕ)) × P.shows pages.new start after }
+    ensures shelf { KeepsBlocks O.OnceDisk shelf.old shelf.new (result ≡ Err ApplyError.OnceFull) }
+    ensures homes { P.homes pages.new ≡ P.homes pages.old }
+    ensures down { P.down pages.new ≡ P.down pages.old }
+    ensures honest { P.honest pages.old ↔ P.honest pages.new }
+{
+    let mut next = copy_head(alloc, head)?;
+    let admission = front_of(alloc, pages, settings, &next, collector)?;
+    let whole = plan_change(
+        alloc, pages, shelf, settings, &mut next, collector, &admission,
+    )?;
+    if let Err(refusal) = put_head(alloc, pages, &next) {
+        return Err(of_pages(refusal));
+    }
+    Ok(Application { head: next, whole })
+}
