@@ -88,13 +88,14 @@ impl Head {
     ghost use Rattle.route_model.specs.Octets.{Spells};
     ghost use Rattle.archive_head.specs.Head.{Contents, IsHead, head_octets};
 
-    /// The head of so many collectors that the page spells, or none where it spells no such head. It fails where memory is
-    /// refused, and only then.
+    /// The head of so many collectors that the page spells, which is the only one, or none where it spells no such head. It
+    /// fails where memory is refused, and only then.
     pub fn read(alloc: Global, page: &Page, collectors: usize) -> Result<Option<Head>, AllocError>
         requires few { collectors ≤ 16 }
         ensures head { IfOk result (λ found. IfSome found (λ head. Spells IsHead head_octets head page.now)) }
         ensures collectors { IfOk result (λ found. IfSome found (λ head. length head.lanes ≡ collectors)) }
         ensures none { IfOk result (λ found. IfNone found ((head : Contents) → length head.lanes ≡ collectors → Spells IsHead head_octets head page.now → ⊥)) }
+        ensures one { IfOk result (λ found. IfSome found (λ head. (other : Contents) → length other.lanes ≡ collectors → Spells IsHead head_octets other page.now → other ≡ head)) }
     {
         let Some(head) = read_places(alloc, page.octets(), collectors)? else {
             return Ok(None);

@@ -18,3 +18,9 @@ returns-then-not-branch-clause-none c = λ head n spells.
     let found = subst (λ o. IfSome o (λ h. h ≡ contents_at c.octets.result.now c.args.collectors)) c.in-Some.is c.in_ok-head.ensures.head in
     let spelled = c.in_ok-is_spelled.ensures.spelled.1 (spells.spelled ∙ ap head_octets (sym (found ∙ is))) in
     false≢true (subst IsTrue c.if-not-branch.true spelled)
+
+pub returns-clause-one : goal.returns-clause-one
+returns-clause-one c = λ other n spells.
+    let is : contents_at c.octets.result.now c.args.collectors ≡ other = one_read c.octets.result.now c.args.page.now c.args.collectors other c.octets.ensures.value n spells in
+    let found = subst (λ o. IfSome o (λ h. h ≡ contents_at c.octets.result.now c.args.collectors)) c.in-Some.is c.in_ok-head.ensures.head in
+    sym (found ∙ is)
