@@ -139,3 +139,9 @@ created blocks next fresh limit is =
         least_is = λ s up. omega arith;
       };
     }
+
+pub first_own : (fresh n : ℕ) → n < fresh → first_pages fresh n ≡ None
+first_own fresh n lt =
+    let col : PageNode = ColumnNode all_keys [] 0 (fresh + 1) in
+    let leaf : PageNode = CurrentLeaf all_keys 0 [] in
+    put_other (fresh + 1) leaf (put fresh col (λ _. None)) n (λ e. omega (arith, e, lt)) ∙ put_other fresh col (λ _. None) n (λ e. omega (arith, e, lt))

@@ -24,3 +24,4 @@ pub mod Raising
 pub mod Insertion
 pub mod Roots
 pub mod Looks
+pub mod Beginning

@@ -1,5 +1,5 @@
 -- A tree, and the versions that it stands for.
-use Rattle.std.specs.Prelude.{◌≡◌, ℕ, ◌+◌, ◌<◌, ◌≤◌, List, [], Option, length, slice_set}
+use Rattle.std.specs.Prelude.{◌≡◌, ℕ, ◌+◌, ◌<◌, ◌≤◌, List, [], Option, None, length, slice_set}
 use Rattle.page_journal.specs.Layout.{Image, pages_of}
 use Rattle.page_journal.specs.Recovers.{laid, AreBelow, AreDistinct}
 use Rattle.page_tx.specs.declared.pages.Pages.{Ghosts}
@@ -32,12 +32,21 @@ pub record AreFirst (page : ℕ) (images : List Image) : Type 0 where
   pub says_column : PageSays column (ColumnNode all_keys [] 0 (page + 1))
   pub says_leaf : PageSays leaf (CurrentLeaf all_keys 0 [])
 
--- The pages of a transaction show a tree of no version, whatever blocks say. No page but its own is told of.
+-- These pages tell a tree of no version, whatever blocks say: its root is a column in this page, its leaf is in the next one, and a
+-- version to come may have any stamp. No page but these two is told of.
+pub record TellsFirst (pages : List (List ℕ)) (page : ℕ) : Type 0 where
+  pub nodes : ℕ → Option PageNode
+  pub tells : AreShown pages nodes
+  pub own : (n : ℕ) → n < page → nodes n ≡ None
+  pub has : (blocks : ℕ → Option BlockNode) (next : ℕ) → TreeHas (record { nodes = nodes; limit = page + 2; blocks = blocks; next = next }) [] page 1 0
+
+-- The pages of a transaction show a tree of no version, whatever blocks say. No page but its own is told of, and none before its root.
 pub record ShowsTree {P : Type 0} (pages : Ghosts P) (held : P) (start : Start) (root level least : ℕ) : Type 0 where
   pub shown : List (List ℕ)
   pub shows : pages.shows held start shown
   pub nodes : ℕ → Option PageNode
   pub tells : AreShown shown nodes
+  pub own : (n : ℕ) → n < root → nodes n ≡ None
   pub has : (blocks : ℕ → Option BlockNode) (next : ℕ) → TreeHas (record { nodes = nodes; limit = pages.next held; blocks = blocks; next = next }) [] root level least
 
 -- The pages of a transaction and the settled blocks of a shelf show the tree with this root, and it stands for these versions. The pages

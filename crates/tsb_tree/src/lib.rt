@@ -28,4 +28,4 @@ pub use error::TreeError;
 pub use inserting::insert;
 pub use looking::Tree;
 pub use opening::open;
-pub use tree::{TreePlace, create};
+pub use tree::{TreePlace, create, first_images};

@@ -1,9 +1,10 @@
 //! Trees.
 ghost use Rattle.std.specs.Prelude.{◌≡◌, ◌↔◌, ◌<◌, ◌≤◌, ◌+◌, ◌*◌, ◌^◌, ℕ, List, length, OnErr, IfOk, IfErr, Err};
+ghost use Rattle.page_journal.specs.Recovers.{laid};
 ghost use Rattle.page_tx.specs.Start.{Start};
 ghost use Rattle.tsb_tree.specs.Refusals.{CreateRefusal};
 ghost use Rattle.tsb_tree.specs.Stores.{ReadsAlone};
-ghost use Rattle.tsb_tree.specs.Trees.{AreFirst, ShowsTree};
+ghost use Rattle.tsb_tree.specs.Trees.{AreFirst, ShowsTree, TellsFirst};
 
 use crate::change::lay_image;
 use crate::error::TreeError;
@@ -12,7 +13,7 @@ use crate::whole::Whole;
 use disk_models::Page;
 use page_tx::{PageError, Pages};
 use route_model::Key;
-use std::alloc::Global;
+use std::alloc::{AllocError, Global};
 use version_model::{Leaf, Stamp};
 
 /// Where a tree lies: the page of its root and the root's level, 1 of a column and up to 7; and the least stamp that a
@@ -31,11 +32,12 @@ pub fn first_key() -> Key
     Key::from_octets(&[0; 40])
 }
 
-// The images of an empty column and of its current leaf, in two pages.
-fn first_images(alloc: Global, page: u64) -> Result<Vec<(u64, Page)>, TreeError>
+/// Images that make a tree of no version of two pages of a map: this one, of a column, which is the root, of level 1; and the next
+/// one, of its current leaf. A version to come may have any stamp. It fails where memory is refused, and only then.
+pub fn first_images(alloc: Global, page: u64) -> Result<Vec<(u64, Page)>, AllocError>
     requires below { page + 1 < 2 ^ 64 }
     ensures images { IfOk result (λ images. AreFirst page images.items) }
-    ensures memory { IfErr result (λ e. e ≡ TreeError.OutOfMemory) }
+    ensures tree { IfOk result (λ images. (shown : List (List ℕ)) → page + 2 ≤ length shown → TellsFirst (laid images.items shown) page) }
 {
     let whole = Whole {
         low: first_key(),

@@ -1,11 +1,8 @@
-use Rattle.std.proofs.Common.{◌≡◌, ◌+◌, ◌≤◌, [], set, length, length-set, sym, subst, arith, None}
+use Rattle.std.proofs.Common.{◌≡◌, ◌+◌, ◌≤◌, length, sym, subst, arith}
 use Rattle.page_journal.specs.Recovers.{laid}
-use Rattle.version_model.specs.Pages.{ColumnNode, CurrentLeaf, all_keys}
 use Rattle.tsb_tree.specs.Refusals.{CreateRefusal, of_page}
-use Rattle.tsb_walk.specs.Shown.{AreShown}
-use Rattle.tsb_tree.proofs.Laying.{put}
-use Rattle.tsb_tree.proofs.Telling.{shown-set, shown-none}
-use Rattle.tsb_tree.proofs.Growing.{created, first_pages}
+use Rattle.tsb_tree.proofs.Beginning.{shown_first}
+use Rattle.tsb_tree.proofs.Growing.{created, first_own, first_pages}
 use Rattle.tsb_tree.proofs.Creating.{lay_refused}
 use Rattle.tsb_tree.proofs.tree.create.Goals as goal
 
@@ -24,13 +21,12 @@ returns-in-Ok-clause-created g c start shown shows =
     let first = c.in_ok-images.ensures.images in
     let long : length shown ≡ homes = g.met.P.Pages.count c.args.pages.now start shown shows in
     let inside : page + 2 ≤ homes = omega (arith, c.home_pages.ensures, c.home_pages-else-home_pages-lt2.ensures) in
-    let one : AreShown (set shown page first.column) (put page (ColumnNode all_keys [] 0 (page + 1)) (λ _. None)) = shown-set shown (λ _. None) page first.column (ColumnNode all_keys [] 0 (page + 1)) (omega (arith, long, inside)) first.says_column (shown-none shown) in
-    let two : AreShown (set (set shown page first.column) (page + 1) first.leaf) (first_pages page) = shown-set (set shown page first.column) (put page (ColumnNode all_keys [] 0 (page + 1)) (λ _. None)) (page + 1) first.leaf (CurrentLeaf all_keys 0 []) (omega (arith, long, inside, length-set shown page first.column)) first.says_leaf one in
     let zero' : c.new.result ≡ 0 = omega (arith, c.new.ensures.number) in
     rw zero' (record {
       shown = laid images shown;
       shows = c.in-Ok.ensures.ok start shown shows;
       nodes = first_pages page;
-      tells = rw (first.laid_are shown) two;
+      tells = shown_first page images shown first (omega (arith, long, inside));
+      own = first_own page;
       has = λ blocks next. created blocks next page (g.P.Pages.next c.lay.new.self) c.in-Ok.ensures.next;
     })

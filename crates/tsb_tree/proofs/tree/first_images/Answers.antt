@@ -1,6 +1,7 @@
 use Rattle.std.proofs.Common.{◌≡◌, ◌+◌, List, ℕ, [], set, length, refl, ◌∙◌, ap, arith, None}
 use Rattle.page_journal.specs.Recovers.{laid}
 use Rattle.tsb_tree.specs.declared.whole.Whole.{Whole}
+use Rattle.tsb_tree.proofs.Beginning.{tells_first}
 use Rattle.tsb_tree.proofs.Creating.{first_column, first_leaf}
 use Rattle.tsb_tree.proofs.tree.first_images.Goals as goal
 
@@ -22,3 +23,6 @@ returns-clause-images c =
       says_column = first_column w (page + 1) c.in_ok-column.column c.first_key.ensures.first refl c.new.ensures.items start c.in_ok-column.ensures.says;
       says_leaf = first_leaf w c.in_ok-leaf.leaf c.first_key.ensures.first refl start c.new-3.ensures.empty c.in_ok-leaf.ensures.says;
     }
+
+pub returns-clause-tree : goal.returns-clause-tree
+returns-clause-tree c = λ shown inside. tells_first c.args.page _ shown (returns-clause-images c) inside
