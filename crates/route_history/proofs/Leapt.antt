@@ -42,6 +42,9 @@ module _ (all : List Version) (ps : List (Placed Admitted)) (c d : RowsCursor) (
       ] in
       subst (λ (rows : List Row). IsAnswer ps c.question rows d.more) (sym h.1) (subst (λ (more : Bool). IsAnswer ps c.question c.rows.items more) (sym h.2) whole)
 
+  pub leapt_over : HasLeapt c d None → Gathered all ps d
+  leapt_over h = gathered_as all ps c.question d.question None (front_number d.front) d.ended d.ended d.rows.items d.rows.items d.more d.more h.0 (ap front_number h.3) refl refl refl (leapt_none h)
+
   pub leapt_gathered : (front : Front) → HasLeapt c d (Some front) → Gathered all ps d
   leapt_gathered front h =
       let x = h.5 in

@@ -1,6 +1,6 @@
 //! A question of a history under way.
 
-ghost use Rattle.std.specs.Prelude.{◌≡◌, ◌++◌, ◌∷◌, [], ◌-◌, ◌/◌, ◌^◌, ◌<◌, ◌≤◌, suc, ℕ, List, Option, Some, None, map, option_map, filter, drop, length, nat_lt, nat_eq, IfOk, IfSome, OnOk, OnErr};
+ghost use Rattle.std.specs.Prelude.{◌≡◌, ◌⊎◌, ◌++◌, ◌∷◌, [], ◌-◌, ◌/◌, ◌^◌, ◌<◌, ◌≤◌, suc, ℕ, List, Option, Some, None, map, option_map, filter, drop, length, nat_lt, nat_eq, IfOk, IfSome, OnOk, OnErr};
 ghost use Rattle.std.specs.List.{AllByRecursion};
 ghost use Rattle.route_model.specs.Admission.{Admitted};
 ghost use Rattle.route_model.specs.declared.change.Change.{Change as ChangeValue};
@@ -10,6 +10,7 @@ ghost use Rattle.version_model.specs.Versions.{Version};
 ghost use Rattle.version_model.specs.Ranges.{end_or};
 ghost use Rattle.version_model.specs.Looks.{IsPart};
 ghost use Rattle.version_model.specs.Entries.{versions_of};
+ghost use Rattle.tsb_walk.specs.Looked.{TellsFrom};
 ghost use Rattle.route_history.specs.Stamps.{last_stamp, stamp_of};
 ghost use Rattle.route_history.specs.Walks.{Rose};
 ghost use Rattle.route_history.specs.Spans.{event_in, before, version_at, subject_key, stamp_in, IsChangeIn, IsEventIn, HasEvent, AreStamped, IsTelling, TellsEvents, HasTold, HasToldSo, IsSameTelling};
@@ -200,6 +201,7 @@ fn lesser(told: &Option<Stamp>, to: Stamp) -> Stamp
     ensures low { result ≤ end_or told.now }
     ensures high { result ≤ to }
     ensures above { (at : ℕ) → at < end_or told.now → at < to → at < result }
+    ensures one { (result ≡ end_or told.now) ⊎ (result ≡ to) }
 {
     let _fits = to.number();
     match told {
@@ -263,6 +265,7 @@ impl EventsCursor {
         session: &KeyVersions,
     ) -> Result<(), AllocError>
         ensures told { (all : List Version) (ps : List (Placed Admitted)) → TellsEvents all ps self.old.question → IsTelling all self.old.question at self.old.left self.old.told.items self.old.more → IsPart all (key_number self.old.question.peer self.old.question.prefix) at (versions_of route.now.entries.items) route.now.told → IsPart all (session_number self.old.question.peer) at (versions_of session.now.entries.items) session.now.told → OnOk result (HasToldSo all ps self.new × Rose (Some at) self.new.at) }
+        ensures rose { TellsFrom at route.now → TellsFrom at session.now → OnOk result (Rose (Some at) self.new.at) }
         ensures question { self.new.question ≡ self.old.question }
         ensures same { OnErr result (IsSameTelling self.old self.new) }
     {

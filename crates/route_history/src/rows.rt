@@ -13,6 +13,7 @@ ghost use Rattle.route_history.specs.Fronts.{number_at, front_number};
 ghost use Rattle.version_model.specs.Versions.{found_at};
 ghost use Rattle.version_model.specs.Looks.{IsReached, At as ReachAt};
 ghost use Rattle.tsb_walk.specs.Answers.{reached_as};
+ghost use Rattle.tsb_walk.specs.Looked.{GoesOnFrom};
 ghost use Rattle.route_history.specs.Walks.{IsSame, IsStart, counts, Tells, EndedAt, IsUnderWay, Gathered, Rose, IsRowAt, spot_in, IsSpotOf, IsWantedAt, IsRouteIn};
 
 use crate::front::Front;
@@ -247,6 +248,7 @@ impl RowsCursor {
         reached: Reached,
     ) -> Result<(), AllocError>
         ensures taken { (all : List Version) (ps : List (Placed Admitted)) → Tells all ps self.old.question.moment → IsUnderWay all ps self.old.question (number_at front) self.old.ended self.old.rows.items self.old.more → IsReached all (last_stamp self.old.question.moment) (number_at front) (reached_as reached) → OnOk result (Gathered all ps self.new × Rose (Some (number_at front)) (front_number self.new.front)) }
+        ensures rose { GoesOnFrom (number_at front) reached → OnOk result (Rose (Some (number_at front)) (front_number self.new.front)) }
         ensures question { self.new.question ≡ self.old.question }
         ensures same { OnErr result (IsSame self.old self.new) }
     {

@@ -45,7 +45,7 @@ pub enum RowsTurn {
 }
 
 // The last stamp of a moment.
-fn last_stamp(moment: Moment) -> Stamp
+pub(crate) fn last_stamp(moment: Moment) -> Stamp
     ensures { result ≡ last_stamp moment }
 {
     Stamp::new(moment.seconds(), 18_446_744_073_709_551_615)
@@ -53,7 +53,7 @@ fn last_stamp(moment: Moment) -> Stamp
 
 impl RowsCursor {
     // Leaps over keys that the question doesn't ask for; none where the walk is over.
-    fn leap(&mut self) -> Option<Front>
+    pub(crate) fn leap(&mut self) -> Option<Front>
         ensures leapt { HasLeapt self.old self.new result }
         ensures question { self.new.question ≡ self.old.question }
     {

@@ -1,4 +1,4 @@
-use Rattle.std.proofs.Common.{◌≡◌, ℕ, ◌-◌, ◌<◌, ◌≤◌, List, ◌++◌, map, drop, length, Some, Bool, true, subst, sym, ap, ◌∙◌, arith}
+use Rattle.std.proofs.Common.{◌≡◌, ◌⊎◌, inl, inr, ℕ, ◌-◌, ◌<◌, ◌≤◌, List, ◌++◌, map, drop, length, Some, Bool, true, subst, sym, ap, ◌∙◌, arith}
 use Rattle.std.proofs.lemmas.Bool.{eqb-true, eq-eqb, false≢true}
 use Rattle.route_model.specs.Keys.{key_number, session_number}
 use Rattle.route_model.proofs.api.Keys.{session_below}
@@ -20,6 +20,12 @@ use Rattle.route_history.proofs.Stamps.{drop_events, events_length}
 use Rattle.route_history.proofs.HistoryRounds.{Zips, news_by_parts, round, tells_on, tells_all, tells_more}
 use Rattle.route_history.proofs.events.EventsCursor.take.Goals as goal
 use Rattle.route_history.proofs.events.EventsCursor.take.Goals.{then-len-gt-MAX_ROWS, else-len-gt-MAX_ROWS+then-is_same, else-len-gt-MAX_ROWS+else-is_same}
+
+-- the least of three numbers that isn't the last of them is above what the first two are above
+risen : (at to a b other end : ℕ) → at < a → at < b → (to ≡ end → ⊥) → (to ≡ a) ⊎ (to ≡ other) → (other ≡ b) ⊎ (other ≡ end) → at < to
+risen at to a b other end la lb ne (inl e) o = omega (arith, la, e)
+risen at to a b other end la lb ne (inr e) (inl f) = omega (arith, lb, e, f)
+risen at to a b other end la lb ne (inr e) (inr f) = absurd (ne (e ∙ f))
 
 pub returns-clause-told : goal.returns-clause-told
 returns-clause-told c = λ all ps t u a b.
@@ -68,4 +74,19 @@ returns-clause-told c = λ all ps t u a b.
             (tells_on all ps q t ne to c.saturating_sub-self.result items (let h : span_start q ≤ to = omega (arith, low, reach) in h) (let ne' : to ≡ c.end_of-end.result → ⊥ = (λ e. false≢true (sym w.if-is_same.false ∙ w.is_same.ensures ∙ eq-eqb _ _ e)) in let h : to < span_end q = omega (arith, within, end, ne') in h) are left (let h : length items ≤ most_rows = omega (arith, w.if-len-gt-MAX_ROWS.false, c.len.ensures) in h)),
         above,
       )
+    ]
+
+pub returns-clause-rose : goal.returns-clause-rose
+returns-clause-rose c = λ a b.
+    let at : ℕ = c.args.at in
+    let to : ℕ = c.lesser-to.result in
+    let la : at < end_or c.args.route.now.told = a in
+    let lb : at < end_or c.args.session.now.told = b in
+    elim c.if-len-gt-MAX_ROWS.branch [
+      | then-len-gt-MAX_ROWS w ↦ subst (λ (d : EventsCursor). Rose (Some at) d.at) (sym w.self-is) tt
+      | else-len-gt-MAX_ROWS+then-is_same w ↦ subst (λ (d : EventsCursor). Rose (Some at) d.at) (sym w.self-is) tt
+      | else-len-gt-MAX_ROWS+else-is_same w ↦ subst (λ (d : EventsCursor). Rose (Some at) d.at) (sym w.self-is) (
+          let ne : to ≡ c.end_of-end.result → ⊥ = λ e. false≢true (sym w.if-is_same.false ∙ w.is_same.ensures ∙ eq-eqb _ _ e) in
+          let above : at < to = risen at to (end_or c.args.route.now.told) (end_or c.args.session.now.told) c.lesser.result c.end_of-end.result la lb ne c.lesser-to.ensures.one c.lesser.ensures.one in
+          above)
     ]
