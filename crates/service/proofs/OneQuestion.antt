@@ -1,23 +1,38 @@
 -- A line asks one question at most.
-use Rattle.std.proofs.Common.{◌≡◌, ℕ, ◌<◌, ◌≤◌, ◌^◌, List, [], ◌∷◌, Option, Some, None, codes, decimal, arith, refl, sym, ap, subst, ◌∙◌}
+use Rattle.std.proofs.Common.{◌≡◌, ℕ, ◌<◌, ◌≤◌, ◌^◌, true, false, List, [], ◌∷◌, Option, Some, None, codes, decimal, arith, refl, sym, ap, subst, ◌∙◌}
+use Rattle.std.specs.Str.{bytes_eq}
 use Rattle.std.proofs.lemmas.Fmt.{decimal_injective}
+use Rattle.std.proofs.lemmas.Slice.Eq.{bytes_eq-Decides}
+use Rattle.route_model.specs.declared.address.Address.{Address}
 use Rattle.route_model.specs.declared.peer.Peer.{Peer}
-use Rattle.route_meaning.specs.declared.question.Select.TheVariants.{ByPrefix}
+use Rattle.route_model.specs.Prefix.{IpPrefix}
+use Rattle.route_meaning.specs.declared.question.Select.{Select}
+use Rattle.route_meaning.specs.declared.question.Select.TheVariants.{Route, ByPrefix, Covering, PeerTable, All}
 use Rattle.route_meaning.specs.declared.question.Spot.{Spot}
 use Rattle.route_meaning.specs.declared.question.RowsQuestion.{RowsQuestion}
+use Rattle.route_text.specs.AddressText.{IsAddressText}
 use Rattle.route_text.specs.MomentText.{IsMomentText}
 use Rattle.route_text.specs.PrefixText.{IsPrefixText}
 use Rattle.route_text.proofs.api.Addresses.{IsAddressText_unique}
 use Rattle.route_text.proofs.api.OneValue.{one_instant, one_prefix}
 use Rattle.interleaving_core.specs.declared.query.Query.{Query}
 use Rattle.interleaving_core.specs.declared.query.Query.TheVariants.{Rows, Events}
-use Rattle.service.specs.Requests.{words_of, ArePeerWords, AreSpotWords, AreAfterWords, AreByPrefixWords, IsQueryLine}
+use Rattle.service.specs.Requests.{words_of, ArePeerWords, AreSpotWords, AreAfterWords, AreRouteWords, ArePrefixWords, AreCoverWords, ArePeerTableWords, AreAllWords, AreSelectWords, AreRowsWords, IsQueryLine}
+use Rattle.service.proofs.Words.{first_of, rest_of}
 
 abbrev Text : Type 0
 Text = List ℕ
 
+-- words whose first ones differ aren't the same
+differ : (a b : Text) (xs ys words : List Text) → bytes_eq a b ≡ false → words ≡ a ∷ xs → words ≡ b ∷ ys → ⊥
+differ a b xs ys words apart h k =
+    let same : bytes_eq a b ≡ true = (bytes_eq-Decides a b).1 (first_of _ _ _ _ (sym h ∙ k)) in
+    absurd cc
+
 same_number : (a b last : ℕ) (text : Text) → last < 2 ^ 64 → a ≤ last → b ≤ last → text ≡ decimal a → text ≡ decimal b → a ≡ b
 same_number a b last text fits small also e f = decimal_injective a b (omega (arith, fits, small)) (omega (arith, fits, also)) (sym e ∙ f)
+
+-- ---- peers and spots
 
 one_peer : (collector address as_number : Text) (p q : Peer) → ArePeerWords collector address as_number p → ArePeerWords collector address as_number q → p ≡ q
 one_peer collector address as_number p q h k =
@@ -26,13 +41,16 @@ one_peer collector address as_number p q h k =
     let numbers = same_number p.as_number q.as_number 4294967295 as_number (omega arith) h.in_range k.in_range h.as_number_is k.as_number_is in
     λ i. record { collector = collectors i; address = addresses i; as_number = numbers i }
 
--- ---- the words of a spot and of a question
+-- the same of words that are equal
+same_peer : (a b c d e f : Text) (p q : Peer) → a ≡ d → b ≡ e → c ≡ f → ArePeerWords a b c p → ArePeerWords d e f q → p ≡ q
+same_peer a b c d e f p q first second third h k =
+    one_peer d e f p q
+    (subst (λ (x : Text). ArePeerWords x e f p) first
+    (subst (λ (x : Text). ArePeerWords a x f p) second
+    (subst (λ (x : Text). ArePeerWords a b x p) third h))) k
 
-first_of : (a b : Text) (xs ys : List Text) → ◌≡◌ {A = List Text} (a ∷ xs) (b ∷ ys) → a ≡ b
-first_of a b xs ys e = cc
-
-rest_of : (a b : Text) (xs ys : List Text) → ◌≡◌ {A = List Text} (a ∷ xs) (b ∷ ys) → xs ≡ ys
-rest_of a b xs ys e = cc
+same_prefix : (a b : Text) (p q : IpPrefix) → a ≡ b → IsPrefixText a p → IsPrefixText b q → p ≡ q
+same_prefix a b p q e h k = one_prefix b p q (subst (λ (x : Text). IsPrefixText x p) e h) k
 
 one_spot : (words : List Text) (s t : Spot) → AreSpotWords words s → AreSpotWords words t → s ≡ t
 one_spot words s t h k =
@@ -44,12 +62,12 @@ one_spot words s t h k =
     let as_number : h.as_number ≡ k.as_number = first_of _ _ _ _ behind-3 in
     let behind-4 = rest_of _ _ _ _ behind-3 in
     let prefix : h.prefix ≡ k.prefix = first_of _ _ _ _ behind-4 in
-    let moved : ArePeerWords k.collector k.address k.as_number s.peer = subst (λ (x : Text). ArePeerWords x k.address k.as_number s.peer) collector
-    (subst (λ (x : Text). ArePeerWords h.collector x k.as_number s.peer) address
-    (subst (λ (x : Text). ArePeerWords h.collector h.address x s.peer) as_number h.peer_is)) in
-    let peers = one_peer k.collector k.address k.as_number s.peer t.peer moved k.peer_is in
-    let prefixes = one_prefix k.prefix s.prefix t.prefix (subst (λ (x : Text). IsPrefixText x s.prefix) prefix h.prefix_is) k.prefix_is in
+    let peers = same_peer _ _ _ _ _ _ s.peer t.peer collector address as_number h.peer_is k.peer_is in
+    let prefixes = same_prefix _ _ s.prefix t.prefix prefix h.prefix_is k.prefix_is in
     λ i. record { peer = peers i; prefix = prefixes i }
+
+same_spot : (xs ys : List Text) (s t : Spot) → xs ≡ ys → AreSpotWords xs s → AreSpotWords ys t → s ≡ t
+same_spot xs ys s t e h k = one_spot ys s t (subst (λ (x : List Text). AreSpotWords x s) e h) k
 
 some_after : (named : List Text) → ◌≡◌ {A = List Text} [] (codes "after" ∷ named) → ⊥
 some_after named e = absurd cc
@@ -58,24 +76,80 @@ one_after : (words : List Text) (a b : Option Spot) → AreAfterWords words a �
 one_after words None None h k = refl
 one_after words None (Some t) h k = absurd (some_after k.0 (sym h ∙ k.1))
 one_after words (Some s) None h k = absurd (some_after h.0 (sym k ∙ h.1))
-one_after words (Some s) (Some t) h k =
-    let named : h.0 ≡ k.0 = rest_of _ _ _ _ (sym h.1 ∙ k.1) in
-    ap Some (one_spot k.0 s t (subst (λ (x : List Text). AreSpotWords x s) named h.2) k.2)
+one_after words (Some s) (Some t) h k = ap Some (same_spot h.0 k.0 s t (rest_of _ _ _ _ (sym h.1 ∙ k.1)) h.2 k.2)
 
-one_by_prefix : (words : List Text) (q r : RowsQuestion) → AreByPrefixWords words q → AreByPrefixWords words r → q ≡ r
-one_by_prefix words q r h k =
+same_after : (xs ys : List Text) (a b : Option Spot) → xs ≡ ys → AreAfterWords xs a → AreAfterWords ys b → a ≡ b
+same_after xs ys a b e h k = one_after ys a b (subst (λ (x : List Text). AreAfterWords x a) e h) k
+
+-- ---- which rows are wanted
+
+one_route : (words : List Text) (s t : Spot) → AreRouteWords words s → AreRouteWords words t → s ≡ t
+one_route words s t h k = same_spot h.named k.named s t (rest_of _ _ _ _ (sym h.are ∙ k.are)) h.spot_is k.spot_is
+
+one_by_prefix : (words : List Text) (p q : IpPrefix) (a b : Option Spot) → ArePrefixWords words p a → ArePrefixWords words q b → (p ≡ q) × (a ≡ b)
+one_by_prefix words p q a b h k =
+    let behind = rest_of _ _ _ _ (sym h.are ∙ k.are) in
+    (same_prefix _ _ p q (first_of _ _ _ _ behind) h.prefix_is k.prefix_is, same_after _ _ a b (rest_of _ _ _ _ behind) h.after_is k.after_is)
+
+one_covering : (words : List Text) (p q : Address) (a b : Option Spot) → AreCoverWords words p a → AreCoverWords words q b → (p ≡ q) × (a ≡ b)
+one_covering words p q a b h k =
+    let behind = rest_of _ _ _ _ (sym h.are ∙ k.are) in
+    let text : h.text ≡ k.text = first_of _ _ _ _ behind in
+    (IsAddressText_unique k.text p q (subst (λ (x : Text). IsAddressText x p) text h.address_is) k.address_is, same_after _ _ a b (rest_of _ _ _ _ behind) h.after_is k.after_is)
+
+one_table : (words : List Text) (p q : Peer) (a b : Option Spot) → ArePeerTableWords words p a → ArePeerTableWords words q b → (p ≡ q) × (a ≡ b)
+one_table words p q a b h k =
+    let behind = rest_of _ _ _ _ (sym h.are ∙ k.are) in
+    let behind-2 = rest_of _ _ _ _ behind in
+    let behind-3 = rest_of _ _ _ _ behind-2 in
+    (same_peer _ _ _ _ _ _ p q (first_of _ _ _ _ behind) (first_of _ _ _ _ behind-2) (first_of _ _ _ _ behind-3) h.peer_is k.peer_is, same_after _ _ a b (rest_of _ _ _ _ behind-3) h.after_is k.after_is)
+
+one_all : (words : List Text) (a b : Option Spot) → AreAllWords words a → AreAllWords words b → a ≡ b
+one_all words a b h k = same_after _ _ a b (rest_of _ _ _ _ (sym h.are ∙ k.are)) h.after_is k.after_is
+
+one_select : (words : List Text) (s t : Select) (a b : Option Spot) → AreSelectWords words s a → AreSelectWords words t b → (s ≡ t) × (a ≡ b)
+one_select words (Route p x) (Route q y) a b h k =
+    let spots = one_route words (record { peer = p; prefix = x }) (record { peer = q; prefix = y }) h.0 k.0 in
+    ((λ i. Route (spots i).peer (spots i).prefix), h.1 ∙ sym k.1)
+one_select words (Route p x) (ByPrefix y) a b h k = absurd (differ _ _ _ _ words refl h.0.are k.are)
+one_select words (Route p x) (Covering y) a b h k = absurd (differ _ _ _ _ words refl h.0.are k.are)
+one_select words (Route p x) (PeerTable y) a b h k = absurd (differ _ _ _ _ words refl h.0.are k.are)
+one_select words (Route p x) All a b h k = absurd (differ _ _ _ _ words refl h.0.are k.are)
+one_select words (ByPrefix x) (Route q y) a b h k = absurd (differ _ _ _ _ words refl h.are k.0.are)
+one_select words (ByPrefix x) (ByPrefix y) a b h k = let e = one_by_prefix words x y a b h k in (ap ByPrefix e.0, e.1)
+one_select words (ByPrefix x) (Covering y) a b h k = absurd (differ _ _ _ _ words refl h.are k.are)
+one_select words (ByPrefix x) (PeerTable y) a b h k = absurd (differ _ _ _ _ words refl h.are k.are)
+one_select words (ByPrefix x) All a b h k = absurd (differ _ _ _ _ words refl h.are k.are)
+one_select words (Covering x) (Route q y) a b h k = absurd (differ _ _ _ _ words refl h.are k.0.are)
+one_select words (Covering x) (ByPrefix y) a b h k = absurd (differ _ _ _ _ words refl h.are k.are)
+one_select words (Covering x) (Covering y) a b h k = let e = one_covering words x y a b h k in (ap Covering e.0, e.1)
+one_select words (Covering x) (PeerTable y) a b h k = absurd (differ _ _ _ _ words refl h.are k.are)
+one_select words (Covering x) All a b h k = absurd (differ _ _ _ _ words refl h.are k.are)
+one_select words (PeerTable x) (Route q y) a b h k = absurd (differ _ _ _ _ words refl h.are k.0.are)
+one_select words (PeerTable x) (ByPrefix y) a b h k = absurd (differ _ _ _ _ words refl h.are k.are)
+one_select words (PeerTable x) (Covering y) a b h k = absurd (differ _ _ _ _ words refl h.are k.are)
+one_select words (PeerTable x) (PeerTable y) a b h k = let e = one_table words x y a b h k in (ap PeerTable e.0, e.1)
+one_select words (PeerTable x) All a b h k = absurd (differ _ _ _ _ words refl h.are k.are)
+one_select words All (Route q y) a b h k = absurd (differ _ _ _ _ words refl h.are k.0.are)
+one_select words All (ByPrefix y) a b h k = absurd (differ _ _ _ _ words refl h.are k.are)
+one_select words All (Covering y) a b h k = absurd (differ _ _ _ _ words refl h.are k.are)
+one_select words All (PeerTable y) a b h k = absurd (differ _ _ _ _ words refl h.are k.are)
+one_select words All All a b h k = (refl, one_all words a b h k)
+
+-- ---- questions
+
+one_rows : (words : List Text) (q r : RowsQuestion) → AreRowsWords words q → AreRowsWords words r → q ≡ r
+one_rows words q r h k =
     let behind = rest_of _ _ _ _ (sym h.are ∙ k.are) in
     let moment : h.moment ≡ k.moment = first_of _ _ _ _ behind in
-    let behind-2 = rest_of _ _ _ _ (rest_of _ _ _ _ behind) in
-    let prefix : h.prefix ≡ k.prefix = first_of _ _ _ _ behind-2 in
-    let after : h.after ≡ k.after = rest_of _ _ _ _ behind-2 in
+    let wanted : h.wanted ≡ k.wanted = rest_of _ _ _ _ behind in
     let moments = one_instant 4294967295 (omega arith) k.moment q.moment r.moment (subst (λ (x : Text). IsMomentText x q.moment) moment h.moment_is) k.moment_is in
-    let wanted = one_prefix k.prefix h.wanted k.wanted (subst (λ (x : Text). IsPrefixText x h.wanted) prefix h.prefix_is) k.prefix_is in
-    let selects : q.select ≡ r.select = h.select_is ∙ ap ByPrefix wanted ∙ sym k.select_is in
-    let afters = one_after k.after q.after r.after (subst (λ (x : List Text). AreAfterWords x q.after) after h.after_is) k.after_is in
-    λ i. record { moment = moments i; select = selects i; after = afters i }
+    let selects = one_select k.wanted q.select r.select q.after r.after (subst (λ (x : List Text). AreSelectWords x q.select q.after) wanted h.select_is) k.select_is in
+    let select = selects.0 in
+    let after = selects.1 in
+    λ i. record { moment = moments i; select = select i; after = after i }
 
 pub one_query : (line : List ℕ) (q r : Query) → IsQueryLine line q → IsQueryLine line r → q ≡ r
-one_query line (Rows q) (Rows r) h k = ap Rows (one_by_prefix (words_of line) q r h k)
+one_query line (Rows q) (Rows r) h k = ap Rows (one_rows (words_of line) q r h k)
 one_query line (Rows q) (Events r) h k = absurd k
 one_query line (Events q) r h k = absurd h

@@ -1,13 +1,5 @@
 -- The words of a line, one by one.
-use Rattle.std.proofs.Common.{◌≡◌, ℕ, zero, suc, ◌<◌, ◌≤◌, Bool, true, false, not, Option, codes, List, [], ◌∷◌, length, map, drop, get_or, refl, sym, ◌∙◌, arith, Bor}
-use Rattle.std.specs.Str.{bytes_eq}
-use Rattle.route_model.specs.Prefix.{IpPrefix}
-use Rattle.route_meaning.specs.declared.question.Select.TheVariants.{ByPrefix}
-use Rattle.route_meaning.specs.declared.question.Spot.{Spot}
-use Rattle.route_text.specs.MomentText.{IsMomentText}
-use Rattle.route_text.specs.PrefixText.{IsPrefixText}
-use Rattle.service.specs.Requests.{AreAfterWords, AreByPrefixWords}
-use Rattle.std.proofs.lemmas.Slice.Eq.{bytes_eq-Decides}
+use Rattle.std.proofs.Common.{◌≡◌, ℕ, zero, suc, ◌<◌, List, [], ◌∷◌, length, map, drop, get_or, refl, ap, arith, Bor}
 
 abbrev pub Words : Type 0
 Words = List (Bor (List ℕ))
@@ -36,37 +28,23 @@ words_behind (w ∷ ws) (suc k) (x ∷ xs) e =
     let rest : texts ws ≡ xs = cc in
     words_behind ws k xs rest
 
--- four words and those behind them
-pub four_words : (ws : Words) (d : Bor (List ℕ)) → 4 ≤ length ws
-    → texts ws ≡ (get_or ws 0 d).now ∷ (get_or ws 1 d).now ∷ (get_or ws 2 d).now ∷ (get_or ws 3 d).now ∷ texts (drop 4 ws)
-four_words [] d h = absurd (omega (arith, h))
-four_words (a ∷ []) d h = absurd (omega (arith, h))
-four_words (a ∷ b ∷ []) d h = absurd (omega (arith, h))
-four_words (a ∷ b ∷ c ∷ []) d h = absurd (omega (arith, h))
-four_words (a ∷ b ∷ c ∷ e ∷ ws) d h = refl
+-- the first of two lists that are the same, and the others
+pub first_of : (a b : List ℕ) (xs ys : List (List ℕ)) → ◌≡◌ {A = List (List ℕ)} (a ∷ xs) (b ∷ ys) → a ≡ b
+first_of a b xs ys e = cc
 
--- two words that weren't found to differ are the same
-pub same_word : (a b : List ℕ) (differ : Bool) → differ ≡ not (bytes_eq a b) → differ ≡ false → a ≡ b
-same_word a b differ is same = (bytes_eq-Decides a b).0 (equal (bytes_eq a b) (sym is ∙ same))
-  where
-    equal : (t : Bool) → not t ≡ false → t ≡ true
-    equal true e = refl
-    equal false e = absurd cc
+pub rest_of : (a b : List ℕ) (xs ys : List (List ℕ)) → ◌≡◌ {A = List (List ℕ)} (a ∷ xs) (b ∷ ys) → xs ≡ ys
+rest_of a b xs ys e = cc
 
--- these words ask this
-pub asked : (ws : Words) (d : Bor (List ℕ)) (moment : ℕ) (wanted : IpPrefix) (after : Option Spot) → 4 ≤ length ws
-    → (get_or ws 0 d).now ≡ codes "at" → (get_or ws 2 d).now ≡ codes "prefix"
-    → IsMomentText (get_or ws 1 d).now moment → IsPrefixText (get_or ws 3 d).now wanted → AreAfterWords (texts (drop 4 ws)) after
-    → AreByPrefixWords (texts ws) (record { moment = moment; select = ByPrefix wanted; after = after })
-asked ws d moment wanted after long at kind moment_is prefix_is after_is =
-    record {
-      moment = (get_or ws 1 d).now;
-      prefix = (get_or ws 3 d).now;
-      after = texts (drop 4 ws);
-      wanted = wanted;
-      are = four_words ws d long ∙ (λ i. at i ∷ (get_or ws 1 d).now ∷ kind i ∷ (get_or ws 3 d).now ∷ texts (drop 4 ws));
-      moment_is = moment_is;
-      prefix_is = prefix_is;
-      select_is = refl;
-      after_is = after_is;
-    }
+-- the second word
+pub second_word : (words behind rest : Words) (first other : List ℕ) (text : Bor (List ℕ)) (xs : List (List ℕ))
+    → texts words ≡ first ∷ texts behind → behind ≡ text ∷ rest → texts words ≡ first ∷ other ∷ xs → text.now ≡ other
+second_word words behind rest first other text xs is parts are =
+    let e : texts behind ≡ text.now ∷ texts rest = ap texts parts in
+    cc
+
+-- what stands behind the second word
+pub behind_second : (words behind rest : Words) (first other : List ℕ) (text : Bor (List ℕ)) (xs : List (List ℕ))
+    → texts words ≡ first ∷ texts behind → behind ≡ text ∷ rest → texts words ≡ first ∷ other ∷ xs → texts rest ≡ xs
+behind_second words behind rest first other text xs is parts are =
+    let e : texts behind ≡ text.now ∷ texts rest = ap texts parts in
+    cc

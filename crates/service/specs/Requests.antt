@@ -1,9 +1,11 @@
 -- Request lines and what they ask. A line is taken without its end.
 use Rattle.std.specs.Prelude.{◌≡◌, ℕ, ◌≤◌, ◌==◌, Option, Some, None, List, [], ◌∷◌, codes, decimal}
 use Rattle.std.specs.List.{slice_split}
+use Rattle.route_model.specs.declared.address.Address.{Address}
 use Rattle.route_model.specs.declared.peer.Peer.{Peer}
 use Rattle.route_model.specs.Prefix.{IpPrefix}
-use Rattle.route_meaning.specs.declared.question.Select.TheVariants.{ByPrefix}
+use Rattle.route_meaning.specs.declared.question.Select.{Select}
+use Rattle.route_meaning.specs.declared.question.Select.TheVariants.{Route, ByPrefix, Covering, PeerTable, All}
 use Rattle.route_meaning.specs.declared.question.Spot.{Spot}
 use Rattle.route_meaning.specs.declared.question.RowsQuestion.{RowsQuestion}
 use Rattle.route_text.specs.AddressText.{IsAddressText}
@@ -39,19 +41,61 @@ abbrev pub AreAfterWords : List (List ℕ) → Option Spot → Type 0
 AreAfterWords words None = words ≡ []
 AreAfterWords words (Some spot) = (named : List (List ℕ)) × (words ≡ codes "after" ∷ named) × AreSpotWords named spot
 
--- `at T prefix PREFIX`, and perhaps `after PEER PREFIX`
-pub record AreByPrefixWords (words : List (List ℕ)) (q : RowsQuestion) : Type 0 where
+-- `route PEER PREFIX`
+pub record AreRouteWords (words : List (List ℕ)) (spot : Spot) : Type 0 where
+  pub named : List (List ℕ)
+  pub are : words ≡ codes "route" ∷ named
+  pub spot_is : AreSpotWords named spot
+
+-- `prefix PREFIX`, and perhaps `after PEER PREFIX`
+pub record ArePrefixWords (words : List (List ℕ)) (prefix : IpPrefix) (after : Option Spot) : Type 0 where
+  pub text : List ℕ
+  pub behind : List (List ℕ)
+  pub are : words ≡ codes "prefix" ∷ text ∷ behind
+  pub prefix_is : IsPrefixText text prefix
+  pub after_is : AreAfterWords behind after
+
+-- `cover ADDRESS`, and perhaps `after PEER PREFIX`
+pub record AreCoverWords (words : List (List ℕ)) (address : Address) (after : Option Spot) : Type 0 where
+  pub text : List ℕ
+  pub behind : List (List ℕ)
+  pub are : words ≡ codes "cover" ∷ text ∷ behind
+  pub address_is : IsAddressText text address
+  pub after_is : AreAfterWords behind after
+
+-- `peer PEER`, and perhaps `after PEER PREFIX`
+pub record ArePeerTableWords (words : List (List ℕ)) (peer : Peer) (after : Option Spot) : Type 0 where
+  pub collector : List ℕ
+  pub address : List ℕ
+  pub as_number : List ℕ
+  pub behind : List (List ℕ)
+  pub are : words ≡ codes "peer" ∷ collector ∷ address ∷ as_number ∷ behind
+  pub peer_is : ArePeerWords collector address as_number peer
+  pub after_is : AreAfterWords behind after
+
+-- `all`, and perhaps `after PEER PREFIX`
+pub record AreAllWords (words : List (List ℕ)) (after : Option Spot) : Type 0 where
+  pub behind : List (List ℕ)
+  pub are : words ≡ codes "all" ∷ behind
+  pub after_is : AreAfterWords behind after
+
+-- these rows are wanted, from behind this spot on; one route is asked for without a spot
+abbrev pub AreSelectWords : List (List ℕ) → Select → Option Spot → Type 0
+AreSelectWords words (Route peer prefix) after = AreRouteWords words (record { peer = peer; prefix = prefix }) × (after ≡ None)
+AreSelectWords words (ByPrefix prefix) after = ArePrefixWords words prefix after
+AreSelectWords words (Covering address) after = AreCoverWords words address after
+AreSelectWords words (PeerTable peer) after = ArePeerTableWords words peer after
+AreSelectWords words All after = AreAllWords words after
+
+-- `at T`, and which rows are wanted
+pub record AreRowsWords (words : List (List ℕ)) (q : RowsQuestion) : Type 0 where
   pub moment : List ℕ
-  pub prefix : List ℕ
-  pub after : List (List ℕ)
-  pub wanted : IpPrefix
-  pub are : words ≡ codes "at" ∷ moment ∷ codes "prefix" ∷ prefix ∷ after
+  pub wanted : List (List ℕ)
+  pub are : words ≡ codes "at" ∷ moment ∷ wanted
   pub moment_is : IsMomentText moment q.moment
-  pub prefix_is : IsPrefixText prefix wanted
-  pub select_is : q.select ≡ ByPrefix wanted
-  pub after_is : AreAfterWords after q.after
+  pub select_is : AreSelectWords wanted q.select q.after
 
 -- the line asks this
 abbrev pub IsQueryLine : List ℕ → Query → Type 0
-IsQueryLine line (Rows q) = AreByPrefixWords (words_of line) q
+IsQueryLine line (Rows q) = AreRowsWords (words_of line) q
 IsQueryLine line (Events q) = ⊥

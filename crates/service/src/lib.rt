@@ -16,6 +16,8 @@ mod output;
 mod refusal;
 mod request;
 mod request_laws;
+mod request_words;
+mod rows_request;
 mod status;
 mod telling;
 mod trying;

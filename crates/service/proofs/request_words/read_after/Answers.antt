@@ -3,7 +3,7 @@ use Rattle.std.proofs.lemmas.Result.{err_from_is_err_and}
 use Rattle.route_meaning.specs.declared.question.Spot.{Spot}
 use Rattle.service.specs.Requests.{AreSpotWords, AreAfterWords}
 use Rattle.service.proofs.Words.{Words, texts}
-use Rattle.service.proofs.request.read_after.Goals as goal
+use Rattle.service.proofs.request_words.read_after.Goals as goal
 
 -- words of which those behind the first name no spot are no `after PEER PREFIX`
 none : (words named : Words) (word : Bor (List ℕ)) (after : Option Spot) → words ≡ word ∷ named → ((spot : Spot) → AreSpotWords (texts named) spot → ⊥) → AreAfterWords (texts words) after → ⊥

@@ -2,7 +2,7 @@ use Rattle.std.proofs.Common.{List, ℕ, subst, sym, arith}
 use Rattle.std.proofs.lemmas.Result.{err_from_is_err_and}
 use Rattle.route_text.specs.PrefixText.{IsPrefixText}
 use Rattle.service.proofs.Words.{word_at}
-use Rattle.service.proofs.request.read_spot.Goals as goal
+use Rattle.service.proofs.request_words.read_spot.Goals as goal
 
 pub returns-in_err-prefix-clause-none : goal.returns-in_err-prefix-clause-none
 returns-in_err-prefix-clause-none c =
