@@ -17,4 +17,9 @@ mod Taking
 mod Stepping
 mod Burning
 mod Applied
+mod Looking
+mod Found
+mod NoteReading
+mod Recalled
+mod Reopened
 pub mod api

@@ -34,7 +34,7 @@ intake_at k [] lt = absurd (omega arith)
 intake_at zero (i ∷ is) lt = (i, refl)
 intake_at (suc k) (i ∷ is) lt = intake_at k is (omega arith)
 
-part_there : {X : Type 0} (k n c : ℕ) (ps : List (Placed X)) → c < n → slice_get (parts k n ps) c ≡ Some (part (k + c) ps)
+pub part_there : {X : Type 0} (k n c : ℕ) (ps : List (Placed X)) → c < n → slice_get (parts k n ps) c ≡ Some (part (k + c) ps)
 part_there k zero c ps lt = absurd (omega arith)
 part_there {X} k (suc n) zero ps lt = let e : k ≡ k + 0 = omega arith in ap (λ x. Some (part x ps)) e
 part_there {X} k (suc n) (suc c) ps lt = let e : suc k + c ≡ k + suc c = omega arith in part_there (suc k) n c ps (omega arith) ∙ ap (λ x. Some (part x ps)) e

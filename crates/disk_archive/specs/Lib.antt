@@ -7,4 +7,7 @@ pub mod Homes
 pub mod Limits
 pub mod Moves
 pub mod Blanks
+pub mod Notes
+pub mod Openings
+pub mod Outcome
 pub mod inner

@@ -5,3 +5,7 @@ pub mod Marked
 pub mod Flushed
 pub mod Applications
 pub mod Outcomes
+pub mod Looking
+pub mod Looked
+pub mod Restoring
+pub mod Recalling

@@ -1,0 +1,15 @@
+use Rattle.disk_archive.proofs.Reopened.{crash_read, kept_read, ok_weaker, reads_found, stands_read}
+use Rattle.disk_archive.proofs.archive.Archive.open.Goals as goal
+
+pub returns-clause-found : goal.returns-clause-found
+returns-clause-found g c honest pen = ok_weaker _ _ c.reopen.result (λ a carries left site h found count noted k. carries site h (reads_found site _ _ _ left h found count noted k)) (c.reopen.ensures.carries honest pen)
+
+pub returns-clause-stands : goal.returns-clause-stands
+returns-clause-stands g c honest pen = ok_weaker _ _ c.reopen.result (λ a carries site h rests count noted. stands_read a site _ _ _ h rests count noted (λ x r. carries site x r)) (c.reopen.ensures.carries honest pen)
+
+pub returns-clause-crash : goal.returns-clause-crash
+returns-clause-crash g c honest settled site h r left pair = crash_read site _ _ _ _ _ _ h r (c.reopen.ensures.means honest settled site.homes site.note r.carries.pages r.carries.means) left pair
+
+pub returns-clause-kept : goal.returns-clause-kept
+returns-clause-kept g c honest pen settled site h r left now =
+    kept_read site _ _ _ _ _ h r (g.met.E.EraseDisk.sound _ (c.reopen.ensures.erase.0 honest)) (c.reopen.ensures.unburnt pen) (c.reopen.ensures.means honest settled site.homes site.note r.carries.pages r.carries.means) left now

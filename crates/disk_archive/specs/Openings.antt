@@ -1,0 +1,45 @@
+-- What is told and left where an archive is opened.
+use Rattle.std.specs.Prelude.{◌≡◌, ◌≤◌, ℕ, List}
+use Rattle.disk_models.specs.Erase.{DiskState}
+use Rattle.disk_models.specs.Once.{OnceState}
+use Rattle.disk_models.specs.Left.{present}
+use Rattle.page_journal.specs.Layout.{home_place}
+use Rattle.page_journal.specs.Identity.{Names}
+use Rattle.route_meaning.specs.History.{History}
+use Rattle.archive_pages.specs.declared.settings.Settings.{Settings}
+use Rattle.archive_pages.specs.Places.{AreSettings, tree_low}
+use Rattle.disk_archive.specs.declared.open_error.OpenError.{OpenError}
+use Rattle.disk_archive.specs.declared.open_error.OpenError.TheVariants as openings
+use Rattle.disk_archive.specs.Notes.{note_octets}
+use Rattle.disk_archive.specs.Sites.{Site, LeftCarries}
+
+-- The note tells what is there: the settings, which are within their limits, and how many blocks there are.
+pub record IsNoted (site : Site) : Type 0 where
+  pub settings : AreSettings site.settings
+  pub note : site.note ≡ note_octets site.blocks site.settings
+
+-- what both disks read as carries the history, and the note tells the settings and as many blocks as the write-once disk has
+pub record ReadsAs (site : Site) (blocks : ℕ) (e : DiskState) (o : OnceState) (h : History) : Type 0 where
+  pub count : site.blocks ≡ blocks
+  pub noted : IsNoted site
+  pub carries : LeftCarries site h (present e o)
+
+-- The erasable disk, of this size, says that it is an archive's: it names home pages for which it has room, and in its note settings within
+-- their limits, with which head and rings lie on those pages, and as many blocks as the write-once disk has.
+pub record NamesArchive (size : ℕ) (f : ℕ → ℕ) (blocks : ℕ) : Type 0 where
+  pub homes : ℕ
+  pub note : List ℕ
+  pub settings : Settings
+  pub names : Names homes note f
+  pub room : home_place homes ≤ size
+  pub within : AreSettings settings
+  pub noted : note ≡ note_octets blocks settings
+  pub rings : tree_low settings ≤ homes
+
+-- want of the device or of memory, and no other reason
+abbrev pub IsWant : OpenError → Type 0
+IsWant openings.Fault = Unit {0}
+IsWant openings.OutOfMemory = Unit {0}
+IsWant openings.NotAJournal = ⊥
+IsWant (openings.BadSlot page) = ⊥
+IsWant (openings.BadNode page) = ⊥

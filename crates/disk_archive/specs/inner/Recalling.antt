@@ -1,0 +1,33 @@
+-- What is known again of collectors, one after another.
+use Rattle.std.specs.Prelude.{◌≡◌, ◌<◌, ◌≤◌, ⊤, ℕ, List, [], length, map, Some, slice_get}
+use Rattle.route_model.specs.Admission.{Admitted}
+use Rattle.sequencer.specs.Lanes.{Waiting, marks, waiting_times}
+use Rattle.archive_head.specs.declared.lane.Lane.{Lane}
+use Rattle.intake.specs.Ring.{Holds, time_of}
+use Rattle.archive_pages.specs.declared.settings.Settings.{Settings}
+use Rattle.archive_pages.specs.Places.{ring_of}
+use Rattle.disk_archive.specs.declared.open_error.OpenError.{OpenError}
+use Rattle.disk_archive.specs.declared.open_error.OpenError.TheVariants as openings
+
+-- a page may be damaged, the device fail, or memory be refused
+abbrev pub RecallRefusal : OpenError → Type 0
+RecallRefusal openings.Fault = ⊤
+RecallRefusal openings.OutOfMemory = ⊤
+RecallRefusal openings.NotAJournal = ⊥
+RecallRefusal (openings.BadSlot page) = ⊥
+RecallRefusal (openings.BadNode page) = ⊤
+
+-- nothing is known of the collector: its mark is 0, and nothing waits
+pub record IsUnknown (lanes : List Waiting) (c : ℕ) : Type 0 where
+  pub mark : slice_get (marks lanes) c ≡ Some 0
+  pub times : slice_get (waiting_times lanes) c ≡ Some []
+
+-- Of as many collectors as the head tells the marks of the first ones are those of the head, and nothing is known of the others.
+pub record KnowsMarks (told : List Lane) (lanes : List Waiting) (known : ℕ) : Type 0 where
+  pub count : length lanes ≡ length told
+  pub marks : (c : ℕ) (lane : Lane) → c < known → slice_get told c ≡ Some lane → slice_get (marks lanes) c ≡ Some lane.mark
+  pub others : (c : ℕ) → known ≤ c → c < length told → IsUnknown lanes c
+
+-- of the first collectors these times wait, where their rings hold admissions
+abbrev pub KnowsTimes : Settings → List Lane → List (List ℕ) → List Waiting → ℕ → Type 0
+KnowsTimes s told shown lanes known = (c : ℕ) (lane : Lane) (waits : List Admitted) → c < known → slice_get told c ≡ Some lane → Holds shown (ring_of s c lane) waits → slice_get (waiting_times lanes) c ≡ Some (map time_of waits)

@@ -1,0 +1,36 @@
+//! Why disks aren't opened as an archive.
+
+ghost use Rattle.std.specs.Prelude.{◌≡◌};
+ghost use Rattle.disk_archive.specs.declared.open_error.OpenError.TheVariants as openings;
+
+use std::alloc::AllocError;
+use thiserror::Error;
+
+/// Why disks aren't opened as an archive.
+#[derive(Clone, Copy, Debug, PartialEq, Eq, Error)]
+pub enum OpenError {
+    /// A device failed.
+    #[error("the device failed")]
+    Fault,
+    /// The erasable disk holds no journal, or one whose note isn't an archive's, tells another count of blocks than the
+    /// write-once disk has, or tells of more pages than there are.
+    #[error("the disks hold no archive")]
+    NotAJournal,
+    /// A slot of the journal can't be recovered. The number is that of the disk page of its header.
+    #[error("page {0} of the disk is damaged")]
+    BadSlot(u64),
+    /// What the home page of this number told isn't what an archive tells.
+    #[error("page {0} is damaged")]
+    BadNode(u64),
+    /// A growth was refused.
+    #[error("out of memory")]
+    OutOfMemory,
+}
+
+impl From<AllocError> for OpenError {
+    ghost from_gives = { λ _ e. e ≡ openings.OutOfMemory };
+
+    fn from(_: AllocError) -> Self {
+        OpenError::OutOfMemory
+    }
+}

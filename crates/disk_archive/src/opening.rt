@@ -1,0 +1,208 @@
+//! Disks are opened as an archive, as a crash may have left them.
+
+ghost use Rattle.std.specs.Prelude.{◌≡◌, ◌≢◌, ◌↔◌, ◌<◌, ◌≤◌, ℕ, List, length, IfOk, OnOk, IfErr, Err, false};
+ghost use Rattle.disk_models.specs.Erase.{Counts};
+ghost use Rattle.disk_models.specs.Left.{CrashPair, IsFound, Left, LeftNow};
+ghost use Rattle.disk_models.specs.Once.{OnceState, settled_in};
+ghost use Rattle.page_journal.specs.Journal.{disk_of, home_pages, note_of};
+ghost use Rattle.page_journal.specs.Layout.{home_place};
+ghost use Rattle.page_journal.specs.Recovers.{Recovers};
+ghost use Rattle.buffer_pool.specs.Pool.{journal_of};
+ghost use Rattle.page_tx.specs.Start.{Start};
+ghost use Rattle.route_meaning.specs.History.{History};
+ghost use Rattle.archive_head.specs.Head.{IsHead, head_octets};
+ghost use Rattle.intake.specs.Calls.{OnlyReads};
+ghost use Rattle.intake.specs.Ring.{page_at};
+ghost use Rattle.archive_pages.specs.Carried.{Bears, Represents};
+ghost use Rattle.archive_pages.specs.Places.{AreSettings};
+ghost use Rattle.disk_archive.specs.Mirrors.{Mirrors};
+ghost use Rattle.disk_archive.specs.Trees.{TreeLies};
+ghost use Rattle.disk_archive.specs.inner.Recalling.{RecallRefusal};
+
+use crate::archive::Archive;
+use crate::looks::Looks;
+use crate::open_error::OpenError;
+use crate::recalling::{read_head, recall};
+use crate::refused::Refused;
+use crate::restoring::{Restored, restore};
+use archive_head::Head;
+use archive_pages::Settings;
+use disk_models::{EraseDisk, OnceDisk};
+use once_store::Shelf;
+use page_journal::Refused as Handed;
+use page_tx::{Pages, Tx};
+use sequencer::Sequencer;
+use std::alloc::Global;
+use std::sync::Arc;
+
+/// What an archive keeps in memory.
+#[derive(Drop)]
+pub(crate) struct Memory {
+    pub(crate) head: Head,
+    pub(crate) sequencer: Sequencer,
+}
+
+// What an archive of these settings keeps in memory, from its pages.
+fn remember<P: Pages>(alloc: Global, pages: &mut P, settings: Settings) -> Result<Memory, OpenError>
+    requires some { 0 < P.homes pages.old }
+    requires few { settings.collectors ≤ 16 }
+    requires usable { P.down pages.old ≡ false }
+    ensures lanes { IfOk result (λ memory. length memory.head.lanes ≡ settings.collectors) }
+    ensures numbers { IfOk result (λ memory. length memory.sequencer ≡ settings.collectors) }
+    ensures valid { IfOk result (λ memory. IsHead memory.head) }
+    ensures first { IfOk result (λ memory. (start : Start) (shown : List (List ℕ)) → P.shows pages.old start shown → page_at shown 0 ≡ head_octets memory.head) }
+    ensures bears { IfOk result (λ memory. (count : ℕ) (o : OnceState) (start : Start) (shown : List (List ℕ)) (h : History) → P.shows pages.old start shown → Represents (TreeLies count) settings (settled_in o) shown h
+        → Bears (TreeLies count) settings (settled_in o) memory.head shown h) }
+    ensures mirrors { IfOk result (λ memory. (count : ℕ) (o : OnceState) (start : Start) (shown : List (List ℕ)) (h : History) → P.shows pages.old start shown → Represents (TreeLies count) settings (settled_in o) shown h
+        → Mirrors memory.sequencer h) }
+    ensures sound { (count : ℕ) (o : OnceState) (start : Start) (shown : List (List ℕ)) (h : History) → P.shows pages.old start shown → Represents (TreeLies count) settings (settled_in o) shown h
+        → (page : ℕ) → result ≡ Err (OpenError.BadNode page) → ⊥ }
+    ensures refused { IfErr result RecallRefusal }
+    ensures same { OnlyReads P.Pages pages.old pages.new (result ≡ Err OpenError.Fault) }
+{
+    let head = read_head(alloc, pages, settings.collectors)?;
+    let sequencer = recall(alloc, pages, settings, &head)?;
+    Ok(Memory { head, sequencer })
+}
+
+impl<E: EraseDisk + Drop, O: OnceDisk + Drop> Archive<E, O> {
+    ghost use Rattle.disk_archive.specs.Archives.{Carries, Stands, site_of};
+    ghost use Rattle.disk_archive.specs.Outcome.{erase_after, once_after, outcome, pen_after};
+    ghost use Rattle.disk_archive.specs.Openings.{IsNoted, IsWant, NamesArchive, ReadsAs};
+    ghost use Rattle.disk_archive.specs.Sites.{LeftCarries, Rests, Site};
+    ghost use Rattle.disk_archive.specs.inner.Looking.{LooksAt};
+    ghost use Rattle.disk_archive.specs.inner.Restoring.{MeansSince};
+
+    // The archive of what is in memory, once the first blank block is found.
+    fn assemble(
+        alloc: Global,
+        looks: Looks<E>,
+        once: Arc<O>,
+        pen: O::Pen,
+        settings: Settings,
+        memory: Memory,
+    ) -> Result<Self, Refused<E, O, OpenError>>
+        requires settings { AreSettings settings }
+        requires homes { 0 < home_pages (journal_of looks.pool) }
+        requires lanes { length memory.head.lanes ≡ settings.collectors }
+        requires numbers { length memory.sequencer ≡ settings.collectors }
+        requires valid { IsHead memory.head }
+        ensures carries { O.honest once.value pen → IfOk result (λ archive. (start : Start) (shown : List (List ℕ)) (h : History) → LooksAt E.EraseDisk looks start shown → page_at shown 0 ≡ head_octets memory.head
+            → Bears (TreeLies (O.block_count once.value)) settings (settled_in (O.model pen)) memory.head shown h → Mirrors memory.sequencer h → Carries archive h) }
+        ensures site { IfOk result (λ archive. site_of archive ≡ record { settings = settings; homes = home_pages (journal_of looks.pool); note = note_of (journal_of looks.pool); blocks = O.block_count once.value }) }
+        ensures erase { erase_after result ≡ disk_of (journal_of looks.pool) }
+        ensures once { once_after result ≡ once.value }
+        ensures honest { O.honest once.value pen ↔ O.honest once.value (pen_after result) }
+        ensures same { O.honest once.value pen → O.model (pen_after result) ≡ O.model pen }
+        ensures counts { Counts (O.pen_fault_count pen) (O.pen_fault_count (pen_after result)) result }
+        ensures refused { IfErr (outcome result) (λ error. error ≡ OpenError.Fault) }
+    {
+        let Memory { head, sequencer } = memory;
+        let Looks { pool, .. } = looks;
+        match Shelf::open(once, pen, head.block) {
+            Ok(shelf) => Ok(Archive {
+                alloc,
+                tx: Tx::new(alloc, pool, 0),
+                shelf,
+                settings,
+                head,
+                sequencer,
+            }),
+            Err(once_store::Refused { disk, pen, fault }) => {
+                let _told = fault;
+                Err(Refused {
+                    erase: pool.into_disk(),
+                    once: disk,
+                    pen,
+                    error: OpenError::Fault,
+                })
+            }
+        }
+    }
+
+    // Opens both disks, where nothing is said of what they were before.
+    fn reopen(
+        alloc: Global,
+        erase: E,
+        once: Arc<O>,
+        pen: O::Pen,
+    ) -> Result<Self, Refused<E, O, OpenError>>
+        ensures carries { E.honest erase → O.honest once.value pen → IfOk result (λ archive. (site : Site) (h : History) → ReadsAs site (O.block_count once.value) (E.model erase) (O.model pen) h → Carries archive h) }
+        ensures site { E.honest erase → IfOk result (λ archive. (site : Site) (h : History) → ReadsAs site (O.block_count once.value) (E.model erase) (O.model pen) h → site_of archive ≡ site) }
+        ensures noted { E.honest erase → IfOk result (λ archive. IsNoted (site_of archive)) }
+        ensures means { E.honest erase → ((i : ℕ) → ¬ (E.model erase).unsynced i) → (homes : ℕ) (note : List ℕ) (pages : List (List ℕ)) → Recovers homes note (E.model erase).octet pages
+            → MeansSince (E.model (erase_after result)) (E.model erase).clock homes note pages }
+        ensures undamaged { E.honest erase → (site : Site) (h : History) → ReadsAs site (O.block_count once.value) (E.model erase) (O.model pen) h → home_place site.homes ≤ E.octet_count erase → IfErr (outcome result) IsWant }
+        ensures named { E.honest erase → OnOk result (NamesArchive (E.octet_count erase) (E.model erase).octet (O.block_count once.value)) }
+        ensures unnamed { E.honest erase → outcome result ≡ Err OpenError.NotAJournal → NamesArchive (E.octet_count erase) (E.model erase).octet (O.block_count once.value) → ⊥ }
+        ensures erase { E.honest erase ↔ E.honest (erase_after result) }
+        ensures disk { once_after result ≡ once.value }
+        ensures once { O.honest once.value pen ↔ O.honest once.value (pen_after result) }
+        ensures unburnt { O.honest once.value pen → O.model (pen_after result) ≡ O.model pen }
+        ensures quiet { outcome result ≢ Err OpenError.Fault → (E.fault_count (erase_after result) ≡ E.fault_count erase) × (O.pen_fault_count (pen_after result) ≡ O.pen_fault_count pen) }
+    {
+        match restore(alloc, erase, once.blocks()) {
+            Ok(
+                Restored {
+                    mut looks,
+                    settings,
+                },
+            ) => match remember(alloc, &mut looks, settings) {
+                Ok(memory) => Archive::assemble(alloc, looks, once, pen, settings, memory),
+                Err(error) => {
+                    let Looks { pool, .. } = looks;
+                    Err(Refused {
+                        erase: pool.into_disk(),
+                        once,
+                        pen,
+                        error,
+                    })
+                }
+            },
+            Err(Handed { disk, error }) => Err(Refused {
+                erase: disk,
+                once,
+                pen,
+                error,
+            }),
+        }
+    }
+
+    /// Opens both disks as an archive, as a crash may have left them: what was begun on the erasable disk is ended, and what the
+    /// archive keeps in memory is read. Nothing is burnt, and a block that was tried is never burnt again.
+    pub fn open(
+        alloc: Global,
+        erase: E,
+        once: Arc<O>,
+        pen: O::Pen,
+    ) -> Result<Self, Refused<E, O, OpenError>>
+        // What the disks read as is what the archive carries; so it carries what a crash left that they are found after.
+        ensures opened { E.honest erase → O.honest once.value pen → IfOk result (λ archive. (site : Site) (h : History) → ReadsAs site (O.block_count once.value) (E.model erase) (O.model pen) h → Carries archive h) }
+        ensures found { E.honest erase → O.honest once.value pen → IfOk result (λ archive. (left : Left) (site : Site) (h : History) → IsFound (E.model erase) (O.model pen) left → site.blocks ≡ O.block_count once.value → IsNoted site → LeftCarries site h left → Carries archive h) }
+        ensures site { E.honest erase → IfOk result (λ archive. (site : Site) (h : History) → ReadsAs site (O.block_count once.value) (E.model erase) (O.model pen) h → site_of archive ≡ site) }
+        ensures noted { E.honest erase → IfOk result (λ archive. IsNoted (site_of archive)) }
+
+        // Disks of an archive that had to be opened again: what stood of its history stands.
+        ensures stands { E.honest erase → O.honest once.value pen → IfOk result (λ archive. (site : Site) (h : History) → Rests site (E.model erase) (O.model pen) h → site.blocks ≡ O.block_count once.value → IsNoted site → Stands archive h) }
+
+        // Of disks of which nothing is unsynced each crash inside the call leaves it too, and so does one after a refusal.
+        ensures crash { E.honest erase → ((i : ℕ) → ¬ (E.model erase).unsynced i) → (site : Site) (h : History) → ReadsAs site (O.block_count once.value) (E.model erase) (O.model pen) h
+            → (left : Left) → CrashPair (E.model erase) (E.model (erase_after result)) (O.model pen) (O.model pen) (O.model (pen_after result)) left → LeftCarries site h left }
+        ensures kept { E.honest erase → O.honest once.value pen → ((i : ℕ) → ¬ (E.model erase).unsynced i) → (site : Site) (h : History) → ReadsAs site (O.block_count once.value) (E.model erase) (O.model pen) h
+            → (left : Left) → LeftNow (E.model (erase_after result)) (O.model (pen_after result)) left → LeftCarries site h left }
+
+        // Disks that carry a history are refused for want of a device or of memory alone, and those that name no archive are not opened.
+        ensures undamaged { E.honest erase → (site : Site) (h : History) → ReadsAs site (O.block_count once.value) (E.model erase) (O.model pen) h → home_place site.homes ≤ E.octet_count erase → IfErr (outcome result) IsWant }
+        ensures named { E.honest erase → OnOk result (NamesArchive (E.octet_count erase) (E.model erase).octet (O.block_count once.value)) }
+        ensures unnamed { E.honest erase → outcome result ≡ Err OpenError.NotAJournal → NamesArchive (E.octet_count erase) (E.model erase).octet (O.block_count once.value) → ⊥ }
+
+        // Both disks are the archive's, or handed back, and nothing was burnt.
+        ensures erase { E.honest erase ↔ E.honest (erase_after result) }
+        ensures disk { once_after result ≡ once.value }
+        ensures once { O.honest once.value pen ↔ O.honest once.value (pen_after result) }
+        ensures unburnt { O.honest once.value pen → O.model (pen_after result) ≡ O.model pen }
+        ensures quiet { outcome result ≢ Err OpenError.Fault → (E.fault_count (erase_after result) ≡ E.fault_count erase) × (O.pen_fault_count (pen_after result) ≡ O.pen_fault_count pen) }
+    {
+        Archive::reopen(alloc, erase, once, pen)
+    }
+}
