@@ -1,0 +1,29 @@
+use Rattle.std.proofs.Common.{rules, ◌≡◌, ◌∙◌, ℕ, Ok, Err, refl, ap, sym, subst}
+use Rattle.route_meaning.specs.declared.question.EventsQuestion.{EventsQuestion}
+use Rattle.route_meaning.specs.Events.{IsEventsAnswer}
+use Rattle.tsb_walk.proofs.Untouched.{reads_none, reads_then, reads_as}
+use Rattle.route_history.specs.Spans.{TellsEvents}
+use Rattle.tree_questions.proofs.events_walk.events.Goals as goal
+
+pub loop-cursor-init : goal.loop-cursor-init
+loop-cursor-init g c = record {
+  pages = reads_none g.P.Pages c.args.pages.now ⊥ (λ never. never);
+  stays = λ all r. r;
+  question = c.start-cursor.ensures.question;
+  told = λ all ps r t. c.start-cursor.ensures.nothing all ps t;
+}
+
+pub loop-cursor-preserved : goal.loop-cursor-preserved
+loop-cursor-preserved g c =
+    let i = c.loop-cursor.invariant in
+    record {
+      pages = reads_then g.P.Pages c.args.pages.now c.loop-cursor.pages c.take_look.new.pages ⊥ ⊥ i.pages (λ never. never) (reads_as g.P.Pages c.loop-cursor.pages c.take_look.new.pages _ ⊥ c.in_ok-goes_on.ensures.same (λ e. absurd (cc)) (λ never. absurd never));
+      stays = λ all r. c.in_ok-goes_on.ensures.stays all (i.stays all r);
+      question = c.in_ok-goes_on.ensures.question ∙ i.question;
+      told = λ all ps r t. c.in_ok-goes_on.ensures.told all ps (i.stays all r) (subst (λ (q : EventsQuestion). TellsEvents all ps q) (sym i.question) t) (i.told all ps r t);
+    }
+
+pub returns-in_err-goes_on-clause-blames : goal.returns-in_err-goes_on-clause-blames
+returns-in_err-goes_on-clause-blames g c = λ all r.
+    let b = c.take_look.ensures.blames all (c.loop-cursor.invariant.stays all r) in
+    search (rules, b)

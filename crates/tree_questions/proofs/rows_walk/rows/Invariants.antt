@@ -1,0 +1,20 @@
+use Rattle.std.proofs.Common.{◌≡◌, List}
+use Rattle.route_model.specs.Admission.{Admitted}
+use Rattle.route_meaning.specs.Merged.{Placed}
+use Rattle.version_model.specs.Versions.{Version}
+use Rattle.tsb_walk.specs.Refusals.{OnlyReads}
+use Rattle.route_history.specs.Fronts.{front_number}
+use Rattle.route_history.specs.Walks.{Tells, Gathered, left_of}
+use Rattle.tree_questions.specs.Reading.{ReadsTree}
+use Rattle.tree_questions.proofs.rows_walk.rows.Given as goal
+
+abbrev pub invariant-loop-cursor : goal.invariant-loop-cursor
+invariant-loop-cursor g l = record {
+  pages : OnlyReads g.P.Pages l.initial.pages l.pages ⊥;
+  stays : (all : List Version) → ReadsTree g.P.Pages l.initial.pages g.O.OnceDisk l.initial.reader l.initial.seen l.root all → ReadsTree g.P.Pages l.pages g.O.OnceDisk l.reader l.seen l.root all;
+  question : l.cursor.question ≡ l.fn.question;
+  gathered : (all : List Version) (ps : List (Placed Admitted)) → ReadsTree g.P.Pages l.initial.pages g.O.OnceDisk l.initial.reader l.initial.seen l.root all → Tells all ps l.fn.question.moment → Gathered all ps l.cursor;
+}
+
+abbrev pub decreases-loop-cursor : goal.decreases-loop-cursor
+decreases-loop-cursor g l = left_of (front_number l.cursor.front)

@@ -1,0 +1,86 @@
+//! A question of a moment, answered to its end.
+
+ghost use Rattle.std.specs.Prelude.{◌≡◌, ◌<◌, ◌≤◌, ℕ, List, IfOk, IfErr, OnOk, Ok, Err, None, true, false};
+ghost use Rattle.route_model.specs.Admission.{Admitted};
+ghost use Rattle.route_meaning.specs.Merged.{Placed};
+ghost use Rattle.route_meaning.specs.Rows.{IsAnswer};
+ghost use Rattle.version_model.specs.Pages.{all_keys};
+ghost use Rattle.version_model.specs.Versions.{Version};
+ghost use Rattle.tsb_walk.specs.AllVersions.{VersionsRefusal};
+ghost use Rattle.tsb_walk.specs.Refusals.{OnlyReads};
+ghost use Rattle.tsb_walk.specs.Shown.{keys_at};
+ghost use Rattle.route_history.specs.Blame.{BlamesNone};
+ghost use Rattle.route_history.specs.Fronts.{front_number};
+ghost use Rattle.route_history.specs.Walks.{Tells, Gathered, left_of};
+ghost use Rattle.tree_questions.specs.Reading.{ReadsTree};
+
+use crate::looks::next_key;
+use disk_models::OnceDisk;
+use once_store::ShelfReader;
+use page_tx::Pages;
+use route_history::RowsCursor;
+use route_meaning::{RowsAnswer, RowsQuestion};
+use std::alloc::Global;
+use tsb_node::key_fits;
+use tsb_walk::{NodeError, PagePlace};
+
+// One look of the question. Tells whether its walk goes on.
+fn take_look<P: Pages, O: OnceDisk + Drop>(
+    pages: &mut P,
+    reader: &mut ShelfReader<O>,
+    seen: &mut O::Seen,
+    alloc: Global,
+    root: &PagePlace,
+    cursor: &mut RowsCursor,
+) -> Result<bool, NodeError>
+    requires all { keys_at root.now ≡ all_keys }
+    requires level { 1 ≤ root.now.level }
+    ensures gathered { (all : List Version) (ps : List (Placed Admitted)) → ReadsTree P.Pages pages.old O.OnceDisk reader.old seen.old root.now all → Tells all ps cursor.old.question.moment → Gathered all ps cursor.old → OnOk result (Gathered all ps cursor.new) }
+    ensures over { result ≡ Ok false → cursor.new.front ≡ None }
+    ensures onward { result ≡ Ok true → left_of (front_number cursor.new.front) < left_of (front_number cursor.old.front) }
+    ensures question { cursor.new.question ≡ cursor.old.question }
+    ensures stays { (all : List Version) → ReadsTree P.Pages pages.old O.OnceDisk reader.old seen.old root.now all → ReadsTree P.Pages pages.new O.OnceDisk reader.new seen.new root.now all }
+    ensures blames { (all : List Version) → ReadsTree P.Pages pages.old O.OnceDisk reader.old seen.old root.now all → IfErr result BlamesNone }
+    ensures refused { IfErr result (VersionsRefusal (P.down pages.old)) }
+    ensures same { OnlyReads P.Pages pages.old pages.new (result ≡ Err NodeError.Fault) }
+{
+    let Some(look) = cursor.next_look() else {
+        return Ok(false);
+    };
+    let from = look.from;
+    let stamp = look.stamp;
+    key_fits(from);
+    let reached = next_key(pages, reader, seen, alloc, root, from, stamp)?;
+    cursor.take_reached(alloc, reached)?;
+    Ok(true)
+}
+
+/// Answers a question of a moment over the tree whose root is at this place: the first 256 rows above the spot after which they are
+/// asked for, and whether more follow.
+///
+/// Each look passes a key, so it ends. Pages are only read, and blocks by the reader alone. A page or a block is called damaged that
+/// isn't what the tree asks of it. It takes memory for the rows, and for what the cache of pages and the reader keep.
+pub fn rows<P: Pages, O: OnceDisk + Drop>(
+    pages: &mut P,
+    reader: &mut ShelfReader<O>,
+    seen: &mut O::Seen,
+    alloc: Global,
+    root: &PagePlace,
+    question: RowsQuestion,
+) -> Result<RowsAnswer, NodeError>
+    requires all { keys_at root.now ≡ all_keys }
+    requires level { 1 ≤ root.now.level }
+    ensures answer { (all : List Version) (ps : List (Placed Admitted)) → ReadsTree P.Pages pages.old O.OnceDisk reader.old seen.old root.now all → Tells all ps question.moment → IfOk result (λ answer. IsAnswer ps question answer.rows.items answer.more) }
+    ensures stays { (all : List Version) → ReadsTree P.Pages pages.old O.OnceDisk reader.old seen.old root.now all → ReadsTree P.Pages pages.new O.OnceDisk reader.new seen.new root.now all }
+    ensures blames { (all : List Version) → ReadsTree P.Pages pages.old O.OnceDisk reader.old seen.old root.now all → IfErr result BlamesNone }
+    ensures refused { IfErr result (VersionsRefusal (P.down pages.old)) }
+    ensures same { OnlyReads P.Pages pages.old pages.new (result ≡ Err NodeError.Fault) }
+{
+    let mut cursor = RowsCursor::start(alloc, question);
+    loop {
+        let goes_on = take_look(pages, reader, seen, alloc, root, &mut cursor)?;
+        if !goes_on {
+            return Ok(cursor.into_answer());
+        }
+    }
+}
