@@ -20,7 +20,7 @@ use Rattle.archive_pages.proofs.api.Bearing.{bears_grown}
 use Rattle.disk_archive.specs.Trees.{TreeLies}
 use Rattle.disk_archive.specs.declared.archive.Archive.{Archive}
 use Rattle.disk_archive.specs.Mirrors.{Mirrors}
-use Rattle.disk_archive.specs.Sites.{Site, LeftEither, LeftFrom}
+use Rattle.disk_archive.specs.Sites.{Site, IsNoted, LeftEither, LeftFrom}
 use Rattle.disk_archive.specs.Archives.{BearsOn, Carries, Waits, GoesOn, IsHonest, is_down, erase_state, once_of, once_state, site_of}
 use Rattle.disk_archive.specs.inner.Planning.{Headed}
 use Rattle.disk_archive.proofs.api.Trees.{tree_grows}
@@ -36,9 +36,10 @@ bears_more {once = once} a z pages h disk grows settings head b =
     (bears_grown (TreeLies (once.block_count (once_of a))) (tree_grows (once.block_count (once_of a))) a.settings (settled_in (once_state a)) (settled_in (once_state z)) grows.settled a.head pages h b)))
 
 -- the pages are kept as they were
-pub carries_more : {E O Pen Seen : Type 0} {erase : EraseGhosts E} {once : OnceGhosts O Pen Seen} (a z : Archive E O Pen Seen erase once) (h : History) (k : Carries a h) → once_of z ≡ once_of a → Grows (once_state a) (once_state z) → z.settings ≡ a.settings → z.head ≡ a.head → IsHonest z → Maps erase (pool_of z.tx) k.pages → Mirrors z.sequencer h → Carries z h
-carries_more a z h k disk grows settings head honest maps mirrors = record {
+pub carries_more : {E O Pen Seen : Type 0} {erase : EraseGhosts E} {once : OnceGhosts O Pen Seen} (a z : Archive E O Pen Seen erase once) (h : History) (k : Carries a h) → once_of z ≡ once_of a → Grows (once_state a) (once_state z) → z.settings ≡ a.settings → z.head ≡ a.head → home_pages (journal_of (pool_of z.tx)) ≡ home_pages (journal_of (pool_of a.tx)) → note_of (journal_of (pool_of z.tx)) ≡ note_of (journal_of (pool_of a.tx)) → IsHonest z → Maps erase (pool_of z.tx) k.pages → Mirrors z.sequencer h → Carries z h
+carries_more a z h k disk grows settings head homes note honest maps mirrors = record {
   honest = honest;
+  noted = subst IsNoted (sym (site_same a z disk settings homes note)) k.noted;
   pages = k.pages;
   maps = maps;
   valid = subst IsHead (sym head) k.valid;
@@ -57,6 +58,7 @@ pub refused_more : {E O Pen Seen : Type 0} {erase : EraseGhosts E} {once : OnceG
 refused_more {erase = erase} a z h g k b shown next sound r homes note disk grows settings head honest mirrors begins n l either = ⊎_elim
     (λ down. inr (record {
       honest = honest;
+      noted = subst IsNoted (sym (site_same a z disk settings (homes ∙ r.homes) (note ∙ r.shows.noted))) k.noted;
       unusable = down;
       pages = k.pages;
       told = bears_more a z k.pages h disk grows settings head k.bears;
@@ -73,14 +75,15 @@ refused_more {erase = erase} a z h g k b shown next sound r homes note disk grow
           let site = site_same a z disk settings (homes ∙ r.homes) (note ∙ r.shows.noted) in
           subst (λ (s : Site). LeftFrom s h left) (sym site) (⊎_elim (λ was. (h, Begins-refl h, was)) (λ is. (g, begins, is)) one);
     }))
-    (λ maps. inl (carries_more a z h k disk grows settings head honest maps mirrors))
+    (λ maps. inl (carries_more a z h k disk grows settings head (homes ∙ r.homes) (note ∙ r.shows.noted) honest maps mirrors))
     either
 
 -- a commit that was done
-pub done_more : {E O Pen Seen : Type 0} {erase : EraseGhosts E} {once : OnceGhosts O Pen Seen} (a z : Archive E O Pen Seen erase once) (g : History) (shown : List (List ℕ)) → once_of z ≡ once_of a → z.settings ≡ a.settings → IsHonest z → Maps erase (pool_of z.tx) shown → Mirrors z.sequencer g
+pub done_more : {E O Pen Seen : Type 0} {erase : EraseGhosts E} {once : OnceGhosts O Pen Seen} (a z : Archive E O Pen Seen erase once) (g : History) (shown : List (List ℕ)) → once_of z ≡ once_of a → z.settings ≡ a.settings → IsNoted (site_of a) → home_pages (journal_of (pool_of z.tx)) ≡ home_pages (journal_of (pool_of a.tx)) → note_of (journal_of (pool_of z.tx)) ≡ note_of (journal_of (pool_of a.tx)) → IsHonest z → Maps erase (pool_of z.tx) shown → Mirrors z.sequencer g
     → Headed (site_of a).blocks a.settings (settled_in (once_state z)) z.head shown g → Carries z g
-done_more {once = once} a z g shown disk settings honest maps mirrors n = record {
+done_more {once = once} a z g shown disk settings noted homes note honest maps mirrors n = record {
   honest = honest;
+  noted = subst IsNoted (sym (site_same a z disk settings homes note)) noted;
   pages = shown;
   maps = maps;
   valid = n.valid;

@@ -18,7 +18,7 @@ use Rattle.route_meaning.proofs.api.Beginning.{Begins-refl}
 use Rattle.archive_head.specs.Head.{Contents, IsHead}
 use Rattle.disk_archive.specs.declared.archive.Archive.{Archive}
 use Rattle.disk_archive.specs.Mirrors.{Mirrors}
-use Rattle.disk_archive.specs.Sites.{Site, LeftCarries, LeftEither, LeftFrom}
+use Rattle.disk_archive.specs.Sites.{Site, IsNoted, LeftCarries, LeftEither, LeftFrom}
 use Rattle.disk_archive.specs.Archives.{Carries, Waits, GoesOn, IsHonest, erase_state, once_state, once_of, settings_of, site_of, is_down, BearsOn}
 use Rattle.disk_archive.specs.Crashes.{Crashes}
 use Rattle.disk_archive.specs.inner.Planning.{Headed}
@@ -87,7 +87,7 @@ written {erase = erase} a z h g k b shown next sound r grows n l = record {
 
 -- a call that wrote nothing
 pub kept : {E O Pen Seen : Type 0} {erase : EraseGhosts E} {once : OnceGhosts O Pen Seen} (a z : Archive E O Pen Seen erase once) (h : History) (k : Carries a h) (shown : List (List ℕ)) → Ready a h k z.tx shown → once_of z ≡ once_of a → once_state z ≡ once_state a → z.settings ≡ a.settings → z.head ≡ a.head → IsHonest z → Mirrors z.sequencer h → Carries z h
-kept a z h k shown r disk state settings head honest mirrors = carries_same a z h k disk state settings head honest r.shows.maps mirrors
+kept a z h k shown r disk state settings head honest mirrors = carries_same a z h k disk state settings head r.homes r.shows.noted honest r.shows.maps mirrors
 
 -- a commit that was refused: the pages of before are kept, or the archive must be opened again
 pub refused : {E O Pen Seen : Type 0} {erase : EraseGhosts E} {once : OnceGhosts O Pen Seen} (a z : Archive E O Pen Seen erase once) (h g : History) (k : Carries a h) (b : Tx E erase) (shown : List (List ℕ)) (next : Contents) → AllSound erase → Ready a h k b shown
@@ -99,6 +99,7 @@ pub refused : {E O Pen Seen : Type 0} {erase : EraseGhosts E} {once : OnceGhosts
 refused {erase = erase} a z h g k b shown next sound r homes note disk state settings head honest mirrors begins n l either = ⊎_elim
     (λ down. inr (record {
       honest = honest;
+      noted = subst IsNoted (sym (site_same a z disk settings (homes ∙ r.homes) (note ∙ r.shows.noted))) k.noted;
       unusable = down;
       pages = k.pages;
       told = bears_same a z k.pages h disk state settings head k.bears;
@@ -115,14 +116,15 @@ refused {erase = erase} a z h g k b shown next sound r homes note disk state set
           let site = site_same a z disk settings (homes ∙ r.homes) (note ∙ r.shows.noted) in
           subst (λ (s : Site). LeftFrom s h left) (sym site) (⊎_elim (λ was. (h, Begins-refl h, was)) (λ is. (g, begins, is)) one);
     }))
-    (λ maps. inl (carries_same a z h k disk state settings head honest maps mirrors))
+    (λ maps. inl (carries_same a z h k disk state settings head (homes ∙ r.homes) (note ∙ r.shows.noted) honest maps mirrors))
     either
 
 -- a commit that was done
-pub done : {E O Pen Seen : Type 0} {erase : EraseGhosts E} {once : OnceGhosts O Pen Seen} (a z : Archive E O Pen Seen erase once) (g : History) (shown : List (List ℕ)) → once_of z ≡ once_of a → once_state z ≡ once_state a → z.settings ≡ a.settings → IsHonest z → Maps erase (pool_of z.tx) shown → Mirrors z.sequencer g
+pub done : {E O Pen Seen : Type 0} {erase : EraseGhosts E} {once : OnceGhosts O Pen Seen} (a z : Archive E O Pen Seen erase once) (g : History) (shown : List (List ℕ)) → once_of z ≡ once_of a → once_state z ≡ once_state a → z.settings ≡ a.settings → IsNoted (site_of a) → home_pages (journal_of (pool_of z.tx)) ≡ home_pages (journal_of (pool_of a.tx)) → note_of (journal_of (pool_of z.tx)) ≡ note_of (journal_of (pool_of a.tx)) → IsHonest z → Maps erase (pool_of z.tx) shown → Mirrors z.sequencer g
     → Headed (site_of a).blocks a.settings (settled_in (once_state a)) z.head shown g → Carries z g
-done {once = once} a z g shown disk state settings honest maps mirrors n = record {
+done {once = once} a z g shown disk state settings noted homes note honest maps mirrors n = record {
   honest = honest;
+  noted = subst IsNoted (sym (site_same a z disk settings homes note)) noted;
   pages = shown;
   maps = maps;
   valid = n.valid;

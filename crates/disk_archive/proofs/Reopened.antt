@@ -24,11 +24,11 @@ use Rattle.disk_archive.specs.declared.archive.Archive.{Archive}
 use Rattle.disk_archive.specs.declared.looks.Looks.{Looks}
 use Rattle.disk_archive.specs.declared.open_error.OpenError.{OpenError}
 use Rattle.disk_archive.specs.declared.open_error.OpenError.TheVariants as openings
-use Rattle.disk_archive.specs.Archives.{Carries, Stands, once_of, once_state, pen_in}
+use Rattle.disk_archive.specs.Archives.{Carries, Stands, once_of, once_state, pen_in, site_of}
 use Rattle.disk_archive.specs.Mirrors.{Mirrors}
 use Rattle.disk_archive.specs.Notes.{note_octets}
-use Rattle.disk_archive.specs.Openings.{IsNoted, IsWant, ReadsAs}
-use Rattle.disk_archive.specs.Sites.{LeftCarries, Rests, Site}
+use Rattle.disk_archive.specs.Openings.{IsWant, ReadsAs}
+use Rattle.disk_archive.specs.Sites.{IsNoted, LeftCarries, Rests, Site}
 use Rattle.disk_archive.specs.Trees.{TreeLies}
 use Rattle.disk_archive.specs.inner.Looking.{LooksAt}
 use Rattle.disk_archive.specs.inner.Recalling.{RecallRefusal}
@@ -42,9 +42,10 @@ use Rattle.disk_archive.proofs.Recalled.{own_of}
 
 -- an archive over the pages that were looked at
 pub carries_found : {E O Pen Seen : Type 0} {erase : EraseGhosts E} {once : OnceGhosts O Pen Seen} (a : Archive E O Pen Seen erase once) (looks : Looks E erase) (start : Start) (shown : List (List ℕ)) (h : History) (disk : O) (o : OnceState)
-    → LooksAt erase looks start shown → pool_of a.tx ≡ looks.pool → once_of a ≡ disk → once_state a ≡ o → once.honest (once_of a) (pen_in a) → IsHead a.head → page_at shown 0 ≡ head_octets a.head
+    → IsNoted (site_of a) → LooksAt erase looks start shown → pool_of a.tx ≡ looks.pool → once_of a ≡ disk → once_state a ≡ o → once.honest (once_of a) (pen_in a) → IsHead a.head → page_at shown 0 ≡ head_octets a.head
     → Bears (TreeLies (once.block_count disk)) a.settings (settled_in o) a.head shown h → Mirrors a.sequencer h → Carries a h
-carries_found {E = E} {erase = erase} {once = once} a looks start shown h disk o s pool is state honest valid first bears mirrors = record {
+carries_found {E = E} {erase = erase} {once = once} a looks start shown h disk o noted s pool is state honest valid first bears mirrors = record {
+  noted = noted;
   honest = (subst (λ (p : Pool E erase). erase.honest (erase_disk (journal_of p))) (sym pool) s.honest, honest);
   pages = shown;
   maps = subst (λ (l : List (List ℕ)). Maps erase (pool_of a.tx) l) (sym s.same) (subst (λ (p : Pool E erase). Maps erase p start.pages) (sym pool) s.maps);

@@ -17,7 +17,7 @@ use Rattle.archive_head.specs.Head.{Contents, IsHead, head_octets}
 use Rattle.archive_pages.specs.declared.settings.Settings.{Settings}
 use Rattle.archive_pages.specs.Carried.{Bears}
 use Rattle.disk_archive.specs.Trees.{TreeLies}
-use Rattle.disk_archive.specs.Sites.{Site, Rests}
+use Rattle.disk_archive.specs.Sites.{Site, IsNoted, Rests}
 use Rattle.disk_archive.specs.Mirrors.{Mirrors}
 use Rattle.disk_archive.specs.declared.archive.Archive.{Archive}
 use Rattle.disk_archive.specs.Archives.{BearsOn, Carries, Waits, GoesOn, IsHonest, is_down, erase_state, once_of, once_state, settings_of, site_of}
@@ -52,10 +52,14 @@ bears_same {once = once} a z pages h disk state settings head b =
     (subst (λ (s : Settings). Bears (TreeLies (once.block_count (once_of a))) s (settled_in (once_state a)) z.head pages h) (sym settings)
     (subst (λ (x : Contents). Bears (TreeLies (once.block_count (once_of a))) a.settings (settled_in (once_state a)) x pages h) (sym head) b)))
 
+pub site_same : {E O Pen Seen : Type 0} {erase : EraseGhosts E} {once : OnceGhosts O Pen Seen} (a z : Archive E O Pen Seen erase once) → once_of z ≡ once_of a → z.settings ≡ a.settings → home_pages (journal_of (pool_of z.tx)) ≡ home_pages (journal_of (pool_of a.tx)) → note_of (journal_of (pool_of z.tx)) ≡ note_of (journal_of (pool_of a.tx)) → site_of z ≡ site_of a
+site_same {once = once} a z disk settings homes note = λ i. record { settings = settings i; homes = homes i; note = note i; blocks = once.block_count (disk i) }
+
 -- the pages are kept as they were
-pub carries_same : {E O Pen Seen : Type 0} {erase : EraseGhosts E} {once : OnceGhosts O Pen Seen} (a z : Archive E O Pen Seen erase once) (h : History) (k : Carries a h) → once_of z ≡ once_of a → once_state z ≡ once_state a → z.settings ≡ a.settings → z.head ≡ a.head → IsHonest z → Maps erase (pool_of z.tx) k.pages → Mirrors z.sequencer h → Carries z h
-carries_same a z h k disk state settings head honest maps mirrors = record {
+pub carries_same : {E O Pen Seen : Type 0} {erase : EraseGhosts E} {once : OnceGhosts O Pen Seen} (a z : Archive E O Pen Seen erase once) (h : History) (k : Carries a h) → once_of z ≡ once_of a → once_state z ≡ once_state a → z.settings ≡ a.settings → z.head ≡ a.head → home_pages (journal_of (pool_of z.tx)) ≡ home_pages (journal_of (pool_of a.tx)) → note_of (journal_of (pool_of z.tx)) ≡ note_of (journal_of (pool_of a.tx)) → IsHonest z → Maps erase (pool_of z.tx) k.pages → Mirrors z.sequencer h → Carries z h
+carries_same a z h k disk state settings head homes note honest maps mirrors = record {
   honest = honest;
+  noted = subst IsNoted (sym (site_same a z disk settings homes note)) k.noted;
   pages = k.pages;
   maps = maps;
   valid = subst IsHead (sym head) k.valid;
@@ -64,13 +68,11 @@ carries_same a z h k disk state settings head honest maps mirrors = record {
   mirrors = mirrors;
 }
 
-pub site_same : {E O Pen Seen : Type 0} {erase : EraseGhosts E} {once : OnceGhosts O Pen Seen} (a z : Archive E O Pen Seen erase once) → once_of z ≡ once_of a → z.settings ≡ a.settings → home_pages (journal_of (pool_of z.tx)) ≡ home_pages (journal_of (pool_of a.tx)) → note_of (journal_of (pool_of z.tx)) ≡ note_of (journal_of (pool_of a.tx)) → site_of z ≡ site_of a
-site_same {once = once} a z disk settings homes note = λ i. record { settings = settings i; homes = homes i; note = note i; blocks = once.block_count (disk i) }
-
 -- an archive whose journal is as it was, and that must be opened again
 pub waits_same : {E O Pen Seen : Type 0} {erase : EraseGhosts E} {once : OnceGhosts O Pen Seen} (a z : Archive E O Pen Seen erase once) (h : History) → Waits a h → journal_of (pool_of z.tx) ≡ journal_of (pool_of a.tx) → once_of z ≡ once_of a → once_state z ≡ once_state a → z.settings ≡ a.settings → z.head ≡ a.head → z.sequencer ≡ a.sequencer → IsHonest z → Waits z h
 waits_same {erase = erase} a z h w journal disk state settings head lanes honest = record {
   honest = honest;
+  noted = subst IsNoted (sym (site_same a z disk settings (ap home_pages journal) (ap note_of journal))) w.noted;
   unusable = ap needs_recovery journal ∙ w.unusable;
   pages = w.pages;
   told = bears_same a z w.pages h disk state settings head w.told;
@@ -85,6 +87,6 @@ waits_same {erase = erase} a z h w journal disk state settings head lanes honest
 -- blocks are looked at
 pub goes_on_same : {E O Pen Seen : Type 0} {erase : EraseGhosts E} {once : OnceGhosts O Pen Seen} (a z : Archive E O Pen Seen erase once) (h : History) → pool_of z.tx ≡ pool_of a.tx → once_of z ≡ once_of a → once_state z ≡ once_state a → z.settings ≡ a.settings → z.head ≡ a.head → z.sequencer ≡ a.sequencer → IsHonest z → GoesOn a h → GoesOn z h
 goes_on_same {erase = erase} a z h pool disk state settings head lanes honest goes = ⊎_elim
-    (λ k. inl (carries_same a z h k disk state settings head honest (subst (λ p. Maps erase p k.pages) (sym pool) k.maps) (subst (λ l. Mirrors l h) (sym lanes) k.mirrors)))
+    (λ k. inl (carries_same a z h k disk state settings head (ap (λ p. home_pages (journal_of p)) pool) (ap (λ p. note_of (journal_of p)) pool) honest (subst (λ p. Maps erase p k.pages) (sym pool) k.maps) (subst (λ l. Mirrors l h) (sym lanes) k.mirrors)))
     (λ w. inr (waits_same a z h w (ap journal_of pool) disk state settings head lanes honest))
     goes

@@ -14,7 +14,7 @@ use Rattle.intake.specs.Ring.{page_at}
 use Rattle.archive_pages.specs.declared.settings.Settings.{Settings}
 use Rattle.archive_pages.specs.Carried.{Bears}
 use Rattle.disk_archive.specs.Trees.{TreeLies}
-use Rattle.disk_archive.specs.Sites.{Site, Rests}
+use Rattle.disk_archive.specs.Sites.{Site, IsNoted, Rests}
 use Rattle.disk_archive.specs.Mirrors.{Mirrors}
 use Rattle.disk_archive.specs.declared.archive.Archive.{Archive}
 
@@ -58,9 +58,10 @@ IsHonest {erase = erase} {once = once} a = erase.honest (erase_of a) × once.hon
 abbrev pub BearsOn : {E O Pen Seen : Type 0} {erase : EraseGhosts E} {once : OnceGhosts O Pen Seen} → Archive E O Pen Seen erase once → List (List ℕ) → History → Type 0
 BearsOn {once = once} a pages h = Bears (TreeLies (once.block_count (once_of a))) a.settings (settled_in (once_state a)) a.head pages h
 
--- A usable archive carries the history on its disks, and has in memory what it answers by.
+-- A usable archive carries the history on its disks, whose note tells what it was made with, and has in memory what it answers by.
 pub record Carries {E O Pen Seen : Type 0} {erase : EraseGhosts E} {once : OnceGhosts O Pen Seen} (a : Archive E O Pen Seen erase once) (h : History) : Type 0 where
   pub honest : IsHonest a
+  pub noted : IsNoted (site_of a)
   pub pages : List (List ℕ)
   pub maps : Maps erase (pool_of a.tx) pages
   pub valid : IsHead a.head
@@ -72,6 +73,7 @@ pub record Carries {E O Pen Seen : Type 0} {erase : EraseGhosts E} {once : OnceG
 -- now, carries a history that this one begins.
 pub record Waits {E O Pen Seen : Type 0} {erase : EraseGhosts E} {once : OnceGhosts O Pen Seen} (a : Archive E O Pen Seen erase once) (h : History) : Type 0 where
   pub honest : IsHonest a
+  pub noted : IsNoted (site_of a)
   pub unusable : is_down a ≡ true
   pub pages : List (List ℕ)
   pub told : BearsOn a pages h

@@ -11,12 +11,7 @@ use Rattle.archive_pages.specs.Places.{AreSettings, tree_low}
 use Rattle.disk_archive.specs.declared.open_error.OpenError.{OpenError}
 use Rattle.disk_archive.specs.declared.open_error.OpenError.TheVariants as openings
 use Rattle.disk_archive.specs.Notes.{note_octets}
-use Rattle.disk_archive.specs.Sites.{Site, LeftCarries}
-
--- The note tells what is there: the settings, which are within their limits, and how many blocks there are.
-pub record IsNoted (site : Site) : Type 0 where
-  pub settings : AreSettings site.settings
-  pub note : site.note ≡ note_octets site.blocks site.settings
+use Rattle.disk_archive.specs.Sites.{Site, IsNoted, LeftCarries}
 
 -- what both disks read as carries the history, and the note tells the settings and as many blocks as the write-once disk has
 pub record ReadsAs (site : Site) (blocks : ℕ) (e : DiskState) (o : OnceState) (h : History) : Type 0 where

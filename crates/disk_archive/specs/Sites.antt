@@ -1,12 +1,14 @@
 -- What disks hold for an archive, also after a crash.
-use Rattle.std.specs.Prelude.{◌⊎◌, ℕ, List}
+use Rattle.std.specs.Prelude.{◌≡◌, ◌⊎◌, ℕ, List}
 use Rattle.disk_models.specs.Erase.{DiskState}
 use Rattle.disk_models.specs.Once.{OnceState, settled_in}
 use Rattle.disk_models.specs.Left.{Left, LeftNow}
 use Rattle.page_journal.specs.Recovers.{Recovers}
 use Rattle.route_meaning.specs.History.{History, Begins}
 use Rattle.archive_pages.specs.declared.settings.Settings.{Settings}
+use Rattle.archive_pages.specs.Places.{AreSettings}
 use Rattle.archive_pages.specs.Carried.{Represents}
+use Rattle.disk_archive.specs.Notes.{note_octets}
 use Rattle.disk_archive.specs.Trees.{TreeLies}
 
 -- what an archive was made with, for good: its settings, how many home pages and which note its journal has, and how many blocks its disk
@@ -15,6 +17,11 @@ pub record Site : Type 0 where
   pub homes : ℕ
   pub note : List ℕ
   pub blocks : ℕ
+
+-- The note tells what is there: the settings, which are within their limits, and how many blocks there are.
+pub record IsNoted (site : Site) : Type 0 where
+  pub settings : AreSettings site.settings
+  pub note : site.note ≡ note_octets site.blocks site.settings
 
 -- What a crash left of both disks carries the history: the octets mean pages that, with the blocks that are settled, carry it.
 pub record LeftCarries (site : Site) (h : History) (left : Left) : Type 0 where

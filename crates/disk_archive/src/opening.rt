@@ -68,8 +68,9 @@ fn remember<P: Pages>(alloc: Global, pages: &mut P, settings: Settings) -> Resul
 impl<E: EraseDisk + Drop, O: OnceDisk + Drop> Archive<E, O> {
     ghost use Rattle.disk_archive.specs.Archives.{Carries, Stands, site_of};
     ghost use Rattle.disk_archive.specs.Outcome.{erase_after, once_after, outcome, pen_after};
-    ghost use Rattle.disk_archive.specs.Openings.{IsNoted, IsWant, NamesArchive, ReadsAs};
-    ghost use Rattle.disk_archive.specs.Sites.{LeftCarries, Rests, Site};
+    ghost use Rattle.disk_archive.specs.Notes.{note_octets};
+    ghost use Rattle.disk_archive.specs.Openings.{IsWant, NamesArchive, ReadsAs};
+    ghost use Rattle.disk_archive.specs.Sites.{IsNoted, LeftCarries, Rests, Site};
     ghost use Rattle.disk_archive.specs.inner.Looking.{LooksAt};
     ghost use Rattle.disk_archive.specs.inner.Restoring.{MeansSince};
 
@@ -87,7 +88,7 @@ impl<E: EraseDisk + Drop, O: OnceDisk + Drop> Archive<E, O> {
         requires lanes { length memory.head.lanes ≡ settings.collectors }
         requires numbers { length memory.sequencer ≡ settings.collectors }
         requires valid { IsHead memory.head }
-        ensures carries { O.honest once.value pen → IfOk result (λ archive. (start : Start) (shown : List (List ℕ)) (h : History) → LooksAt E.EraseDisk looks start shown → page_at shown 0 ≡ head_octets memory.head
+        ensures carries { O.honest once.value pen → IfOk result (λ archive. (start : Start) (shown : List (List ℕ)) (h : History) → note_of (journal_of looks.pool) ≡ note_octets (O.block_count once.value) settings → LooksAt E.EraseDisk looks start shown → page_at shown 0 ≡ head_octets memory.head
             → Bears (TreeLies (O.block_count once.value)) settings (settled_in (O.model pen)) memory.head shown h → Mirrors memory.sequencer h → Carries archive h) }
         ensures site { IfOk result (λ archive. site_of archive ≡ record { settings = settings; homes = home_pages (journal_of looks.pool); note = note_of (journal_of looks.pool); blocks = O.block_count once.value }) }
         ensures erase { erase_after result ≡ disk_of (journal_of looks.pool) }

@@ -21,7 +21,8 @@ returns-in-Ok-remember-clause-carries g c honest pen =
     let represents = represents_read site _ _ (g.O.OnceDisk.model c.args.pen) h c.in-Ok.field-0.settings r same in
     let bears = c.in-Ok-remember.ensures.bears (g.O.OnceDisk.block_count c.args.once.value) (g.O.OnceDisk.model c.args.pen) start r.carries.pages h looked.looked represents in
     let mirrors = c.in-Ok-remember.ensures.mirrors (g.O.OnceDisk.block_count c.args.once.value) (g.O.OnceDisk.model c.args.pen) start r.carries.pages h looked.looked represents in
-    carried start r.carries.pages h (c.remember.ensures.same.shown start r.carries.pages looked.looked) (c.in-Ok-remember.ensures.first start r.carries.pages looked.looked) bears mirrors)
+    let now = c.remember.ensures.same.shown start r.carries.pages looked.looked in
+    carried start r.carries.pages h (now.noted ∙ sym looked.note ∙ told) now (c.in-Ok-remember.ensures.first start r.carries.pages looked.looked) bears mirrors)
     (c.assemble.ensures.carries pen)
 
 pub returns-in-Ok-remember-clause-site : goal.returns-in-Ok-remember-clause-site

@@ -180,7 +180,7 @@ returns-clause-ok g c h k =
     let taken = subst (λ n. TakesIn c.part.new.sequencer n c.in_ok-kept.field-0.sieved c.take_in.new.self) same c.take_in.ensures.taken in
     let mirrors = mirror_given a.sequencer c.part.new.sequencer c.take_in.new.self h c.args.collector c.args.batch.now i c.in_ok-kept.field-0.sieved k.bears.right (right_given h c.args.collector c.args.batch.now c.in_ok-may_take.ensures.valid k.bears.right) it.1 k.mirrors
     c.part.ensures.same taken (c.in_ok-kept.ensures.sieved i.mark at) in
-    done a _ w plan.pages refl refl refl (c.commit.ensures.journal.serves.honest.0 plan.shown.honest, k.honest.1) (c.in_ok-commit.ensures.ok start plan.pages plan.shown) mirrors plan.headed
+    done a _ w plan.pages refl refl refl k.noted (c.commit.ensures.journal.homes ∙ r.homes) (c.commit.ensures.journal.note ∙ r.shows.noted) (c.commit.ensures.journal.serves.honest.0 plan.shown.honest, k.honest.1) (c.in_ok-commit.ensures.ok start plan.pages plan.shown) mirrors plan.headed
 
 pub returns-clause-reply : goal.returns-clause-reply
 returns-clause-reply g c h k i here =

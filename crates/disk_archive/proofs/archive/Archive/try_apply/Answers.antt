@@ -63,7 +63,7 @@ returns-in_err-head-clause-err g c =
     let grows = kb.grows k.honest.1 in
     let now = c.plan_application.ensures.shows start k.pages s0 in
     let r : Ready a h k c.plan_application.new.pages now.0 = record { shows = now.1; homes = c.plan_application.ensures.homes ∙ homes0 } in
-    inl (carries_more a _ h k kb.disk grows refl refl (now.1.honest, kb.honest.0 k.honest.1) now.1.maps k.mirrors))
+    inl (carries_more a _ h k kb.disk grows refl refl r.homes r.shows.noted (now.1.honest, kb.honest.0 k.honest.1) now.1.maps k.mirrors))
 
 pub returns-in_err-head-clause-crash : goal.returns-in_err-head-clause-crash
 returns-in_err-head-clause-crash g c h k =
@@ -174,4 +174,4 @@ returns-clause-ok g c h k =
     let r : Ready a h k c.plan_application.new.pages p.pages = record { shows = p.shown; homes = c.plan_application.ensures.homes ∙ homes0 } in
     let l = c.commit.ensures.crash start p.pages p.shown in
     let mirrors = mirror_moved a.sequencer c.leave.new.sequencer h plan.after c.in-Some.number c.in_ok-head.field-0.whole f low k.mirrors plan.stays plan.leaves c.leave.ensures.leaves c.leave.ensures.stays in
-    (plan.after, plan.moves, done_more a _ plan.after p.pages kb.disk refl (c.commit.ensures.journal.serves.honest.0 p.shown.honest, kb.honest.0 k.honest.1) (c.in_ok-commit.ensures.ok start p.pages p.shown) mirrors p.headed)
+    (plan.after, plan.moves, done_more a _ plan.after p.pages kb.disk refl k.noted (c.commit.ensures.journal.homes ∙ r.homes) (c.commit.ensures.journal.note ∙ r.shows.noted) (c.commit.ensures.journal.serves.honest.0 p.shown.honest, kb.honest.0 k.honest.1) (c.in_ok-commit.ensures.ok start p.pages p.shown) mirrors p.headed)

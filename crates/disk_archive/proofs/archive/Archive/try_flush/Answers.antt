@@ -1,7 +1,7 @@
 use Rattle.std.proofs.Common.{◌≡◌, inl, inr, ◌∙◌, ap, subst, refl}
 use Rattle.disk_models.specs.Erase.{Leaves}
 use Rattle.disk_models.proofs.api.Moments.{leaves_weaker}
-use Rattle.page_journal.specs.Journal.{disk_of, home_pages, needs_recovery}
+use Rattle.page_journal.specs.Journal.{disk_of, home_pages, needs_recovery, note_of}
 use Rattle.page_journal.specs.Recovers.{Recovers, RecoversEither}
 use Rattle.buffer_pool.specs.Pool.{journal_of}
 use Rattle.page_tx.specs.Start.{Start}
@@ -19,7 +19,7 @@ returns-clause-goes_on g c h k =
     let start : Start = start_of a h k in
     let s0 = c.in_ok-begin.ensures.shown k.honest.0 k.pages k.maps in
     let s1 = c.write_home.ensures.shown start k.pages s0 c.in_ok-write_home.ensures.ok in
-    inl (carries_same a _ h k refl refl refl refl (c.write_home.ensures.journal.serves.honest.0 s0.honest, k.honest.1) s1.1.maps k.mirrors)
+    inl (carries_same a _ h k refl refl refl refl (c.write_home.ensures.journal.homes ∙ ap home_pages c.begin.ensures.same) (c.write_home.ensures.journal.note ∙ ap note_of c.begin.ensures.same) (c.write_home.ensures.journal.serves.honest.0 s0.honest, k.honest.1) s1.1.maps k.mirrors)
 
 pub returns-clause-crash : goal.returns-clause-crash
 returns-clause-crash g c h k =

@@ -146,7 +146,7 @@ returns-clause-ok g c h k =
     let below = not_above_there a.sequencer h c.args.collector c.args.mark k.mirrors c.in_ok-raised.ensures.forward in
     let plan = c.in_ok-next.ensures.planned a.settings (site_of a).blocks (once_state a) start k.pages h s0 k.bears below in
     let mirrors = mirror_marked a.sequencer c.raise.new.sequencer h c.args.collector c.args.mark k.mirrors c.raise.ensures.raised in
-    done a _ w plan.pages refl refl refl (c.commit.ensures.journal.serves.honest.0 plan.shown.honest, k.honest.1) (c.in_ok-commit.ensures.ok start plan.pages plan.shown) mirrors plan.headed
+    done a _ w plan.pages refl refl refl k.noted (c.commit.ensures.journal.homes ∙ c.plan_mark.ensures.homes ∙ ap home_pages c.begin.ensures.same) (c.commit.ensures.journal.note ∙ plan.shown.noted) (c.commit.ensures.journal.serves.honest.0 plan.shown.honest, k.honest.1) (c.in_ok-commit.ensures.ok start plan.pages plan.shown) mirrors plan.headed
 
 -- ---- what is told
 
