@@ -8,11 +8,12 @@ use std::test::Fail;
 /// Words that are those of `try` with the file a.mrt, and the mark and the line that they say.
 struct Accepted {
     words: &'static [&'static str],
+    batch: usize,
     mark: Option<u64>,
     line: &'static str,
 }
 
-const ACCEPTED: [Accepted; 10] = [
+const ACCEPTED: [Accepted; 12] = [
     Accepted {
         words: &[
             "rha",
@@ -23,37 +24,44 @@ const ACCEPTED: [Accepted; 10] = [
             "prefix",
             "10.0.0.0/8",
         ],
+        batch: 1000,
         mark: None,
         line: "at 1704067200 prefix 10.0.0.0/8",
     },
     Accepted {
         words: &["rha", "try", "a.mrt", "at 1704067200", "prefix 10.0.0.0/8"],
+        batch: 1000,
         mark: None,
         line: "at 1704067200 prefix 10.0.0.0/8",
     },
     Accepted {
         words: &["rha", "try", "a.mrt", "settled"],
+        batch: 1000,
         mark: None,
         line: "settled",
     },
     Accepted {
         words: &["rha", "try", "a.mrt", "", ""],
+        batch: 1000,
         mark: None,
         line: " ",
     },
     // The mark stands before the line.
     Accepted {
         words: &["rha", "try", "a.mrt", "--mark", "1704067201", "at", "7"],
+        batch: 1000,
         mark: Some(1_704_067_201),
         line: "at 7",
     },
     Accepted {
         words: &["rha", "try", "--mark", "4294967296", "a.mrt", "at", "7"],
+        batch: 1000,
         mark: Some(4_294_967_296),
         line: "at 7",
     },
     Accepted {
         words: &["rha", "try", "--mark=0", "a.mrt", "at", "7"],
+        batch: 1000,
         mark: Some(0),
         line: "at 7",
     },
@@ -67,6 +75,7 @@ const ACCEPTED: [Accepted; 10] = [
             "at",
             "7",
         ],
+        batch: 1000,
         mark: Some(1_704_067_201),
         line: "at 7",
     },
@@ -75,13 +84,27 @@ const ACCEPTED: [Accepted; 10] = [
         words: &[
             "rha", "try", "a.mrt", "at", "--mark", "7", "-x", "--help", "--",
         ],
+        batch: 1000,
         mark: None,
         line: "at --mark 7 -x --help --",
     },
     Accepted {
         words: &["rha", "try", "a.mrt", "--", "--mark", "7"],
+        batch: 1000,
         mark: None,
         line: "--mark 7",
+    },
+    Accepted {
+        words: &["rha", "try", "a.mrt", "--batch", "1", "at", "7"],
+        batch: 1,
+        mark: None,
+        line: "at 7",
+    },
+    Accepted {
+        words: &["rha", "try", "--batch=999", "a.mrt", "at", "7"],
+        batch: 999,
+        mark: None,
+        line: "at 7",
     },
 ];
 
@@ -141,8 +164,9 @@ Arguments:
   <WORD>...  The words of a request line
 
 Options:
-      --mark <M>  The collector's mark once the file is loaded
-  -h, --help      Print help
+      --batch <N>  The most admissions of a batch, 1 to 1000 [default: 1000]
+      --mark <M>   The collector's mark once the file is loaded
+  -h, --help       Print help
 
 ";
 
@@ -152,10 +176,26 @@ const USAGE_END: &str = "\n\nUsage: rha <COMMAND>\n\nFor more information, try '
 const REQUIRED_END: &str =
     "\n\nUsage: rha try <FILE> <WORD>...\n\nFor more information, try '--help'.\n";
 
+const MORE_END: &str = "\n\nFor more information, try '--help'.\n";
+
 const ALL_END: &str =
     "\n\nUsage: rha try [OPTIONS] <FILE> <WORD>...\n\nFor more information, try '--help'.\n";
 
-const SHOWN: [Shown; 9] = [
+const SHOWN: [Shown; 11] = [
+    Shown {
+        words: &["rha", "try", "a.mrt", "--batch", "0", "at"],
+        kind: ErrorKind::ValueValidation,
+        code: 2,
+        text: "error: invalid value '0' for '--batch <N>': 0 is not in 1..=1000",
+        end: MORE_END,
+    },
+    Shown {
+        words: &["rha", "try", "a.mrt", "--batch", "1001", "at"],
+        kind: ErrorKind::ValueValidation,
+        code: 2,
+        text: "error: invalid value '1001' for '--batch <N>': 1001 is not in 1..=1000",
+        end: MORE_END,
+    },
     Shown {
         words: &["rha", "try", "a.mrt", "--resume", "at"],
         kind: ErrorKind::UnknownArgument,
@@ -226,6 +266,7 @@ fn is_accepted(alloc: Global, wanted: &Accepted) -> bool {
     match command(alloc, wanted.words) {
         Ok(Invocation::Try(attempt)) => {
             attempt.file == "a.mrt"
+                && attempt.batch == wanted.batch
                 && attempt.mark.map(|mark| mark.seconds()) == wanted.mark
                 && attempt.line.as_str() == wanted.line
         }

@@ -84,6 +84,7 @@ fn load_marked(alloc: Global, archive: &mut Archive, octets: &[u8]) -> Told {
         collector: 0,
         limit: 1000,
         mark: Mark::new(1_704_067_201),
+        resume: false,
     };
     load_octets(alloc, archive, how, octets)
 }
@@ -114,7 +115,7 @@ fn feed_to<R: Read, W: Write>(
     reader: &mut Input<R>,
     out: &mut Output<W>,
 ) -> End {
-    feed(alloc, archive, collector, 2, reader, out)
+    feed(alloc, archive, collector, 2, false, reader, out)
 }
 
 /// What a feed wrote, and how it ended.
@@ -334,6 +335,7 @@ fn is_as_wanted(alloc: Global, example: &Example) -> Result<bool, Fail> {
         collector: example.collector,
         limit: example.limit,
         mark,
+        resume: false,
     };
     let loaded = load_octets(alloc, &mut archive, how, &octets);
     let answered = match example.answer {
@@ -358,6 +360,7 @@ fn loads_as(alloc: Global, octets: &[u8], lines: &str) -> Result<bool, Fail> {
         collector: 0,
         limit: 100_000,
         mark: None,
+        resume: false,
     };
     Ok(load_octets(alloc, &mut archive, how, octets).is(lines, "", Status::Done))
 }
@@ -492,6 +495,7 @@ fn try_to<W: Write + Drop>(
 ) -> Result<(Vec<u8>, u8), Fail> {
     let asked = Attempt {
         file: "first.mrt",
+        batch: 1000,
         mark: Mark::new(1_704_067_201),
         line: String::from_str(alloc, line)?,
     };
@@ -733,6 +737,7 @@ fn is_failed(alloc: Global) -> Result<bool, Fail> {
         collector: 0,
         limit: 1000,
         mark: None,
+        resume: false,
     };
     let (told, loaded) = load_to(alloc, &mut archive, how, &[], &mut full);
     let (untold, asked) = ask_to(alloc, &mut archive, QUESTION, &mut full);

@@ -82,6 +82,7 @@ fn fed(alloc: Global, for_good: bool) -> Result<(Vec<u8>, End), Fail> {
         &mut crowded,
         0,
         1000,
+        false,
         &mut file,
         &mut Output::new(&mut out),
     );

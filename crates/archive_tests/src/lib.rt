@@ -12,4 +12,6 @@ mod lines;
 #[cfg(test)]
 mod plain;
 #[cfg(test)]
+mod resumed;
+#[cfg(test)]
 mod samples;

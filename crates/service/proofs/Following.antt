@@ -8,21 +8,22 @@ use Rattle.route_model.specs.Admission.{Admitted}
 use Rattle.route_meaning.specs.History.{History}
 use Rattle.mrt_records.specs.Values.{Told, told, Read, Skipped, Malformed}
 use Rattle.mrt_records.specs.declared.item.Item.{Item}
-use Rattle.resolve.specs.Tables.{LastTable}
+use Rattle.resolve.specs.Tables.{Feed, LastTable}
 use Rattle.resolve.specs.Records.{Gives}
 use Rattle.resolve.specs.declared.fault.ResolveFault.{ResolveFault}
 use Rattle.resolve.specs.declared.fault.ResolveFault.TheVariants as faults
-use Rattle.resolve.proofs.api.Feeds.{one_more}
+use Rattle.service.proofs.Dropping.{meant_more, drops_more, still_wanting, taken_count}
 use Rattle.archive_calls.specs.Limits.{batch_octets}
 use Rattle.service.specs.Turns.{Turn, turns_at, waits_after, turns_for, waits_behind}
 use Rattle.service.specs.FeedTexts.{capped, skips}
-use Rattle.service.specs.inner.Feeding.{HasDone, IsCounted, IsBehind}
+use Rattle.service.specs.inner.Feeding.{HasDone, IsCounted, IsBehind, TakesNext}
 use Rattle.service.specs.declared.feed_lines.FeedCounts.{FeedCounts}
 use Rattle.service.specs.declared.feeding.Feeding.{Feeding}
 use Rattle.service.specs.declared.faults.FeedStop.{FeedStop}
 use Rattle.interleaving_core.proofs.api.Joining.{given_none}
 use Rattle.service.specs.declared.limits.BatchLimits.{BatchLimits}
 use Rattle.service.specs.Carried.{Carried}
+use Rattle.service.specs.Resuming.{taken_at}
 
 pub turns_snoc : (limit : BatchLimits) (place : ℕ) (waiting : List Admitted) (results : List (Result (Option Admitted) ResolveFault)) (r : Result (Option Admitted) ResolveFault)
     → turns_for limit place waiting (results ++ r ∷ []) ≡ turns_for limit place waiting results ++ turns_at limit (place + length results) (waits_behind limit waiting results) r
@@ -47,26 +48,28 @@ skips_both (Read reading ∷ xs) ys = skips_both xs ys
 skips_both (Malformed kind subtype ∷ xs) ys = skips_both xs ys
 
 -- what comes behind one more record, once its turns are made
-pub behind_more : (c : ℕ) (limit : BatchLimits) (h : History) (records : List Told) (r : Told) (x : Result (Option Admitted) ResolveFault) (old new : Feeding) (archive later : Carried) (was mid now : OutputState)
-    (b : IsBehind c limit h records old archive was mid)
-    → new.collector ≡ old.collector → new.limit ≡ old.limit → new.resolver.collector ≡ old.resolver.collector
-    → Gives old.resolver.collector old.resolver.table r x → (x ≡ Err faults.OutOfMemory → ⊥)
-    → LastTable (records ++ r ∷ []) new.resolver.table
+pub behind_more : (c dropped : ℕ) (limit : BatchLimits) (h : History) (records : List Told) (r : Told) (x : Result (Option Admitted) ResolveFault) (next : Feed) (left : ℕ) (old new : Feeding) (archive later : Carried) (was mid now : OutputState)
+    (b : IsBehind c dropped limit h records old archive was mid)
+    → new.collector ≡ old.collector → new.limit ≡ old.limit → new.resolver ≡ next → new.dropping ≡ left
+    → TakesNext old.resolver next old.dropping left r x → (x ≡ Err faults.OutOfMemory → ⊥)
     → new.gathered.items ≡ waits_after old.limit old.gathered.items x → IsCounted new
     → HasDone c h (turns_for limit 0 [] b.results ++ turns_at old.limit (length b.results) old.gathered.items x) new.counts later was now
     → new.counts.records ≡ capped (suc old.counts.records) → new.counts.skipped ≡ capped (old.counts.skipped + skips (r ∷ []))
-    → IsBehind c limit h (records ++ r ∷ []) new later was now
-behind_more c limit h records r x old new archive later was mid now b collector limits fed gives enough known waits counted done counts skipped =
+    → IsBehind c dropped limit h (records ++ r ∷ []) new later was now
+behind_more c dropped limit h records r x next left old new archive later was mid now b collector limits follows leaves takes enough waits counted done counts skipped =
+    let some : takes.meaning ≡ Err faults.OutOfMemory → ⊥ = λ e. enough (takes.taken_is ∙ still_wanting old.dropping takes.meaning e) in
     let n = length b.results in
     record {
       results = b.results ++ x ∷ [];
       collector = collector ∙ b.collector;
       limited = limits ∙ b.limited;
-      fed = fed ∙ b.fed;
-      known = known;
+      fed = ap (λ (t : Feed). t.collector) follows ∙ takes.collector ∙ b.fed;
+      known = subst (λ (t : Feed). LastTable (records ++ r ∷ []) t.table) (sym follows) (takes.table some records b.known);
       means =
-          one_more c records b.results r x b.means
-          (record { table = old.resolver.table; last = b.known; gives = subst (λ (t : ℕ). Gives t old.resolver.table r x) b.fed gives; wanting = enough });
+          meant_more c dropped records b.results r takes.meaning x b.means
+          (record { table = old.resolver.table; last = b.known; gives = subst (λ (t : ℕ). Gives t old.resolver.table r takes.meaning) b.fed takes.gives; wanting = some })
+          (takes.taken_is ∙ ap (λ (t : ℕ). taken_at t takes.meaning) b.drops);
+      drops = drops_more dropped old.dropping new.dropping b.means.meanings takes.meaning b.drops (leaves ∙ takes.left_is);
       waits = waits ∙ (λ k. waits_after (b.limited k) (b.waits k) x) ∙ sym (waits_snoc limit [] b.results x);
       counted = counted;
       done =
@@ -78,22 +81,21 @@ behind_more c limit h records r x old new archive later was mid now b collector 
     }
 
 -- the same where the turns may fail
-pub behind_where : (t : Result (Unit {0}) FeedStop) (c : ℕ) (limit : BatchLimits) (h : History) (records : List Told) (r : Told) (x : Result (Option Admitted) ResolveFault) (old new : Feeding) (archive later : Carried) (was mid now : OutputState)
-    (b : IsBehind c limit h records old archive was mid)
-    → new.collector ≡ old.collector → new.limit ≡ old.limit → new.resolver.collector ≡ old.resolver.collector
-    → Gives old.resolver.collector old.resolver.table r x → OnOk t (x ≡ Err faults.OutOfMemory → ⊥)
-    → ((x ≡ Err faults.OutOfMemory → ⊥) → LastTable (records ++ r ∷ []) new.resolver.table)
+pub behind_where : (t : Result (Unit {0}) FeedStop) (c dropped : ℕ) (limit : BatchLimits) (h : History) (records : List Told) (r : Told) (x : Result (Option Admitted) ResolveFault) (next : Feed) (left : ℕ) (old new : Feeding) (archive later : Carried) (was mid now : OutputState)
+    (b : IsBehind c dropped limit h records old archive was mid)
+    → new.collector ≡ old.collector → new.limit ≡ old.limit → new.resolver ≡ next → new.dropping ≡ left
+    → TakesNext old.resolver next old.dropping left r x → OnOk t (x ≡ Err faults.OutOfMemory → ⊥)
     → OnOk t (new.gathered.items ≡ waits_after old.limit old.gathered.items x) → OnOk t (IsCounted new)
     → OnOk t (HasDone c h (turns_for limit 0 [] b.results ++ turns_at old.limit (length b.results) old.gathered.items x) new.counts later was now)
     → new.counts.records ≡ capped (suc old.counts.records) → new.counts.skipped ≡ capped (old.counts.skipped + skips (r ∷ []))
-    → OnOk t (IsBehind c limit h (records ++ r ∷ []) new later was now)
-behind_where (Ok done_) c limit h records r x old new archive later was mid now b collector limits fed gives enough known waits counted done counts skipped =
-    behind_more c limit h records r x old new archive later was mid now b collector limits fed gives enough (known enough) waits counted done counts skipped
-behind_where (Err e) c limit h records r x old new archive later was mid now b collector limits fed gives enough known waits counted done counts skipped = tt
+    → OnOk t (IsBehind c dropped limit h (records ++ r ∷ []) new later was now)
+behind_where (Ok done_) c dropped limit h records r x next left old new archive later was mid now b collector limits follows leaves takes enough waits counted done counts skipped =
+    behind_more c dropped limit h records r x next left old new archive later was mid now b collector limits follows leaves takes enough waits counted done counts skipped
+behind_where (Err e) c dropped limit h records r x next left old new archive later was mid now b collector limits follows leaves takes enough waits counted done counts skipped = tt
 
 -- the place of the next record
-pub place_of : (c : ℕ) (limit : BatchLimits) (h : History) (records : List Told) (old : Feeding) (archive : Carried) (was mid : OutputState) (b : IsBehind c limit h records old archive was mid) → old.counts.records ≡ capped (length b.results)
-place_of c limit h records old archive was mid b = b.recorded ∙ ap capped (sym b.means.count)
+pub place_of : (c dropped : ℕ) (limit : BatchLimits) (h : History) (records : List Told) (old : Feeding) (archive : Carried) (was mid : OutputState) (b : IsBehind c dropped limit h records old archive was mid) → old.counts.records ≡ capped (length b.results)
+place_of c dropped limit h records old archive was mid b = b.recorded ∙ ap capped (sym (taken_count c dropped records b.results b.means))
 
 -- counts of records and skipped ones tell nothing of what was done
 pub done_counted : (c : ℕ) (h : History) (turns : List Turn) (old new : FeedCounts) (archive : Carried) (was now : OutputState)
@@ -101,18 +103,19 @@ pub done_counted : (c : ℕ) (h : History) (turns : List Turn) (old new : FeedCo
 done_counted c h turns old new archive was now admitted late refused d = record { carried = d.carried; wrote = d.wrote; admitted = admitted ∙ d.admitted; late = late ∙ d.late; refused = refused ∙ d.refused; there = d.there }
 
 -- no record came yet
-pub behind_none : (c : ℕ) (limit : BatchLimits) (h : History) (archive : Carried) (feeding : Feeding) (was : OutputState)
-    → feeding.collector ≡ c → feeding.limit ≡ limit → feeding.resolver.collector ≡ c → feeding.resolver.table ≡ None → feeding.gathered.items ≡ [] → feeding.octets ≡ 0
+pub behind_none : (c dropped : ℕ) (limit : BatchLimits) (h : History) (archive : Carried) (feeding : Feeding) (was : OutputState)
+    → feeding.collector ≡ c → feeding.limit ≡ limit → feeding.resolver.collector ≡ c → feeding.resolver.table ≡ None → feeding.gathered.items ≡ [] → feeding.octets ≡ 0 → feeding.dropping ≡ dropped
     → feeding.counts ≡ record { records = 0; admitted = 0; late = 0; refused = 0; skipped = 0 }
     → 131076 ≤ feeding.limit.octets → feeding.limit.octets ≤ 262144
-    → archive h → IsBehind c limit h [] feeding archive was was
-behind_none c limit h archive feeding was collector limits fed none empty octets counts one few carried = record {
+    → archive h → IsBehind c dropped limit h [] feeding archive was was
+behind_none c dropped limit h archive feeding was collector limits fed none empty octets drops counts one few carried = record {
   results = [];
   collector = collector;
   limited = limits;
   fed = fed;
   known = inl (tt, none);
-  means = record { count = refl; each = λ n next result e f. absurd cc };
+  means = record { meanings = []; means = record { count = refl; each = λ n next result e f. absurd cc }; taken = refl };
+  drops = drops;
   waits = empty;
   counted = record { octets = octets ∙ sym (ap batch_octets empty); fit = omega (arith, octets, one); one = one; few = few };
   done = record {

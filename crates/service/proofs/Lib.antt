@@ -2,6 +2,7 @@ pub mod Outputs
 pub mod Words
 pub mod Lines
 pub mod Turning
+pub mod Dropping
 pub mod Gathering
 pub mod Following
 pub mod GivingUp

@@ -1,11 +1,14 @@
 -- The command line of the program: what clap reads of it, and what that asks for.
-use Rattle.std.specs.Prelude.{◌≡◌, ⊤, ℕ, true, List, [], Option, Some, None, codes, string_bytes, unwrap_or}
+use Rattle.std.specs.Prelude.{◌≡◌, ◌≤◌, ⊤, ℕ, true, List, [], ◌∷◌, Option, Some, None, codes, string_bytes, unwrap_or}
+use Rattle.std.specs.Str.Parse.{digits_value, without_leading_plus}
 use Rattle.std.specs.List.{join_by}
 use Rattle.clap.specs.Lexer.{usize_max}
+use Rattle.clap.specs.Values.{IsUnsignedIn}
 use Rattle.clap.specs.Walk.{Row, Rule, first_of, all_of}
 use Rattle.clap.specs.Simple.{App, new_app, new_rule, on_top, subcommand_of, with_rule, with_subcommand}
 use Rattle.clap.specs.Faults.{fault_of}
 use Rattle.clap.specs.declared.builder.action.ArgAction.TheVariants.{Set, Append}
+use Rattle.clap.specs.declared.builder.value_parser.ValueParser.TheVariants.{Unsigned}
 use Rattle.route_text.specs.MomentText.{IsMarkText}
 use Rattle.service.specs.declared.command_line.Attempt.{Attempt}
 use Rattle.service.specs.declared.command_line.Invocation.{Invocation}
@@ -14,6 +17,16 @@ use Rattle.service.specs.declared.command_line.Invocation.TheVariants.{Try}
 -- FILE: one word, which has to be there
 abbrev pub file_rule : Rule
 file_rule = record (new_rule (codes "FILE")) { action = Some Set; required = true }
+
+-- --batch N, from 1 to 1000, and 1000 where it isn't there
+abbrev pub batch_rule : Rule
+batch_rule = record (new_rule (codes "batch")) {
+  long = Some (codes "batch");
+  value_names = 1;
+  action = Some Set;
+  parser = Some (Unsigned 1 1000);
+  defaults = codes "1000" ∷ [];
+}
 
 -- --mark M
 abbrev pub mark_rule : Rule
@@ -28,9 +41,13 @@ words_rule = record (new_rule (codes "WORD")) {
   required = true;
 }
 
--- try FILE [--mark M] WORD..
+-- try FILE [--batch N]
+abbrev pub file_attempt : App
+file_attempt = with_rule (with_rule (new_app (codes "try")) file_rule) batch_rule
+
+-- try FILE [--batch N] [--mark M] WORD..
 abbrev pub attempt : App
-attempt = with_rule (with_rule (with_rule (new_app (codes "try")) file_rule) mark_rule) words_rule
+attempt = with_rule (with_rule file_attempt mark_rule) words_rule
 
 -- the program, of whose commands one has to be there
 abbrev pub program : App
@@ -43,6 +60,12 @@ mark_texts = codes "a mark is a number 0 to 4294967296, or a timestamp as 2024-0
 -- the words, with one space between two
 abbrev pub spaced : List (List ℕ) → List ℕ
 spaced words = join_by (λ word. word) (codes " ") words
+
+-- The number behind an option, which is within the limits: the one that its text writes, where the text is taken.
+pub record IsNumber (least most : ℕ) (text : Option (List ℕ)) (n : ℕ) : Type 0 where
+  pub low : least ≤ n
+  pub high : n ≤ most
+  pub written : (t : List ℕ) → text ≡ Some t → IsUnsignedIn least most t → n ≡ digits_value 10 (without_leading_plus t)
 
 -- the text is that of a mark, and both may be missing
 abbrev pub IsMarkIf : Option (List ℕ) → Option ℕ → Type 0
@@ -59,6 +82,7 @@ IsNoMark (Some text) = (mark : ℕ) → IsMarkText text mark → ⊥
 -- what is read of the arguments of `try`
 pub record IsAttempt (rows : List Row) (a : Attempt) : Type 0 where
   pub file : a.file.now ≡ unwrap_or (first_of (codes "FILE") rows) []
+  pub batch : IsNumber 1 1000 (first_of (codes "batch") rows) a.batch
   pub mark : IsMarkIf (first_of (codes "mark") rows) a.mark
   pub line : string_bytes a.line ≡ spaced (unwrap_or (all_of (codes "WORD") rows) [])
 

@@ -9,6 +9,7 @@ pub mod Outputs
 pub mod Turns
 pub mod FeedTexts
 pub mod Carried
+pub mod Resuming
 pub mod Feeds
 pub mod Loads
 pub mod CommandLines

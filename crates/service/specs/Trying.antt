@@ -13,7 +13,7 @@ use Rattle.service.specs.declared.command_line.Attempt.{Attempt}
 use Rattle.service.specs.declared.refusal.Refusal.TheVariants as refusals
 use Rattle.service.specs.declared.status.Status.{Status}
 
--- The file was loaded as collector 0's into an empty archive, in batches of at most 1000 admissions; then the line was answered, and
+-- The file was loaded as collector 0's into an empty archive, in batches of at most as many admissions as were asked for; then the line was answered, and
 -- what was buffered written out. The exit status is the greater of both, and 1 where not all could be written. Where that failed before
 -- what was buffered is written out, standard error is told no more of it.
 pub record IsTried (asked : Attempt) (known : Option (List ℕ)) (lost_was lost : Bool) (code : ℕ) (was now err_was err_now : OutputState) : Type 0 where
@@ -23,7 +23,7 @@ pub record IsTried (asked : Attempt) (known : Option (List ℕ)) (lost_was lost 
   pub loaded : Status
   pub loaded_to : OutputState
   pub loaded_err : OutputState
-  pub load : IsLoadEnd 0 (record { records = 1000; octets = 262144 }) asked.mark (empty 1) bytes lost_was lost loaded (Carries archive) was loaded_to err_was loaded_err
+  pub load : IsLoadEnd 0 0 (record { records = asked.batch; octets = 262144 }) asked.mark (empty 1) bytes lost_was lost loaded (Carries archive) was loaded_to err_was loaded_err
   pub answered : Status
   pub answered_to : OutputState
   pub answered_err : OutputState

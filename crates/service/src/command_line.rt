@@ -1,6 +1,6 @@
 //! The command line of the program.
 
-ghost use Rattle.std.specs.Prelude.{◌≡◌, ◌⊎◌, IfOk, OnErr, false, map, option_map, codes, string_bytes};
+ghost use Rattle.std.specs.Prelude.{◌≡◌, ◌≤◌, ◌⊎◌, IfOk, OnErr, false, map, option_map, codes, string_bytes};
 ghost use Rattle.clap.specs.Kinds.{IsAmong};
 ghost use Rattle.clap.specs.Faults.{fault_of};
 ghost use Rattle.clap.specs.Simple.{app_of};
@@ -9,8 +9,9 @@ ghost use Rattle.clap.specs.Walk.{rule_of, rows_of, first_of};
 ghost use Rattle.clap.specs.Values.{kind_of};
 ghost use Rattle.clap.specs.declared.builder.command.Command.TheViews.{out-Command};
 ghost use Rattle.clap.specs.declared.error.Error.{Error};
-ghost use Rattle.service.specs.CommandLines.{file_rule, mark_rule, words_rule, program, attempt, spaced, IsMarkIf, IsNoMark, IsAttempt, IsInvocation, HasBadMark};
+ghost use Rattle.service.specs.CommandLines.{batch_rule, file_rule, mark_rule, words_rule, program, attempt, file_attempt, spaced, IsMarkIf, IsNoMark, IsNumber, IsAttempt, IsInvocation, HasBadMark};
 
+use clap::builder::ValueParser;
 use clap::error::ErrorKind;
 use clap::{Arg, ArgAction, ArgMatches, Command, Error};
 use route_model::Mark;
@@ -24,6 +25,8 @@ use thiserror::Error;
 pub struct Attempt<'a> {
     /// The file to load.
     pub file: &'a str,
+    /// The most admissions of a batch, 1 to 1000.
+    pub batch: usize,
     /// The collector's mark once the file is loaded.
     pub mark: Option<Mark>,
     /// The request line to answer then.
@@ -68,6 +71,9 @@ impl CommandError {
     }
 }
 
+/// The most admissions that a batch of a feed may be told to have, and those that it has where nothing is told.
+const MAX_BATCH: usize = 1000;
+
 /// The version of the program.
 const VERSION: &str = "0.2.0";
 
@@ -95,6 +101,19 @@ fn file_argument<'a>(alloc: Global) -> Arg<'a>
         .action(ArgAction::Set)
 }
 
+fn batch_argument<'a>(alloc: Global) -> Arg<'a>
+    ensures rule { rule_of result ≡ batch_rule }
+    ensures own { result.global ≡ false }
+{
+    Arg::new(alloc, "batch")
+        .long("batch")
+        .value_name("N")
+        .help("The most admissions of a batch, 1 to 1000")
+        .value_parser(ValueParser::unsigned(1, MAX_BATCH as u64))
+        .default_value("1000")
+        .action(ArgAction::Set)
+}
+
 fn mark_argument<'a>(alloc: Global) -> Arg<'a>
     ensures rule { rule_of result ≡ mark_rule }
     ensures own { result.global ≡ false }
@@ -118,15 +137,24 @@ fn words_argument<'a>(alloc: Global) -> Arg<'a>
         .action(ArgAction::Append)
 }
 
-/// `try FILE [--mark M] WORD..`
-fn try_command<'a>(alloc: Global) -> Result<Command<'a>, AllocError>
-    ensures app { IfOk result (λ c. app_of c ≡ attempt) }
+/// `FILE [--batch N]` of `try`
+fn try_file_command<'a>(alloc: Global) -> Result<Command<'a>, AllocError>
+    ensures app { IfOk result (λ c. app_of c ≡ file_attempt) }
     ensures own { IfOk result (λ c. (out-Command c).has_globals ≡ false) }
 {
     Command::new(alloc, "try")
         .about("Loads a file into an empty archive, and answers a request line")
         .after_help(HELP)
         .arg(file_argument(alloc))?
+        .arg(batch_argument(alloc))
+}
+
+/// `try FILE [--batch N] [--mark M] WORD..`
+fn try_command<'a>(alloc: Global) -> Result<Command<'a>, AllocError>
+    ensures app { IfOk result (λ c. app_of c ≡ attempt) }
+    ensures own { IfOk result (λ c. (out-Command c).has_globals ≡ false) }
+{
+    try_file_command(alloc)?
         .arg(mark_argument(alloc))?
         .arg(words_argument(alloc))
 }
@@ -143,6 +171,21 @@ fn program<'a>(alloc: Global) -> Result<Command<'a>, AllocError>
         .subcommand_required(true)
         .disable_help_subcommand(true)
         .subcommand(attempt)
+}
+
+/// The number that the text behind an option writes, which `clap` has read. No clause of its says that the text is there
+/// and within the limits: else the least counts.
+fn number_in(text: Option<&str>, least: u64, most: u64) -> u64
+    requires limits { least ≤ most }
+    ensures number { IsNumber least most (option_map (λ t. t.now) text.entry) result }
+{
+    let Some(text) = text else {
+        return least;
+    };
+    match text.parse::<u64>() {
+        Ok(number) if least <= number && number <= most => number,
+        _ => least,
+    }
 }
 
 /// The words as one line, with one space between two.
@@ -171,13 +214,19 @@ fn attempt_of<'a>(alloc: Global, matches: &ArgMatches<'a>) -> Result<Attempt<'a>
 {
     // clap wants FILE and a WORD, but no clause of its says that they are there: else they count as empty.
     let file = matches.get_str("FILE").unwrap_or("");
+    let batch = number_in(matches.get_str("batch"), 1, MAX_BATCH as u64) as usize;
     let mark = match mark_of(matches.get_str("mark")) {
         Ok(mark) => mark,
         Err(BadText) => return Err(CommandError::BadMark),
     };
     let words = matches.get_strs("WORD").unwrap_or(&[]);
     match line_of(alloc, words) {
-        Ok(line) => Ok(Attempt { file, mark, line }),
+        Ok(line) => Ok(Attempt {
+            file,
+            batch,
+            mark,
+            line,
+        }),
         Err(_) => Err(CommandError::OutOfMemory),
     }
 }
@@ -194,7 +243,8 @@ fn usage(error: clap::Error) -> CommandError
 }
 
 /// What the words of the command line ask for, the first of them being the program's name:
-/// `rha try FILE [--mark M] WORD..`. `clap` reads the words. Then M is read as a mark, and the WORDs are joined to a
+/// `rha try FILE [--batch N] [--mark M] WORD..`. `clap` reads the words, and N as a number from 1 to 1000, which is 1000
+/// where it isn't there. Then M is read as a mark, and the WORDs are joined to a
 /// line with one space between two; what stands behind the first WORD is a WORD too, also where it looks like an
 /// option.
 ///

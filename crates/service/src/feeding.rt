@@ -4,7 +4,8 @@ ghost use Rattle.std.specs.Prelude.{◌≡◌, ◌≤◌, ◌∷◌, ◌++◌, �
 ghost use Rattle.route_meaning.specs.History.{History};
 ghost use Rattle.mrt_records.specs.Values.{Told, told};
 ghost use Rattle.service.specs.Turns.{Turn, Offer, Refuse, offer_where, wait_unless, is_full, turns_at, waits_after, last_turns};
-ghost use Rattle.service.specs.FeedTexts.{capped};
+ghost use Rattle.service.specs.FeedTexts.{capped, intake_in};
+ghost use Rattle.service.specs.Resuming.{dropped_where};
 ghost use Rattle.service.specs.declared.limits.BatchLimits.{BatchLimits};
 ghost use Rattle.service.specs.Outputs.{OutputState, Tells};
 ghost use Rattle.service.specs.Refusals.{refused_record_line};
@@ -17,6 +18,7 @@ use crate::limits::BatchLimits;
 use crate::making_room::admit_with_room;
 use crate::output::Output;
 use crate::refusal::{Refusal, write_refused_record};
+use crate::resuming::{dropped_where, read_next};
 use archive_calls::{RouteArchive, Trouble};
 use mrt_records::Item;
 use resolve::{ResolveFault, Resolver};
@@ -24,13 +26,14 @@ use route_model::Admission;
 use std::alloc::{AllocError, Global};
 use std::io::Write;
 
-/// A feed under way: what later records need of earlier ones, the admissions that aren't offered yet, with how many
-/// octets they have as a batch, and what became of the records.
+/// A feed under way: what later records need of earlier ones, how many admissions are still dropped, the admissions that
+/// aren't offered yet, with how many octets they have as a batch, and what became of the records.
 #[derive(Drop)]
 pub(crate) struct Feeding {
     pub(crate) collector: u8,
     pub(crate) limit: BatchLimits,
     pub(crate) resolver: Resolver,
+    pub(crate) dropping: u64,
     pub(crate) gathered: Vec<Admission>,
     pub(crate) octets: usize,
     pub(crate) counts: FeedCounts,
@@ -47,23 +50,27 @@ fn is_over(octets: usize, more: usize, most: usize) -> bool
 }
 
 impl Feeding {
-    /// The beginning of a feed of the collector into the archive, whose batches have at most so many admissions.
+    /// The beginning of a feed of the collector into the archive, whose batches have at most so many admissions. Where it
+    /// goes on, the admissions that were offered of the collector until now are dropped.
     pub(crate) fn new<A: RouteArchive>(
         alloc: Global,
         archive: &A,
         collector: u8,
         limit: usize,
+        resume: bool,
     ) -> Feeding
-        ensures begins { (h : History) (was : OutputState) → A.carries archive.now h → IsBehind collector (record { records = limit; octets = A.most archive.now }) h [] result (A.carries archive.now) was was }
+        ensures begins { (h : History) (was : OutputState) → A.carries archive.now h → IsBehind collector (dropped_where resume (intake_in h.intakes collector)) (record { records = limit; octets = A.most archive.now }) h [] result (A.carries archive.now) was was }
     {
         let limit = BatchLimits {
             records: limit,
             octets: archive.batch_limit(),
         };
+        let dropping = dropped_where(archive, collector, resume);
         Feeding {
             collector,
             limit,
             resolver: Resolver::new(collector),
+            dropping,
             gathered: Vec::new(alloc),
             octets: 0,
             counts: FeedCounts {
@@ -226,13 +233,13 @@ impl Feeding {
         item: &Item,
         out: &mut Output<W>,
     ) -> Result<(), FeedStop>
-        ensures behind { (c : ℕ) (limit : BatchLimits) (h : History) (records : List Told) (was : OutputState) → IsBehind c limit h records self.old (A.carries archive.old) was out.old → OnOk result (IsBehind c limit h (records ++ told item.now ∷ []) self.new (A.carries archive.new) was out.new) }
+        ensures behind { (c dropped : ℕ) (limit : BatchLimits) (h : History) (records : List Told) (was : OutputState) → IsBehind c dropped limit h records self.old (A.carries archive.old) was out.old → OnOk result (IsBehind c dropped limit h (records ++ told item.now ∷ []) self.new (A.carries archive.new) was out.new) }
         ensures inside { result ≡ Err FeedStop.Outside → ⊥ }
-        ensures given_up { (c : ℕ) (limit : BatchLimits) (h : History) (records : List Told) (was : OutputState) → IsBehind c limit h records self.old (A.carries archive.old) was out.old → IfErr result (StopsAmong c limit h records (item.now ∷ []) (A.carries archive.new) was out.new) }
+        ensures given_up { (c dropped : ℕ) (limit : BatchLimits) (h : History) (records : List Told) (was : OutputState) → IsBehind c dropped limit h records self.old (A.carries archive.old) was out.old → IfErr result (StopsAmong c dropped limit h records (item.now ∷ []) (A.carries archive.new) was out.new) }
     {
         let place = self.counts.records;
         self.counts.count_record(item);
-        match self.resolver.record(alloc, item) {
+        match read_next(alloc, &mut self.resolver, &mut self.dropping, item) {
             Ok(Some(admission)) => self.gather(archive, admission, out),
             Ok(None) => Ok(()),
             Err(fault) => self.refuse(fault, place, out),
@@ -247,9 +254,9 @@ impl Feeding {
         items: &[Item],
         out: &mut Output<W>,
     ) -> Result<(), FeedStop>
-        ensures behind { (c : ℕ) (limit : BatchLimits) (h : History) (records : List Told) (was : OutputState) → IsBehind c limit h records self.old (A.carries archive.old) was out.old → OnOk result (IsBehind c limit h (records ++ map told items.now) self.new (A.carries archive.new) was out.new) }
+        ensures behind { (c dropped : ℕ) (limit : BatchLimits) (h : History) (records : List Told) (was : OutputState) → IsBehind c dropped limit h records self.old (A.carries archive.old) was out.old → OnOk result (IsBehind c dropped limit h (records ++ map told items.now) self.new (A.carries archive.new) was out.new) }
         ensures inside { result ≡ Err FeedStop.Outside → ⊥ }
-        ensures given_up { (c : ℕ) (limit : BatchLimits) (h : History) (records : List Told) (was : OutputState) → IsBehind c limit h records self.old (A.carries archive.old) was out.old → IfErr result (StopsAmong c limit h records items.now (A.carries archive.new) was out.new) }
+        ensures given_up { (c dropped : ℕ) (limit : BatchLimits) (h : History) (records : List Told) (was : OutputState) → IsBehind c dropped limit h records self.old (A.carries archive.old) was out.old → IfErr result (StopsAmong c dropped limit h records items.now (A.carries archive.new) was out.new) }
     {
         for item in items {
             self.take(alloc, archive, item, out)?;

@@ -3,7 +3,8 @@
 ghost use Rattle.std.specs.Prelude.{◌≡◌, ◌⊎◌, ◌++◌, ℕ, true, List, [], OnOk, IfOk, IfErr};
 ghost use Rattle.route_meaning.specs.History.{History};
 ghost use Rattle.service.specs.FeedLines.{counts_line};
-ghost use Rattle.service.specs.FeedTexts.{cut_line};
+ghost use Rattle.service.specs.FeedTexts.{cut_line, intake_in};
+ghost use Rattle.service.specs.Resuming.{dropped_where};
 ghost use Rattle.service.specs.Feeds.{FitsFailures, IsCut, IsEnd, IsFed, MayGive, as_told};
 ghost use Rattle.service.specs.declared.limits.BatchLimits.{BatchLimits};
 ghost use Rattle.service.specs.Outputs.{OutputState, Tells};
@@ -44,9 +45,9 @@ impl Feeding {
         archive: &mut A,
         out: &mut Output<W>,
     ) -> Result<bool, FeedStop>
-        ensures read { (c : ℕ) (limit : BatchLimits) (h : History) (bytes : List ℕ) (was : OutputState) → Reads c limit h bytes framer.old self.old (A.carries archive.old) was out.old → IfOk result (λ goes_on. IsRead c limit h (bytes ++ piece.now) framer.new goes_on self.new (A.carries archive.new) was out.new) }
+        ensures read { (c dropped : ℕ) (limit : BatchLimits) (h : History) (bytes : List ℕ) (was : OutputState) → Reads c dropped limit h bytes framer.old self.old (A.carries archive.old) was out.old → IfOk result (λ goes_on. IsRead c dropped limit h (bytes ++ piece.now) framer.new goes_on self.new (A.carries archive.new) was out.new) }
         ensures inside { result ≡ Err FeedStop.Outside → ⊥ }
-        ensures given_up { (c : ℕ) (limit : BatchLimits) (h : History) (bytes : List ℕ) (was : OutputState) → Reads c limit h bytes framer.old self.old (A.carries archive.old) was out.old → IfErr result (StopsWithin c limit h (bytes ++ piece.now) (A.carries archive.new) was out.new) }
+        ensures given_up { (c dropped : ℕ) (limit : BatchLimits) (h : History) (bytes : List ℕ) (was : OutputState) → Reads c dropped limit h bytes framer.old self.old (A.carries archive.old) was out.old → IfErr result (StopsWithin c dropped limit h (bytes ++ piece.now) (A.carries archive.new) was out.new) }
     {
         let mut items = Vec::new(alloc);
         let goes_on = match framer.feed(piece, &mut items) {
@@ -67,8 +68,8 @@ impl Feeding {
         archive: &mut A,
         out: &mut Output<W>,
     ) -> Result<(), FeedStop>
-        ensures read { (c : ℕ) (limit : BatchLimits) (h : History) (bytes : List ℕ) (was : OutputState) → Reads c limit h bytes framer.old self.old (A.carries archive.old) was out.old → OnOk result ((more : List ℕ) × MayGive reader.old.left more × IsReadOut c limit h (bytes ++ more) framer.new self.new (A.carries archive.new) was out.new) }
-        ensures given_up { (c : ℕ) (limit : BatchLimits) (h : History) (bytes : List ℕ) (was : OutputState) → Reads c limit h bytes framer.old self.old (A.carries archive.old) was out.old → IfErr result (λ why. (more : List ℕ) × MayGive reader.old.left more × StopsWithin c limit h (bytes ++ more) (A.carries archive.new) was out.new why) }
+        ensures read { (c dropped : ℕ) (limit : BatchLimits) (h : History) (bytes : List ℕ) (was : OutputState) → Reads c dropped limit h bytes framer.old self.old (A.carries archive.old) was out.old → OnOk result ((more : List ℕ) × MayGive reader.old.left more × IsReadOut c dropped limit h (bytes ++ more) framer.new self.new (A.carries archive.new) was out.new) }
+        ensures given_up { (c dropped : ℕ) (limit : BatchLimits) (h : History) (bytes : List ℕ) (was : OutputState) → Reads c dropped limit h bytes framer.old self.old (A.carries archive.old) was out.old → IfErr result (λ why. (more : List ℕ) × MayGive reader.old.left more × StopsWithin c dropped limit h (bytes ++ more) (A.carries archive.new) was out.new why) }
         ensures outside { result ≡ Err FeedStop.Outside → (reader.new.failed ≡ true) ⊎ (out.new.failed ≡ true) }
         ensures sound { (result ≡ Err FeedStop.Outside → ⊥) → reader.new.failed ≡ reader.old.failed }
     {
@@ -128,15 +129,16 @@ fn take_in<A: RouteArchive, R: Read, W: Write>(
     archive: &mut A,
     collector: u8,
     limit: usize,
+    resume: bool,
     reader: &mut Input<R>,
     out: &mut Output<W>,
 ) -> Result<Option<FeedCut>, FeedStop>
-    ensures fed { (h : History) → A.carries archive.old h → IfOk result (λ cut. (bytes : List ℕ) × MayGive reader.old.left bytes × IsFed collector (record { records = limit; octets = A.most archive.old }) h bytes cut (A.carries archive.new) out.old out.new) }
-    ensures given_up { (h : History) → A.carries archive.old h → IfErr result (λ why. (bytes : List ℕ) × MayGive reader.old.left bytes × StopsWithin collector (record { records = limit; octets = A.most archive.old }) h bytes (A.carries archive.new) out.old out.new why) }
+    ensures fed { (h : History) → A.carries archive.old h → IfOk result (λ cut. (bytes : List ℕ) × MayGive reader.old.left bytes × IsFed collector (dropped_where resume (intake_in h.intakes collector)) (record { records = limit; octets = A.most archive.old }) h bytes cut (A.carries archive.new) out.old out.new) }
+    ensures given_up { (h : History) → A.carries archive.old h → IfErr result (λ why. (bytes : List ℕ) × MayGive reader.old.left bytes × StopsWithin collector (dropped_where resume (intake_in h.intakes collector)) (record { records = limit; octets = A.most archive.old }) h bytes (A.carries archive.new) out.old out.new why) }
     ensures outside { result ≡ Err FeedStop.Outside → (reader.new.failed ≡ true) ⊎ (out.new.failed ≡ true) }
     ensures sound { (result ≡ Err FeedStop.Outside → ⊥) → reader.new.failed ≡ reader.old.failed }
 {
-    let mut feeding = Feeding::new(alloc, archive, collector, limit);
+    let mut feeding = Feeding::new(alloc, archive, collector, limit, resume);
     let mut framer = Framer::new(alloc);
     feeding.take_stream(alloc, &mut framer, reader, archive, out)?;
     feeding.offer_rest(archive, out)?;
@@ -157,7 +159,9 @@ fn as_told<W: Write>(end: End, out: &Output<W>) -> End
     end
 }
 
-/// Takes a feed of a collector in. Its admissions are offered in batches, as soon as one has `limit` admissions, before
+/// Takes a feed of a collector in. Where it is to `resume`, as many of its first admissions as were offered of the
+/// collector until now are dropped: it is the whole feed of the collector, of which a front was taken in before. A record
+/// of a dropped admission counts as a record and as nothing else. The other admissions are offered in batches, as soon as one has `limit` admissions, before
 /// it would have more octets than the archive takes, and at the end. Where the collector's ring is too full for one, what
 /// may be applied is applied, and the batch offered once more. A refused record writes its line when it
 /// is met, each batch what became of it, and the end the counts of the feed; where the feed ends inside a record or
@@ -168,14 +172,15 @@ pub fn feed<A: RouteArchive, R: Read, W: Write>(
     archive: &mut A,
     collector: u8,
     limit: usize,
+    resume: bool,
     reader: &mut Input<R>,
     out: &mut Output<W>,
 ) -> End
-    ensures ended { (h : History) → A.carries archive.old h → (bytes : List ℕ) × MayGive reader.old.left bytes × (end : End) × (result ≡ as_told out.new.failed end) × IsEnd collector (record { records = limit; octets = A.most archive.old }) h bytes end (A.carries archive.new) out.old out.new × FitsFailures end reader.old.failed reader.new.failed out.new.failed }
+    ensures ended { (h : History) → A.carries archive.old h → (bytes : List ℕ) × MayGive reader.old.left bytes × (end : End) × (result ≡ as_told out.new.failed end) × IsEnd collector (dropped_where resume (intake_in h.intakes collector)) (record { records = limit; octets = A.most archive.old }) h bytes end (A.carries archive.new) out.old out.new × FitsFailures end reader.old.failed reader.new.failed out.new.failed }
     ensures outside { result ≡ End.Refused FeedStop.Outside → (reader.new.failed ≡ true) ⊎ (out.new.failed ≡ true) }
     ensures sound { (result ≡ End.Refused FeedStop.Outside → ⊥) → reader.new.failed ≡ reader.old.failed }
 {
-    match take_in(alloc, archive, collector, limit, reader, out) {
+    match take_in(alloc, archive, collector, limit, resume, reader, out) {
         Ok(None) => as_told(End::Well, out),
         Ok(Some(_)) => as_told(End::Cut, out),
         Err(why) => {

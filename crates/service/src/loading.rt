@@ -3,6 +3,8 @@
 ghost use Rattle.std.specs.Prelude.{◌≡◌, ℕ, List, OnOk, OnErr, IfErr};
 ghost use Rattle.route_meaning.specs.History.{History};
 ghost use Rattle.service.specs.Feeds.{MayGive};
+ghost use Rattle.service.specs.FeedTexts.{intake_in};
+ghost use Rattle.service.specs.Resuming.{dropped_where};
 ghost use Rattle.service.specs.Loads.{IsLoadEnd, IsSettled, marked_if};
 ghost use Rattle.service.specs.inner.Loading.{HasNotSettled, mark_after, status_after};
 
@@ -27,6 +29,9 @@ pub struct LoadSettings {
     pub limit: usize,
     /// The mark that is set once the feed has ended well.
     pub mark: Option<Mark>,
+    /// Whether as many of the file's first admissions are dropped as were offered of the collector until now: for a file
+    /// that is the collector's whole feed from its beginning.
+    pub resume: bool,
 }
 
 /// Sets the mark of a collector, if there is one to set.
@@ -108,14 +113,22 @@ pub fn load<A: RouteArchive, R: Read, W: Write, E: Write>(
     out: &mut Output<W>,
     err: &mut Output<E>,
 ) -> Status
-    ensures ended { (h : History) → A.carries archive.old h → (bytes : List ℕ) × MayGive reader.old.left bytes × IsLoadEnd how.collector (record { records = how.limit; octets = A.most archive.old }) how.mark h bytes reader.old.failed reader.new.failed result (A.carries archive.new) out.old out.new err.old err.new }
+    ensures ended { (h : History) → A.carries archive.old h → (bytes : List ℕ) × MayGive reader.old.left bytes × IsLoadEnd how.collector (dropped_where how.resume (intake_in h.intakes how.collector)) (record { records = how.limit; octets = A.most archive.old }) how.mark h bytes reader.old.failed reader.new.failed result (A.carries archive.new) out.old out.new err.old err.new }
     ensures sound { result ≡ Status.Done → reader.new.failed ≡ reader.old.failed }
 {
     if how.collector >= archive.collectors() {
         write_error(err, &Refusal::from(LoadStop::NoCollector));
         return told(Status::Refused, out, err);
     }
-    let end = feed(alloc, archive, how.collector, how.limit, reader, out);
+    let end = feed(
+        alloc,
+        archive,
+        how.collector,
+        how.limit,
+        how.resume,
+        reader,
+        out,
+    );
     match settle(archive, how.collector, mark_after(end, how.mark)) {
         Ok(()) => {
             write_settled(out, archive.settled());

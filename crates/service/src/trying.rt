@@ -16,9 +16,6 @@ use std::alloc::Global;
 use std::io::{Read, Write};
 use std::mem;
 
-/// The most admissions of a batch.
-const BATCH: usize = 1000;
-
 /// Writes out what is buffered: `Failed` where that fails, which `err` is told where nothing failed before.
 fn write_out<W: Write, E: Write>(out: &mut Output<W>, err: &mut Output<E>) -> Status
     ensures flushed { Tells out.old out.new [] }
@@ -38,7 +35,7 @@ fn write_out<W: Write, E: Write>(out: &mut Output<W>, err: &mut Output<E>) -> St
     Status::Done
 }
 
-/// Loads the file as collector 0's into an empty archive, in batches of at most 1000 admissions, and answers the line.
+/// Loads the file as collector 0's into an empty archive, in batches of at most so many admissions as were asked for, and answers the line.
 /// What is buffered is written out. The exit status of the program is the greater of both, and 1 where not all lines
 /// could be written, or where there is no memory for an archive.
 pub fn try_file<R: Read, W: Write, E: Write>(
@@ -57,8 +54,9 @@ pub fn try_file<R: Read, W: Write, E: Write>(
     };
     let how = LoadSettings {
         collector: 0,
-        limit: BATCH,
+        limit: asked.batch,
         mark: asked.mark,
+        resume: false,
     };
     let loaded = load(alloc, &mut archive, how, file, out, err);
     let answered = ask(alloc, &mut archive, asked.line.as_str(), out, err);

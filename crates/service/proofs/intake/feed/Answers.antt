@@ -5,6 +5,8 @@ use Rattle.service.specs.Feeds.{as_told}
 use Rattle.service.specs.declared.faults.FeedCut.{FeedCut}
 use Rattle.service.specs.declared.faults.FeedStop.{FeedStop}
 use Rattle.service.specs.declared.faults.FeedStop.TheVariants.{Outside}
+use Rattle.service.specs.FeedTexts.{intake_in}
+use Rattle.service.specs.Resuming.{dropped_where}
 use Rattle.service.proofs.GivingUp.{given_up_told}
 use Rattle.service.proofs.intake.feed.Goals as goal
 
@@ -47,7 +49,7 @@ returns-in-Err g c = record {
         up.1,
         Refused c.in-Err.why,
         c.as_told-in-Err.ensures.told,
-        given_up_told c.args.collector (record { records = c.args.limit; octets = g.A.RouteArchive.most c.args.archive.now }) h up.0 (g.A.RouteArchive.carries c.take_in.new.archive) _ _ _ c.in-Err.why up.2 (rw c.from.ensures at c.write_refusal.ensures.line),
+        given_up_told c.args.collector (dropped_where c.args.resume (intake_in h.intakes c.args.collector)) (record { records = c.args.limit; octets = g.A.RouteArchive.most c.args.archive.now }) h up.0 (g.A.RouteArchive.carries c.take_in.new.archive) _ _ _ c.in-Err.why up.2 (rw c.from.ensures at c.write_refusal.ensures.line),
         record {
           outside = λ e. ⊎_elim (λ failed. inl failed) (λ failed. inr (c.write_refusal.ensures.line.stays failed).0) (c.in-Err.ensures.outside (ap Err (same_stop c.in-Err.why e)));
           inside = λ none. c.in-Err.ensures.sound (λ e. none (ap (λ (t : FeedStop). Refused t) (err_is c.in-Err.why e)));

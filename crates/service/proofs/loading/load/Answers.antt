@@ -2,6 +2,8 @@ use Rattle.std.proofs.Common.{◌∙◌, ℕ, Option, arith, subst, sym, ap, ref
 use Rattle.route_meaning.specs.History.{History}
 use Rattle.interleaving_core.specs.Steps.{IsCollector}
 use Rattle.service.specs.Loads.{IsSettled, marked_if}
+use Rattle.service.specs.FeedTexts.{intake_in}
+use Rattle.service.specs.Resuming.{dropped_where}
 use Rattle.service.specs.Outputs.{Tells}
 use Rattle.service.specs.FeedLines.{settled_line}
 use Rattle.service.specs.declared.intake.End.{End}
@@ -19,7 +21,7 @@ returns-then-how-collectors g c = record {
       let given = some_given c.args.reader.now.left in (
         given.0,
         given.1,
-        load_nowhere c.told.result how.collector (record { records = how.limit; octets = g.A.RouteArchive.most c.args.archive.now }) how.mark h given.0 c.args.reader.now.failed (g.A.RouteArchive.carries c.args.archive.now) c.args.out.now c.args.err.now c.write_error.new.out c.told.new.err (λ here. absurd (omega (arith, here, count, few))) carried c.told.ensures.status (record { told = c.told.ensures.told; quiet = c.told.ensures.quiet })
+        load_nowhere c.told.result how.collector (dropped_where how.resume (intake_in h.intakes how.collector)) (record { records = how.limit; octets = g.A.RouteArchive.most c.args.archive.now }) how.mark h given.0 c.args.reader.now.failed (g.A.RouteArchive.carries c.args.archive.now) c.args.out.now c.args.err.now c.write_error.new.out c.told.new.err (λ here. absurd (omega (arith, here, count, few))) carried c.told.ensures.status (record { told = c.told.ensures.told; quiet = c.told.ensures.quiet })
             (rw c.from.ensures at c.write_error.ensures.line),
       );
   sound = λ done. refl;
@@ -35,7 +37,7 @@ returns-in-Ok g c = record {
       let fed = c.feed-end.ensures.ended h carried in (
         fed.0,
         fed.1,
-        load_ends fed.2 c.told-in-Ok.result how.collector (record { records = how.limit; octets = g.A.RouteArchive.most c.args.archive.now }) how.mark h fed.0 c.args.reader.now.failed c.feed-end.new.reader.failed (g.A.RouteArchive.carries c.feed-end.new.archive) (g.A.RouteArchive.carries c.settle.new.archive) c.args.out.now c.feed-end.new.out c.write_settled.new.out c.args.err.now c.told-in-Ok.new.err here fed.4 fed.5
+        load_ends fed.2 c.told-in-Ok.result how.collector (dropped_where how.resume (intake_in h.intakes how.collector)) (record { records = how.limit; octets = g.A.RouteArchive.most c.args.archive.now }) how.mark h fed.0 c.args.reader.now.failed c.feed-end.new.reader.failed (g.A.RouteArchive.carries c.feed-end.new.archive) (g.A.RouteArchive.carries c.settle.new.archive) c.args.out.now c.feed-end.new.out c.write_settled.new.out c.args.err.now c.told-in-Ok.new.err here fed.4 fed.5
             (subst (λ (m : Option ℕ). (past : History) → g.A.RouteArchive.carries c.feed-end.new.archive past → IsSettled (marked_if how.collector m past).intakes (g.A.RouteArchive.carries c.settle.new.archive))
             (c.mark_after.ensures.mark ∙ ap (λ (e : End). mark_after e how.mark) fed.3) c.in-Ok.ensures.settled)
             (λ past stands. subst (λ (n : ℕ). Tells c.feed-end.new.out c.write_settled.new.out (settled_line n)) (c.settled.ensures.settled past stands) c.write_settled.ensures.line)
@@ -54,7 +56,7 @@ returns-in-Err g c = record {
       let fed = c.feed-end.ensures.ended h carried in (
         fed.0,
         fed.1,
-        load_stops fed.2 c.told-in-Err.result how.collector (record { records = how.limit; octets = g.A.RouteArchive.most c.args.archive.now }) how.mark h fed.0 c.args.reader.now.failed c.feed-end.new.reader.failed (g.A.RouteArchive.carries c.feed-end.new.archive) (g.A.RouteArchive.carries c.settle.new.archive) c.args.out.now c.feed-end.new.out c.args.err.now c.write_error-in-Err.new.out c.told-in-Err.new.err c.in-Err.why here fed.4 fed.5
+        load_stops fed.2 c.told-in-Err.result how.collector (dropped_where how.resume (intake_in h.intakes how.collector)) (record { records = how.limit; octets = g.A.RouteArchive.most c.args.archive.now }) how.mark h fed.0 c.args.reader.now.failed c.feed-end.new.reader.failed (g.A.RouteArchive.carries c.feed-end.new.archive) (g.A.RouteArchive.carries c.settle.new.archive) c.args.out.now c.feed-end.new.out c.args.err.now c.write_error-in-Err.new.out c.told-in-Err.new.err c.in-Err.why here fed.4 fed.5
             (subst (λ (m : Option ℕ). (past : History) → g.A.RouteArchive.carries c.feed-end.new.archive past → HasNotSettled how.collector m past (g.A.RouteArchive.carries c.settle.new.archive) c.in-Err.why)
             (c.mark_after.ensures.mark ∙ ap (λ (e : End). mark_after e how.mark) fed.3) c.in-Err.ensures.unsettled)
             c.told-in-Err.ensures.status (record { told = c.told-in-Err.ensures.told; quiet = c.told-in-Err.ensures.quiet }) (rw c.from-in-Err.ensures at c.write_error-in-Err.ensures.line),

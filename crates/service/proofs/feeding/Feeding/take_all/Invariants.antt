@@ -8,5 +8,5 @@ use Rattle.service.specs.declared.limits.BatchLimits.{BatchLimits}
 
 abbrev pub invariant-loop-item : goal.invariant-loop-item
 invariant-loop-item g l =
-    (c : ℕ) (limit : BatchLimits) (h : History) (records : List Told) (was : OutputState) → IsBehind c limit h records l.initial.self (g.A.RouteArchive.carries l.initial.archive) was l.initial.out
-    → IsBehind c limit h (records ++ map told (take l.item-index l.items)) l.self (g.A.RouteArchive.carries l.archive) was l.out
+    (c dropped : ℕ) (limit : BatchLimits) (h : History) (records : List Told) (was : OutputState) → IsBehind c dropped limit h records l.initial.self (g.A.RouteArchive.carries l.initial.archive) was l.initial.out
+    → IsBehind c dropped limit h (records ++ map told (take l.item-index l.items)) l.self (g.A.RouteArchive.carries l.archive) was l.out

@@ -10,6 +10,6 @@ abbrev pub invariant-loop : goal.invariant-loop
 invariant-loop g l = record {
   room : length l.piece ≡ 65536;
   sound : l.reader.failed ≡ l.initial.reader.failed;
-  taken : (c : ℕ) (limit : BatchLimits) (h : History) (bytes : List ℕ) (was : OutputState) → Reads c limit h bytes l.initial.framer l.initial.self (g.A.RouteArchive.carries l.initial.archive) was l.initial.out
-      → Taken c limit h bytes l.initial.reader.left l.reader.left l.framer l.self (g.A.RouteArchive.carries l.archive) was l.out;
+  taken : (c dropped : ℕ) (limit : BatchLimits) (h : History) (bytes : List ℕ) (was : OutputState) → Reads c dropped limit h bytes l.initial.framer l.initial.self (g.A.RouteArchive.carries l.initial.archive) was l.initial.out
+      → Taken c dropped limit h bytes l.initial.reader.left l.reader.left l.framer l.self (g.A.RouteArchive.carries l.archive) was l.out;
 }
