@@ -11,5 +11,6 @@ pub mod Applying
 pub mod Unloading
 pub mod Batching
 pub mod CommandLines
-pub mod OneQuestion
-pub mod Replying
+pub mod OneRequest
+pub mod Answered
+pub mod Counting

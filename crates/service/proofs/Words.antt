@@ -1,5 +1,7 @@
 -- The words of a line, one by one.
-use Rattle.std.proofs.Common.{◌≡◌, ℕ, zero, suc, ◌<◌, List, [], ◌∷◌, length, map, drop, get_or, refl, ap, arith, Bor}
+use Rattle.std.proofs.Common.{◌≡◌, ◌∙◌, ℕ, zero, suc, ◌<◌, ◌≤◌, Bool, true, false, not, List, [], ◌∷◌, length, map, drop, get_or, refl, sym, ap, arith, Bor}
+use Rattle.std.specs.Str.{bytes_eq}
+use Rattle.std.proofs.lemmas.Slice.Eq.{bytes_eq-Decides}
 
 abbrev pub Words : Type 0
 Words = List (Bor (List ℕ))
@@ -35,6 +37,10 @@ first_of a b xs ys e = cc
 pub rest_of : (a b : List ℕ) (xs ys : List (List ℕ)) → ◌≡◌ {A = List (List ℕ)} (a ∷ xs) (b ∷ ys) → xs ≡ ys
 rest_of a b xs ys e = cc
 
+-- no word is some
+pub nothing : (word : List ℕ) (named : List (List ℕ)) → ◌≡◌ {A = List (List ℕ)} [] (word ∷ named) → ⊥
+nothing word named e = absurd cc
+
 -- the second word
 pub second_word : (words behind rest : Words) (first other : List ℕ) (text : Bor (List ℕ)) (xs : List (List ℕ))
     → texts words ≡ first ∷ texts behind → behind ≡ text ∷ rest → texts words ≡ first ∷ other ∷ xs → text.now ≡ other
@@ -48,3 +54,17 @@ pub behind_second : (words behind rest : Words) (first other : List ℕ) (text :
 behind_second words behind rest first other text xs is parts are =
     let e : texts behind ≡ text.now ∷ texts rest = ap texts parts in
     cc
+
+-- two words that weren't found to differ are the same
+pub same_word : (a b : List ℕ) (differ : Bool) → differ ≡ not (bytes_eq a b) → differ ≡ false → a ≡ b
+same_word a b differ is same = (bytes_eq-Decides a b).0 (equal (bytes_eq a b) (sym is ∙ same))
+  where
+    equal : (t : Bool) → not t ≡ false → t ≡ true
+    equal true e = refl
+    equal false e = absurd cc
+
+-- the only word
+pub only_word : (ws : Words) (d : Bor (List ℕ)) (word : List ℕ) → 1 ≤ length ws → length ws < 2 → (get_or ws 0 d).now ≡ word → texts ws ≡ word ∷ []
+only_word [] d word some few e = absurd (omega (arith, some))
+only_word (a ∷ []) d word some few e = ap (λ (x : List ℕ). x ∷ []) e
+only_word (a ∷ b ∷ ws) d word some few e = absurd (omega (arith, few))

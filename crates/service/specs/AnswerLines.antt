@@ -1,10 +1,18 @@
 -- The lines of an answer. Each ends in LF.
-use Rattle.std.specs.Prelude.{ℕ, Bool, true, false, Option, Some, None, List, ◌++◌, ◌-◌, codes, decimal, length, slice_get}
+use Rattle.std.specs.Prelude.{ℕ, Bool, true, false, Option, Some, None, List, ◌++◌, ◌+◌, ◌-◌, codes, decimal, length, slice_get}
 use Rattle.std.specs.List.{flat_map}
+use Rattle.route_model.specs.declared.change.Change.{Change}
+use Rattle.route_model.specs.declared.change.Change.TheVariants.{Announce, Withdraw, Down}
 use Rattle.route_model.specs.declared.peer.Peer.{Peer}
 use Rattle.route_model.specs.Prefix.{IpPrefix}
 use Rattle.route_meaning.specs.declared.question.Row.{Row}
 use Rattle.route_meaning.specs.declared.question.RowsAnswer.{RowsAnswer}
+use Rattle.route_meaning.specs.declared.question.Event.{Event}
+use Rattle.route_meaning.specs.declared.question.EventsAnswer.{EventsAnswer}
+use Rattle.interleaving_core.specs.declared.query.Query.{Query}
+use Rattle.interleaving_core.specs.declared.query.Query.TheVariants.{Rows, Events}
+use Rattle.interleaving_core.specs.declared.query.Answer.{Answer}
+use Rattle.interleaving_core.specs.declared.query.Answer.TheVariants.{Rows as RowsTold, Events as EventsTold}
 use Rattle.route_text.specs.AddressText.{address_text}
 use Rattle.route_text.specs.PrefixText.{prefix_text}
 use Rattle.route_text.specs.RouteText.{route_text}
@@ -36,3 +44,48 @@ ending rows true (Some row) = more_line row
 -- a line for each row, in their order, and then whether more follow
 abbrev pub answer_text : RowsAnswer → List ℕ
 answer_text a = flat_map row_line a.rows.items ++ ending a.rows.items a.more (slice_get a.rows.items (length a.rows.items - 1))
+
+-- a letter, a bar and a time
+abbrev pub timed_text : List ℕ → ℕ → List ℕ
+timed_text letter time = letter ++ codes "|" ++ decimal time
+
+-- what a peer said, and when: a route that it announced, that it withdrew one, or that all of its routes ended
+abbrev pub change_line : ℕ → Change → List ℕ
+change_line time (Announce peer prefix route) = timed_text (codes "A") time ++ codes "|" ++ route_text route ++ line_end
+change_line time (Withdraw peer prefix) = timed_text (codes "W") time ++ line_end
+change_line time (Down peer) = timed_text (codes "D") time ++ line_end
+
+-- an event: what was said, and when
+abbrev pub event_line : Event → List ℕ
+event_line e = change_line e.time e.change
+
+-- how many events there are, where no more follow; else how many the next question skips, of which this one skipped so many
+abbrev pub events_ending : ℕ → List Event → Bool → List ℕ
+events_ending skip events false = codes "E|" ++ decimal (length events) ++ line_end
+events_ending skip events true = codes "M|" ++ decimal (skip + length events) ++ line_end
+
+-- a line for each event, in their order, and then whether more follow
+abbrev pub events_text : ℕ → EventsAnswer → List ℕ
+events_text skip a = flat_map event_line a.events.items ++ events_ending skip a.events.items a.more
+
+-- how many events a question skips
+abbrev pub skip_of : Query → ℕ
+skip_of (Rows q) = 0
+skip_of (Events q) = q.skip
+
+-- the lines of an answer to a question that skips so many events
+abbrev pub reply_text : ℕ → Answer → List ℕ
+reply_text skip (RowsTold a) = answer_text a
+reply_text skip (EventsTold a) = events_text skip a
+
+-- a letter, a bar, a number and the end of the line
+abbrev pub number_line : List ℕ → ℕ → List ℕ
+number_line letter number = letter ++ codes "|" ++ decimal number ++ line_end
+
+-- the settled watermark
+abbrev pub watermark_line : ℕ → List ℕ
+watermark_line settled = number_line (codes "S") settled
+
+-- how many records of a collector are admitted
+abbrev pub count_line : ℕ → List ℕ
+count_line count = number_line (codes "N") count

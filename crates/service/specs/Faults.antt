@@ -57,4 +57,5 @@ of_load (ends.Trouble trouble) = of_trouble trouble
 abbrev pub of_unanswered : Unanswered → Refusal
 of_unanswered unanswered.BadRequest = refusals.BadRequest
 of_unanswered (unanswered.AboveWatermark settled) = refusals.AboveWatermark settled
+of_unanswered unanswered.NoCollector = refusals.NoCollector
 of_unanswered (unanswered.Trouble trouble) = of_trouble trouble

@@ -1,44 +1,75 @@
 -- What a history answers to a request line.
-use Rattle.std.specs.Prelude.{◌≡◌, ◌⊎◌, true, false, ℕ, ◌<◌, ◌≤◌, List}
+use Rattle.std.specs.Prelude.{◌≡◌, ◌⊎◌, true, false, ℕ, ◌<◌, ◌≤◌, List, Some, length, slice_get}
 use Rattle.service.specs.Outputs.{OutputState, Tells}
-use Rattle.route_meaning.specs.History.{History, applied, settled}
-use Rattle.route_meaning.specs.declared.question.RowsAnswer.{RowsAnswer}
+use Rattle.route_meaning.specs.History.{History, Intake, applied, settled}
 use Rattle.interleaving_core.specs.declared.query.Query.{Query}
-use Rattle.interleaving_core.specs.declared.query.Answer.TheVariants.{Rows}
+use Rattle.interleaving_core.specs.declared.query.Answer.{Answer}
 use Rattle.interleaving_core.specs.Does.{last_moment}
 use Rattle.interleaving_core.specs.Headline.{IsAnswered}
-use Rattle.service.specs.AnswerLines.{answer_text}
+use Rattle.interleaving_core.specs.Steps.{IsCollector}
+use Rattle.service.specs.AnswerLines.{skip_of, reply_text, watermark_line, count_line}
 use Rattle.service.specs.Refusals.{refusal_line, TellsFailure}
-use Rattle.service.specs.Requests.{IsQueryLine}
+use Rattle.service.specs.Requests.{IsRequestLine}
 use Rattle.service.specs.Faults.{of_unanswered}
+use Rattle.service.specs.declared.request.Request.{Request}
+use Rattle.service.specs.declared.request.Request.TheVariants.{Question, Watermark, Durable}
 use Rattle.service.specs.declared.status.Status.{Status}
 use Rattle.service.specs.declared.status.Status.TheVariants as statuses
 use Rattle.service.specs.declared.faults.Unanswered.{Unanswered}
 use Rattle.service.specs.declared.faults.Unanswered.TheVariants as whys
 
--- the line asks of a moment below the settled watermark, and this is the text of the answer over what is applied
-pub record IsReplyText (h : History) (line text : List ℕ) : Type 0 where
-  pub query : Query
-  pub answer : RowsAnswer
-  pub asked : IsQueryLine line query
+-- the question's last moment is below the settled watermark, and this is the text of the answer over what is applied
+pub record IsAnswerText (h : History) (query : Query) (text : List ℕ) : Type 0 where
+  pub answer : Answer
   pub below : last_moment query < settled h
-  pub answered : IsAnswered (applied h) query (Rows answer)
-  pub told : text ≡ answer_text answer
+  pub answered : IsAnswered (applied h) query answer
+  pub told : text ≡ reply_text (skip_of query) answer
+
+-- there is a collector of this number, and so many of its records are admitted
+pub record IsDurable (h : History) (collector count : ℕ) : Type 0 where
+  pub intake : Intake
+  pub here : slice_get h.intakes collector ≡ Some intake
+  pub count_is : count ≡ length intake.admitted
+
+-- this is the line of their count
+pub record IsCountText (h : History) (collector : ℕ) (text : List ℕ) : Type 0 where
+  pub count : ℕ
+  pub durable : IsDurable h collector count
+  pub told : text ≡ count_line count
+
+-- this is the text of the reply to the request
+abbrev pub IsReplyTo : History → Request → List ℕ → Type 0
+IsReplyTo h (Question query) text = IsAnswerText h query text
+IsReplyTo h Watermark text = text ≡ watermark_line (settled h)
+IsReplyTo h (Durable collector) text = IsCountText h collector text
+
+-- the line is a request, and this is the text of the reply to it
+pub record IsReplyText (h : History) (line text : List ℕ) : Type 0 where
+  pub request : Request
+  pub asked : IsRequestLine line request
+  pub replied : IsReplyTo h request text
 
 -- the line asks of a moment that isn't below the settled watermark, which is this one
 pub record IsUnsettled (h : History) (line : List ℕ) (watermark : ℕ) : Type 0 where
   pub query : Query
-  pub asked : IsQueryLine line query
+  pub asked : IsRequestLine line (Question query)
   pub above : settled h ≤ last_moment query
   pub watermark_is : watermark ≡ settled h
 
--- why there is no answer: the line is no request, its moment isn't settled, or the archive had another trouble
+-- the line asks of a collector that isn't there
+pub record IsOfNoCollector (h : History) (line : List ℕ) : Type 0 where
+  pub collector : ℕ
+  pub asked : IsRequestLine line (Durable collector)
+  pub none : IsCollector h collector → ⊥
+
+-- why there is no reply: the line is no request, its moment isn't settled, its collector isn't there, or the archive had another trouble
 abbrev pub IsRefused : History → List ℕ → Unanswered → Type 0
-IsRefused h line whys.BadRequest = (query : Query) → IsQueryLine line query → ⊥
+IsRefused h line whys.BadRequest = (request : Request) → IsRequestLine line request → ⊥
 IsRefused h line (whys.AboveWatermark watermark) = IsUnsettled h line watermark
+IsRefused h line whys.NoCollector = IsOfNoCollector h line
 IsRefused h line (whys.Trouble trouble) = Unit {0}
 
--- this is the text of an answer to the line, or the line of a refusal of it
+-- this is the text of a reply to the line, or the line of a refusal of it
 abbrev pub IsTold : History → List ℕ → List ℕ → Type 0
 IsTold h line text = IsReplyText h line text ⊎ ((why : Unanswered) × IsRefused h line why × (text ≡ refusal_line (of_unanswered why)))
 

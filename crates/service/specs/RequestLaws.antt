@@ -1,8 +1,8 @@
 -- Laws of request lines.
 use Rattle.std.specs.Prelude.{◌≡◌, ℕ, List}
-use Rattle.interleaving_core.specs.declared.query.Query.{Query}
-use Rattle.service.specs.Requests.{IsQueryLine}
+use Rattle.service.specs.declared.request.Request.{Request}
+use Rattle.service.specs.Requests.{IsRequestLine}
 
--- no line asks two questions
-abbrev pub AskOneQuestion : Type 0
-AskOneQuestion = (line : List ℕ) (q r : Query) → IsQueryLine line q → IsQueryLine line r → q ≡ r
+-- no line is two requests
+abbrev pub OneRequest : Type 0
+OneRequest = (line : List ℕ) (q r : Request) → IsRequestLine line q → IsRequestLine line r → q ≡ r

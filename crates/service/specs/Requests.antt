@@ -1,5 +1,5 @@
 -- Request lines and what they ask. A line is taken without its end.
-use Rattle.std.specs.Prelude.{◌≡◌, ℕ, ◌≤◌, ◌==◌, Option, Some, None, List, [], ◌∷◌, codes, decimal}
+use Rattle.std.specs.Prelude.{◌≡◌, ◌⊎◌, ℕ, ◌≤◌, ◌==◌, Option, Some, None, List, [], ◌∷◌, codes, decimal}
 use Rattle.std.specs.List.{slice_split}
 use Rattle.route_model.specs.declared.address.Address.{Address}
 use Rattle.route_model.specs.declared.peer.Peer.{Peer}
@@ -8,15 +8,24 @@ use Rattle.route_meaning.specs.declared.question.Select.{Select}
 use Rattle.route_meaning.specs.declared.question.Select.TheVariants.{Route, ByPrefix, Covering, PeerTable, All}
 use Rattle.route_meaning.specs.declared.question.Spot.{Spot}
 use Rattle.route_meaning.specs.declared.question.RowsQuestion.{RowsQuestion}
+use Rattle.route_meaning.specs.declared.question.EventsQuestion.{EventsQuestion}
 use Rattle.route_text.specs.AddressText.{IsAddressText}
 use Rattle.route_text.specs.PrefixText.{IsPrefixText}
 use Rattle.route_text.specs.MomentText.{IsMomentText}
-use Rattle.interleaving_core.specs.declared.query.Query.{Query}
 use Rattle.interleaving_core.specs.declared.query.Query.TheVariants.{Rows, Events}
+use Rattle.service.specs.declared.request.Request.{Request}
+use Rattle.service.specs.declared.request.Request.TheVariants.{Question, Watermark, Durable}
 
 -- the words of a line: the texts before, between and behind its spaces
 abbrev pub words_of : List ℕ → List (List ℕ)
 words_of line = slice_split (λ b. b == 32) line
+
+-- the only word is the number, which is at most the last one
+pub record AreNumberWords (last : ℕ) (words : List (List ℕ)) (number : ℕ) : Type 0 where
+  pub text : List ℕ
+  pub are : words ≡ text ∷ []
+  pub number_is : text ≡ decimal number
+  pub within : number ≤ last
 
 -- COLLECTOR ADDRESS AS name the peer
 pub record ArePeerWords (collector address as_number : List ℕ) (peer : Peer) : Type 0 where
@@ -95,7 +104,39 @@ pub record AreRowsWords (words : List (List ℕ)) (q : RowsQuestion) : Type 0 wh
   pub moment_is : IsMomentText moment q.moment
   pub select_is : AreSelectWords wanted q.select q.after
 
+-- `skip N`: so many events are left out; no word: none is
+abbrev pub AreSkipWords : List (List ℕ) → ℕ → Type 0
+AreSkipWords words skip = ((words ≡ []) × (skip ≡ 0)) ⊎ ((named : List (List ℕ)) × (words ≡ codes "skip" ∷ named) × AreNumberWords 18446744073709551615 named skip)
+
+-- `history FROM TO PEER PREFIX`, and perhaps `skip N`
+pub record AreEventsWords (words : List (List ℕ)) (q : EventsQuestion) : Type 0 where
+  pub from : List ℕ
+  pub to : List ℕ
+  pub collector : List ℕ
+  pub address : List ℕ
+  pub as_number : List ℕ
+  pub prefix : List ℕ
+  pub behind : List (List ℕ)
+  pub are : words ≡ codes "history" ∷ from ∷ to ∷ collector ∷ address ∷ as_number ∷ prefix ∷ behind
+  pub from_is : IsMomentText from q.from
+  pub to_is : IsMomentText to q.to
+  pub peer_is : ArePeerWords collector address as_number q.peer
+  pub prefix_is : IsPrefixText prefix q.prefix
+  pub skip_is : AreSkipWords behind q.skip
+
+-- `durable C`
+pub record AreDurableWords (words : List (List ℕ)) (collector : ℕ) : Type 0 where
+  pub named : List (List ℕ)
+  pub are : words ≡ codes "durable" ∷ named
+  pub collector_is : AreNumberWords 15 named collector
+
+-- the words ask this
+abbrev pub AreRequestWords : List (List ℕ) → Request → Type 0
+AreRequestWords words (Question (Rows q)) = AreRowsWords words q
+AreRequestWords words (Question (Events q)) = AreEventsWords words q
+AreRequestWords words Watermark = words ≡ codes "watermark" ∷ []
+AreRequestWords words (Durable collector) = AreDurableWords words collector
+
 -- the line asks this
-abbrev pub IsQueryLine : List ℕ → Query → Type 0
-IsQueryLine line (Rows q) = AreRowsWords (words_of line) q
-IsQueryLine line (Events q) = ⊥
+abbrev pub IsRequestLine : List ℕ → Request → Type 0
+IsRequestLine line request = AreRequestWords (words_of line) request

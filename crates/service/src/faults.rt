@@ -65,6 +65,9 @@ pub enum Unanswered {
     /// The question's moment isn't below the settled watermark, which this is.
     #[error("the moment isn't below the settled watermark")]
     AboveWatermark(Mark),
+    /// There is no collector of this number.
+    #[error("no such collector")]
+    NoCollector,
     /// The archive couldn't answer, or memory was wanting.
     #[error("{0}")]
     Trouble(Trouble),
@@ -168,6 +171,7 @@ impl From<Unanswered> for Refusal {
         match why {
             Unanswered::BadRequest => Refusal::BadRequest,
             Unanswered::AboveWatermark(settled) => Refusal::AboveWatermark(settled),
+            Unanswered::NoCollector => Refusal::NoCollector,
             Unanswered::Trouble(trouble) => Refusal::from(trouble),
         }
     }

@@ -1,14 +1,27 @@
 //! Request lines, read.
 
-ghost use Rattle.std.specs.Prelude.{◌≡◌, map, IfOk};
-ghost use Rattle.interleaving_core.specs.declared.query.Query.{Query};
-ghost use Rattle.service.specs.Requests.{words_of, IsQueryLine};
+ghost use Rattle.std.specs.Prelude.{◌≡◌, ◌∷◌, [], ℕ, codes, map, IfOk, OnErr};
+ghost use Rattle.service.specs.Requests.{words_of, AreDurableWords, AreRequestWords, IsRequestLine};
+ghost use Rattle.service.specs.declared.request.Request.{Request};
 
+use crate::events_request::read_events;
+use crate::request_words::{LAST_COLLECTOR, read_only_number, words_behind};
 use crate::rows_request::read_rows;
 use interleaving_core::Query;
 use route_text::BadText;
 use std::alloc::{AllocError, Global};
 use thiserror::Error;
+
+/// What a request line asks.
+#[derive(Clone, Copy, Debug, PartialEq, Eq)]
+pub enum Request {
+    /// A question of what is applied.
+    Question(Query),
+    /// The settled watermark.
+    Watermark,
+    /// How many records of the collector of this number are admitted.
+    Durable(u8),
+}
 
 /// Why a request line isn't read.
 #[derive(Clone, Copy, Debug, Error, PartialEq, Eq)]
@@ -27,22 +40,69 @@ fn words_of(alloc: Global, line: &str) -> Result<Vec<&str>, AllocError>
     line.split(' ').collect(alloc)
 }
 
+/// `watermark`
+fn read_watermark(words: &[&str]) -> Result<(), BadText>
+    ensures found { IfOk result (λ _. map (λ x. x.now) words.now ≡ codes "watermark" ∷ []) }
+    ensures none { OnErr result (map (λ x. x.now) words.now ≡ codes "watermark" ∷ [] → ⊥) }
+{
+    let [word] = words else {
+        return Err(BadText);
+    };
+    if *word != "watermark" {
+        return Err(BadText);
+    }
+    Ok(())
+}
+
+/// `durable C`: the collector's number.
+fn read_durable(words: &[&str]) -> Result<u8, BadText>
+    ensures found { IfOk result (AreDurableWords (map (λ x. x.now) words.now)) }
+    ensures none { OnErr result ((collector : ℕ) → AreDurableWords (map (λ x. x.now) words.now) collector → ⊥) }
+{
+    let Some(named) = words_behind(words, "durable") else {
+        return Err(BadText);
+    };
+    let collector = read_only_number(named, LAST_COLLECTOR)?;
+    Ok(collector as u8)
+}
+
+/// What words ask.
+fn read_words(words: &[&str]) -> Result<Request, BadText>
+    ensures found { IfOk result (AreRequestWords (map (λ x. x.now) words.now)) }
+    ensures none { OnErr result ((request : Request) → AreRequestWords (map (λ x. x.now) words.now) request → ⊥) }
+{
+    if let Ok(question) = read_rows(words) {
+        return Ok(Request::Question(Query::Rows(question)));
+    }
+    if let Ok(question) = read_events(words) {
+        return Ok(Request::Question(Query::Events(question)));
+    }
+    if let Ok(()) = read_watermark(words) {
+        return Ok(Request::Watermark);
+    }
+    let collector = read_durable(words)?;
+    Ok(Request::Durable(collector))
+}
+
 /// What a request line asks, the line being without its end. With exactly one space between two words it is one of
 ///
 /// - `at T route PEER PREFIX`
 /// - `at T prefix PREFIX`, `at T cover ADDRESS`, `at T peer PEER` or `at T all`, and behind it perhaps
 ///   `after PEER PREFIX`
+/// - `history FROM TO PEER PREFIX`, and behind it perhaps `skip N`, N being at most 18,446,744,073,709,551,615
+/// - `watermark`
+/// - `durable COLLECTOR`
 ///
-/// where PEER is `COLLECTOR ADDRESS AS`.
-pub fn read_query(alloc: Global, line: &str) -> Result<Query, RequestError>
-    ensures found { IfOk result (IsQueryLine line.now) }
-    ensures none { result ≡ Err RequestError.BadRequest → (query : Query) → IsQueryLine line.now query → ⊥ }
+/// where PEER is `COLLECTOR ADDRESS AS`, COLLECTOR is 0 to 15, and T, FROM and TO are moments: seconds or timestamps.
+pub fn read_request(alloc: Global, line: &str) -> Result<Request, RequestError>
+    ensures found { IfOk result (IsRequestLine line.now) }
+    ensures none { result ≡ Err RequestError.BadRequest → (request : Request) → IsRequestLine line.now request → ⊥ }
 {
     let Ok(words) = words_of(alloc, line) else {
         return Err(RequestError::OutOfMemory);
     };
-    match read_rows(&words) {
-        Ok(question) => Ok(Query::Rows(question)),
+    match read_words(&words) {
+        Ok(request) => Ok(request),
         Err(BadText) => Err(RequestError::BadRequest),
     }
 }

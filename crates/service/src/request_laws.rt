@@ -1,8 +1,8 @@
 //! Laws of request lines.
 
-ghost use Rattle.service.specs.RequestLaws.{AskOneQuestion};
+ghost use Rattle.service.specs.RequestLaws.{OneRequest};
 
-/// No line asks two questions: [`read_query`](crate::read_query) is the one reading of a line.
-pub fn lines_ask_one_question()
-    ensures one { AskOneQuestion }
+/// No line is two requests: [`read_request`](crate::read_request) is the one reading of a line.
+pub fn lines_are_one_request()
+    ensures one { OneRequest }
 {}

@@ -1,9 +1,9 @@
-//! Words of request lines that name peers and spots.
+//! Words of request lines: numbers, peers and spots.
 
 ghost use Rattle.std.specs.Prelude.{◌≡◌, ℕ, List, ◌∷◌, Option, map, IfOk, OnErr, IfSome, IfNone};
 ghost use Rattle.route_meaning.specs.declared.question.Spot.{Spot};
 ghost use Rattle.route_model.specs.declared.peer.Peer.{Peer};
-ghost use Rattle.service.specs.Requests.{ArePeerWords, AreSpotWords, AreAfterWords};
+ghost use Rattle.service.specs.Requests.{AreNumberWords, ArePeerWords, AreSpotWords, AreAfterWords};
 
 use route_meaning::Spot;
 use route_model::Peer;
@@ -19,6 +19,17 @@ pub(crate) fn words_behind<'a, 'b>(words: &'a [&'b str], word: &str) -> Option<&
 {
     let (first, behind) = words.split_first()?;
     if *first == word { Some(behind) } else { None }
+}
+
+/// The number of at most `last` that the only word writes.
+pub(crate) fn read_only_number(words: &[&str], last: u64) -> Result<u64, BadText>
+    ensures found { IfOk result (AreNumberWords last (map (λ x. x.now) words.now)) }
+    ensures none { OnErr result ((number : ℕ) → AreNumberWords last (map (λ x. x.now) words.now) number → ⊥) }
+{
+    let [text] = words else {
+        return Err(BadText);
+    };
+    read_number(text, last)
 }
 
 /// The peer that three words name.

@@ -1,17 +1,44 @@
--- Answers to questions. Contracts of private functions alone cite this file.
-use Rattle.interleaving_core.specs.declared.query.Answer.{Answer}
-use Rattle.interleaving_core.specs.declared.query.Answer.TheVariants.{Rows, Events}
+-- Replies to requests. Contracts of private functions alone cite this file.
+use Rattle.std.specs.Prelude.{◌≡◌, ◌≤◌, ℕ}
+use Rattle.route_meaning.specs.History.{History, settled}
+use Rattle.interleaving_core.specs.declared.query.Query.{Query}
+use Rattle.interleaving_core.specs.Does.{last_moment}
+use Rattle.interleaving_core.specs.Steps.{IsCollector}
 use Rattle.archive_calls.specs.declared.refusal.AskError.{AskError}
 use Rattle.archive_calls.specs.declared.refusal.AskError.TheVariants as asks
 use Rattle.service.specs.declared.faults.Unanswered.{Unanswered}
 use Rattle.service.specs.declared.faults.Unanswered.TheVariants as whys
-
--- the answer has events
-abbrev pub HasEvents : Answer → Type 0
-HasEvents (Rows answer) = ⊥
-HasEvents (Events answer) = Unit {0}
+use Rattle.service.specs.declared.request.Request.{Request}
+use Rattle.service.specs.declared.request.Request.TheVariants.{Question, Watermark, Durable}
 
 -- why a question isn't answered, as a line is told of it
 abbrev pub of_ask : AskError → Unanswered
 of_ask (asks.AboveWatermark settled) = whys.AboveWatermark settled
 of_ask (asks.Trouble trouble) = whys.Trouble trouble
+
+-- why a question isn't answered: its last moment isn't below the settled watermark, which is told, or the archive had a trouble
+abbrev pub IsUnanswered : History → Query → Unanswered → Type 0
+IsUnanswered h query whys.BadRequest = ⊥
+IsUnanswered h query (whys.AboveWatermark watermark) = (settled h ≤ last_moment query) × (watermark ≡ settled h)
+IsUnanswered h query whys.NoCollector = ⊥
+IsUnanswered h query (whys.Trouble trouble) = Unit {0}
+
+-- there is nothing but a trouble
+abbrev pub IsTrouble : Unanswered → Type 0
+IsTrouble whys.BadRequest = ⊥
+IsTrouble (whys.AboveWatermark watermark) = ⊥
+IsTrouble whys.NoCollector = ⊥
+IsTrouble (whys.Trouble trouble) = Unit {0}
+
+-- why a collector's records aren't counted: it isn't there, or there was a trouble
+abbrev pub IsUncounted : History → ℕ → Unanswered → Type 0
+IsUncounted h collector whys.BadRequest = ⊥
+IsUncounted h collector (whys.AboveWatermark watermark) = ⊥
+IsUncounted h collector whys.NoCollector = IsCollector h collector → ⊥
+IsUncounted h collector (whys.Trouble trouble) = Unit {0}
+
+-- why there is no reply to a request
+abbrev pub IsUnreplied : History → Request → Unanswered → Type 0
+IsUnreplied h (Question query) why = IsUnanswered h query why
+IsUnreplied h Watermark why = IsTrouble why
+IsUnreplied h (Durable collector) why = IsUncounted h collector why

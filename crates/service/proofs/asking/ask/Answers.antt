@@ -1,6 +1,6 @@
 use Rattle.std.proofs.Common.{◌≡◌, ◌∙◌, ℕ, List, string_bytes, sym, subst}
 use Rattle.service.specs.Outputs.{Tells}
-use Rattle.service.proofs.Replying.{answered, refused}
+use Rattle.service.proofs.Answered.{answered, refused}
 use Rattle.service.proofs.asking.ask.Goals as goal
 
 pub returns-in-Ok : goal.returns-in-Ok

@@ -1,12 +1,17 @@
 -- How a line is answered.
-use Rattle.std.proofs.Common.{◌≡◌, ℕ, Bool, true, false, List, inl, inr, refl, sym, subst}
+use Rattle.std.proofs.Common.{◌≡◌, ℕ, Bool, true, false, List, Result, Ok, Err, IfOk, IfErr, inl, inr, refl, sym, subst}
 use Rattle.route_meaning.specs.History.{History}
 use Rattle.service.specs.Faults.{of_unanswered}
 use Rattle.service.specs.Outputs.{OutputState, Tells}
 use Rattle.service.specs.Refusals.{refusal_line, TellsFailure}
-use Rattle.service.specs.Replies.{IsReplyText, IsRefused, IsAskEnd}
+use Rattle.service.specs.Replies.{IsReplyTo, IsReplyText, IsRefused, IsAskEnd}
+use Rattle.service.specs.Requests.{IsRequestLine}
+use Rattle.service.specs.inner.Asking.{IsUnreplied}
+use Rattle.service.specs.declared.request.Request.{Request}
+use Rattle.service.specs.declared.request.Request.TheVariants.{Question, Watermark, Durable}
 use Rattle.service.specs.inner.Loading.{told_as}
 use Rattle.service.specs.declared.faults.Unanswered.{Unanswered}
+use Rattle.service.specs.declared.faults.Unanswered.TheVariants as whys
 use Rattle.service.specs.declared.status.Status.{Status}
 use Rattle.service.specs.declared.status.Status.TheVariants as statuses
 use Rattle.service.proofs.Outputs.{still_failed}
@@ -41,3 +46,29 @@ pub refused : (h : History) (line : List ℕ) (why : Unanswered) (result : Statu
     → was.failed ≡ false → result ≡ told_as now.failed err_was.failed statuses.Refused → TellsFailure now.failed err_was err_now
     → IsRefused h line why → Tells was now (refusal_line (of_unanswered why)) → IsAskEnd h line result was now err_was err_now
 refused h line why result was now err_was err_now = refused_by now.failed err_was.failed h line why result was now err_was err_now refl refl
+
+-- ---- the reply to a line is that to its request
+
+pub replied : {T : Type 0} (h : History) (line : List ℕ) (request : Request) (r : Result T Unanswered) (octets : T → List ℕ) → IsRequestLine line request
+    → IfOk r (λ text. IsReplyTo h request (octets text)) → IfOk r (λ text. IsReplyText h line (octets text))
+replied h line request (Ok text) octets asked k = record { request = request; asked = asked; replied = k }
+replied h line request (Err why) octets asked k = tt
+
+refused_as : (h : History) (line : List ℕ) (request : Request) (why : Unanswered) → IsRequestLine line request → IsUnreplied h request why → IsRefused h line why
+refused_as h line (Question query) whys.BadRequest asked k = absurd k
+refused_as h line (Question query) (whys.AboveWatermark watermark) asked k = record { query = query; asked = asked; above = k.0; watermark_is = k.1 }
+refused_as h line (Question query) whys.NoCollector asked k = absurd k
+refused_as h line (Question query) (whys.Trouble trouble) asked k = tt
+refused_as h line Watermark whys.BadRequest asked k = absurd k
+refused_as h line Watermark (whys.AboveWatermark watermark) asked k = absurd k
+refused_as h line Watermark whys.NoCollector asked k = absurd k
+refused_as h line Watermark (whys.Trouble trouble) asked k = tt
+refused_as h line (Durable collector) whys.BadRequest asked k = absurd k
+refused_as h line (Durable collector) (whys.AboveWatermark watermark) asked k = absurd k
+refused_as h line (Durable collector) whys.NoCollector asked k = record { collector = collector; asked = asked; none = k }
+refused_as h line (Durable collector) (whys.Trouble trouble) asked k = tt
+
+pub unreplied : {T : Type 0} (h : History) (line : List ℕ) (request : Request) (r : Result T Unanswered) → IsRequestLine line request
+    → IfErr r (IsUnreplied h request) → IfErr r (IsRefused h line)
+unreplied h line request (Ok text) asked k = tt
+unreplied h line request (Err why) asked k = refused_as h line request why asked k

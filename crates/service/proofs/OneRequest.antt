@@ -1,5 +1,5 @@
--- A line asks one question at most.
-use Rattle.std.proofs.Common.{◌≡◌, ℕ, ◌<◌, ◌≤◌, ◌^◌, true, false, List, [], ◌∷◌, Option, Some, None, codes, decimal, arith, refl, sym, ap, subst, ◌∙◌}
+-- A line is one request at most.
+use Rattle.std.proofs.Common.{◌≡◌, ℕ, ◌<◌, ◌≤◌, ◌^◌, true, false, List, ◌∷◌, Option, Some, None, codes, decimal, arith, refl, sym, ap, subst, ◌∙◌, ⊎_elim}
 use Rattle.std.specs.Str.{bytes_eq}
 use Rattle.std.proofs.lemmas.Fmt.{decimal_injective}
 use Rattle.std.proofs.lemmas.Slice.Eq.{bytes_eq-Decides}
@@ -10,15 +10,17 @@ use Rattle.route_meaning.specs.declared.question.Select.{Select}
 use Rattle.route_meaning.specs.declared.question.Select.TheVariants.{Route, ByPrefix, Covering, PeerTable, All}
 use Rattle.route_meaning.specs.declared.question.Spot.{Spot}
 use Rattle.route_meaning.specs.declared.question.RowsQuestion.{RowsQuestion}
+use Rattle.route_meaning.specs.declared.question.EventsQuestion.{EventsQuestion}
 use Rattle.route_text.specs.AddressText.{IsAddressText}
 use Rattle.route_text.specs.MomentText.{IsMomentText}
 use Rattle.route_text.specs.PrefixText.{IsPrefixText}
 use Rattle.route_text.proofs.api.Addresses.{IsAddressText_unique}
 use Rattle.route_text.proofs.api.OneValue.{one_instant, one_prefix}
-use Rattle.interleaving_core.specs.declared.query.Query.{Query}
 use Rattle.interleaving_core.specs.declared.query.Query.TheVariants.{Rows, Events}
-use Rattle.service.specs.Requests.{words_of, ArePeerWords, AreSpotWords, AreAfterWords, AreRouteWords, ArePrefixWords, AreCoverWords, ArePeerTableWords, AreAllWords, AreSelectWords, AreRowsWords, IsQueryLine}
-use Rattle.service.proofs.Words.{first_of, rest_of}
+use Rattle.service.specs.Requests.{words_of, AreNumberWords, ArePeerWords, AreSpotWords, AreAfterWords, AreRouteWords, ArePrefixWords, AreCoverWords, ArePeerTableWords, AreAllWords, AreSelectWords, AreRowsWords, AreSkipWords, AreEventsWords, AreDurableWords, AreRequestWords, IsRequestLine}
+use Rattle.service.specs.declared.request.Request.{Request}
+use Rattle.service.specs.declared.request.Request.TheVariants.{Question, Watermark, Durable}
+use Rattle.service.proofs.Words.{first_of, rest_of, nothing}
 
 abbrev Text : Type 0
 Text = List ℕ
@@ -49,6 +51,9 @@ same_peer a b c d e f p q first second third h k =
     (subst (λ (x : Text). ArePeerWords a x f p) second
     (subst (λ (x : Text). ArePeerWords a b x p) third h))) k
 
+same_moment : (a b : Text) (m n : ℕ) → a ≡ b → IsMomentText a m → IsMomentText b n → m ≡ n
+same_moment a b m n e h k = one_instant 4294967295 (omega arith) b m n (subst (λ (x : Text). IsMomentText x m) e h) k
+
 same_prefix : (a b : Text) (p q : IpPrefix) → a ≡ b → IsPrefixText a p → IsPrefixText b q → p ≡ q
 same_prefix a b p q e h k = one_prefix b p q (subst (λ (x : Text). IsPrefixText x p) e h) k
 
@@ -69,13 +74,10 @@ one_spot words s t h k =
 same_spot : (xs ys : List Text) (s t : Spot) → xs ≡ ys → AreSpotWords xs s → AreSpotWords ys t → s ≡ t
 same_spot xs ys s t e h k = one_spot ys s t (subst (λ (x : List Text). AreSpotWords x s) e h) k
 
-some_after : (named : List Text) → ◌≡◌ {A = List Text} [] (codes "after" ∷ named) → ⊥
-some_after named e = absurd cc
-
 one_after : (words : List Text) (a b : Option Spot) → AreAfterWords words a → AreAfterWords words b → a ≡ b
 one_after words None None h k = refl
-one_after words None (Some t) h k = absurd (some_after k.0 (sym h ∙ k.1))
-one_after words (Some s) None h k = absurd (some_after h.0 (sym k ∙ h.1))
+one_after words None (Some t) h k = absurd (nothing (codes "after") k.0 (sym h ∙ k.1))
+one_after words (Some s) None h k = absurd (nothing (codes "after") h.0 (sym k ∙ h.1))
 one_after words (Some s) (Some t) h k = ap Some (same_spot h.0 k.0 s t (rest_of _ _ _ _ (sym h.1 ∙ k.1)) h.2 k.2)
 
 same_after : (xs ys : List Text) (a b : Option Spot) → xs ≡ ys → AreAfterWords xs a → AreAfterWords ys b → a ≡ b
@@ -143,13 +145,65 @@ one_rows words q r h k =
     let behind = rest_of _ _ _ _ (sym h.are ∙ k.are) in
     let moment : h.moment ≡ k.moment = first_of _ _ _ _ behind in
     let wanted : h.wanted ≡ k.wanted = rest_of _ _ _ _ behind in
-    let moments = one_instant 4294967295 (omega arith) k.moment q.moment r.moment (subst (λ (x : Text). IsMomentText x q.moment) moment h.moment_is) k.moment_is in
+    let moments = same_moment _ _ q.moment r.moment moment h.moment_is k.moment_is in
     let selects = one_select k.wanted q.select r.select q.after r.after (subst (λ (x : List Text). AreSelectWords x q.select q.after) wanted h.select_is) k.select_is in
     let select = selects.0 in
     let after = selects.1 in
     λ i. record { moment = moments i; select = select i; after = after i }
 
-pub one_query : (line : List ℕ) (q r : Query) → IsQueryLine line q → IsQueryLine line r → q ≡ r
-one_query line (Rows q) (Rows r) h k = ap Rows (one_rows (words_of line) q r h k)
-one_query line (Rows q) (Events r) h k = absurd k
-one_query line (Events q) r h k = absurd h
+one_number : (last : ℕ) → last < 2 ^ 64 → (words : List Text) (a b : ℕ) → AreNumberWords last words a → AreNumberWords last words b → a ≡ b
+one_number last fits words a b h k = same_number a b last h.text fits h.within k.within h.number_is (first_of _ _ _ _ (sym h.are ∙ k.are) ∙ k.number_is)
+
+same_only_number : (last : ℕ) → last < 2 ^ 64 → (xs ys : List Text) (a b : ℕ) → xs ≡ ys → AreNumberWords last xs a → AreNumberWords last ys b → a ≡ b
+same_only_number last fits xs ys a b e h k = one_number last fits ys a b (subst (λ (x : List Text). AreNumberWords last x a) e h) k
+
+one_skip : (words : List Text) (a b : ℕ) → AreSkipWords words a → AreSkipWords words b → a ≡ b
+one_skip words a b h k =
+    ⊎_elim
+    (λ none. ⊎_elim (λ also. none.1 ∙ sym also.1) (λ some. absurd (nothing (codes "skip") some.0 (sym none.0 ∙ some.1))) k)
+    (λ some. ⊎_elim (λ none. absurd (nothing (codes "skip") some.0 (sym none.0 ∙ some.1))) (λ also. same_only_number 18446744073709551615 (omega arith) some.0 also.0 a b (rest_of _ _ _ _ (sym some.1 ∙ also.1)) some.2 also.2) k)
+    h
+
+one_events : (words : List Text) (q r : EventsQuestion) → AreEventsWords words q → AreEventsWords words r → q ≡ r
+one_events words q r h k =
+    let behind = rest_of _ _ _ _ (sym h.are ∙ k.are) in
+    let from : h.from ≡ k.from = first_of _ _ _ _ behind in
+    let behind-2 = rest_of _ _ _ _ behind in
+    let to : h.to ≡ k.to = first_of _ _ _ _ behind-2 in
+    let behind-3 = rest_of _ _ _ _ behind-2 in
+    let behind-4 = rest_of _ _ _ _ behind-3 in
+    let behind-5 = rest_of _ _ _ _ behind-4 in
+    let behind-6 = rest_of _ _ _ _ behind-5 in
+    let behind-7 : h.behind ≡ k.behind = rest_of _ _ _ _ behind-6 in
+    let froms = same_moment _ _ q.from r.from from h.from_is k.from_is in
+    let tos = same_moment _ _ q.to r.to to h.to_is k.to_is in
+    let peers = same_peer _ _ _ _ _ _ q.peer r.peer (first_of _ _ _ _ behind-3) (first_of _ _ _ _ behind-4) (first_of _ _ _ _ behind-5) h.peer_is k.peer_is in
+    let prefixes = same_prefix _ _ q.prefix r.prefix (first_of _ _ _ _ behind-6) h.prefix_is k.prefix_is in
+    let skips = one_skip k.behind q.skip r.skip (subst (λ (x : List Text). AreSkipWords x q.skip) behind-7 h.skip_is) k.skip_is in
+    λ i. record { from = froms i; to = tos i; peer = peers i; prefix = prefixes i; skip = skips i }
+
+-- ---- requests
+
+one_durable : (words : List Text) (a b : ℕ) → AreDurableWords words a → AreDurableWords words b → a ≡ b
+one_durable words a b h k = same_only_number 15 (omega arith) h.named k.named a b (rest_of _ _ _ _ (sym h.are ∙ k.are)) h.collector_is k.collector_is
+
+one_of_words : (words : List Text) (q r : Request) → AreRequestWords words q → AreRequestWords words r → q ≡ r
+one_of_words words (Question (Rows q)) (Question (Rows r)) h k = ap (λ (x : RowsQuestion). Question (Rows x)) (one_rows words q r h k)
+one_of_words words (Question (Rows q)) (Question (Events r)) h k = absurd (differ _ _ _ _ words refl h.are k.are)
+one_of_words words (Question (Rows q)) Watermark h k = absurd (differ _ _ _ _ words refl h.are k)
+one_of_words words (Question (Rows q)) (Durable d) h k = absurd (differ _ _ _ _ words refl h.are k.are)
+one_of_words words (Question (Events q)) (Question (Rows r)) h k = absurd (differ _ _ _ _ words refl h.are k.are)
+one_of_words words (Question (Events q)) (Question (Events r)) h k = ap (λ (x : EventsQuestion). Question (Events x)) (one_events words q r h k)
+one_of_words words (Question (Events q)) Watermark h k = absurd (differ _ _ _ _ words refl h.are k)
+one_of_words words (Question (Events q)) (Durable d) h k = absurd (differ _ _ _ _ words refl h.are k.are)
+one_of_words words Watermark (Question (Rows r)) h k = absurd (differ _ _ _ _ words refl h k.are)
+one_of_words words Watermark (Question (Events r)) h k = absurd (differ _ _ _ _ words refl h k.are)
+one_of_words words Watermark Watermark h k = refl
+one_of_words words Watermark (Durable d) h k = absurd (differ _ _ _ _ words refl h k.are)
+one_of_words words (Durable c) (Question (Rows r)) h k = absurd (differ _ _ _ _ words refl h.are k.are)
+one_of_words words (Durable c) (Question (Events r)) h k = absurd (differ _ _ _ _ words refl h.are k.are)
+one_of_words words (Durable c) Watermark h k = absurd (differ _ _ _ _ words refl h.are k)
+one_of_words words (Durable c) (Durable d) h k = ap Durable (one_durable words c d h k)
+
+pub one_request : (line : List ℕ) (q r : Request) → IsRequestLine line q → IsRequestLine line r → q ≡ r
+one_request line q r h k = one_of_words (words_of line) q r h k

@@ -1,0 +1,27 @@
+use Rattle.std.proofs.Common.{◌∙◌, ℕ, Err, ap}
+use Rattle.route_meaning.specs.History.{History}
+use Rattle.interleaving_core.specs.declared.query.Query.{Query}
+use Rattle.archive_calls.specs.Does.{IsAnswerOf}
+use Rattle.archive_calls.specs.declared.refusal.AskError.{AskError}
+use Rattle.archive_calls.specs.declared.refusal.AskError.TheVariants as asks
+use Rattle.service.specs.AnswerLines.{reply_text}
+use Rattle.service.specs.inner.Asking.{of_ask, IsUnanswered}
+use Rattle.service.proofs.replying.answer_question.Goals as goal
+
+told_above : (h : History) (query : Query) (e : AskError) → IsAnswerOf h query (Err e) → IsUnanswered h query (of_ask e)
+told_above h query (asks.AboveWatermark mark) above = (above.1, above.0)
+told_above h query (asks.Trouble trouble) above = tt
+
+pub returns-in-Err-clause-refused : goal.returns-in-Err-clause-refused
+returns-in-Err-clause-refused g c = λ h carried.
+    rw c.unanswered.ensures.why (told_above h c.args.query c.in-Err.refusal (c.in-Err.ensures.done h carried))
+
+pub returns-in-Ok-text_of-clause-answered : goal.returns-in-Ok-text_of-clause-answered
+returns-in-Ok-text_of-clause-answered g c = λ h carried.
+    let told = c.in-Ok.ensures.done h carried in
+    record {
+      answer = c.in-Ok.answer;
+      below = told.0;
+      answered = told.1;
+      told = c.in-Ok-text_of.ensures.text ∙ ap (λ (skip : ℕ). reply_text skip c.in-Ok.answer) c.skip_of-skip.ensures.skip;
+    }
