@@ -43,14 +43,14 @@ S|1704067200
 
 /// What a load or a question wrote, and its status.
 #[derive(Drop)]
-struct Told {
+pub(crate) struct Told {
     out: Vec<u8>,
     err: Vec<u8>,
-    status: Status,
+    pub(crate) status: Status,
 }
 
 impl Told {
-    fn is(&self, out: &str, err: &str, status: Status) -> bool {
+    pub(crate) fn is(&self, out: &str, err: &str, status: Status) -> bool {
         self.out.as_slice() == out.as_bytes()
             && self.err.as_slice() == err.as_bytes()
             && self.status == status
@@ -79,7 +79,7 @@ fn load_octets(alloc: Global, archive: &mut Archive, how: LoadSettings, octets: 
 }
 
 /// Loads octets of collector 0 in batches of at most 1000 admissions, and sets the mark 1704067201.
-fn load_marked(alloc: Global, archive: &mut Archive, octets: &[u8]) -> Told {
+pub(crate) fn load_marked(alloc: Global, archive: &mut Archive, octets: &[u8]) -> Told {
     let how = LoadSettings {
         collector: 0,
         limit: 1000,
@@ -101,7 +101,7 @@ fn ask_to<W: Write>(
     (err, status)
 }
 
-fn ask_line(alloc: Global, archive: &mut Archive, line: &str) -> Told {
+pub(crate) fn ask_line(alloc: Global, archive: &mut Archive, line: &str) -> Told {
     let mut out = Vec::new(alloc);
     let (err, status) = ask_to(alloc, archive, line, &mut Output::new(&mut out));
     Told { out, err, status }
@@ -584,7 +584,7 @@ fn questions_are_answered_below_the_watermark(rt: HostRuntime) -> Result<(), Fai
 }
 
 /// The record of 257 prefixes.
-fn many_prefixes(alloc: Global) -> Result<Vec<u8>, Fail> {
+pub(crate) fn many_prefixes(alloc: Global) -> Result<Vec<u8>, Fail> {
     let mut octets = stream(alloc, &[MANY])?;
     for third in 0..=255 {
         octets.extend_from_slice(&[24, 10, 0, third])?;

@@ -12,6 +12,8 @@ mod lines;
 #[cfg(test)]
 mod plain;
 #[cfg(test)]
+mod questions;
+#[cfg(test)]
 mod resumed;
 #[cfg(test)]
 mod samples;

@@ -5,37 +5,87 @@ use route_meaning::{RowsQuestion, Select, Spot};
 use route_model::{Address, Mark, Moment, Peer, Prefix};
 use sequencer::Late;
 use service::{
-    FeedCounts, Output, Refusal, RequestError, read_query, write_admitted, write_counts,
+    FeedCounts, Output, Refusal, Request, RequestError, read_request, write_admitted, write_counts,
     write_error, write_reason, write_refusal, write_refused_record, write_settled,
 };
 use std::alloc::Global;
 use std::test::Fail;
 
 /// Lines that ask nothing.
-const NO_REQUESTS: [&str; 14] = [
+const NO_REQUESTS: [&str; 63] = [
     "",
     "at",
+    "at 7",
+    "at 7 ",
     "at 7 prefix",
     "at 7  prefix 10.0.0.0/8",
     " at 7 prefix 10.0.0.0/8",
     "at 7 prefix 10.0.0.0/8 ",
     "At 7 prefix 10.0.0.0/8",
+    "at 7 PREFIX 10.0.0.0/8",
+    "at0 7 prefix 10.0.0.0/8",
     "at 07 prefix 10.0.0.0/8",
+    "at 1.5 prefix 10.0.0.0/8",
+    "at 2024-01-01T00:00:00.5Z all",
+    "at 2024-02-30T00:00:00Z all",
     "at 7 prefix 10.0.0.0/33",
     "at 7 prefix 10.0.0.0/8 after",
     "at 7 prefix 10.0.0.0/8 after 16 192.0.2.1 65001 10.0.0.0/8",
     "at 7 prefix 10.0.0.0/8 after 0 192.0.2.1 4294967296 10.0.0.0/8",
     "at 7 prefix 10.0.0.0/8 after 0 192.0.2.1 65001 10.0.0.0/8 more",
+    "at 7 prefix 10.0.0.0/8 behind 0 192.0.2.1 65001 10.0.0.0/8",
     "at 4294967296 prefix 10.0.0.0/8",
+    "at 7 route 0 192.0.2.1 65001",
+    "at 7 route 0 192.0.2.1 10.0.0.0/8",
+    "at 7 route 0 192.0.2.1 65001 10.0.0.0/8/",
+    "at 7 route 0 192.0.2.1 65001 10.0.0.0/8 after 0 192.0.2.1 65001 10.0.0.0/8",
+    "at 7 cover",
+    "at 7 cover 10.0.0.0/8",
+    "at 7 cover 10.0.0.1 x",
+    "at 7 cover g::",
+    "at 7 cover0 10.0.0.1",
+    "at 7 cover 10.0.0.1 after 0 192.0.2.1 65001",
+    "at 7 peer",
+    "at 7 peer 192.0.2.1 65001",
+    "at 7 peer 0 192.0.2.256 65001",
+    "at 7 peer 0 192.0.2.1 65001 10.0.0.0/8",
+    "at 7 peer 0 192.0.2.1 65001 after 0 192.0.2.1 65001 10.0.0.0/8 skip",
+    "at 7 all 0",
+    "at 7 allx",
+    "at 7 all after x 192.0.2.1 65001 10.0.0.0/8",
+    "history",
+    "history 0 7 0 192.0.2.1 65001",
+    "history 7 0 192.0.2.1 65001 10.0.0.0/8",
+    "history 0 7 0 192.0.2.1 65001 10.0.0.0/8 skip",
+    "history 0 7 0 192.0.2.1 65001 10.0.0.0/8 skip 01",
+    "history 0 7 0 192.0.2.1 65001 10.0.0.0/8 skip -1",
+    "history 0 7 0 192.0.2.1 65001 10.0.0.0/8 skip 18446744073709551616",
+    "history 0 7 0 192.0.2.1 65001 10.0.0.0/8 skip 1 x",
+    "history 0 7 0 192.0.2.1 65001 10.0.0.0/8 after 0 192.0.2.1 65001 10.0.0.0/8",
+    "history 0 4294967296 0 192.0.2.1 65001 10.0.0.0/8",
+    "history now 7 0 192.0.2.1 65001 10.0.0.0/8",
+    "watermark 1",
+    "Watermark",
+    "watermark ",
+    "durable",
+    "durable 16",
+    "durable 00",
+    "durable 0 0",
+    "mark 0 5",
+    "feed 0 10",
+    "quit",
+    "stop",
+    "now",
 ];
 
 /// The question for 10.0.0.0/8 at the moment 7, behind this spot.
-fn ten_at_7(after: Option<Spot>) -> Query {
-    Query::Rows(RowsQuestion {
+fn ten_at_7(after: Option<Spot>) -> Request {
+    let question = Query::Rows(RowsQuestion {
         moment: Moment::from(7),
         select: Select::ByPrefix(Prefix::containing(Address::V4([10, 0, 0, 0]), 8)),
         after,
-    })
+    });
+    Request::Question(question)
 }
 
 #[test]
@@ -49,12 +99,12 @@ fn lines_are_read_word_by_word(rt: HostRuntime) -> Result<(), Fail> {
         },
         prefix: Prefix::containing(Address::V4([10, 0, 0, 0]), 8),
     };
-    let first = read_query(alloc, "at 7 prefix 10.0.0.0/8");
+    let first = read_request(alloc, "at 7 prefix 10.0.0.0/8");
     assert!(rt; first == Ok(ten_at_7(None)));
     let line = "at 7 prefix 10.1.2.3/8 after 15 192.0.2.1 4294967295 10.0.0.0/8";
-    assert!(rt; read_query(alloc, line) == Ok(ten_at_7(Some(spot))));
+    assert!(rt; read_request(alloc, line) == Ok(ten_at_7(Some(spot))));
     for line in &NO_REQUESTS {
-        assert!(rt; read_query(alloc, line) == Err(RequestError::BadRequest));
+        assert!(rt; read_request(alloc, line) == Err(RequestError::BadRequest));
     }
     Ok(())
 }
