@@ -22,4 +22,6 @@ mod Found
 mod NoteReading
 mod Recalled
 mod Reopened
+mod Meanings
+mod Empties
 pub mod api

@@ -1,9 +1,14 @@
 -- Whether blocks are left.
+use Rattle.std.specs.Prelude.{ℕ}
 use Rattle.disk_models.specs.declared.erase.EraseDisk.{Ghosts as EraseGhosts}
 use Rattle.disk_models.specs.declared.once.OnceDisk.{Ghosts as OnceGhosts}
 use Rattle.once_store.specs.Shelves.{AllTried, next_of}
 use Rattle.disk_archive.specs.declared.archive.Archive.{Archive}
 use Rattle.disk_archive.specs.Archives.{once_of, once_state}
+
+-- the block that would be tried next
+abbrev pub next_block : {E O Pen Seen : Type 0} {erase : EraseGhosts E} {once : OnceGhosts O Pen Seen} → Archive E O Pen Seen erase once → ℕ
+next_block a = next_of a.shelf
 
 -- no block is blank from the one on that would be tried next
 abbrev pub NoneBlank : {E O Pen Seen : Type 0} {erase : EraseGhosts E} {once : OnceGhosts O Pen Seen} → Archive E O Pen Seen erase once → Type 0

@@ -9,5 +9,6 @@ pub mod Moves
 pub mod Blanks
 pub mod Notes
 pub mod Openings
+pub mod Creations
 pub mod Outcome
 pub mod inner

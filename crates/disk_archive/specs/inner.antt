@@ -9,3 +9,4 @@ pub mod Looking
 pub mod Looked
 pub mod Restoring
 pub mod Recalling
+pub mod Creating

@@ -1,0 +1,140 @@
+-- What an archive begins with to which nothing was given.
+use Rattle.std.proofs.Common.{◌≡◌, ◌≢◌, ◌<◌, ◌≤◌, ℕ, zero, suc, ◌+◌, ◌*◌, ◌^◌, List, [], ◌∷◌, ◌++◌, length, map, replicate, set, refl, sym, ◌∙◌, ap, subst, arith, None, length-set, get_or-set_same, get_or-set_other}
+use Rattle.std.specs.List.{AllByRecursion}
+use Rattle.std.proofs.Math.Nat.{mul-le-mul_right}
+use Rattle.std.proofs.lemmas.List.{length-replicate, length-map}
+use Rattle.std.proofs.lemmas.Option.{none-some}
+use Rattle.disk_models.specs.Erase.{DiskState}
+use Rattle.disk_models.specs.Once.{OnceState, settled_in}
+use Rattle.page_journal.specs.Layout.{Image, pages_of}
+use Rattle.page_journal.specs.Recovers.{laid, AreBelow}
+use Rattle.page_journal.proofs.Covering.{length-laid}
+use Rattle.page_journal.proofs.Opening.{laid-append}
+use Rattle.route_meaning.specs.Holds.{admitted_time, time_of}
+use Rattle.route_meaning.specs.Merged.{all_placed, by_time, parts}
+use Rattle.route_meaning.specs.History.{Intake, History, waiting}
+use Rattle.route_meaning.proofs.api.Beginning.{Begins-refl}
+use Rattle.sequencer.specs.Lanes.{Waiting, marks, waiting_times}
+use Rattle.interleaving_core.specs.Steps.{empty}
+use Rattle.tsb_tree.specs.Trees.{TellsFirst}
+use Rattle.archive_head.specs.Head.{Contents, IsHead, IsLane, head_octets}
+use Rattle.archive_pages.specs.declared.settings.Settings.{Settings}
+use Rattle.archive_pages.specs.Places.{AreSettings, tree_low}
+use Rattle.archive_pages.specs.Carried.{Bears}
+use Rattle.archive_pages.proofs.api.Bearing.{bears_headed}
+use Rattle.archive_pages.proofs.api.Creating.{bears_created}
+use Rattle.disk_archive.specs.Mirrors.{Mirrors}
+use Rattle.disk_archive.specs.Sites.{Site, Rests}
+use Rattle.disk_archive.specs.Trees.{TreeLies}
+use Rattle.disk_archive.specs.inner.Creating.{Means, bare_head, bare_lane}
+use Rattle.disk_archive.specs.inner.Planning.{Headed}
+use Rattle.disk_archive.proofs.Crossing.{now_carries}
+use Rattle.disk_archive.proofs.api.Trees.{tree_framed}
+
+-- ---- the head
+
+lanes_fit : (n : ℕ) → AllByRecursion IsLane (replicate n bare_lane)
+lanes_fit zero = tt
+lanes_fit (suc n) = (record { offered = omega arith; admitted = omega arith; mark = omega arith; first = omega arith; used = omega arith }, lanes_fit n)
+
+pub tree_low_few : (s : Settings) → AreSettings s → tree_low s ≤ 1048561
+tree_low_few s some =
+    let all : s.collectors * s.ring ≤ 16 * s.ring = mul-le-mul_right s.ring some.few in
+    let large = some.large in
+    omega (arith, all, large)
+
+pub head_fits : (s : Settings) (block : ℕ) → AreSettings s → block < 2 ^ 64 → IsHead (bare_head s block)
+head_fits s block some lt =
+    let low = tree_low_few s some in
+    record {
+      applied = omega arith;
+      last = omega arith;
+      begun = omega arith;
+      fresh = omega (arith, low);
+      block = lt;
+      root = omega (arith, low);
+      few = (let n = length-replicate s.collectors bare_lane in let few = some.few in omega (arith, n, few));
+      lanes = lanes_fit s.collectors;
+    }
+
+-- ---- the pages
+
+pub below_push : (homes n : ℕ) (page : List ℕ) (images : List Image) → n < homes → AreBelow homes (pages_of images) → AreBelow homes (pages_of (images ++ (n, page) ∷ []))
+below_push homes n page [] lt below = (lt, tt)
+below_push homes n page (image ∷ images) lt below = (below.0, below_push homes n page images lt below.1)
+
+pub lies_first : (count : ℕ) (pages : List (List ℕ)) (settled : ℕ → List ℕ → Type 0) (low block : ℕ) → TellsFirst pages low → TreeLies count pages settled low low (low + 2) block 0 []
+lies_first count pages settled low block t = record {
+  level = 1;
+  store = record { nodes = t.nodes; limit = low + 2; blocks = λ _. None; next = 0 };
+  says = t.tells;
+  own = t.own;
+  limit = refl;
+  blocks = λ n node here. absurd (none-some node here);
+  next = omega arith;
+  has = t.has (λ _. None) 0;
+}
+
+bears_first : (count : ℕ) (s : Settings) (settled : ℕ → List ℕ → Type 0) (block : ℕ) (pages : List (List ℕ)) → AreSettings s → tree_low s + 2 ≤ length pages → TellsFirst pages (tree_low s) → Bears (TreeLies count) s settled (bare_head s block) pages (empty s.collectors)
+bears_first count s settled block pages some inside t = bears_created (TreeLies count) s settled (bare_head s block) pages refl refl refl refl some (omega (arith, inside)) (lies_first count pages settled (tree_low s) block t)
+
+-- the head is laid over the first page
+headed_bare : (count : ℕ) (s : Settings) (settled : ℕ → List ℕ → Type 0) (block : ℕ) (pages : List (List ℕ)) → AreSettings s → IsHead (bare_head s block) → tree_low s + 2 ≤ length pages → TellsFirst pages (tree_low s) → Headed count s settled (bare_head s block) (set pages 0 (head_octets (bare_head s block))) (empty s.collectors)
+headed_bare count s settled block pages some valid inside t =
+    let head = bare_head s block in
+    record {
+      valid = valid;
+      first = get_or-set_same pages 0 (head_octets head) [] (omega (arith, inside));
+      bears = bears_headed (TreeLies count) s settled (tree_framed count settled) head pages (set pages 0 (head_octets head)) (empty s.collectors) (length-set pages 0 (head_octets head))
+          (λ n ge. get_or-set_other pages 0 n (head_octets head) [] (let other : n ≢ 0 = omega (arith, ge) in other)) (bears_first count s settled block pages some inside t);
+    }
+
+pub headed_first : (count : ℕ) (s : Settings) (settled : ℕ → List ℕ → Type 0) (head : Contents) (block : ℕ) (images : List Image) (shown : List (List ℕ)) → AreSettings s → IsHead head → head ≡ bare_head s block → tree_low s + 2 ≤ length shown
+    → ((pages : List (List ℕ)) → tree_low s + 2 ≤ length pages → TellsFirst (laid images pages) (tree_low s))
+    → Headed count s settled head (laid (images ++ (0, head_octets head) ∷ []) shown) (empty s.collectors)
+headed_first count s settled head block images shown some valid is inside tells =
+    let n = length-laid images shown in
+    let whole : Headed count s settled head (set (laid images shown) 0 (head_octets head)) (empty s.collectors) =
+    subst (λ (x : Contents). Headed count s settled x (set (laid images shown) 0 (head_octets x)) (empty s.collectors)) (sym is)
+    (headed_bare count s settled block (laid images shown) some (subst IsHead is valid) (omega (arith, n, inside)) (tells shown inside)) in
+    subst (λ (pages : List (List ℕ)). Headed count s settled head pages (empty s.collectors)) (sym (laid-append images ((0, head_octets head) ∷ []) shown)) whole
+
+-- ---- what is kept in memory
+
+abbrev nothing : Intake
+nothing = record { admitted = []; mark = 0; offered = 0 }
+
+none_placed : (c n : ℕ) → all_placed c (map (λ (i : Intake). i.admitted) (replicate n nothing)) ≡ []
+none_placed c zero = refl
+none_placed c (suc n) = none_placed (suc c) n
+
+none_waits : (n : ℕ) → waiting (empty n) ≡ []
+none_waits n = ap (by_time time_of) (none_placed 0 n)
+
+marks_none : (n : ℕ) → map (λ (i : Intake). i.mark) (replicate n nothing) ≡ replicate n 0
+marks_none zero = refl
+marks_none (suc n) = ap (λ (l : List ℕ). 0 ∷ l) (marks_none n)
+
+times_none : (k n : ℕ) → map (map admitted_time) (parts k n []) ≡ replicate n []
+times_none k zero = refl
+times_none k (suc n) = ap (λ (l : List (List ℕ)). [] ∷ l) (times_none (suc k) n)
+
+pub mirrors_empty : (lanes : List Waiting) (n : ℕ) → marks lanes ≡ replicate n 0 → waiting_times lanes ≡ replicate n [] → Mirrors lanes (empty n)
+mirrors_empty lanes n m t = record {
+  marks = m ∙ sym (marks_none n);
+  times = t ∙ sym (ap (λ k. map (map admitted_time) (parts 0 k (waiting (empty n)))) (length-replicate n nothing) ∙ (ap (λ ps. map (map admitted_time) (parts 0 n ps)) (none_waits n) ∙ times_none 0 n));
+}
+
+pub numbers_empty : (lanes : List Waiting) (n : ℕ) → marks lanes ≡ replicate n 0 → length lanes ≡ n
+numbers_empty lanes n m = sym (length-map lanes (λ (w : Waiting). w.mark)) ∙ (ap length m ∙ length-replicate n 0)
+
+-- ---- what a crash leaves
+
+pub rests_first : (site : Site) (head : Contents) (pages : List (List ℕ)) (h : History) (e : DiskState) (o : OnceState) → Headed site.blocks site.settings (settled_in o) head pages h → Means site.homes site.note e pages → Rests site e o h
+rests_first site head pages h e o k means left now = (h, Begins-refl h, now_carries site o head pages h left k (means left.erase now.erase) now.settled)
+
+pub same_site : (s : Settings) {homes homes' blocks blocks' : ℕ} {note note' : List ℕ} → homes ≡ homes' → note ≡ note' → blocks ≡ blocks'
+    → (let one : Site = record { settings = s; homes = homes; note = note; blocks = blocks } in let other : Site = record { settings = s; homes = homes'; note = note'; blocks = blocks' } in one ≡ other)
+same_site s {homes = homes} {homes' = homes'} {blocks = blocks} {blocks' = blocks'} {note = note} {note' = note'} h n b =
+    let with' : ℕ → List ℕ → ℕ → Site = λ x y z. record { settings = s; homes = x; note = y; blocks = z } in
+    ap (λ (x : ℕ). with' x note blocks) h ∙ (ap (λ (y : List ℕ). with' homes' y blocks) n ∙ ap (λ (z : ℕ). with' homes' note' z) b)

@@ -1,0 +1,14 @@
+-- What the disk of a journal means.
+use Rattle.std.proofs.Common.{◌≡◌, ℕ, List, subst}
+use Rattle.disk_models.specs.declared.erase.EraseDisk.{Ghosts}
+use Rattle.page_journal.specs.declared.journal.Journal.{Journal}
+use Rattle.page_journal.specs.Bookkeeping.{open_slots}
+use Rattle.page_journal.specs.Journal.{Keeps, disk_of, home_pages, note_of, opened_slots}
+use Rattle.disk_archive.specs.inner.Creating.{Means}
+
+-- whatever a crash leaves of the disk of a journal means the pages that it keeps
+pub means_kept : {D : Type 0} (device : Ghosts D) (journal : Journal D device) (homes : ℕ) (note : List ℕ) (pages : List (List ℕ)) → home_pages journal ≡ homes → note_of journal ≡ note → Keeps device journal pages → Means homes note (device.model (disk_of journal)) pages
+means_kept device journal homes note pages same_homes same_note keeps =
+    subst (λ (m : ℕ). Means m note (device.model (disk_of journal)) pages) same_homes
+    (subst (λ (x : List ℕ). Means (home_pages journal) x (device.model (disk_of journal)) pages) same_note
+    (λ c may. (open_slots (opened_slots journal), keeps.carries c may)))
