@@ -1,5 +1,5 @@
 -- Each look leaves less of a walk.
-use Rattle.std.proofs.Common.{◌≡◌, ℕ, suc, ◌<◌, ◌≤◌, ◌^◌, Option, Some, None, arith}
+use Rattle.std.proofs.Common.{ℕ, ◌<◌, ◌≤◌, ◌^◌, Option, Some, None, arith}
 use Rattle.route_history.specs.Walks.{Rose, NotBack, left_of}
 use Rattle.tree_questions.specs.inner.Left.{stamps_left}
 

@@ -1,5 +1,5 @@
 -- Trees that are read: what stays where pages and blocks are only read.
-use Rattle.std.proofs.Common.{◌≡◌, ℕ, ◌<◌, ◌≤◌, ◌^◌, List, Option, refl, sym, ap, subst, arith, Result, Ok, Err, IfOk, IfErr, Bool}
+use Rattle.std.proofs.Common.{◌≡◌, ℕ, ◌<◌, ◌^◌, List, refl, ap, arith, Result, Ok, Err, IfErr, Bool}
 use Rattle.disk_models.specs.declared.once.OnceDisk.{Ghosts as OnceGhosts}
 use Rattle.once_store.specs.declared.error.BlockError.{BlockError}
 use Rattle.once_store.specs.declared.error.BlockError.TheVariants as blocks
@@ -12,7 +12,7 @@ use Rattle.tsb_walk.specs.declared.error.NodeError.{NodeError}
 use Rattle.tsb_walk.specs.declared.error.NodeError.TheVariants as nodes
 use Rattle.tsb_walk.specs.Refusals.{LookRefusal, of_block}
 use Rattle.tsb_walk.specs.declared.page_place.PagePlace.{PagePlace}
-use Rattle.tsb_walk.specs.Knowing.{ReadsWell, AreKnown, StandsKnown}
+use Rattle.tsb_walk.specs.Knowing.{ReadsWell, StandsKnown}
 use Rattle.tsb_walk.specs.Looked.{GoesOnIn}
 use Rattle.tsb_walk.specs.Shown.{keys_at, HasKey}
 use Rattle.tsb_walk.proofs.Gathering.{known_on}

@@ -1,6 +1,5 @@
-use Rattle.std.proofs.Common.{rules, ◌≡◌, ◌∙◌, ℕ, Ok, Err, refl, ap, sym, subst}
+use Rattle.std.proofs.Common.{rules, ◌∙◌, sym, subst}
 use Rattle.route_meaning.specs.declared.question.EventsQuestion.{EventsQuestion}
-use Rattle.route_meaning.specs.Events.{IsEventsAnswer}
 use Rattle.tsb_walk.proofs.Untouched.{reads_none, reads_then, reads_as}
 use Rattle.route_history.specs.Spans.{TellsEvents}
 use Rattle.tree_questions.proofs.events_walk.events.Goals as goal

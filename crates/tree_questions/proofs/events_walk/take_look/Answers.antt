@@ -1,8 +1,6 @@
-use Rattle.std.proofs.Common.{rules, ◌≡◌, ◌<◌, ◌∙◌, ℕ, Err, ap, sym, subst, Some, Option}
-use Rattle.route_model.specs.Keys.{key_number, session_number}
+use Rattle.std.proofs.Common.{rules, ◌<◌, ℕ, sym, subst, Option}
 use Rattle.version_model.specs.Entries.{versions_of}
 use Rattle.version_model.specs.Looks.{IsPart}
-use Rattle.tsb_walk.proofs.Untouched.{reads_none, reads_then, reads_as}
 use Rattle.tree_questions.specs.inner.Left.{stamps_left}
 use Rattle.tree_questions.proofs.Going.{less_stamps}
 use Rattle.tree_questions.proofs.events_walk.take_look.Goals as goal

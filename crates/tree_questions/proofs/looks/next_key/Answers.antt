@@ -1,6 +1,5 @@
-use Rattle.std.proofs.Common.{rules, ◌≡◌, ℕ, List, Result, Ok, Err, IfOk, IfErr, ap, subst, sym}
-use Rattle.tsb_walk.specs.declared.error.NodeError.{NodeError}
-use Rattle.tsb_walk.specs.Looked.{IsLooked, GoesOnIn, LooksAt, LooksOn, GoesOnFrom}
+use Rattle.std.proofs.Common.{rules, IfErr, subst}
+use Rattle.tsb_walk.specs.Looked.{IsLooked}
 use Rattle.route_history.specs.Blame.{BlamesNone}
 use Rattle.tree_questions.proofs.Reading.{has_key, reads_pages, reads_block, place_known, page_blames, block_blames}
 use Rattle.tree_questions.proofs.looks.next_key.Goals as goal

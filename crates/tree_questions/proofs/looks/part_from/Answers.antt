@@ -1,6 +1,5 @@
-use Rattle.std.proofs.Common.{rules, ◌≡◌, ℕ, List, Result, Ok, Err, IfOk, IfErr, ap, subst, sym}
-use Rattle.tsb_walk.specs.declared.error.NodeError.{NodeError}
-use Rattle.tsb_walk.specs.Looked.{IsParted, GoesOnIn, PartsAt}
+use Rattle.std.proofs.Common.{rules, IfErr, subst}
+use Rattle.tsb_walk.specs.Looked.{IsParted}
 use Rattle.route_history.specs.Blame.{BlamesNone}
 use Rattle.tree_questions.proofs.Reading.{has_key, reads_pages, reads_block, place_known, page_blames, block_blames}
 use Rattle.tree_questions.proofs.looks.part_from.Goals as goal

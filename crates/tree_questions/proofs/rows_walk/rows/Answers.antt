@@ -1,6 +1,5 @@
-use Rattle.std.proofs.Common.{rules, ◌≡◌, ◌∙◌, ℕ, Ok, Err, refl, ap, sym, subst}
+use Rattle.std.proofs.Common.{rules, ◌∙◌, sym, subst}
 use Rattle.route_meaning.specs.declared.question.RowsQuestion.{RowsQuestion}
-use Rattle.route_meaning.specs.Rows.{IsAnswer}
 use Rattle.tsb_walk.proofs.Untouched.{reads_none, reads_then, reads_as}
 use Rattle.route_history.specs.Walks.{Tells}
 use Rattle.tree_questions.proofs.rows_walk.rows.Goals as goal

@@ -1,8 +1,7 @@
-use Rattle.std.proofs.Common.{rules, ◌≡◌, ◌∙◌, ℕ, ap, sym, subst}
+use Rattle.std.proofs.Common.{rules, ◌∙◌, ℕ, ap, sym, subst}
 use Rattle.route_meaning.specs.declared.question.RowsQuestion.{RowsQuestion}
 use Rattle.version_model.specs.Looks.{IsReached}
 use Rattle.tsb_walk.specs.Answers.{reached_as}
-use Rattle.tsb_walk.proofs.Untouched.{reads_none, reads_as}
 use Rattle.route_history.specs.Fronts.{front_number}
 use Rattle.route_history.specs.Stamps.{last_stamp}
 use Rattle.route_history.specs.Walks.{Tells}
