@@ -24,4 +24,5 @@ mod Recalled
 mod Reopened
 mod Meanings
 mod Empties
+mod Asking
 pub mod api

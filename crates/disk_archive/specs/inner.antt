@@ -10,3 +10,4 @@ pub mod Looked
 pub mod Restoring
 pub mod Recalling
 pub mod Creating
+pub mod Asking

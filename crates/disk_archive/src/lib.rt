@@ -3,9 +3,11 @@
 #![tactic(auto)]
 
 mod admitting;
+mod answering;
 mod apply_error;
 mod applying;
 mod archive;
+mod ask_error;
 mod batches;
 mod beginning;
 mod committing;
@@ -31,6 +33,7 @@ mod restoring;
 pub use apply_error::ApplyError;
 pub use applying::Step;
 pub use archive::Archive;
+pub use ask_error::AskError;
 pub use batches::MAX_BATCH_LEN;
 pub use create_error::CreateError;
 pub use error::AdmitError;

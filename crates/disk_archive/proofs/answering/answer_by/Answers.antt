@@ -1,0 +1,54 @@
+use Rattle.std.proofs.Common.{rules, sym, subst, IfErr, Bool}
+use Rattle.interleaving_core.specs.Headline.{IsAnswered}
+use Rattle.interleaving_core.specs.declared.query.Query.{Query}
+use Rattle.interleaving_core.specs.declared.query.Answer.TheVariants.{Rows, Events}
+use Rattle.route_history.specs.Blame.{BlamesNone as NodeBlamesNone}
+use Rattle.tsb_walk.specs.AllVersions.{VersionsRefusal}
+use Rattle.disk_archive.specs.inner.Asking.{ask_of_node, BlamesNone, LookRefusal}
+use Rattle.disk_archive.proofs.Asking.{tree_read, ask_blames, ask_refused, if_err}
+use Rattle.disk_archive.proofs.answering.answer_by.Goals as goal
+
+pub returns-in_err-root-clause-blames : goal.returns-in_err-root-clause-blames
+returns-in_err-root-clause-blames g c ps t =
+    let b = c.root_of.ensures.blames t.start t.shown t.lies.store t.versions t.lies.level t.shows t.lies.says t.lies.has.stands in
+    search (rules, b)
+
+pub returns-in_ok-answer-in-Rows-clause-answer : goal.returns-in_ok-answer-in-Rows-clause-answer
+returns-in_ok-answer-in-Rows-clause-answer g c ps t =
+    let stands = c.in_ok-root.ensures.stands t.start t.shown t.lies.store t.versions t.lies.level t.shows t.lies.says t.lies.has.stands in
+    let read = tree_read g.P.Pages c.args.pages.now c.root_of.new.pages g.O.OnceDisk c.args.reader.now c.args.seen.now c.args.head.now.root ps t c.in_ok-root.root c.root_of.ensures.reads stands in
+    let told = c.in_ok-answer-in-Rows.ensures.answer t.versions ps read (c.versions_tell.ensures.rows ps t.versions c.in-Rows.question.moment t.timely t.kept) in
+    subst (λ (q : Query). IsAnswered ps q (Rows c.in_ok-answer-in-Rows.answer)) (sym c.in-Rows.is) told
+
+pub returns-in_err-answer-in-Rows-clause-blames : goal.returns-in_err-answer-in-Rows-clause-blames
+returns-in_err-answer-in-Rows-clause-blames g c ps t =
+    let stands = c.in_ok-root.ensures.stands t.start t.shown t.lies.store t.versions t.lies.level t.shows t.lies.says t.lies.has.stands in
+    let read = tree_read g.P.Pages c.args.pages.now c.root_of.new.pages g.O.OnceDisk c.args.reader.now c.args.seen.now c.args.head.now.root ps t c.in_ok-root.root c.root_of.ensures.reads stands in
+    let b : IfErr c.rows.result (λ e. BlamesNone (ask_of_node e)) = if_err ask_of_node NodeBlamesNone BlamesNone c.rows.result ask_blames (c.rows.ensures.blames t.versions read) in
+    search (rules, b)
+
+pub returns-in_err-answer-in-Rows-clause-refused : goal.returns-in_err-answer-in-Rows-clause-refused
+returns-in_err-answer-in-Rows-clause-refused g c =
+    let r = subst (λ (d : Bool). IfErr c.rows.result (VersionsRefusal d)) c.root_of.ensures.down c.rows.ensures.refused in
+    let b : IfErr c.rows.result (λ e. LookRefusal (g.P.Pages.down c.args.pages.now) (ask_of_node e)) = if_err ask_of_node (VersionsRefusal (g.P.Pages.down c.args.pages.now)) (LookRefusal (g.P.Pages.down c.args.pages.now)) c.rows.result (ask_refused (g.P.Pages.down c.args.pages.now)) r in
+    search (rules, b)
+
+pub returns-in_ok-answer-in-Events-clause-answer : goal.returns-in_ok-answer-in-Events-clause-answer
+returns-in_ok-answer-in-Events-clause-answer g c ps t =
+    let stands = c.in_ok-root.ensures.stands t.start t.shown t.lies.store t.versions t.lies.level t.shows t.lies.says t.lies.has.stands in
+    let read = tree_read g.P.Pages c.args.pages.now c.root_of.new.pages g.O.OnceDisk c.args.reader.now c.args.seen.now c.args.head.now.root ps t c.in_ok-root.root c.root_of.ensures.reads stands in
+    let told = c.in_ok-answer-in-Events.ensures.answer t.versions ps read (c.versions_tell.ensures.events ps t.versions c.in-Events.question t.timely t.kept c.encoded_len-len.ensures.valid c.address-address.ensures.valid) in
+    subst (λ (q : Query). IsAnswered ps q (Events c.in_ok-answer-in-Events.answer)) (sym c.in-Events.is) told
+
+pub returns-in_err-answer-in-Events-clause-blames : goal.returns-in_err-answer-in-Events-clause-blames
+returns-in_err-answer-in-Events-clause-blames g c ps t =
+    let stands = c.in_ok-root.ensures.stands t.start t.shown t.lies.store t.versions t.lies.level t.shows t.lies.says t.lies.has.stands in
+    let read = tree_read g.P.Pages c.args.pages.now c.root_of.new.pages g.O.OnceDisk c.args.reader.now c.args.seen.now c.args.head.now.root ps t c.in_ok-root.root c.root_of.ensures.reads stands in
+    let b : IfErr c.events.result (λ e. BlamesNone (ask_of_node e)) = if_err ask_of_node NodeBlamesNone BlamesNone c.events.result ask_blames (c.events.ensures.blames t.versions read) in
+    search (rules, b)
+
+pub returns-in_err-answer-in-Events-clause-refused : goal.returns-in_err-answer-in-Events-clause-refused
+returns-in_err-answer-in-Events-clause-refused g c =
+    let r = subst (λ (d : Bool). IfErr c.events.result (VersionsRefusal d)) c.root_of.ensures.down c.events.ensures.refused in
+    let b : IfErr c.events.result (λ e. LookRefusal (g.P.Pages.down c.args.pages.now) (ask_of_node e)) = if_err ask_of_node (VersionsRefusal (g.P.Pages.down c.args.pages.now)) (LookRefusal (g.P.Pages.down c.args.pages.now)) c.events.result (ask_refused (g.P.Pages.down c.args.pages.now)) r in
+    search (rules, b)

@@ -1,0 +1,159 @@
+//! Questions are answered over what is applied.
+
+ghost use Rattle.std.specs.Prelude.{◌≡◌, ◌↔◌, ◌<◌, ◌≤◌, ℕ, List, length, map, IfOk, IfErr, OnOk, OnErr, Err, true, false};
+ghost use Rattle.page_tx.specs.Start.{Start};
+ghost use Rattle.route_model.specs.Admission.{Admitted};
+ghost use Rattle.route_meaning.specs.History.{History, applied, least, settled};
+ghost use Rattle.route_meaning.specs.Merged.{Placed};
+ghost use Rattle.sequencer.specs.Lanes.{bound_of};
+ghost use Rattle.interleaving_core.specs.Does.{last_moment};
+ghost use Rattle.interleaving_core.specs.Headline.{IsAnswered};
+ghost use Rattle.version_model.specs.Pages.{Store, TreeStands, all_keys};
+ghost use Rattle.version_model.specs.Versions.{Version};
+ghost use Rattle.tsb_walk.specs.Shown.{AreShown, StandsShown, keys_at};
+ghost use Rattle.disk_archive.specs.inner.Asking.{BlamesNone, HasTree, LookRefusal};
+
+use crate::archive::Archive;
+use crate::ask_error::{AskError, of_root};
+use crate::committing::begin;
+use archive_head::Head;
+use disk_models::{EraseDisk, OnceDisk};
+use interleaving_core::{Answer, Query};
+use once_store::ShelfReader;
+use page_tx::Pages;
+use route_history::laws::versions_tell;
+use sequencer::Sequencer;
+use std::alloc::Global;
+use tree_questions::{events, rows};
+use tsb_tree::open;
+use tsb_walk::PagePlace;
+use version_model::Stamp;
+
+// How many blocks a question keeps in memory at most.
+const KEPT_BLOCKS: usize = 64;
+
+// That the last moment of a question is settled; or the settled watermark, where it isn't.
+fn check_settled(sequencer: &Sequencer, query: &Query) -> Result<(), AskError>
+    requires { 0 < length sequencer.now }
+    ensures below { OnOk result (last_moment query.now < least (map bound_of sequencer.now)) }
+    ensures above { IfErr result (λ e. (e ≡ AskError.AboveWatermark (least (map bound_of sequencer.now))) × (least (map bound_of sequencer.now) ≤ last_moment query.now)) }
+{
+    let settled = sequencer.settled();
+    if query.last_moment().seconds() < settled.seconds() {
+        Ok(())
+    } else {
+        Err(AskError::AboveWatermark(settled))
+    }
+}
+
+// Where the root of the archive's tree lies.
+fn root_of<P: Pages>(pages: &mut P, head: &Head) -> Result<PagePlace, AskError>
+    ensures all { IfOk result (λ place. keys_at place ≡ all_keys) }
+    ensures level { IfOk result (λ place. 1 ≤ place.level) }
+    ensures stands { (start : Start) (shown : List (List ℕ)) (s : Store) (all : List Version) (level : ℕ) → P.shows pages.old start shown → AreShown shown s.nodes → TreeStands s all head.now.root level → IfOk result (StandsShown shown s all) }
+    ensures blames { (start : Start) (shown : List (List ℕ)) (s : Store) (all : List Version) (level : ℕ) → P.shows pages.old start shown → AreShown shown s.nodes → TreeStands s all head.now.root level → IfErr result BlamesNone }
+    ensures refused { IfErr result (LookRefusal (P.down pages.old)) }
+    ensures reads { (start : Start) (shown : List (List ℕ)) → P.shows pages.old start shown → P.shows pages.new start shown }
+    ensures homes { P.homes pages.new ≡ P.homes pages.old }
+    ensures down { P.down pages.new ≡ P.down pages.old }
+    ensures honest { P.honest pages.old ↔ P.honest pages.new }
+{
+    let least = Stamp::new(0, 0);
+    match open(pages, head.root, least) {
+        Ok(place) => Ok(PagePlace::root(place.root, place.level)),
+        Err(refusal) => Err(of_root(refusal)),
+    }
+}
+
+// Answers a question over the archive's tree, by these pages and the blocks that the reader knows.
+fn answer_by<P: Pages, O: OnceDisk + Drop>(
+    alloc: Global,
+    pages: &mut P,
+    reader: &mut ShelfReader<O>,
+    seen: &mut O::Seen,
+    head: &Head,
+    query: Query,
+) -> Result<Answer, AskError>
+    ensures answer { (ps : List (Placed Admitted)) → HasTree P.Pages pages.old O.OnceDisk reader.old seen.old head.now.root ps → IfOk result (IsAnswered ps query) }
+    ensures blames { (ps : List (Placed Admitted)) → HasTree P.Pages pages.old O.OnceDisk reader.old seen.old head.now.root ps → IfErr result BlamesNone }
+    ensures refused { IfErr result (LookRefusal (P.down pages.old)) }
+    ensures reads { (start : Start) (shown : List (List ℕ)) → P.shows pages.old start shown → P.shows pages.new start shown }
+    ensures homes { P.homes pages.new ≡ P.homes pages.old }
+    ensures down { P.down pages.new ≡ P.down pages.old }
+    ensures honest { P.honest pages.old ↔ P.honest pages.new }
+{
+    versions_tell();
+    let root = root_of(pages, head)?;
+    match query {
+        Query::Rows(question) => {
+            let answer = rows(pages, reader, seen, alloc, &root, question)?;
+            Ok(Answer::Rows(answer))
+        }
+        Query::Events(question) => {
+            let _len = question.peer.encoded_len();
+            let _address = question.prefix.address();
+            let answer = events(pages, reader, seen, alloc, &root, question)?;
+            Ok(Answer::Events(answer))
+        }
+    }
+}
+
+impl<E: EraseDisk + Drop, O: OnceDisk + Drop> Archive<E, O> {
+    ghost use Rattle.disk_archive.specs.Archives.{Carries, Holds, Stands, IsHonest, is_down, once_state, settings_of, site_of};
+    ghost use Rattle.disk_archive.specs.Sites.{LeftCarries, LeftEither};
+    ghost use Rattle.disk_archive.specs.Crashes.{Crashes, Lasts};
+    ghost use Rattle.disk_archive.specs.inner.Idle.{IsAsBefore};
+
+    // Answers a question where the archive carries a history.
+    fn try_answer(&mut self, query: Query) -> Result<Answer, AskError>
+        ensures usable { OnOk result (is_down self.old ≡ false) }
+        ensures idle { is_down self.old ≡ true → IsAsBefore self.old self.new }
+        ensures told { is_down self.old ≡ true → result ≡ Err AskError.NeedsRecovery }
+        ensures recovery { result ≡ Err AskError.NeedsRecovery → is_down self.old ≡ true }
+        ensures honest { IsHonest self.old ↔ IsHonest self.new }
+        ensures answered { IfOk result (λ answer. (h : History) → Carries self.old h → IsAnswered (applied h) query answer) }
+        ensures below { OnOk result ((h : History) → Carries self.old h → last_moment query < settled h) }
+        ensures above { (h : History) → Carries self.old h → (mark : ℕ) → result ≡ Err (AskError.AboveWatermark mark) → (mark ≡ settled h) × (settled h ≤ last_moment query) }
+        ensures watermark { (h : History) → Carries self.old h → settled h ≤ last_moment query → result ≡ Err (AskError.AboveWatermark (settled h)) }
+        ensures carries { (h : History) → Carries self.old h → Carries self.new h }
+        ensures blames { (h : History) → Carries self.old h → IfErr result BlamesNone }
+        ensures crash { (h : History) → Carries self.old h → Crashes self.old self.new (LeftEither (site_of self.old) h h) }
+        ensures settings { settings_of self.new ≡ settings_of self.old }
+    {
+        begin(&mut self.tx)?;
+        check_settled(&self.sequencer, &query)?;
+        let mut reader = self.shelf.reader(self.alloc, KEPT_BLOCKS)?;
+        let mut seen = self.shelf.seen()?;
+        let answer = answer_by(
+            self.alloc,
+            &mut self.tx,
+            &mut reader,
+            &mut seen,
+            &self.head,
+            query,
+        )?;
+        Ok(answer)
+    }
+
+    /// Answers a question over what is applied, where its last moment is below the settled watermark: the rows of a moment, or the
+    /// events of a span, the first 256 and whether more follow.
+    ///
+    /// It looks from key to key, or from stamp to stamp, until all is told. Nothing is written; pages and blocks are read, of which the
+    /// pages are kept in the archive's cache and at most 64 blocks for the time of the call. After each outcome the archive holds the
+    /// history that it held.
+    pub fn answer(&mut self, query: Query) -> Result<Answer, AskError>
+        ensures answered { IfOk result (λ answer. IsHonest self.old → (h : History) → Holds self.old h → IsAnswered (applied h) query answer) }
+        ensures below { OnOk result (IsHonest self.old → (h : History) → Holds self.old h → last_moment query < settled h) }
+        ensures above { IsHonest self.old → (h : History) → Holds self.old h → (mark : ℕ) → (result ≡ Err (AskError.AboveWatermark mark)) ↔ ((is_down self.old ≡ false) × (mark ≡ settled h) × (settled h ≤ last_moment query)) }
+        ensures holds { (h : History) → Holds self.old h → Holds self.new h }
+        ensures crash { (h : History) → Carries self.old h → Crashes self.old self.new (LeftCarries (site_of self.old) h) }
+        ensures lasts { (h : History) → Stands self.old h → Lasts self.old self.new h }
+        ensures usable { OnOk result (is_down self.old ≡ false) }
+        ensures recovery { (result ≡ Err AskError.NeedsRecovery) ↔ (is_down self.old ≡ true) }
+        ensures sound { IsHonest self.old → (h : History) → Holds self.old h → (page : ℕ) → result ≡ Err (AskError.BadNode page) → ⊥ }
+        ensures undamaged { IsHonest self.old → (h : History) → Holds self.old h → (block : ℕ) → result ≡ Err (AskError.Damaged block) → ⊥ }
+        ensures settings { settings_of self.new ≡ settings_of self.old }
+    {
+        self.try_answer(query)
+    }
+}
