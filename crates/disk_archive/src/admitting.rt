@@ -70,6 +70,7 @@ impl<E: EraseDisk + Drop, O: OnceDisk + Drop> Archive<E, O> {
         ensures room { (h : History) → Carries self.old h → OnOk result (IsRingFull (settings_of self.old) h collector batch.now → ⊥) }
         ensures undamaged { (h : History) → Carries self.old h → (page : ℕ) → result ≡ Err (AdmitError.BadNode page) → ⊥ }
         ensures honest { IsHonest self.old ↔ IsHonest self.new }
+        ensures settings { settings_of self.new ≡ settings_of self.old }
         ensures ok { OnOk result ((h : History) → Carries self.old h → Carries self.new (given h collector batch.now)) }
         ensures reply { (h : History) → Carries self.old h → (i : Intake) → slice_get h.intakes collector ≡ Some i → IfOk result (IsReply i collector batch.now) }
         ensures err { OnErr result ((h : History) → Carries self.old h → GoesOn self.new h) }
@@ -121,6 +122,8 @@ impl<E: EraseDisk + Drop, O: OnceDisk + Drop> Archive<E, O> {
         ensures intake_full { IsHonest self.old → (h : History) → Holds self.old h → result ≡ Err AdmitError.IntakeFull → IsRingFull (settings_of self.old) h collector batch.now }
         ensures room { IsHonest self.old → (h : History) → Holds self.old h → OnOk result (IsRingFull (settings_of self.old) h collector batch.now → ⊥) }
         ensures undamaged { IsHonest self.old → (h : History) → Holds self.old h → (page : ℕ) → result ≡ Err (AdmitError.BadNode page) → ⊥ }
+        ensures honest { IsHonest self.old ↔ IsHonest self.new }
+        ensures settings { settings_of self.new ≡ settings_of self.old }
     {
         self.try_admit(collector, batch)
     }

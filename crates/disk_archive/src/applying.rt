@@ -58,7 +58,7 @@ fn leave(sequencer: &mut Sequencer, number: usize, whole: bool)
 }
 
 impl<E: EraseDisk + Drop, O: OnceDisk + Drop> Archive<E, O> {
-    ghost use Rattle.disk_archive.specs.Archives.{Carries, GoesOn, Holds, Stands, IsHonest, erase_of, is_down, once_state, site_of};
+    ghost use Rattle.disk_archive.specs.Archives.{Carries, GoesOn, Holds, Stands, IsHonest, erase_of, is_down, once_state, settings_of, site_of};
     ghost use Rattle.disk_archive.specs.Blanks.{NoneBlank};
     ghost use Rattle.tsb_tree.specs.Shelves.{SpendsAtMost};
     ghost use Rattle.disk_archive.specs.Sites.{LeftEither};
@@ -74,6 +74,7 @@ impl<E: EraseDisk + Drop, O: OnceDisk + Drop> Archive<E, O> {
         ensures told { is_down self.old ≡ true → result ≡ Err ApplyError.NeedsRecovery }
         ensures refused { IfErr result (ApplyRefusal (is_down self.old)) }
         ensures erase { E.honest (erase_of self.old) ↔ E.honest (erase_of self.new) }
+        ensures settings { settings_of self.new ≡ settings_of self.old }
         ensures shelf { KeepsBlocks O.OnceDisk self.old.shelf self.new.shelf (result ≡ Err ApplyError.OnceFull) }
         ensures ok { IfOk result (λ step. (h : History) → Carries self.old h → StepIs self.new step h) }
         ensures still { result ≡ Ok Step.Idle → IsAsBefore self.old self.new }
@@ -120,6 +121,8 @@ impl<E: EraseDisk + Drop, O: OnceDisk + Drop> Archive<E, O> {
         ensures full { IsHonest self.old → result ≡ Err ApplyError.OnceFull → NoneBlank self.new }
         ensures spends { IsHonest self.old → SpendsAtMost 2 (once_state self.old) (once_state self.new) }
         ensures sound { IsHonest self.old → (h : History) → Holds self.old h → (page : ℕ) → result ≡ Err (ApplyError.BadNode page) → ⊥ }
+        ensures honest { IsHonest self.old ↔ IsHonest self.new }
+        ensures settings { settings_of self.new ≡ settings_of self.old }
     {
         self.try_apply()
     }

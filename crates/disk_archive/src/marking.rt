@@ -123,6 +123,7 @@ impl<E: EraseDisk + Drop, O: OnceDisk + Drop> Archive<E, O> {
         ensures forward { (h : History) → Carries self.old h → OnOk result (IsMarkAbove h collector mark → ⊥) }
         ensures present { (h : History) → Carries self.old h → (i : Intake) → slice_get h.intakes collector ≡ Some i → mark ≡ i.mark → IsOk result × IsAsBefore self.old self.new }
         ensures honest { IsHonest self.old ↔ IsHonest self.new }
+        ensures settings { settings_of self.new ≡ settings_of self.old }
         ensures ok { OnOk result ((h : History) → Carries self.old h → Carries self.new (marked h collector mark)) }
         ensures err { OnErr result ((h : History) → Carries self.old h → GoesOn self.new h) }
         ensures crash { (h : History) → Carries self.old h → Crashes self.old self.new (LeftMarked (site_of self.old) h collector mark) }
@@ -154,6 +155,8 @@ impl<E: EraseDisk + Drop, O: OnceDisk + Drop> Archive<E, O> {
         ensures no_collector { (result ≡ Err MarkError.NoCollector) ↔ ((is_down self.old ≡ false) × ((settings_of self.old).collectors ≤ collector)) }
         ensures mark_back { IsHonest self.old → (h : History) → Holds self.old h → (result ≡ Err MarkError.MarkBack) ↔ ((is_down self.old ≡ false) × IsMarkAbove h collector mark) }
         ensures present { IsHonest self.old → is_down self.old ≡ false → (h : History) → Holds self.old h → (i : Intake) → slice_get h.intakes collector ≡ Some i → mark ≡ i.mark → IsOk result × (erase_of self.new ≡ erase_of self.old) }
+        ensures honest { IsHonest self.old ↔ IsHonest self.new }
+        ensures settings { settings_of self.new ≡ settings_of self.old }
     {
         self.try_mark(collector, mark)
     }

@@ -33,6 +33,9 @@ returns-clause-lasts g c =
 pub returns-clause-recovery : goal.returns-clause-recovery
 returns-clause-recovery g c = (needs_recovery_of c.try_apply.result _ c.try_apply.ensures.refused, c.try_apply.ensures.told)
 
+pub returns-clause-honest : goal.returns-clause-honest
+returns-clause-honest g c = both_same _ _ _ _ c.try_apply.ensures.erase c.try_apply.ensures.shelf.honest
+
 pub returns-clause-sound : goal.returns-clause-sound
 returns-clause-sound g c = never_bad c.args.self.now c.try_apply.result c.try_apply.ensures.told c.try_apply.ensures.sound
 
