@@ -1,0 +1,13 @@
+pub mod Tallies
+pub mod Stacks
+pub mod Weights
+pub mod Going
+pub mod Loops
+pub mod Telling
+pub mod Placed
+pub mod Counts
+pub mod Standing
+pub mod Columns
+pub mod Under
+pub mod GoingUnder
+pub mod Checked

@@ -1,0 +1,50 @@
+use Rattle.std.proofs.Common.{rules, ◌≡◌, ◌⊎◌, inl, inr, ℕ, List, [], ◌∷◌, Err, IfOk, subst}
+use Rattle.once_store.specs.Readers.{reader_disk}
+use Rattle.tsb_walk.specs.declared.error.NodeError.TheVariants.{BadNode, Damaged}
+use Rattle.tsb_walk.specs.declared.page_place.PagePlace.{PagePlace}
+use Rattle.tsb_check.specs.Pages.{TellsTree, IsBadUnder, IsUnknownUnder, IsDamagedUnder}
+use Rattle.tsb_check.proofs.Standing.{none_bad, none_unknown_under, none_damaged_under}
+use Rattle.tsb_check.proofs.Checked.{all_counted}
+use Rattle.tsb_check.proofs.checking.check.Goals as goal
+
+pub returns-clause-counted : goal.returns-clause-counted
+returns-clause-counted g c = λ start shown shows s all are keys tree well known.
+    let K = g.O.OnceDisk.known c.args.seen.now in
+    let N = g.O.OnceDisk.block_count (reader_disk c.args.reader.now) in
+    let one : c.in_ok-places.places.items ≡ c.args.root.now ∷ [] = search rules in
+    all_counted shown s all are K N known c.args.root.now keys tree c.count_under.result
+    (subst (λ (ps : List PagePlace). IfOk c.count_under.result (λ n. TellsTree shown K N ps n ⊎ IsUnknownUnder shown K N ps)) one (c.count_under.ensures.checked start shown shows well))
+
+pub returns-clause-checked : goal.returns-clause-checked
+returns-clause-checked g c = λ start shown shows well.
+    let K = g.O.OnceDisk.known c.args.seen.now in
+    let N = g.O.OnceDisk.block_count (reader_disk c.args.reader.now) in
+    let one : c.in_ok-places.places.items ≡ c.args.root.now ∷ [] = search rules in
+    subst (λ (ps : List PagePlace). IfOk c.count_under.result (λ n. TellsTree shown K N ps n ⊎ IsUnknownUnder shown K N ps)) one (c.count_under.ensures.checked start shown shows well)
+
+pub returns-clause-bad : goal.returns-clause-bad
+returns-clause-bad g c = λ start shown shows page e.
+    let one : c.in_ok-places.places.items ≡ c.args.root.now ∷ [] = search rules in
+    subst (λ (ps : List PagePlace). IsBadUnder shown ps page) one (c.count_under.ensures.bad start shown shows page e)
+
+pub returns-clause-damaged : goal.returns-clause-damaged
+returns-clause-damaged g c = λ start shown shows well block e.
+    let K = g.O.OnceDisk.known c.args.seen.now in
+    let N = g.O.OnceDisk.block_count (reader_disk c.args.reader.now) in
+    let one : c.in_ok-places.places.items ≡ c.args.root.now ∷ [] = search rules in
+    subst (λ (ps : List PagePlace). IsDamagedUnder shown K N ps block ⊎ IsUnknownUnder shown K N ps) one (c.count_under.ensures.damaged start shown shows well block e)
+
+pub returns-clause-blames : goal.returns-clause-blames
+returns-clause-blames g c = λ start shown shows s all st page e.
+    let one : c.in_ok-places.places.items ≡ c.args.root.now ∷ [] = search rules in
+    none_bad shown s all st.are_shown (c.args.root.now ∷ []) page (subst (λ (ps : List PagePlace). IsBadUnder shown ps page) one (c.count_under.ensures.bad start shown shows page e)) (st.stands, tt)
+
+pub returns-clause-never : goal.returns-clause-never
+returns-clause-never g c = λ start shown shows s all st well known block e.
+    let K = g.O.OnceDisk.known c.args.seen.now in
+    let N = g.O.OnceDisk.block_count (reader_disk c.args.reader.now) in
+    let one : c.in_ok-places.places.items ≡ c.args.root.now ∷ [] = search rules in
+    elim (subst (λ (ps : List PagePlace). IsDamagedUnder shown K N ps block ⊎ IsUnknownUnder shown K N ps) one (c.count_under.ensures.damaged start shown shows well block e)) [
+      | inl damaged ↦ none_damaged_under shown s all st.are_shown K N known (c.args.root.now ∷ []) block damaged (st.stands, tt)
+      | inr lost ↦ none_unknown_under shown s all st.are_shown K N known (c.args.root.now ∷ []) lost (st.stands, tt)
+    ]

@@ -1,0 +1,27 @@
+use Rattle.std.proofs.Common.{rules, ◌≡◌, ◌∙◌, ℕ, inl, inr, Err, ap, subst, min}
+use Rattle.once_store.specs.Readers.{reader_disk}
+use Rattle.tsb_walk.specs.declared.error.NodeError.TheVariants.{BadNode, Damaged}
+use Rattle.tsb_walk.specs.Refusals.{of_block}
+use Rattle.tsb_walk.proofs.Gathering.{of_damaged}
+use Rattle.tsb_check.specs.inner.Columns.{IsColumnAt}
+use Rattle.tsb_check.proofs.Columns.{tells_column, damaged_in, reads_in}
+use Rattle.tsb_check.proofs.column.count_column.Goals as goal
+
+pub returns-clause-checked : goal.returns-clause-checked
+returns-clause-checked g c = λ start shown shows well.
+    tells_column shown (g.O.OnceDisk.known c.args.seen.now) (g.O.OnceDisk.block_count (reader_disk c.args.reader.now)) c.args.place.now c.in_ok-said.said c.in_ok-said.current c.in_ok-past.past c.saturating_add.result
+    (c.in_ok-said.ensures.says start shown shows) c.saturating_add.ensures (c.in_ok-past.ensures.checked well)
+
+pub returns-in_err-past-clause-damaged : goal.returns-in_err-past-clause-damaged
+returns-in_err-past-clause-damaged g c = λ start shown shows well block e.
+    let h : of_block c.in_err-past.field-0.0 ≡ Damaged block = search rules in
+    damaged_in shown (g.O.OnceDisk.known c.args.seen.now) (g.O.OnceDisk.block_count (reader_disk c.args.reader.now)) c.args.place.now c.in_ok-said.said c.in_ok-said.current block (c.in_ok-said.ensures.says start shown shows)
+    (c.in_err-past.ensures.damaged well block (ap Err (of_damaged c.in_err-past.field-0.0 block h)))
+
+pub returns-in_err-past-clause-reads : goal.returns-in_err-past-clause-reads
+returns-in_err-past-clause-reads g c = λ start shown shows well.
+    reads_in shown (g.O.OnceDisk.known c.args.seen.now) (g.O.OnceDisk.block_count (reader_disk c.args.reader.now)) c.args.place.now c.in_ok-said.said c.in_ok-said.current _ (c.in_ok-said.ensures.says start shown shows) (c.count_before.ensures.reads well)
+
+pub returns-clause-reads : goal.returns-clause-reads
+returns-clause-reads g c = λ start shown shows well.
+    reads_in shown (g.O.OnceDisk.known c.args.seen.now) (g.O.OnceDisk.block_count (reader_disk c.args.reader.now)) c.args.place.now c.in_ok-said.said c.in_ok-said.current _ (c.in_ok-said.ensures.says start shown shows) (c.count_before.ensures.reads well)

@@ -1,0 +1,4 @@
+pub mod Told
+pub mod Going
+pub mod Columns
+pub mod GoingUnder

@@ -1,0 +1,50 @@
+-- What is told of one column.
+use Rattle.std.specs.Prelude.{◌≡◌, ℕ, ◌+◌, List, Option}
+use Rattle.tsb_node.specs.declared.column_said.ColumnSaid.{ColumnSaid}
+use Rattle.tsb_walk.specs.declared.page_place.PagePlace.{PagePlace}
+use Rattle.tsb_walk.specs.Shown.{Says, keys_at}
+use Rattle.tsb_walk.specs.PageWays.{IsNoColumn, IsNoLeaf}
+use Rattle.version_model.specs.declared.part.Part.{Part}
+use Rattle.version_model.specs.Versions.{Version}
+use Rattle.version_model.specs.Counts.{count_in}
+use Rattle.version_model.specs.Pages.{CurrentLeaf, ColumnNode, current_range}
+use Rattle.tsb_check.specs.Counted.{AreCounted, MeetUnknown, MeetDamage, told}
+use Rattle.tsb_check.specs.Pages.{past_of}
+
+-- a page says the column at a place
+pub record IsColumnAt (shown : List (List ℕ)) (place : PagePlace) : Type 0 where
+  pub parts : List Part
+  pub start : ℕ
+  pub current : ℕ
+  pub says : Says shown place.page (ColumnNode (keys_at place) parts start current)
+
+-- a page says this column at a place, and so many versions are of its keys in its current leaf, from the start on
+pub record HasCurrent (shown : List (List ℕ)) (place : PagePlace) (said : ColumnSaid) (n : ℕ) : Type 0 where
+  pub says : Says shown place.page (ColumnNode (keys_at place) said.parts.items said.current.start said.current.page)
+  pub versions : List Version
+  pub leaf : Says shown said.current.page (CurrentLeaf (keys_at place) said.current.start versions)
+  pub is : n ≡ count_in versions (current_range (keys_at place) said.current.start)
+
+-- so many versions are told of it
+pub record TellsColumn (shown : List (List ℕ)) (known : ℕ → Option (List ℕ)) (count : ℕ) (place : PagePlace) (n : ℕ) : Type 0 where
+  pub column : IsColumnAt shown place
+  pub versions : List Version
+  pub leaf : Says shown column.current (CurrentLeaf (keys_at place) column.start versions)
+  pub past : ℕ
+  pub counted : AreCounted known count (past_of place column.parts column.start) past
+  pub is : n ≡ told (past + count_in versions (current_range (keys_at place) column.start))
+
+-- the page isn't the column, or isn't its current leaf
+pub data IsBadColumn (shown : List (List ℕ)) (place : PagePlace) : ℕ → Type 0 where
+  bad_column : IsNoColumn shown place → IsBadColumn shown place place.page
+  bad_leaf : (column : IsColumnAt shown place) → IsNoLeaf shown place column.start column.current → IsBadColumn shown place column.current
+
+-- its past leads to a block that isn't known
+pub record IsUnknownIn (shown : List (List ℕ)) (known : ℕ → Option (List ℕ)) (count : ℕ) (place : PagePlace) : Type 0 where
+  pub column : IsColumnAt shown place
+  pub unknown : MeetUnknown known count (past_of place column.parts column.start)
+
+-- its past leads to this block, which isn't what its place asks for
+pub record IsDamagedIn (shown : List (List ℕ)) (known : ℕ → Option (List ℕ)) (count : ℕ) (place : PagePlace) (block : ℕ) : Type 0 where
+  pub column : IsColumnAt shown place
+  pub damage : MeetDamage known count (past_of place column.parts column.start) block

@@ -1,0 +1,43 @@
+-- How far a count of a tree has come.
+use Rattle.std.specs.Prelude.{◌≡◌, ℕ, ◌+◌, ◌^◌, ◌⊎◌, List, [], ◌∷◌, ◌++◌, Option}
+use Rattle.tsb_walk.specs.declared.page_place.PagePlace.{PagePlace}
+use Rattle.tsb_walk.specs.Shown.{Says, keys_at}
+use Rattle.tsb_walk.specs.PageWays.{IsNoKeyNode}
+use Rattle.version_model.specs.declared.child.Child.{Child}
+use Rattle.version_model.specs.Pages.{KeyNode}
+use Rattle.tsb_check.specs.Counted.{told}
+use Rattle.tsb_check.specs.Pages.{AreCountedUnder, places_under}
+use Rattle.tsb_check.specs.inner.Columns.{TellsColumn, IsBadColumn, IsUnknownIn, IsDamagedIn}
+
+-- What was counted so far, and what the places that are left count, is a count of all.
+pub record CountsOnUnder (shown : List (List ℕ)) (known : ℕ → Option (List ℕ)) (count : ℕ) (places left : List PagePlace) (n : ℕ) : Type 0 where
+  pub total : ℕ
+  pub is : n ≡ told total
+  pub on : (m : ℕ) → AreCountedUnder shown known count left m → AreCountedUnder shown known count places (total + m)
+
+-- from places that are left to others a page is taken: a column leaves no more, a key node the places of its children
+abbrev pub AreLeftBy : List (List ℕ) → PagePlace → List PagePlace → List PagePlace → Type 0
+AreLeftBy shown place left left' = ((place.level ≡ 1) × (left' ≡ left))
+    ⊎ ((children : List Child) × Says shown place.page (KeyNode place.level (keys_at place) children) × (left' ≡ left ++ places_under place children))
+
+-- so many versions are told of a column; none of a key node, whose children's places are left
+abbrev pub IsPlaceTaken : List (List ℕ) → (ℕ → Option (List ℕ)) → ℕ → PagePlace → List PagePlace → List PagePlace → ℕ → Type 0
+IsPlaceTaken shown known count place left left' n = ((place.level ≡ 1) × TellsColumn shown known count place n × (left' ≡ left))
+    ⊎ ((children : List Child) × Says shown place.page (KeyNode place.level (keys_at place) children) × (left' ≡ left ++ places_under place children) × (n ≡ 0))
+
+-- a page of a column isn't what it is to be, or that of a key node
+abbrev pub IsPlaceBad : List (List ℕ) → PagePlace → ℕ → Type 0
+IsPlaceBad shown place page = ((place.level ≡ 1) × IsBadColumn shown place page) ⊎ ((place.level ≡ 1 → ⊥) × (place.page ≡ page) × IsNoKeyNode shown place)
+
+-- a block of a column's past isn't what it is to be
+abbrev pub IsPlaceDamaged : List (List ℕ) → (ℕ → Option (List ℕ)) → ℕ → PagePlace → ℕ → Type 0
+IsPlaceDamaged shown known count place block = (place.level ≡ 1) × IsDamagedIn shown known count place block
+
+-- a block of a column's past isn't known
+abbrev pub IsPlaceUnknown : List (List ℕ) → (ℕ → Option (List ℕ)) → ℕ → PagePlace → Type 0
+IsPlaceUnknown shown known count place = (place.level ≡ 1) × IsUnknownIn shown known count place
+
+-- A number that falls when a place gives way to those of at most 338 children.
+abbrev pub page_weight : List PagePlace → ℕ
+page_weight [] = 0
+page_weight (place ∷ places) = 339 ^ place.level + page_weight places
