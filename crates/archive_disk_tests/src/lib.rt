@@ -1,0 +1,13 @@
+//! Tests of archives on two disks in memory: how they are created, and what their calls answer one after another.
+#![tactic(auto)]
+
+#[cfg(test)]
+mod calls;
+#[cfg(test)]
+mod created;
+#[cfg(test)]
+mod failing;
+#[cfg(test)]
+mod full_rings;
+#[cfg(test)]
+mod made;
