@@ -32,6 +32,9 @@ pub enum Trouble {
     /// The tree would need a seventh level of key nodes.
     #[error("the tree is too high")]
     TooHigh,
+    /// So many changes can't be counted.
+    #[error("the count of applied changes is full")]
+    CounterFull,
     /// A growth of memory was refused.
     #[error("out of memory")]
     OutOfMemory,

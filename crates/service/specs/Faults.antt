@@ -23,6 +23,7 @@ of_trouble troubles.OnceFull = refusals.OnceFull
 of_trouble (troubles.Damaged block) = refusals.Damaged block
 of_trouble (troubles.BadNode page) = refusals.BadNode page
 of_trouble troubles.TooHigh = refusals.TooHigh
+of_trouble troubles.CounterFull = refusals.CounterFull
 of_trouble troubles.OutOfMemory = refusals.OutOfMemory
 
 -- why a record gives no admission

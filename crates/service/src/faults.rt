@@ -107,6 +107,7 @@ impl From<Trouble> for Refusal {
             Trouble::Damaged(block) => Refusal::Damaged(block),
             Trouble::BadNode(page) => Refusal::BadNode(page),
             Trouble::TooHigh => Refusal::TooHigh,
+            Trouble::CounterFull => Refusal::CounterFull,
             Trouble::OutOfMemory => Refusal::OutOfMemory,
         }
     }
