@@ -11,3 +11,5 @@ mod failing;
 mod full_rings;
 #[cfg(test)]
 mod made;
+#[cfg(test)]
+mod served;
