@@ -1,0 +1,112 @@
+//! The archive in the files of a folder.
+
+ghost use Rattle.std.specs.Prelude.{◌≡◌, ◌≤◌, ◌↔◌, ◌*◌, min, max};
+
+use crate::refusals::{admit_refusal, apply_trouble, ask_refusal, flush_trouble, mark_refusal};
+use archive_calls::{
+    AdmitError, AskError, Flush, MAX_BATCH_LEN, MarkError, RouteArchive, Step, Trouble,
+};
+use disk_archive::Archive;
+use disk_files::{FileErase, FileOnce};
+use interleaving_core::{Answer, BatchReply, Query, Resume};
+use route_model::{Admission, Mark};
+
+/// The most octets of one admission as a batch. A ring, which has nine pages at least, has room for it.
+const ONE_ADMISSION: usize = 131_076;
+
+/// The octets of a page.
+const PAGE: usize = 16_384;
+
+/// An archive on disks over the files of a folder, with how many octets a batch of it may have.
+///
+/// It is a type of its own, since the archive on any two disks can't be one that feeds and questions use: docs/DECISIONS.md
+/// says why.
+#[derive(Drop)]
+pub struct FileArchive {
+    archive: Archive<FileErase, FileOnce>,
+    limit: usize,
+    ghost one: { 131076 ≤ limit },
+    ghost few: { limit ≤ 262144 },
+}
+
+impl FileArchive {
+    ghost use Rattle.route_meaning.specs.History.{History};
+    ghost use Rattle.disk_archive.specs.Archives.{GoesOn, settings_of};
+    ghost use Rattle.file_archive.specs.FileArchives.{GoesOnWith, limit_of};
+
+    /// The archive that was created or opened on both disks.
+    pub fn new(archive: Archive<FileErase, FileOnce>) -> FileArchive
+        ensures same { (h : History) → GoesOnWith result h ↔ GoesOn archive h }
+        ensures limit { limit_of result ≡ max (min 262144 (16384 * (settings_of archive).ring)) 131076 }
+    {
+        let ring = usize::from(archive.ring()) * PAGE;
+        let limit = MAX_BATCH_LEN.min(ring).max(ONE_ADMISSION);
+        FileArchive { archive, limit }
+    }
+}
+
+impl RouteArchive for FileArchive {
+    ghost use Rattle.file_archive.specs.FileArchives.{GoesOnWith, limit_of, right_of};
+
+    ghost carries = { λ files h. GoesOnWith files h };
+
+    ghost most = { λ files. limit_of files };
+
+    ghost right = { λ files h goes_on. right_of files h goes_on };
+
+    fn collectors(&self) -> u8 {
+        self.archive.collectors()
+    }
+
+    fn batch_limit(&self) -> usize {
+        self.limit
+    }
+
+    fn settled(&self) -> Mark {
+        self.archive.settled()
+    }
+
+    fn resume(&self, collector: u8) -> Option<Resume> {
+        if collector >= self.archive.collectors() {
+            return None;
+        }
+        Some(self.archive.resume(collector))
+    }
+
+    fn admit(&mut self, collector: u8, batch: &[Admission]) -> Result<BatchReply, AdmitError> {
+        match self.archive.admit(collector, batch) {
+            Ok(reply) => Ok(reply),
+            Err(refusal) => Err(admit_refusal(refusal)),
+        }
+    }
+
+    fn mark(&mut self, collector: u8, mark: Mark) -> Result<(), MarkError> {
+        match self.archive.mark(collector, mark) {
+            Ok(()) => Ok(()),
+            Err(refusal) => Err(mark_refusal(refusal)),
+        }
+    }
+
+    fn apply_step(&mut self) -> Result<Step, Trouble> {
+        match self.archive.apply_step() {
+            Ok(disk_archive::Step::Applied) => Ok(Step::Applied),
+            Ok(disk_archive::Step::Idle) => Ok(Step::Idle),
+            Err(refusal) => Err(apply_trouble(refusal)),
+        }
+    }
+
+    fn flush_step(&mut self) -> Result<Flush, Trouble> {
+        match self.archive.flush_step() {
+            Ok(disk_archive::Flush::Flushed) => Ok(Flush::Flushed),
+            Ok(disk_archive::Flush::Clean) => Ok(Flush::Clean),
+            Err(refusal) => Err(flush_trouble(refusal)),
+        }
+    }
+
+    fn answer(&mut self, query: Query) -> Result<Answer, AskError> {
+        match self.archive.answer(query) {
+            Ok(answer) => Ok(answer),
+            Err(refusal) => Err(ask_refusal(refusal)),
+        }
+    }
+}
