@@ -1,2 +1,4 @@
 pub mod Refusals
 pub mod FileArchives
+pub mod Disks
+pub mod inner

@@ -31,13 +31,14 @@ pub struct FileArchive {
 
 impl FileArchive {
     ghost use Rattle.route_meaning.specs.History.{History};
-    ghost use Rattle.disk_archive.specs.Archives.{GoesOn, settings_of};
-    ghost use Rattle.file_archive.specs.FileArchives.{GoesOnWith, limit_of};
+    ghost use Rattle.disk_archive.specs.Archives.{GoesOn, settings_of, site_of};
+    ghost use Rattle.file_archive.specs.FileArchives.{GoesOnWith, limit_for, limit_of, site_in};
 
     /// The archive that was created or opened on both disks.
     pub fn new(archive: Archive<FileErase, FileOnce>) -> FileArchive
         ensures same { (h : History) → GoesOnWith result h ↔ GoesOn archive h }
-        ensures limit { limit_of result ≡ max (min 262144 (16384 * (settings_of archive).ring)) 131076 }
+        ensures site { site_in result ≡ site_of archive }
+        ensures limit { limit_of result ≡ limit_for (settings_of archive) }
     {
         let ring = usize::from(archive.ring()) * PAGE;
         let limit = MAX_BATCH_LEN.min(ring).max(ONE_ADMISSION);

@@ -1,0 +1,31 @@
+-- Both disks over the files of a folder.
+use Rattle.std.specs.Prelude.{◌≡◌}
+use Rattle.std.specs.declared.fs.File.{File}
+use Rattle.disk_files.specs.declared.blocks.FileOnce.{FileOnce}
+use Rattle.disk_files.specs.declared.pages.FileErase.{FileErase}
+use Rattle.disk_files.specs.declared.pen.FilePen.{FilePen}
+use Rattle.disk_files.specs.Blocks.{count_of, identity_of}
+use Rattle.disk_files.specs.Pages.{IsFresh, size_of}
+use Rattle.disk_files.specs.Pens.{IsFreshPen, pen_identity}
+use Rattle.disk_files.specs.Sizes.{AreBlocks, ArePages}
+use Rattle.file_archive.specs.declared.disks.FileDisks.{FileDisks}
+
+-- the erasable disk
+abbrev pub erase_in : FileDisks → FileErase File
+erase_in disks = disks.erase
+
+-- the write-once disk
+abbrev pub once_in : FileDisks → FileOnce File
+once_in disks = disks.once.value
+
+-- its pen
+abbrev pub pen_in : FileDisks → FilePen File
+pen_in disks = disks.pen
+
+-- They have sizes that such disks can have, the pen is the write-once disk's, and nothing has failed yet.
+pub record AreDisks (disks : FileDisks) : Type 0 where
+  pub pages : ArePages (size_of (erase_in disks))
+  pub blocks : AreBlocks (count_of (once_in disks))
+  pub own : pen_identity (pen_in disks) ≡ identity_of (once_in disks)
+  pub fresh : IsFresh (erase_in disks)
+  pub fresh_pen : IsFreshPen (pen_in disks)

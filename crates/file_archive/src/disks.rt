@@ -1,0 +1,112 @@
+//! Both disks over the files of a folder.
+
+ghost use Rattle.std.specs.Prelude.{◌≡◌, ◌+◌, ◌*◌, ◌≤◌, ◌^◌, ◌↔◌, IfOk, IfErr, IsErr, Err};
+ghost use Rattle.disk_files.specs.Refusals.{IsOfSize};
+ghost use Rattle.disk_files.specs.Sizes.{AreBlocks, ArePages};
+
+use disk_files::{FileErase, FileError, FileOnce, FilePen, Part};
+use std::alloc::Global;
+use std::fs::File;
+use std::rt::Files;
+use std::sync::Arc;
+
+/// The octets of a page.
+const PAGE: u64 = 16_384;
+
+/// The pages of the journal, which stand before the home pages.
+const JOURNAL_PAGES: u64 = 265;
+
+/// Fewer pages than these are octets that a file can have.
+const TOO_MANY_PAGES: u64 = 1 << 49;
+
+/// Both disks over the files of a folder, which no one else can open while these are there.
+#[derive(Drop)]
+pub struct FileDisks {
+    pub(crate) erase: FileErase,
+    pub(crate) once: Arc<FileOnce>,
+    pub(crate) pen: FilePen,
+}
+
+/// How many octets the erasable disk of so many home pages has.
+pub(crate) fn disk_size(pages: u64) -> Result<u64, FileError>
+    ensures size { IfOk result (λ size. size ≡ 16384 * (265 + pages)) }
+    ensures fits { IfOk result ArePages }
+    ensures refused { (result ≡ Err (FileError.Size Part.Pages)) ↔ (2 ^ 49 ≤ 265 + pages) }
+    ensures only { IfErr result (λ why. why ≡ FileError.Size Part.Pages) }
+{
+    if pages >= TOO_MANY_PAGES - JOURNAL_PAGES {
+        return Err(FileError::Size(Part::Pages));
+    }
+    Ok(PAGE * (JOURNAL_PAGES + pages))
+}
+
+impl FileDisks {
+    ghost use Rattle.disk_files.specs.Blocks.{count_of, identity_of};
+    ghost use Rattle.disk_files.specs.Pages.{IsFresh, size_of};
+    ghost use Rattle.disk_files.specs.Pens.{IsFreshPen, pen_identity};
+    ghost use Rattle.file_archive.specs.Disks.{AreDisks, erase_in, once_in};
+
+    /// Makes the files of both disks in a folder: so many octets to be written over, and so many blocks. Where it is refused
+    /// it leaves nothing in the folder that it made.
+    pub(crate) fn create<R: Files<File = File>>(
+        alloc: Global,
+        files: &R,
+        folder: &str,
+        size: u64,
+        blocks: u64,
+    ) -> Result<FileDisks, FileError>
+        ensures size { IfOk result (λ disks. size_of (erase_in disks) ≡ size) }
+        ensures blocks { IfOk result (λ disks. count_of (once_in disks) ≡ blocks) }
+        ensures fresh { IfOk result AreDisks }
+        ensures few { AreBlocks blocks → ArePages size → IfErr result (λ why. ¬ IsOfSize why) }
+        ensures refused { ¬ AreBlocks blocks → IsErr result }
+    {
+        let erase = FileErase::create(alloc, files, folder, size)?;
+        let (once, pen) = match FileOnce::create(alloc, files, folder, blocks) {
+            Ok(made) => made,
+            Err(why) => {
+                let _ = erase.remove(alloc, files, folder);
+                return Err(why);
+            }
+        };
+        match Arc::new(alloc, once) {
+            Ok(once) => Ok(FileDisks { erase, once, pen }),
+            Err(_) => {
+                take_away(alloc, files, folder, erase, pen);
+                Err(FileError::OutOfMemory)
+            }
+        }
+    }
+
+    /// Opens the files of both disks of a folder: `pages.rha` first, by whose lock the archive is held.
+    ///
+    /// # Errors
+    ///
+    /// Which file isn't opened, and why; a growth of memory that was refused.
+    pub fn open<R: Files<File = File>>(
+        alloc: Global,
+        files: &R,
+        folder: &str,
+    ) -> Result<FileDisks, FileError>
+        ensures fresh { IfOk result AreDisks }
+    {
+        let erase = FileErase::open(alloc, files, folder)?;
+        let (once, pen) = FileOnce::open(alloc, files, folder)?;
+        match Arc::new(alloc, once) {
+            Ok(once) => Ok(FileDisks { erase, once, pen }),
+            Err(_) => Err(FileError::OutOfMemory),
+        }
+    }
+}
+
+/// Takes the files of both disks out of a folder, as far as the system does.
+pub(crate) fn take_away<R: Files<File = File>>(
+    alloc: Global,
+    files: &R,
+    folder: &str,
+    erase: FileErase,
+    pen: FilePen,
+) {
+    let _ = erase.remove(alloc, files, folder);
+    let _ = pen.remove(alloc, files, folder);
+}

@@ -1,0 +1,59 @@
+//! Why no archive is created, or opened, in a folder.
+
+ghost use Rattle.std.specs.Prelude.{◌≡◌};
+ghost use Rattle.file_archive.specs.declared.faults.CreateFault.TheVariants as create_faults;
+ghost use Rattle.file_archive.specs.declared.faults.OpenFault.TheVariants as open_faults;
+
+use disk_archive::{CreateError, OpenError};
+use disk_files::FileError;
+use std::io;
+use thiserror::Error;
+
+/// Why no archive is created in a folder.
+#[derive(Debug, Drop, Error)]
+pub enum CreateFault {
+    /// The folder is there already, or the system doesn't make it, for this reason.
+    #[error("{0}")]
+    Folder(io::Error),
+    /// A file of it isn't made.
+    #[error("{0}")]
+    File(FileError),
+    /// There are too few pages for an archive, or it isn't written to the files.
+    #[error("{0}")]
+    Archive(CreateError),
+}
+
+impl From<FileError> for CreateFault {
+    ghost from_gives = { λ why fault. fault ≡ create_faults.File why };
+
+    fn from(why: FileError) -> Self {
+        CreateFault::File(why)
+    }
+}
+
+/// Why no archive is opened in a folder.
+#[derive(Clone, Copy, Debug, PartialEq, Eq, Error)]
+pub enum OpenFault {
+    /// A file of it isn't opened.
+    #[error("{0}")]
+    File(FileError),
+    /// The files hold no archive, or one that can't be read.
+    #[error("{0}")]
+    Archive(OpenError),
+}
+
+impl From<FileError> for OpenFault {
+    ghost from_gives = { λ why fault. fault ≡ open_faults.File why };
+
+    fn from(why: FileError) -> Self {
+        OpenFault::File(why)
+    }
+}
+
+impl From<OpenError> for OpenFault {
+    ghost from_gives = { λ why fault. fault ≡ open_faults.Archive why };
+
+    fn from(why: OpenError) -> Self {
+        OpenFault::Archive(why)
+    }
+}
