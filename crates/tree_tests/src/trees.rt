@@ -78,7 +78,11 @@ pub fn begun(
 }
 
 // A shelf over a disk of so many blank blocks, where these calls fail.
-fn shelf_of(alloc: Global, blocks: u64, script: Vec<OnceFailure>) -> Result<Shelf<MemOnce>, Fail> {
+pub fn shelf_of(
+    alloc: Global,
+    blocks: u64,
+    script: Vec<OnceFailure>,
+) -> Result<Shelf<MemOnce>, Fail> {
     let (disk, mut pen) = MemOnce::new(alloc, blocks);
     pen.set_script(script);
     match Shelf::open(Arc::new(alloc, disk)?, pen, 0) {

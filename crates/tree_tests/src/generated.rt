@@ -1,0 +1,178 @@
+//! Many versions from a generator, beside plain lists.
+use crate::asking::{Asker, asker_of, find};
+use crate::plain::{Plain, expect_alike, expect_all};
+use crate::trees::{Octets, Row, Tree, disks_of, put, tree_on, write_home};
+use page_tx::Pages;
+use std::alloc::Global;
+use std::process::Abort;
+use std::test::Fail;
+use version_model::Stamp;
+
+// So many versions are put between questions.
+const VERSIONS: u64 = 10_000;
+
+// So many questions follow.
+const QUESTIONS: u64 = 200;
+
+// With so many images beside those of an insert into a tree of four levels, a transaction isn't too full.
+const IMAGES: usize = 20;
+
+// Numbers that look random, always the same, and the stamp that they have come to.
+#[derive(Drop)]
+struct Dice {
+    state: u64,
+    time: u64,
+    order: u64,
+}
+
+impl Dice {
+    fn roll(&mut self, below: u64) -> u64 {
+        self.state = self
+            .state
+            .wrapping_mul(6_364_136_223_846_793_005)
+            .wrapping_add(1_442_695_040_888_963_407);
+        (self.state >> 33).checked_rem(below).unwrap_or(0)
+    }
+
+    // A key below a number.
+    fn key(&mut self, count: u64) -> u16 {
+        u16::try_from(self.roll(count)).unwrap_or(0)
+    }
+
+    // A later stamp.
+    fn next_stamp(&mut self) -> Stamp {
+        if self.roll(3) == 0 {
+            self.time = self.time.saturating_add(1);
+            self.order = 0;
+        } else {
+            self.order = self.order.saturating_add(1);
+        }
+        Stamp::new(self.time, self.order)
+    }
+
+    // Any stamp that there was, and some that there weren't.
+    fn stamp(&mut self) -> Stamp {
+        let times = self.time.saturating_add(2);
+        Stamp::new(self.roll(times), self.roll(8))
+    }
+
+    // An end, a value of no octet, one of the largest size, or a small one.
+    fn value(&mut self) -> Option<Octets> {
+        let octet = u8::try_from(self.roll(256)).unwrap_or(0);
+        match self.roll(20) {
+            0 => None,
+            1 => Some((0, 0)),
+            2 => Some((3_072, octet)),
+            size => Some((size as usize, octet)),
+        }
+    }
+}
+
+// Which keys take versions: any of so many from a first one on, which goes on with every second version, round after round.
+#[derive(Clone, Copy)]
+struct Keys {
+    count: u64,
+    near: u64,
+}
+
+impl Keys {
+    fn pick(&self, n: u64, dice: &mut Dice) -> u16 {
+        let key = (n / 2).saturating_add(dice.roll(self.near));
+        u16::try_from(key.checked_rem(self.count).unwrap_or(0)).unwrap_or(0)
+    }
+}
+
+// Puts a version into a tree and into plain lists.
+fn put_both(
+    rt: &impl Abort,
+    tree: &mut Tree,
+    plain: &mut Plain,
+    key: u16,
+    row: Row,
+) -> Result<(), Fail> {
+    if tree.tx.images() > IMAGES {
+        write_home(tree)?;
+    }
+    assert_eq!(rt; put(tree, key, row)?, Ok(()), "{key} at {row:?}");
+    plain.put(key, row)
+}
+
+// Puts versions into both. Each is found at its stamp.
+fn put_many(
+    rt: &impl Abort,
+    tree: &mut Tree,
+    plain: &mut Plain,
+    dice: &mut Dice,
+    keys: Keys,
+) -> Result<(), Fail> {
+    let mut asker = asker_of(tree)?;
+    for n in 0..VERSIONS {
+        let key = keys.pick(n, dice);
+        let row = (dice.next_stamp(), dice.value());
+        put_both(rt, tree, plain, key, row)?;
+        let found = find(tree, &mut asker, key, row.0)?;
+        assert_eq!(rt;
+            found,
+            row.1.map(|value| (row.0, value)),
+            "{key} at {row:?}"
+        );
+    }
+    Ok(())
+}
+
+// Asks for keys and stamps, and for all versions of some keys.
+fn ask_many(
+    rt: &impl Abort,
+    tree: &mut Tree,
+    plain: &Plain,
+    dice: &mut Dice,
+    keys: Keys,
+) -> Result<(), Fail> {
+    let mut asker = asker_of(tree)?;
+    for n in 0..QUESTIONS {
+        let key = dice.key(keys.count);
+        expect_alike(rt, tree, &mut asker, plain, key, dice.stamp())?;
+        if n % 10 == 0 {
+            expect_all(rt, tree, &mut asker, plain, key)?;
+        }
+    }
+    Ok(())
+}
+
+// Puts versions and asks, in turn, and tells the tree that has come to be.
+fn run(rt: &impl Abort, alloc: Global, keys: Keys) -> Result<Tree, Fail> {
+    let mut tree = tree_on(alloc, disks_of(alloc, 4_096, 65_536))?;
+    let mut plain = Plain::new(alloc, u16::try_from(keys.count)?)?;
+    let mut dice = Dice {
+        state: 7,
+        time: 0,
+        order: 0,
+    };
+    for _ in 0..5u32 {
+        put_many(rt, &mut tree, &mut plain, &mut dice, keys)?;
+        ask_many(rt, &mut tree, &plain, &mut dice, keys)?;
+    }
+    Ok(tree)
+}
+
+#[test]
+fn many_versions_of_few_keys_are_those_of_plain_lists(rt: HostRuntime) -> Result<(), Fail> {
+    let keys = Keys {
+        count: 12,
+        near: 12,
+    };
+    let tree = run(&rt, rt.alloc(), keys)?;
+    assert_eq!(rt; tree.place.level, 2);
+    Ok(())
+}
+
+#[test]
+fn versions_of_many_keys_are_those_of_plain_lists(rt: HostRuntime) -> Result<(), Fail> {
+    let keys = Keys {
+        count: 16_384,
+        near: 64,
+    };
+    let tree = run(&rt, rt.alloc(), keys)?;
+    assert!(rt; tree.place.level > 1);
+    Ok(())
+}
