@@ -1,0 +1,83 @@
+//! Turns of a question of a moment over current pages alone: one look each. What lies in the past is left to an errand.
+
+ghost use Rattle.std.specs.Prelude.{◌≡◌, ◌≤◌, ℕ, List, IfOk, IfErr, Err, None};
+ghost use Rattle.route_model.specs.Admission.{Admitted};
+ghost use Rattle.route_meaning.specs.Merged.{Placed};
+ghost use Rattle.route_meaning.specs.Rows.{IsAnswer};
+ghost use Rattle.version_model.specs.Pages.{Store, all_keys};
+ghost use Rattle.version_model.specs.Versions.{Version};
+ghost use Rattle.tsb_walk.specs.Refusals.{LookRefusal, OnlyReads};
+ghost use Rattle.tsb_walk.specs.Shown.{keys_at};
+ghost use Rattle.route_history.specs.Blame.{BlamesNone};
+ghost use Rattle.route_history.specs.Walks.{Tells, Gathered};
+ghost use Rattle.tree_questions.specs.Turning.{ShowsTree, TurnsRows, GoesOnRows};
+ghost use Rattle.tree_questions.specs.inner.Telling.{KeepsRows, ToldRows};
+
+use page_tx::Pages;
+use route_history::{RowsCursor, RowsErrand, RowsTurn};
+use route_meaning::RowsAnswer;
+use std::alloc::Global;
+use std::mem;
+use tsb_node::key_fits;
+use tsb_walk::{Looked, NodeError, PagePlace, next};
+
+// The answer, where the walk is over. The cursor is then at the start of its question again.
+fn take_answer(alloc: Global, cursor: &mut RowsCursor) -> RowsAnswer
+    ensures answer { (all : List Version) (ps : List (Placed Admitted)) → Gathered all ps cursor.old → cursor.old.front ≡ None → IsAnswer ps cursor.old.question result.rows.items result.more }
+    ensures anew { (all : List Version) (ps : List (Placed Admitted)) → Gathered all ps cursor.new }
+    ensures question { cursor.new.question ≡ cursor.old.question }
+{
+    let anew = RowsCursor::start(alloc, cursor.question);
+    mem::replace(cursor, anew).into_answer()
+}
+
+// The answer, where the walk is over; or that it goes on.
+fn tell(alloc: Global, cursor: &mut RowsCursor) -> RowsTurn
+    ensures told { (all : List Version) (ps : List (Placed Admitted)) → Gathered all ps cursor.old → ToldRows ps cursor.old cursor.new result }
+    ensures goes_on { KeepsRows cursor.old cursor.new result }
+    ensures gathered { (all : List Version) (ps : List (Placed Admitted)) → Gathered all ps cursor.old → Gathered all ps cursor.new }
+    ensures question { cursor.new.question ≡ cursor.old.question }
+{
+    match cursor.front {
+        None => RowsTurn::Done(take_answer(alloc, cursor)),
+        Some(_) => RowsTurn::Again,
+    }
+}
+
+/// One turn of a question of a moment over the tree whose root is at this place: one look for the next key that it asks for. Where that
+/// leads into the past, the errand goes on there without the pages.
+///
+/// Each turn passes a key, but for one that leaves an errand, which passes it when it is finished. Pages are only read, and called damaged
+/// where they aren't what the tree asks of them. After each outcome the cursor has gathered what the range has that its walk has passed;
+/// once the answer is told, it is at the start of its question again. It takes memory for rows, and for what the cache of pages keeps.
+pub fn rows_turn<P: Pages>(
+    pages: &mut P,
+    alloc: Global,
+    root: &PagePlace,
+    cursor: &mut RowsCursor,
+) -> Result<RowsTurn, NodeError>
+    requires all { keys_at root.now ≡ all_keys }
+    requires level { 1 ≤ root.now.level }
+    ensures turn { (store : Store) (all : List Version) (ps : List (Placed Admitted)) → ShowsTree P.Pages pages.old root.now store all → Tells all ps cursor.old.question.moment → Gathered all ps cursor.old → IfOk result (TurnsRows store.blocks all ps cursor.old cursor.new) }
+    ensures goes_on { IfOk result (GoesOnRows cursor.old cursor.new) }
+    ensures gathered { (store : Store) (all : List Version) (ps : List (Placed Admitted)) → ShowsTree P.Pages pages.old root.now store all → Tells all ps cursor.old.question.moment → Gathered all ps cursor.old → Gathered all ps cursor.new }
+    ensures question { cursor.new.question ≡ cursor.old.question }
+    ensures blames { (store : Store) (all : List Version) → ShowsTree P.Pages pages.old root.now store all → IfErr result BlamesNone }
+    ensures refused { IfErr result (LookRefusal (P.down pages.old)) }
+    ensures same { OnlyReads P.Pages pages.old pages.new (result ≡ Err NodeError.Fault) }
+{
+    let Some(look) = cursor.next_look() else {
+        return Ok(RowsTurn::Done(take_answer(alloc, cursor)));
+    };
+    let from = look.from;
+    let stamp = look.stamp;
+    key_fits(from);
+    let looked = next(pages, alloc, root, from, stamp)?;
+    match looked {
+        Looked::Here(reached) => {
+            cursor.take_reached(alloc, reached)?;
+            Ok(tell(alloc, cursor))
+        }
+        Looked::InBlock(place) => Ok(RowsTurn::Historical(RowsErrand { from, place })),
+    }
+}
