@@ -1,111 +1,212 @@
-//! The command line: which words are accepted and as what, and what `clap` tells of others.
+//! The command line: which words are accepted and as what.
 
-use clap::error::ErrorKind;
-use service::{CommandError, Invocation, command};
+use service::{CommandError, Creation, Invocation, Loading, Question, command};
 use std::alloc::Global;
-use std::test::Fail;
 
-/// Words that are those of `try` with the file a.mrt, and the mark and the line that they say.
-struct Accepted {
+/// Words that are those of `create` with the folder a, and the numbers that they say.
+struct Created {
     words: &'static [&'static str],
-    batch: usize,
-    mark: Option<u64>,
-    line: &'static str,
+    collectors: u8,
+    ring: u16,
+    pages: u64,
+    blocks: u64,
 }
 
-const ACCEPTED: [Accepted; 12] = [
-    Accepted {
+const CREATED: [Created; 3] = [
+    // The least of each.
+    Created {
         words: &[
             "rha",
-            "try",
+            "create",
+            "a",
+            "--collectors",
+            "1",
+            "--ring",
+            "9",
+            "--pages",
+            "1",
+            "--blocks",
+            "1",
+        ],
+        collectors: 1,
+        ring: 9,
+        pages: 1,
+        blocks: 1,
+    },
+    // The most of each.
+    Created {
+        words: &[
+            "rha",
+            "create",
+            "a",
+            "--collectors",
+            "16",
+            "--ring",
+            "65535",
+            "--pages",
+            "1000000000",
+            "--blocks",
+            "1000000000",
+        ],
+        collectors: 16,
+        ring: 65_535,
+        pages: 1_000_000_000,
+        blocks: 1_000_000_000,
+    },
+    Created {
+        words: &[
+            "rha",
+            "create",
+            "--blocks=65",
+            "--pages=64",
+            "--ring=16",
+            "--collectors=3",
+            "a",
+        ],
+        collectors: 3,
+        ring: 16,
+        pages: 64,
+        blocks: 65,
+    },
+];
+
+/// Words that are those of `load` with the folder a and the file a.mrt, and what else they say.
+struct Loaded {
+    words: &'static [&'static str],
+    collector: u8,
+    batch: usize,
+    mark: Option<u64>,
+    resume: bool,
+}
+
+const LOADED: [Loaded; 8] = [
+    Loaded {
+        words: &["rha", "load", "a", "--collector", "0", "a.mrt"],
+        collector: 0,
+        batch: 1000,
+        mark: None,
+        resume: false,
+    },
+    Loaded {
+        words: &["rha", "load", "--collector=15", "a", "a.mrt"],
+        collector: 15,
+        batch: 1000,
+        mark: None,
+        resume: false,
+    },
+    Loaded {
+        words: &[
+            "rha",
+            "load",
+            "a",
             "a.mrt",
+            "--collector",
+            "7",
+            "--batch",
+            "1",
+        ],
+        collector: 7,
+        batch: 1,
+        mark: None,
+        resume: false,
+    },
+    Loaded {
+        words: &[
+            "rha",
+            "load",
+            "--batch=999",
+            "--collector=1",
+            "--",
+            "a",
+            "a.mrt",
+        ],
+        collector: 1,
+        batch: 999,
+        mark: None,
+        resume: false,
+    },
+    Loaded {
+        words: &[
+            "rha",
+            "load",
+            "a",
+            "--collector=0",
+            "--mark",
+            "4294967296",
+            "a.mrt",
+        ],
+        collector: 0,
+        batch: 1000,
+        mark: Some(4_294_967_296),
+        resume: false,
+    },
+    Loaded {
+        words: &["rha", "load", "a", "--collector=0", "a.mrt", "--mark=0"],
+        collector: 0,
+        batch: 1000,
+        mark: Some(0),
+        resume: false,
+    },
+    Loaded {
+        words: &[
+            "rha",
+            "load",
+            "a",
+            "--collector=0",
+            "--mark",
+            "2024-01-01T00:00:01Z",
+            "--resume",
+            "a.mrt",
+        ],
+        collector: 0,
+        batch: 1000,
+        mark: Some(1_704_067_201),
+        resume: true,
+    },
+    Loaded {
+        words: &[
+            "rha",
+            "load",
+            "--resume",
+            "a",
+            "a.mrt",
+            "--batch=1000",
+            "--collector=0",
+        ],
+        collector: 0,
+        batch: 1000,
+        mark: None,
+        resume: true,
+    },
+];
+
+/// Words that are those of `ask` with the folder a, and the line that they say.
+const ASKED: [(&[&str], &str); 7] = [
+    (
+        &[
+            "rha",
+            "ask",
+            "a",
             "at",
             "1704067200",
             "prefix",
             "10.0.0.0/8",
         ],
-        batch: 1000,
-        mark: None,
-        line: "at 1704067200 prefix 10.0.0.0/8",
-    },
-    Accepted {
-        words: &["rha", "try", "a.mrt", "at 1704067200", "prefix 10.0.0.0/8"],
-        batch: 1000,
-        mark: None,
-        line: "at 1704067200 prefix 10.0.0.0/8",
-    },
-    Accepted {
-        words: &["rha", "try", "a.mrt", "settled"],
-        batch: 1000,
-        mark: None,
-        line: "settled",
-    },
-    Accepted {
-        words: &["rha", "try", "a.mrt", "", ""],
-        batch: 1000,
-        mark: None,
-        line: " ",
-    },
-    // The mark stands before the line.
-    Accepted {
-        words: &["rha", "try", "a.mrt", "--mark", "1704067201", "at", "7"],
-        batch: 1000,
-        mark: Some(1_704_067_201),
-        line: "at 7",
-    },
-    Accepted {
-        words: &["rha", "try", "--mark", "4294967296", "a.mrt", "at", "7"],
-        batch: 1000,
-        mark: Some(4_294_967_296),
-        line: "at 7",
-    },
-    Accepted {
-        words: &["rha", "try", "--mark=0", "a.mrt", "at", "7"],
-        batch: 1000,
-        mark: Some(0),
-        line: "at 7",
-    },
-    Accepted {
-        words: &[
-            "rha",
-            "try",
-            "a.mrt",
-            "--mark",
-            "2024-01-01T00:00:01Z",
-            "at",
-            "7",
-        ],
-        batch: 1000,
-        mark: Some(1_704_067_201),
-        line: "at 7",
-    },
+        "at 1704067200 prefix 10.0.0.0/8",
+    ),
+    (
+        &["rha", "ask", "a", "at 1704067200", "prefix 10.0.0.0/8"],
+        "at 1704067200 prefix 10.0.0.0/8",
+    ),
+    (&["rha", "ask", "a", "watermark"], "watermark"),
+    (&["rha", "ask", "a", "", ""], " "),
     // Behind the first word all are words.
-    Accepted {
-        words: &[
-            "rha", "try", "a.mrt", "at", "--mark", "7", "-x", "--help", "--",
-        ],
-        batch: 1000,
-        mark: None,
-        line: "at --mark 7 -x --help --",
-    },
-    Accepted {
-        words: &["rha", "try", "a.mrt", "--", "--mark", "7"],
-        batch: 1000,
-        mark: None,
-        line: "--mark 7",
-    },
-    Accepted {
-        words: &["rha", "try", "a.mrt", "--batch", "1", "at", "7"],
-        batch: 1,
-        mark: None,
-        line: "at 7",
-    },
-    Accepted {
-        words: &["rha", "try", "--batch=999", "a.mrt", "at", "7"],
-        batch: 999,
-        mark: None,
-        line: "at 7",
-    },
+    (
+        &["rha", "ask", "a", "at", "--mark", "7", "-x", "--help", "--"],
+        "at --mark 7 -x --help --",
+    ),
+    (&["rha", "ask", "a", "--", "--mark", "7"], "--mark 7"),
+    (&["rha", "ask", "--", "a", "check"], "check"),
 ];
 
 /// Texts that are no marks.
@@ -118,179 +219,64 @@ const NO_MARKS: [&str; 6] = [
     "now",
 ];
 
-/// Words of which `clap` tells something: the kind of its error, the exit status, and the text, whose end several share.
-struct Shown {
-    words: &'static [&'static str],
-    kind: ErrorKind,
-    code: u8,
-    text: &'static str,
-    end: &'static str,
+fn is_created(made: &Creation<'_>, wanted: &Created) -> bool {
+    made.folder == "a"
+        && made.collectors == wanted.collectors
+        && made.ring == wanted.ring
+        && made.pages == wanted.pages
+        && made.blocks == wanted.blocks
 }
 
-/// What the help of `rha`, and of `rha try`, ends with.
-const HELP_END: &str = "The words of `rha try` are one request line:
-  at T prefix PREFIX [after COLLECTOR ADDRESS AS PREFIX]
-T is a moment: seconds since 1970, or a timestamp as 2024-01-01T00:00:00Z. It has to be below the settled
-watermark: M, or the latest time among the admitted records where no mark is set. M is such a number or
-timestamp, too; it is set where the file was read to its end. PREFIX is ADDRESS/LENGTH. `after` goes on
-behind the last row of an answer of 256 rows.
+fn is_loaded(asked: &Loading<'_>, wanted: &Loaded) -> bool {
+    asked.folder == "a"
+        && asked.file == "a.mrt"
+        && asked.collector == wanted.collector
+        && asked.batch == wanted.batch
+        && asked.mark.map(|mark| mark.seconds()) == wanted.mark
+        && asked.resume == wanted.resume
+}
 
-Example:
-  rha try updates.mrt --mark 2024-01-01T00:15:00Z at 2024-01-01T00:10:00Z prefix 10.0.0.0/8
+fn is_asked(asked: &Question<'_>, line: &str) -> bool {
+    asked.folder == "a" && asked.line.as_str() == line
+}
 
-Exit status: 0 where all is done, 1 where something was refused or couldn't be written (told on standard
-error as `rha: NUMBER NAME` where it has no line of its own), 2 where the command line isn't accepted.
-";
-
-const HELP: &str = "A route history archive for BGP
-
-Usage: rha <COMMAND>
-
-Commands:
-  try  Loads a file into an empty archive, and answers a request line
-
-Options:
-  -h, --help     Print help
-  -V, --version  Print version
-
-";
-
-const TRY_HELP: &str = "Loads a file into an empty archive, and answers a request line
-
-Usage: rha try [OPTIONS] <FILE> <WORD>...
-
-Arguments:
-  <FILE>     The MRT file to load
-  <WORD>...  The words of a request line
-
-Options:
-      --batch <N>  The most admissions of a batch, 1 to 1000 [default: 1000]
-      --mark <M>   The collector's mark once the file is loaded
-  -h, --help       Print help
-
-";
-
-/// What is told of a wrong use of `rha`, and of `rha try`, ends with a usage: what is required and what was used, or all.
-const USAGE_END: &str = "\n\nUsage: rha <COMMAND>\n\nFor more information, try '--help'.\n";
-
-const REQUIRED_END: &str =
-    "\n\nUsage: rha try <FILE> <WORD>...\n\nFor more information, try '--help'.\n";
-
-const MORE_END: &str = "\n\nFor more information, try '--help'.\n";
-
-const ALL_END: &str =
-    "\n\nUsage: rha try [OPTIONS] <FILE> <WORD>...\n\nFor more information, try '--help'.\n";
-
-const SHOWN: [Shown; 11] = [
-    Shown {
-        words: &["rha", "try", "a.mrt", "--batch", "0", "at"],
-        kind: ErrorKind::ValueValidation,
-        code: 2,
-        text: "error: invalid value '0' for '--batch <N>': 0 is not in 1..=1000",
-        end: MORE_END,
-    },
-    Shown {
-        words: &["rha", "try", "a.mrt", "--batch", "1001", "at"],
-        kind: ErrorKind::ValueValidation,
-        code: 2,
-        text: "error: invalid value '1001' for '--batch <N>': 1001 is not in 1..=1000",
-        end: MORE_END,
-    },
-    Shown {
-        words: &["rha", "try", "a.mrt", "--resume", "at"],
-        kind: ErrorKind::UnknownArgument,
-        code: 2,
-        text: "error: unexpected argument '--resume' found\n\n  tip: to pass '--resume' as a value, use '-- --resume'",
-        end: REQUIRED_END,
-    },
-    Shown {
-        words: &["rha", "try", "--mark", "7", "a.mrt", "--mark", "7", "at"],
-        kind: ErrorKind::ArgumentConflict,
-        code: 2,
-        text: "error: the argument '--mark <M>' cannot be used multiple times",
-        end: ALL_END,
-    },
-    Shown {
-        words: &["rha", "try", "a.mrt"],
-        kind: ErrorKind::MissingRequiredArgument,
-        code: 2,
-        text: "error: the following required arguments were not provided:\n  <WORD>...",
-        end: REQUIRED_END,
-    },
-    Shown {
-        words: &["rha"],
-        kind: ErrorKind::MissingSubcommand,
-        code: 2,
-        text: "error: 'rha' requires a subcommand but one was not provided\n  [subcommands: try]",
-        end: USAGE_END,
-    },
-    Shown {
-        words: &["rha", "load"],
-        kind: ErrorKind::InvalidSubcommand,
-        code: 2,
-        text: "error: unrecognized subcommand 'load'",
-        end: USAGE_END,
-    },
-    Shown {
-        words: &["rha", "--help"],
-        kind: ErrorKind::DisplayHelp,
-        code: 0,
-        text: HELP,
-        end: HELP_END,
-    },
-    Shown {
-        words: &["rha", "-h"],
-        kind: ErrorKind::DisplayHelp,
-        code: 0,
-        text: HELP,
-        end: HELP_END,
-    },
-    Shown {
-        words: &["rha", "try", "--help"],
-        kind: ErrorKind::DisplayHelp,
-        code: 0,
-        text: TRY_HELP,
-        end: HELP_END,
-    },
-    Shown {
-        words: &["rha", "--version"],
-        kind: ErrorKind::DisplayVersion,
-        code: 0,
-        text: "rha 0.2.0\n",
-        end: "",
-    },
-];
-
-/// Whether the words are accepted as this.
-fn is_accepted(alloc: Global, wanted: &Accepted) -> bool {
+/// Whether the words are those of `create`, as this.
+fn is_creation(alloc: Global, wanted: &Created) -> bool {
     match command(alloc, wanted.words) {
-        Ok(Invocation::Try(attempt)) => {
-            attempt.file == "a.mrt"
-                && attempt.batch == wanted.batch
-                && attempt.mark.map(|mark| mark.seconds()) == wanted.mark
-                && attempt.line.as_str() == wanted.line
-        }
-        Err(_) => false,
+        Ok(Invocation::Create(made)) => is_created(&made, wanted),
+        _ => false,
     }
 }
 
-/// Whether `clap` tells this of the words.
-fn is_shown(alloc: Global, wanted: &Shown) -> Result<bool, Fail> {
-    let Err(error) = command(alloc, wanted.words) else {
-        return Ok(false);
-    };
-    let same = match &error {
-        CommandError::Usage(told) => told.kind() == wanted.kind,
-        CommandError::BadMark | CommandError::OutOfMemory => false,
-    };
-    let shown = format!(in alloc; "{error}")?;
-    let text = [wanted.text, wanted.end].join(alloc, "")?;
-    Ok(same && error.code() == wanted.code && shown.as_str() == text.as_str())
+/// Whether the words are those of `load`, as this.
+fn is_loading(alloc: Global, wanted: &Loaded) -> bool {
+    let told = command(alloc, wanted.words);
+    match &told {
+        Ok(Invocation::Load(asked)) => is_loaded(asked, wanted),
+        _ => false,
+    }
+}
+
+/// Whether the words are those of `ask`, with this line.
+fn is_question(alloc: Global, words: &[&str], line: &str) -> bool {
+    match command(alloc, words) {
+        Ok(Invocation::Ask(asked)) => is_asked(&asked, line),
+        _ => false,
+    }
 }
 
 /// Whether the text behind `--mark` is refused, with status 1.
 fn is_no_mark(alloc: Global, mark: &str) -> bool {
-    let words = ["rha", "try", "a.mrt", "--mark", mark, "at", "7"];
+    let words = [
+        "rha",
+        "load",
+        "a",
+        "--collector",
+        "0",
+        "--mark",
+        mark,
+        "a.mrt",
+    ];
     match command(alloc, words.as_slice()) {
         Err(CommandError::BadMark) => CommandError::BadMark.code() == 1,
         _ => false,
@@ -298,18 +284,24 @@ fn is_no_mark(alloc: Global, mark: &str) -> bool {
 }
 
 #[test]
-fn words_are_accepted(rt: HostRuntime) {
-    for wanted in &ACCEPTED {
-        assert!(rt; is_accepted(rt.alloc(), wanted), "{}", wanted.line);
+fn words_of_create_are_accepted(rt: HostRuntime) {
+    for wanted in &CREATED {
+        assert!(rt; is_creation(rt.alloc(), wanted), "{}", wanted.ring);
     }
 }
 
 #[test]
-fn other_words_and_help_are_told(rt: HostRuntime) -> Result<(), Fail> {
-    for wanted in &SHOWN {
-        assert!(rt; is_shown(rt.alloc(), wanted)?, "{}", wanted.text);
+fn words_of_load_are_accepted(rt: HostRuntime) {
+    for wanted in &LOADED {
+        assert!(rt; is_loading(rt.alloc(), wanted), "{}", wanted.collector);
     }
-    Ok(())
+}
+
+#[test]
+fn words_of_ask_are_accepted(rt: HostRuntime) {
+    for (words, line) in &ASKED {
+        assert!(rt; is_question(rt.alloc(), words, line), "{line}");
+    }
 }
 
 #[test]

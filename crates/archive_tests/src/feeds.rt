@@ -8,16 +8,17 @@ use archive::{Answer, Archive, Query, Turn};
 use route_meaning::{RowsQuestion, Select};
 use route_model::{Mark, Moment};
 use service::{
-    Attempt, End, FeedStop, Input, LoadSettings, Output, Status, ask, feed, load, reply,
-    tell_failures, tell_outside, try_file, write_answer,
+    End, FeedStop, Input, LoadSettings, Output, Status, ask, feed, load, reply, tell_failures,
+    tell_outside, write_answer,
 };
 use std::alloc::Global;
-use std::io::{BufWriter, Error, ErrorKind, Read, Write};
+use std::io::{Error, ErrorKind, Read, Write};
 use std::test::Fail;
 
-const QUESTION: &str = "at 1704067200 prefix 10.0.0.0/8";
+pub(crate) const QUESTION: &str = "at 1704067200 prefix 10.0.0.0/8";
 
-const ANSWER: &str = "R|0|192.0.2.1|65001|10.0.0.0/8|65001 65002|IGP|192.0.2.1|||NAG||\nE|1\n";
+pub(crate) const ANSWER: &str =
+    "R|0|192.0.2.1|65001|10.0.0.0/8|65001 65002|IGP|192.0.2.1|||NAG||\nE|1\n";
 
 /// Of seven records, of which the second, the fourth and the last are refused, in batches of two.
 const REFUSED_BETWEEN: &str = "X|15|Malformed|1
@@ -442,92 +443,6 @@ fn feeds_go_on_behind_earlier_ones(rt: HostRuntime) -> Result<(), Fail> {
     for fed in &FEEDS {
         assert!(rt; is_fed(alloc, &mut archive, fed)?, "{}", fed.lines);
     }
-    Ok(())
-}
-
-/// A file of which a question is asked, and what is written then.
-struct Tried {
-    records: &'static [&'static str],
-    cut: Option<usize>,
-    line: &'static str,
-    lines: &'static str,
-    code: u8,
-}
-
-/// Each with the mark 1704067201, which is set where the file isn't cut.
-const TRIED: [Tried; 4] = [
-    Tried {
-        records: &[UPDATE],
-        cut: None,
-        line: QUESTION,
-        lines: "B|0|1|1\nF|1|1|0|0|0\nS|1704067201\nR|0|192.0.2.1|65001|10.0.0.0/8|65001 65002|IGP|192.0.2.1|||NAG||\nE|1\n",
-        code: 0,
-    },
-    Tried {
-        records: &[UPDATE],
-        cut: None,
-        line: "settled",
-        lines: "B|0|1|1\nF|1|1|0|0|0\nS|1704067201\nX|28|BadRequest\n",
-        code: 1,
-    },
-    Tried {
-        records: &[UPDATE],
-        cut: Some(72),
-        line: "settled",
-        lines: "X|13|Truncated|0\nF|0|0|0|0|0\nS|0\nX|28|BadRequest\n",
-        code: 1,
-    },
-    Tried {
-        records: &[UPDATE, UPDATE],
-        cut: Some(145),
-        line: "at 1704067199 prefix 10.0.0.0/8",
-        lines: "B|0|1|1\nX|13|Truncated|1\nF|1|1|0|0|0\nS|1704067200\nE|0\n",
-        code: 1,
-    },
-];
-
-/// Tries a question of a file: what standard error is told, and the exit status.
-fn try_to<W: Write + Drop>(
-    alloc: Global,
-    octets: &[u8],
-    line: &str,
-    out: W,
-) -> Result<(Vec<u8>, u8), Fail> {
-    let asked = Attempt {
-        file: "first.mrt",
-        batch: 1000,
-        mark: Mark::new(1_704_067_201),
-        line: String::from_str(alloc, line)?,
-    };
-    let mut err = Vec::new(alloc);
-    let mut file = Input::new(octets);
-    let mut told = Output::new(&mut err);
-    let code = try_file(alloc, &asked, &mut file, &mut Output::new(out), &mut told);
-    Ok((err, code))
-}
-
-fn is_tried(alloc: Global, tried: &Tried) -> Result<bool, Fail> {
-    let octets = cut_stream(alloc, tried.records, tried.cut)?;
-    let mut out: Vec<u8> = Vec::new(alloc);
-    let (err, code) = try_to(alloc, &octets, tried.line, &mut out)?;
-    Ok(code == tried.code && out.as_slice() == tried.lines.as_bytes() && err.is_empty())
-}
-
-/// Whether a writer of four octets, which shows its fault when it is flushed, gives status 1, and is told once.
-fn is_told_at_the_flush(alloc: Global) -> Result<bool, Fail> {
-    let octets = stream(alloc, &[UPDATE])?;
-    let mut small = [0u8; 4];
-    let full: &mut [u8] = &mut small;
-    let (err, code) = try_to(alloc, &octets, QUESTION, BufWriter::new(alloc, full)?)?;
-    Ok(code == 1 && err.as_slice() == "rha: 29 Outside\n".as_bytes())
-}
-
-#[test]
-fn the_greater_status_is_that_of_try(rt: HostRuntime) -> Result<(), Fail> {
-    for tried in &TRIED {
-        assert!(rt; is_tried(rt.alloc(), tried)?, "{}", tried.lines);
-    }
-    assert!(rt; is_told_at_the_flush(rt.alloc())?);
     Ok(())
 }
 

@@ -16,4 +16,8 @@ mod questions;
 #[cfg(test)]
 mod resumed;
 #[cfg(test)]
+mod running;
+#[cfg(test)]
 mod samples;
+#[cfg(test)]
+mod usage;

@@ -1,32 +1,16 @@
-//! The program `rha`: a route history archive for BGP. At this stage it has one command, `try`: it loads a file of MRT
-//! records into an empty archive in memory, and answers a question.
+//! The program `rha`: a route history archive for BGP. It keeps what route collectors gave in the files of a folder, and answers
+//! for any past moment that is settled.
 #![tactic(auto)]
 
-use service::{
-    Attempt, Input, Invocation, Output, command, tell_failures, tell_out_of_memory, tell_outside,
-    tell_usage, try_file,
-};
-use std::env;
-use std::fs::File;
-use std::io::{BufWriter, Write};
-use std::process::ExitCode;
+mod commands;
+mod opening;
+mod refusals;
 
-/// Opens the file of `try`, buffers the lines, and tells the system's reason where the file or standard output failed.
-fn attempt<E: Write>(rt: &HostRuntime, asked: &Attempt<'_>, err: &mut Output<E>) -> u8 {
-    let alloc = rt.alloc();
-    let file = match File::open(rt, asked.file) {
-        Ok(file) => file,
-        Err(why) => return tell_outside(alloc, err, asked.file, &why),
-    };
-    let Ok(buffer) = BufWriter::new(alloc, rt.stdout()) else {
-        return tell_out_of_memory(err);
-    };
-    let mut file = Input::new(file);
-    let mut out = Output::new(buffer);
-    let code = try_file(alloc, asked, &mut file, &mut out, err);
-    tell_failures(alloc, asked.file, &file, &out, err);
-    code
-}
+use crate::commands::{ask, create, load};
+use service::{Invocation, Output, command, tell_out_of_memory, tell_outside, tell_usage};
+use std::env;
+use std::io::Write;
+use std::process::ExitCode;
 
 /// Reads the command line and runs its command.
 fn run<E: Write>(rt: &HostRuntime, err: &mut Output<E>) -> u8 {
@@ -39,7 +23,9 @@ fn run<E: Write>(rt: &HostRuntime, err: &mut Output<E>) -> u8 {
         return tell_out_of_memory(err);
     };
     match command(alloc, words.as_slice()) {
-        Ok(Invocation::Try(asked)) => attempt(rt, &asked, err),
+        Ok(Invocation::Create(asked)) => create(rt, &asked, err),
+        Ok(Invocation::Load(asked)) => load(rt, &asked, err),
+        Ok(Invocation::Ask(asked)) => ask(rt, &asked, err),
         Err(error) => tell_usage(rt, &error, err),
     }
 }

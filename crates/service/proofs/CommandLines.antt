@@ -1,5 +1,5 @@
--- The words that are accepted are those of `try`.
-use Rattle.std.proofs.Common.{◌≡◌, ◌⊎◌, ℕ, Bool, true, false, List, [], ◌∷◌, ◌++◌, Option, Some, None, map, option_map, cond, is_some, unwrap_or, codes, refl, sym, ap, subst, ◌∙◌, ⊎_elim}
+-- The words that are accepted are those of one of the commands.
+use Rattle.std.proofs.Common.{◌≡◌, ◌⊎◌, ℕ, Bool, true, false, List, [], ◌∷◌, ◌++◌, Option, Some, None, map, option_map, cond, is_some, unwrap_or, codes, refl, sym, ap, subst, inl, inr, ◌∙◌, ⊎_elim}
 use Rattle.std.specs.List.{join_by, flat_map}
 use Rattle.clap.specs.Kinds.{Kinds, IsAmong, HasKind, or_else}
 use Rattle.clap.specs.Faults.{check_fault, defaults_fault, entered_fault, fault_of, settle_fault, walk_fault, is_simple_and_free}
@@ -15,9 +15,12 @@ use Rattle.clap.specs.declared.parser.matches.ArgMatches.TheViews.{out-ArgMatche
 use Rattle.clap.specs.declared.parser.matches.SubCommand.{SubCommand}
 use Rattle.std.specs.Prelude.{Box}
 use Rattle.std.specs.Box.{box_value}
-use Rattle.service.specs.CommandLines.{program, AreTryWords}
-use Rattle.service.specs.declared.command_line.CommandError.{CommandError}
-use Rattle.service.specs.declared.command_line.CommandError.TheVariants.{Usage, OutOfMemory}
+use Rattle.service.specs.CommandLines.{program, AreWordsOf, IsInvocation, HasBadMark}
+use Rattle.service.specs.inner.Naming.{IsCommand, AsksFor, NamesNoMark}
+use Rattle.service.specs.declared.invocation.Invocation.{Invocation}
+use Rattle.service.specs.declared.invocation.Invocation.TheVariants.{Create, Load, Ask}
+use Rattle.service.specs.declared.invocation.CommandError.{CommandError}
+use Rattle.service.specs.declared.invocation.CommandError.TheVariants.{Usage, OutOfMemory}
 
 -- ---- words joined
 
@@ -55,43 +58,70 @@ has_entered words e =
     let defaults = last_fault (settle_fault top.rules top.args_override_self end) _ level in
     is_checked _ (finished top.rules end) (last_fault (defaults_fault (settled top.rules end).rows top.rules) _ defaults)
 
-picked : {A B : Type 0} (f : A → B) (b : Bool) (x : A) → is_some (option_map f (cond b (Some x) None)) ≡ true → option_map f (cond b (Some x) None) ≡ Some (f x)
-picked f true x e = refl
-picked f false x e = absurd cc
+-- where one of three is found, it is the first, the second or the third
+one_of_three : {A B : Type 0} (f : A → B) (a b c : Bool) (w x y : A) → is_some (option_map f (cond a (Some w) (cond b (Some x) (cond c (Some y) None)))) ≡ true
+    → (option_map f (cond a (Some w) (cond b (Some x) (cond c (Some y) None))) ≡ Some (f w))
+    ⊎ ((option_map f (cond a (Some w) (cond b (Some x) (cond c (Some y) None))) ≡ Some (f x))
+    ⊎ (option_map f (cond a (Some w) (cond b (Some x) (cond c (Some y) None))) ≡ Some (f y)))
+one_of_three f true b c w x y e = inl refl
+one_of_three f false true c w x y e = inr (inl refl)
+one_of_three f false false true w x y e = inr (inr refl)
+one_of_three f false false false w x y e = absurd cc
 
-only_try : (found : Option (Text × List Text)) → is_some (entered (built program) found) ≡ true → (rows : List Row) × (entered (built program) found ≡ Some (codes "try", rows))
-only_try None e = absurd cc
-only_try (Some p) e = (_, picked (λ (s : Shape). rows_at s p.1) _ _ e)
+abbrev name_in : Option (Text × List Row) → Option Text
+name_in = option_map (λ (p : Text × List Row). p.0)
 
-enters : (words : List Text) → fault_of program words ≡ [] → (rows : List Row) × (subcommand_of program words ≡ Some (codes "try", rows))
-enters words e = only_try (stop words) (has_entered words e)
+enters_one : (found : Option (Text × List Text)) → is_some (entered (built program) found) ≡ true → IsCommand (name_in (entered (built program) found))
+enters_one None e = absurd cc
+enters_one (Some p) e = ⊎_elim (λ h. inl (ap name_in h)) (λ r. ⊎_elim (λ h. inr (inl (ap name_in h))) (λ h. inr (inr (ap name_in h))) r)
+    (one_of_three (λ (s : Shape). rows_at s p.1) _ _ _ _ _ _ e)
 
-same_rows : (r s : List Row) → ◌≡◌ {A = Option (List Row)} (Some r) (Some s) → r ≡ s
-same_rows r s e = cc
+-- ---- what a parse that succeeds has met
 
--- where no fault is found, the subcommand that was met is `try`, with these arguments
-pub try_words : (app : App) (words : List Text) (m : ArgMatches) (rows : List Row) → app ≡ program
-    → (is_simple_and_free app ≡ true → fault_of app words ≡ []) → HasMatchesOf app words m
-    → option_map (λ p. p.1) (subcommand_rows_of m) ≡ Some rows → AreTryWords words rows
-try_words app words m rows is accepted matches found =
-    let none : fault_of program words ≡ [] = sym (ap (λ (a : App). fault_of a words) is) ∙ accepted (ap is_simple_and_free is) in
-    let met = enters words none in
-    let same : subcommand_rows_of m ≡ Some (codes "try", met.0) = (matches (ap is_simple is)).1 ∙ ap (λ (a : App). subcommand_of a words) is ∙ met.1 in
-    let rows_are : met.0 ≡ rows = same_rows met.0 rows (sym (ap (option_map (λ (p : Text × List Row). p.1)) same) ∙ found) in
-    record { accepted = none; arguments = met.1 ∙ ap (λ (r : List Row). Some (codes "try", r)) rows_are }
+-- the command line is the program's, and the words are accepted with these matches
+pub record IsMet (app : App) (words : List Text) (m : ArgMatches) : Type 0 where
+  pub is : app ≡ program
+  pub accepted : is_simple_and_free app ≡ true → fault_of app words ≡ []
+  pub matches : HasMatchesOf app words m
 
--- and so it has that name
-pub try_named : (app : App) (words : List Text) (m : ArgMatches) → app ≡ program
-    → (is_simple_and_free app ≡ true → fault_of app words ≡ []) → HasMatchesOf app words m → subcommand_name_of m ≡ Some (codes "try")
-try_named app words m is accepted matches =
-    let none : fault_of program words ≡ [] = sym (ap (λ (a : App). fault_of a words) is) ∙ accepted (ap is_simple_and_free is) in
-    let met = enters words none in
-    let same : subcommand_rows_of m ≡ Some (codes "try", met.0) = (matches (ap is_simple is)).1 ∙ ap (λ (a : App). subcommand_of a words) is ∙ met.1 in
-    named (out-ArgMatches m).subcommand ∙ ap (option_map (λ (p : Text × List Row). p.0)) same
+pub faultless : (app : App) (words : List Text) (m : ArgMatches) → IsMet app words m → fault_of program words ≡ []
+faultless app words m h = sym (ap (λ (a : App). fault_of a words) h.is) ∙ h.accepted (ap is_simple_and_free h.is)
+
+pub rows_met : (app : App) (words : List Text) (m : ArgMatches) → IsMet app words m → subcommand_rows_of m ≡ subcommand_of program words
+rows_met app words m h = (h.matches (ap is_simple h.is)).1 ∙ ap (λ (a : App). subcommand_of a words) h.is
+
+-- the name that is met is that of the rows that are met
+name_of_rows : {Z : Type 0} (o : Option (Box SubCommand Z)) → option_map (λ b. (out-SubCommand (box_value b)).name.now) o ≡ name_in (subcommand_rows o)
+name_of_rows None = refl
+name_of_rows (Some b) = refl
+
+-- a command is met
+pub command_met : (app : App) (words : List Text) (m : ArgMatches) → IsMet app words m → IsCommand (subcommand_name_of m)
+command_met app words m h =
+    let same : subcommand_name_of m ≡ name_in (subcommand_of program words) = name_of_rows (out-ArgMatches m).subcommand ∙ ap name_in (rows_met app words m h) in
+    subst IsCommand (sym same) (enters_one (stop words) (has_entered words (faultless app words m h)))
+
+-- the words are those of the command that is met, with its arguments
+words_met : (app : App) (words : List Text) (m : ArgMatches) (name : Text) (rows : List Row) → IsMet app words m → subcommand_rows_of m ≡ Some (name, rows) → AreWordsOf name words rows
+words_met app words m name rows h e = record { accepted = faultless app words m h; arguments = sym (rows_met app words m h) ∙ e }
+
+pub asked_by : (app : App) (words : List Text) (m : ArgMatches) (i : Invocation) → IsMet app words m → AsksFor (subcommand_rows_of m) i → IsInvocation words i
+asked_by app words m (Create c) h a = (a.0, words_met app words m (codes "create") a.0 h a.1, a.2)
+asked_by app words m (Load l) h a = (a.0, words_met app words m (codes "load") a.0 h a.1, a.2)
+asked_by app words m (Ask q) h a = (a.0, words_met app words m (codes "ask") a.0 h a.1, a.2)
+
+pub no_mark_by : (app : App) (words : List Text) (m : ArgMatches) → IsMet app words m → NamesNoMark (subcommand_rows_of m) → HasBadMark words
+no_mark_by app words m h a = (a.0, words_met app words m (codes "load") a.0 h a.1, a.2)
+
+-- the command of this name is met, with these arguments
+pub named_rows : (m : ArgMatches) (name : Text) (rows : List Row) → subcommand_name_of m ≡ Some name → option_map (λ (p : Text × List Row). p.1) (subcommand_rows_of m) ≡ Some rows
+    → subcommand_rows_of m ≡ Some (name, rows)
+named_rows m name rows e f = both (out-ArgMatches m).subcommand e f
   where
-    named : {Z : Type 0} (o : Option (Box SubCommand Z)) → option_map (λ b. (out-SubCommand (box_value b)).name.now) o ≡ option_map (λ (p : Text × List Row). p.0) (subcommand_rows o)
-    named None = refl
-    named (Some b) = refl
+    both : {Z : Type 0} (o : Option (Box SubCommand Z)) → option_map (λ b. (out-SubCommand (box_value b)).name.now) o ≡ Some name → option_map (λ (p : Text × List Row). p.1) (subcommand_rows o) ≡ Some rows
+        → subcommand_rows o ≡ Some (name, rows)
+    both None e f = absurd cc
+    both (Some b) e f = cc
 
 -- an error that is shown has a kind that the words give rise to
 pub shown_kind : (app : App) (words : List Text) (error e : Error) (r : CommandError) → app ≡ program

@@ -11,6 +11,7 @@ pub mod Applying
 pub mod Unloading
 pub mod Batching
 pub mod CommandLines
+pub mod Statuses
 pub mod OneRequest
 pub mod Answered
 pub mod Counting

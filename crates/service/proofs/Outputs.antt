@@ -82,3 +82,7 @@ Tells-trans was mid now a b p q = trans_by mid.failed was mid now a b refl p q
 -- standard error stays as it was where standard output hasn't failed
 pub still_failed : (failed err_failed : Bool) (err_was err_now : OutputState) → failed ≡ false → err_was.failed ≡ err_failed → TellsFailure failed err_was err_now → err_now.failed ≡ err_failed
 still_failed failed err_failed err_was err_now sound e t = ap (λ (s : OutputState). s.failed) (t.quiet sound) ∙ e
+
+-- a text, and then what is buffered
+pub Tells-flushed : (was mid now : OutputState) (text : List ℕ) → Tells was mid text → Tells mid now [] → Tells was now text
+Tells-flushed was mid now text p q = subst (Tells was now) (append-nil text) (Tells-trans was mid now text [] p q)

@@ -1,22 +1,34 @@
 -- The command line of the program: what clap reads of it, and what that asks for.
-use Rattle.std.specs.Prelude.{◌≡◌, ◌≤◌, ⊤, ℕ, true, List, [], ◌∷◌, Option, Some, None, codes, string_bytes, unwrap_or}
+use Rattle.std.specs.Prelude.{◌≡◌, ◌≤◌, ⊤, ℕ, Bool, true, false, List, [], ◌∷◌, Option, Some, None, codes, string_bytes, unwrap_or}
 use Rattle.std.specs.Str.Parse.{digits_value, without_leading_plus}
 use Rattle.std.specs.List.{join_by}
 use Rattle.clap.specs.Lexer.{usize_max}
 use Rattle.clap.specs.Values.{IsUnsignedIn}
-use Rattle.clap.specs.Walk.{Row, Rule, first_of, all_of}
+use Rattle.clap.specs.Walk.{Row, Rule, first_of, one_of, all_of}
 use Rattle.clap.specs.Simple.{App, new_app, new_rule, on_top, subcommand_of, with_rule, with_subcommand}
 use Rattle.clap.specs.Faults.{fault_of}
-use Rattle.clap.specs.declared.builder.action.ArgAction.TheVariants.{Set, Append}
+use Rattle.clap.specs.declared.builder.action.ArgAction.TheVariants.{Set, SetTrue, Append}
 use Rattle.clap.specs.declared.builder.value_parser.ValueParser.TheVariants.{Unsigned}
 use Rattle.route_text.specs.MomentText.{IsMarkText}
-use Rattle.service.specs.declared.command_line.Attempt.{Attempt}
-use Rattle.service.specs.declared.command_line.Invocation.{Invocation}
-use Rattle.service.specs.declared.command_line.Invocation.TheVariants.{Try}
+use Rattle.service.specs.declared.invocation.Creation.{Creation}
+use Rattle.service.specs.declared.invocation.Loading.{Loading}
+use Rattle.service.specs.declared.invocation.Question.{Question}
+use Rattle.service.specs.declared.invocation.Invocation.{Invocation}
+use Rattle.service.specs.declared.invocation.Invocation.TheVariants.{Create, Load, Ask}
 
--- FILE: one word, which has to be there
-abbrev pub file_rule : Rule
-file_rule = record (new_rule (codes "FILE")) { action = Some Set; required = true }
+-- a word with this name, which has to be there
+abbrev pub word_rule : List ℕ → Rule
+word_rule name = record (new_rule name) { action = Some Set; required = true }
+
+-- an option with this name, which has to be there: a number from the least to the most
+abbrev pub number_rule : List ℕ → ℕ → ℕ → Rule
+number_rule name least most = record (new_rule name) {
+  long = Some name;
+  value_names = 1;
+  action = Some Set;
+  parser = Some (Unsigned least most);
+  required = true;
+}
 
 -- --batch N, from 1 to 1000, and 1000 where it isn't there
 abbrev pub batch_rule : Rule
@@ -32,6 +44,10 @@ batch_rule = record (new_rule (codes "batch")) {
 abbrev pub mark_rule : Rule
 mark_rule = record (new_rule (codes "mark")) { long = Some (codes "mark"); value_names = 1; action = Some Set }
 
+-- --resume
+abbrev pub resume_rule : Rule
+resume_rule = record (new_rule (codes "resume")) { long = Some (codes "resume"); action = Some SetTrue }
+
 -- WORD..: one word at least, and all that stand behind it
 abbrev pub words_rule : Rule
 words_rule = record (new_rule (codes "WORD")) {
@@ -41,17 +57,37 @@ words_rule = record (new_rule (codes "WORD")) {
   required = true;
 }
 
--- try FILE [--batch N]
-abbrev pub file_attempt : App
-file_attempt = with_rule (with_rule (new_app (codes "try")) file_rule) batch_rule
+-- a command of this name, of a folder
+abbrev pub of_folder : List ℕ → App
+of_folder name = with_rule (new_app name) (word_rule (codes "DIR"))
 
--- try FILE [--batch N] [--mark M] WORD..
-abbrev pub attempt : App
-attempt = with_rule (with_rule file_attempt mark_rule) words_rule
+-- create DIR --collectors N --ring P
+abbrev pub creation_of_rings : App
+creation_of_rings = with_rule (with_rule (of_folder (codes "create")) (number_rule (codes "collectors") 1 16)) (number_rule (codes "ring") 9 65535)
 
--- the program, of whose commands one has to be there
+-- create DIR --collectors N --ring P --pages N --blocks N
+abbrev pub creation : App
+creation = with_rule (with_rule creation_of_rings (number_rule (codes "pages") 1 1000000000)) (number_rule (codes "blocks") 1 1000000000)
+
+-- load DIR --collector C [--batch N]
+abbrev pub loading_of_batches : App
+loading_of_batches = with_rule (with_rule (of_folder (codes "load")) (number_rule (codes "collector") 0 15)) batch_rule
+
+-- load DIR --collector C [--batch N] [--mark M] [--resume] FILE
+abbrev pub loading : App
+loading = with_rule (with_rule (with_rule loading_of_batches mark_rule) resume_rule) (word_rule (codes "FILE"))
+
+-- ask DIR WORD..
+abbrev pub question : App
+question = with_rule (of_folder (codes "ask")) words_rule
+
+-- the program without its commands, of which one has to be there
+abbrev pub bare_program : App
+bare_program = on_top (λ s. record s { subcommand_required = true; disable_help_subcommand = true; has_version = true }) (new_app (codes "rha"))
+
+-- the program
 abbrev pub program : App
-program = with_subcommand (on_top (λ s. record s { subcommand_required = true; disable_help_subcommand = true; has_version = true }) (new_app (codes "rha"))) attempt.top
+program = with_subcommand (with_subcommand (with_subcommand bare_program creation.top) loading.top) question.top
 
 -- what a mark has to be, as standard error tells it
 abbrev pub mark_texts : List ℕ
@@ -67,6 +103,12 @@ pub record IsNumber (least most : ℕ) (text : Option (List ℕ)) (n : ℕ) : Ty
   pub high : n ≤ most
   pub written : (t : List ℕ) → text ≡ Some t → IsUnsignedIn least most t → n ≡ digits_value 10 (without_leading_plus t)
 
+-- Whether an option without a text of its own is there, as clap tells it by a text.
+pub record IsThere (text : Option (List ℕ)) (there : Bool) : Type 0 where
+  pub given : text ≡ Some (codes "true") → there ≡ true
+  pub left_out : text ≡ Some (codes "false") → there ≡ false
+  pub unknown : text ≡ None → there ≡ false
+
 -- the text is that of a mark, and both may be missing
 abbrev pub IsMarkIf : Option (List ℕ) → Option ℕ → Type 0
 IsMarkIf None None = ⊤
@@ -79,22 +121,43 @@ abbrev pub IsNoMark : Option (List ℕ) → Type 0
 IsNoMark None = ⊥
 IsNoMark (Some text) = (mark : ℕ) → IsMarkText text mark → ⊥
 
--- what is read of the arguments of `try`
-pub record IsAttempt (rows : List Row) (a : Attempt) : Type 0 where
-  pub file : a.file.now ≡ unwrap_or (first_of (codes "FILE") rows) []
-  pub batch : IsNumber 1 1000 (first_of (codes "batch") rows) a.batch
-  pub mark : IsMarkIf (first_of (codes "mark") rows) a.mark
-  pub line : string_bytes a.line ≡ spaced (unwrap_or (all_of (codes "WORD") rows) [])
+-- the word of this name
+abbrev pub word_in : List ℕ → List Row → List ℕ
+word_in name rows = unwrap_or (first_of name rows) []
 
--- the words are accepted: they are those of `try` with these arguments
-pub record AreTryWords (words : List (List ℕ)) (rows : List Row) : Type 0 where
+-- what is read of the arguments of `create`
+pub record IsCreation (rows : List Row) (c : Creation) : Type 0 where
+  pub folder : c.folder.now ≡ word_in (codes "DIR") rows
+  pub collectors : IsNumber 1 16 (first_of (codes "collectors") rows) c.collectors
+  pub ring : IsNumber 9 65535 (first_of (codes "ring") rows) c.ring
+  pub pages : IsNumber 1 1000000000 (first_of (codes "pages") rows) c.pages
+  pub blocks : IsNumber 1 1000000000 (first_of (codes "blocks") rows) c.blocks
+
+-- what is read of the arguments of `load`
+pub record IsLoading (rows : List Row) (l : Loading) : Type 0 where
+  pub folder : l.folder.now ≡ word_in (codes "DIR") rows
+  pub collector : IsNumber 0 15 (first_of (codes "collector") rows) l.collector
+  pub batch : IsNumber 1 1000 (first_of (codes "batch") rows) l.batch
+  pub mark : IsMarkIf (first_of (codes "mark") rows) l.mark
+  pub resume : IsThere (one_of (codes "resume") rows) l.resume
+  pub file : l.file.now ≡ word_in (codes "FILE") rows
+
+-- what is read of the arguments of `ask`
+pub record IsQuestion (rows : List Row) (q : Question) : Type 0 where
+  pub folder : q.folder.now ≡ word_in (codes "DIR") rows
+  pub line : string_bytes q.line ≡ spaced (unwrap_or (all_of (codes "WORD") rows) [])
+
+-- the words are accepted: they are those of the command of this name with these arguments
+pub record AreWordsOf (name : List ℕ) (words : List (List ℕ)) (rows : List Row) : Type 0 where
   pub accepted : fault_of program words ≡ []
-  pub arguments : subcommand_of program words ≡ Some (codes "try", rows)
+  pub arguments : subcommand_of program words ≡ Some (name, rows)
 
 -- the words ask for this
 abbrev pub IsInvocation : List (List ℕ) → Invocation → Type 0
-IsInvocation words (Try a) = (rows : List Row) × AreTryWords words rows × IsAttempt rows a
+IsInvocation words (Create c) = (rows : List Row) × AreWordsOf (codes "create") words rows × IsCreation rows c
+IsInvocation words (Load l) = (rows : List Row) × AreWordsOf (codes "load") words rows × IsLoading rows l
+IsInvocation words (Ask q) = (rows : List Row) × AreWordsOf (codes "ask") words rows × IsQuestion rows q
 
--- the words are accepted, but the text of the mark is that of no mark
+-- the words are accepted as those of `load`, but the text of the mark is that of no mark
 abbrev pub HasBadMark : List (List ℕ) → Type 0
-HasBadMark words = (rows : List Row) × AreTryWords words rows × IsNoMark (first_of (codes "mark") rows)
+HasBadMark words = (rows : List Row) × AreWordsOf (codes "load") words rows × IsNoMark (first_of (codes "mark") rows)

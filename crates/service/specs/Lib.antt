@@ -14,6 +14,6 @@ pub mod Feeds
 pub mod Loads
 pub mod CommandLines
 pub mod RequestLaws
-pub mod Trying
+pub mod Running
 pub mod Telling
 pub mod inner

@@ -7,6 +7,7 @@ use Rattle.service.specs.declared.refusal.Refusal.TheVariants as refusals
 -- its number, 1 to 29
 abbrev pub number_of : Refusal → ℕ
 number_of refusals.Fault = 1
+number_of refusals.NotAJournal = 4
 number_of refusals.NeedsRecovery = 5
 number_of refusals.PagesFull = 6
 number_of refusals.OnceFull = 7
@@ -34,6 +35,7 @@ number_of refusals.Outside = 29
 -- its name
 abbrev pub name_of : Refusal → List ℕ
 name_of refusals.Fault = codes "Fault"
+name_of refusals.NotAJournal = codes "NotAJournal"
 name_of refusals.NeedsRecovery = codes "NeedsRecovery"
 name_of refusals.PagesFull = codes "PagesFull"
 name_of refusals.OnceFull = codes "OnceFull"

@@ -7,6 +7,7 @@ ghost use Rattle.service.specs.Turns.{Turn, Offer, Refuse, offer_where, wait_unl
 ghost use Rattle.service.specs.FeedTexts.{capped, intake_in};
 ghost use Rattle.service.specs.Resuming.{dropped_where};
 ghost use Rattle.service.specs.declared.limits.BatchLimits.{BatchLimits};
+ghost use Rattle.service.specs.FeedLines.{admitted_text};
 ghost use Rattle.service.specs.Outputs.{OutputState, Tells};
 ghost use Rattle.service.specs.Refusals.{refused_record_line};
 ghost use Rattle.service.specs.Faults.{of_record};
@@ -20,6 +21,7 @@ use crate::output::Output;
 use crate::refusal::{Refusal, write_refused_record};
 use crate::resuming::{dropped_where, read_next};
 use archive_calls::{RouteArchive, Trouble};
+use interleaving_core::BatchReply;
 use mrt_records::Item;
 use resolve::{ResolveFault, Resolver};
 use route_model::Admission;
@@ -47,6 +49,23 @@ fn is_over(octets: usize, more: usize, most: usize) -> bool
         Some(sum) => sum > most,
         None => true,
     }
+}
+
+/// Writes what became of a batch, and writes out what is buffered: the batch is durable, and whoever reads the lines may
+/// rely on it from now on, wherever the feed ends.
+fn tell_batch<W: Write>(out: &mut Output<W>, admitted: &BatchReply)
+    ensures lines { Tells out.old out.new (admitted_text admitted.now) }
+{
+    write_admitted(out, admitted);
+    out.flush();
+}
+
+/// Writes the line of a refused record at its place, and writes it out: the next record may come late, of a pipe.
+fn tell_refused<W: Write>(out: &mut Output<W>, fault: ResolveFault, place: u64)
+    ensures line { Tells out.old out.new (refused_record_line (of_record fault) place) }
+{
+    write_refused_record(out, &Refusal::from(fault), place);
+    out.flush();
 }
 
 impl Feeding {
@@ -100,7 +119,7 @@ impl Feeding {
             Ok(admitted) => admitted,
             Err(refusal) => return Err(stop_of(refusal)),
         };
-        write_admitted(out, &admitted);
+        tell_batch(out, &admitted);
         self.counts.count_batch(&admitted);
         self.gathered.clear();
         self.octets = 0;
@@ -221,7 +240,7 @@ impl Feeding {
             return Err(FeedStop::Trouble(Trouble::OutOfMemory));
         }
         self.counts.refused = self.counts.refused.saturating_add(1);
-        write_refused_record(out, &Refusal::from(fault), place);
+        tell_refused(out, fault, place);
         Ok(())
     }
 

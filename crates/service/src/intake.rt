@@ -3,11 +3,13 @@
 ghost use Rattle.std.specs.Prelude.{◌≡◌, ◌⊎◌, ◌++◌, ℕ, true, List, [], OnOk, IfOk, IfErr};
 ghost use Rattle.route_meaning.specs.History.{History};
 ghost use Rattle.service.specs.FeedLines.{counts_line};
+ghost use Rattle.service.specs.Faults.{of_stop};
 ghost use Rattle.service.specs.FeedTexts.{cut_line, intake_in};
 ghost use Rattle.service.specs.Resuming.{dropped_where};
 ghost use Rattle.service.specs.Feeds.{FitsFailures, IsCut, IsEnd, IsFed, MayGive, as_told};
 ghost use Rattle.service.specs.declared.limits.BatchLimits.{BatchLimits};
 ghost use Rattle.service.specs.Outputs.{OutputState, Tells};
+ghost use Rattle.service.specs.Refusals.{refusal_line};
 ghost use Rattle.service.specs.declared.intake.End.{End};
 ghost use Rattle.service.specs.inner.Feeding.{Reads, IsRead, IsReadOut, StopsWithin};
 
@@ -115,12 +117,21 @@ fn tell_cut<W: Write>(cut: &Option<FeedCut>, records: u64, out: &mut Output<W>)
     }
 }
 
-/// Writes how a feed ended, and its counts.
+/// Writes how a feed ended, and its counts, and writes them out: what comes next is applying, which may take long.
 fn tell_end<W: Write>(cut: &Option<FeedCut>, counts: &FeedCounts, out: &mut Output<W>)
     ensures told { Tells out.old out.new (cut_line cut.now counts.now.records ++ counts_line counts.now) }
 {
     tell_cut(cut, counts.records, out);
     write_counts(out, counts);
+    out.flush();
+}
+
+/// Writes for what a feed is given up, and writes it out.
+fn tell_stop<W: Write>(why: FeedStop, out: &mut Output<W>)
+    ensures told { Tells out.old out.new (refusal_line (of_stop why)) }
+{
+    write_refusal(out, &Refusal::from(why));
+    out.flush();
 }
 
 /// Takes a feed in to its end. Answers why it is cut short, if it is.
@@ -165,8 +176,9 @@ fn as_told<W: Write>(end: End, out: &Output<W>) -> End
 /// it would have more octets than the archive takes, and at the end. Where the collector's ring is too full for one, what
 /// may be applied is applied, and the batch offered once more. A refused record writes its line when it
 /// is met, each batch what became of it, and the end the counts of the feed; where the feed ends inside a record or
-/// at a Length above the limit, a line before them. Another refusal writes its line and ends the feed. Where not all
-/// lines can be written, the answer is that the feed is given up for the writer, `Outside`.
+/// at a Length above the limit, a line before them. Another refusal writes its line and ends the feed. Each line is
+/// written out at once. Where not all lines can be written, the answer is that the feed is given up for the writer,
+/// `Outside`.
 pub fn feed<A: RouteArchive, R: Read, W: Write>(
     alloc: Global,
     archive: &mut A,
@@ -184,7 +196,7 @@ pub fn feed<A: RouteArchive, R: Read, W: Write>(
         Ok(None) => as_told(End::Well, out),
         Ok(Some(_)) => as_told(End::Cut, out),
         Err(why) => {
-            write_refusal(out, &Refusal::from(why));
+            tell_stop(why, out);
             as_told(End::Refused(why), out)
         }
     }

@@ -2,6 +2,7 @@
 #![tactic(auto)]
 
 mod answer_lines;
+mod arguments;
 mod asking;
 mod command_line;
 mod event_lines;
@@ -9,7 +10,9 @@ mod events_request;
 mod faults;
 mod feed_lines;
 mod feeding;
+mod help;
 mod intake;
+mod invocation;
 mod laws;
 mod limits;
 mod loading;
@@ -22,17 +25,18 @@ mod request_laws;
 mod request_words;
 mod resuming;
 mod rows_request;
+mod running;
 mod status;
 mod telling;
-mod trying;
 
 pub use answer_lines::write_answer;
 pub use asking::ask;
-pub use command_line::{Attempt, CommandError, Invocation, command};
+pub use command_line::command;
 pub use event_lines::write_events;
 pub use faults::{FeedCut, FeedStop, LoadStop, Unanswered};
 pub use feed_lines::{FeedCounts, write_admitted, write_counts, write_settled};
 pub use intake::{End, feed};
+pub use invocation::{CommandError, Creation, Invocation, Loading, Question};
 pub use laws::{batches_share_a_feed, resumed_feeds_drop_the_first};
 pub use limits::BatchLimits;
 pub use loading::{LoadSettings, load};
@@ -41,6 +45,8 @@ pub use refusal::{Refusal, write_error, write_reason, write_refusal, write_refus
 pub use replying::reply;
 pub use request::{Request, RequestError, read_request};
 pub use request_laws::lines_are_one_request;
+pub use running::{ask_line, finish, load_file, tell_created};
 pub use status::Status;
-pub use telling::{tell_failures, tell_out_of_memory, tell_outside, tell_usage};
-pub use trying::try_file;
+pub use telling::{
+    tell_failures, tell_out_of_memory, tell_outside, tell_refusal, tell_unwritten, tell_usage,
+};

@@ -15,6 +15,9 @@ pub enum Refusal {
     /// A device failed.
     #[error("a device failed")]
     Fault,
+    /// The disks hold no archive.
+    #[error("there is no archive")]
+    NotAJournal,
     /// An earlier write or sync failed, and the archive wasn't opened again since.
     #[error("the archive must be opened again")]
     NeedsRecovery,
@@ -93,6 +96,7 @@ impl Refusal {
     {
         match self {
             Refusal::Fault => 1,
+            Refusal::NotAJournal => 4,
             Refusal::NeedsRecovery => 5,
             Refusal::PagesFull => 6,
             Refusal::OnceFull => 7,
@@ -125,6 +129,7 @@ impl Refusal {
     {
         match self {
             Refusal::Fault => "Fault",
+            Refusal::NotAJournal => "NotAJournal",
             Refusal::NeedsRecovery => "NeedsRecovery",
             Refusal::PagesFull => "PagesFull",
             Refusal::OnceFull => "OnceFull",

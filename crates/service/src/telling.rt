@@ -8,7 +8,7 @@ ghost use Rattle.service.specs.Outputs.{Tells};
 ghost use Rattle.service.specs.Refusals.{error_line, reason_line};
 ghost use Rattle.service.specs.Telling.{TellsReason, TellsOutside, TellsFailures};
 
-use crate::command_line::CommandError;
+use crate::invocation::CommandError;
 use crate::output::{Input, Output};
 use crate::refusal::{Refusal, write_error, write_reason};
 use clap::error::ErrorKind as UsageKind;
@@ -39,6 +39,15 @@ pub fn tell_outside<E: Write>(alloc: Global, err: &mut Output<E>, what: &str, wh
     1
 }
 
+/// Tells why the program doesn't come to its command. The exit status is 1.
+pub fn tell_refusal<E: Write>(refusal: &Refusal, err: &mut Output<E>) -> u8
+    ensures code { result ≡ 1 }
+    ensures told { Tells err.old err.new (error_line refusal.now) }
+{
+    write_error(err, refusal);
+    1
+}
+
 /// Tells that there is no memory for what the program needs before its command. The exit status is 1.
 pub fn tell_out_of_memory<E: Write>(err: &mut Output<E>) -> u8
     ensures code { result ≡ 1 }
@@ -59,7 +68,7 @@ fn tell_lost<R: Read, E: Write>(alloc: Global, name: &str, file: &Input<R>, err:
 }
 
 /// Tells why standard output failed, where it did, but for a closed pipe: whoever closed it knows.
-fn tell_unwritten<W: Write, E: Write>(alloc: Global, out: &Output<W>, err: &mut Output<E>)
+pub fn tell_unwritten<W: Write, E: Write>(alloc: Global, out: &Output<W>, err: &mut Output<E>)
     ensures told { TellsReason (codes "standard output") err.old err.new }
     ensures quiet { out.now.failed ≡ false → err.new ≡ err.old }
 {

@@ -1,28 +1,20 @@
-use Rattle.std.proofs.Common.{◌≡◌, Result, Err, map, ap}
-use Rattle.service.specs.declared.command_line.Invocation.{Invocation}
-use Rattle.service.specs.declared.command_line.CommandError.{CommandError}
-use Rattle.service.specs.declared.command_line.CommandError.TheVariants.{Usage}
-use Rattle.service.proofs.CommandLines.{shown_kind, try_words}
+use Rattle.std.proofs.lemmas.Result.{IfOk-weaker}
+use Rattle.service.proofs.CommandLines.{IsMet, asked_by, command_met, no_mark_by}
 use Rattle.service.proofs.command_line.command.Goals as goal
 
-same_error : (a b : CommandError) → ◌≡◌ {A = Result Invocation CommandError} (Err a) (Err b) → a ≡ b
-same_error a b e = cc
+-- src/command_line.rt:195:24
+pub invocation_of-requires : goal.invocation_of-requires
+invocation_of-requires g c =
+    record { named = command_met _ _ _ (record { is = c.in-Ok.ensures.app; accepted = c.in-Ok-try_get_matches_from.ensures.kinds; matches = c.in-Ok-try_get_matches_from.ensures.matches }) }
 
-pub returns-in-Err-clause-usage : goal.returns-in-Err-clause-usage
-returns-in-Err-clause-usage g c = λ e shown.
-    shown_kind _ (map g.S.AsStr.text c.args.words.now) c.in-Err.error e c.usage.result c.in-Ok.ensures.app c.in-Err.ensures.kinds c.usage.ensures.memory c.usage.ensures.told
-    (same_error c.usage.result (Usage e) shown)
+-- src/command_line.rt:186:1
+pub returns-in-Ok-try_get_matches_from-clause-found :
+    goal.returns-in-Ok-try_get_matches_from-clause-found
+returns-in-Ok-try_get_matches_from-clause-found g c =
+    let met : IsMet _ _ _ = record { is = c.in-Ok.ensures.app; accepted = c.in-Ok-try_get_matches_from.ensures.kinds; matches = c.in-Ok-try_get_matches_from.ensures.matches } in
+    IfOk-weaker c.invocation_of.result _ _ (λ i a. asked_by _ _ _ i met a) c.invocation_of.ensures.found
 
-pub returns-in-Ok-attempt_of-clause-found : goal.returns-in-Ok-attempt_of-clause-found
-returns-in-Ok-attempt_of-clause-found g c = (
-  _,
-  try_words _ _ _ _ c.in-Ok.ensures.app c.in-Ok-try_get_matches_from.ensures.kinds c.in-Ok-try_get_matches_from.ensures.matches c.in-Some.ensures.rows,
-  c.in-Ok-attempt_of.ensures.found,
-)
-
-pub returns-clause-bad_mark : goal.returns-clause-bad_mark
-returns-clause-bad_mark g c = λ bad. (
-  _,
-  try_words _ _ _ _ c.in-Ok.ensures.app c.in-Ok-try_get_matches_from.ensures.kinds c.in-Ok-try_get_matches_from.ensures.matches c.in-Some.ensures.rows,
-  c.in-Err-attempt_of.ensures.bad_mark (ap Err (same_error _ _ bad)),
-)
+-- src/command_line.rt:186:1
+pub returns-in-Ok-try_get_matches_from-clause-bad_mark :
+    goal.returns-in-Ok-try_get_matches_from-clause-bad_mark
+returns-in-Ok-try_get_matches_from-clause-bad_mark g c = λ bad. no_mark_by _ _ _ (record { is = c.in-Ok.ensures.app; accepted = c.in-Ok-try_get_matches_from.ensures.kinds; matches = c.in-Ok-try_get_matches_from.ensures.matches }) (c.invocation_of.ensures.bad_mark bad)

@@ -49,15 +49,15 @@ returns-in-Err g c = record {
         up.1,
         Refused c.in-Err.why,
         c.as_told-in-Err.ensures.told,
-        given_up_told c.args.collector (dropped_where c.args.resume (intake_in h.intakes c.args.collector)) (record { records = c.args.limit; octets = g.A.RouteArchive.most c.args.archive.now }) h up.0 (g.A.RouteArchive.carries c.take_in.new.archive) _ _ _ c.in-Err.why up.2 (rw c.from.ensures at c.write_refusal.ensures.line),
+        given_up_told c.args.collector (dropped_where c.args.resume (intake_in h.intakes c.args.collector)) (record { records = c.args.limit; octets = g.A.RouteArchive.most c.args.archive.now }) h up.0 (g.A.RouteArchive.carries c.take_in.new.archive) _ _ _ c.in-Err.why up.2 c.tell_stop.ensures.told,
         record {
-          outside = λ e. ⊎_elim (λ failed. inl failed) (λ failed. inr (c.write_refusal.ensures.line.stays failed).0) (c.in-Err.ensures.outside (ap Err (same_stop c.in-Err.why e)));
+          outside = λ e. ⊎_elim (λ failed. inl failed) (λ failed. inr (c.tell_stop.ensures.told.stays failed).0) (c.in-Err.ensures.outside (ap Err (same_stop c.in-Err.why e)));
           inside = λ none. c.in-Err.ensures.sound (λ e. none (ap (λ (t : FeedStop). Refused t) (err_is c.in-Err.why e)));
         },
       );
   outside = λ e.
       ⊎_elim (λ failed. inr failed)
-      (λ same. ⊎_elim (λ failed. inl failed) (λ failed. inr (c.write_refusal.ensures.line.stays failed).0) (c.in-Err.ensures.outside (ap Err (same_stop c.in-Err.why same))))
+      (λ same. ⊎_elim (λ failed. inl failed) (λ failed. inr (c.tell_stop.ensures.told.stays failed).0) (c.in-Err.ensures.outside (ap Err (same_stop c.in-Err.why same))))
       (c.as_told-in-Err.ensures.outside e);
   sound = λ none. c.in-Err.ensures.sound (λ e. none (c.as_told-in-Err.ensures.told ∙ told_outside _ c.in-Err.why (err_is c.in-Err.why e)));
 }

@@ -11,7 +11,7 @@ pub returns-clause-done : goal.returns-clause-done
 returns-clause-done g c = λ k h turns was same d.
     done_offer c.args.self.now.collector k h turns c.args.self.now.gathered.items _ c.args.self.now.counts _ c.in-Ok.admitted (g.A.RouteArchive.carries c.args.archive.now) (g.A.RouteArchive.carries c.admit_with_room.new.archive) was _ _ same c.deref.ensures.value
     (λ past carried. subst (λ (r : Result BatchReply AdmitError). IsTaken (g.A.RouteArchive.carries c.admit_with_room.new.archive) c.args.self.now.collector c.deref.result.now r past) c.in-Ok.is (c.admit_with_room.ensures.taken past carried))
-    c.write_admitted.ensures.lines c.count_batch.ensures.admitted c.count_batch.ensures.late c.count_batch.ensures.refused d
+    c.tell_batch.ensures.lines c.count_batch.ensures.admitted c.count_batch.ensures.late c.count_batch.ensures.refused d
 
 pub returns-in-Err-clause-given_up : goal.returns-in-Err-clause-given_up
 returns-in-Err-clause-given_up g c = λ k h turns was same counted d.

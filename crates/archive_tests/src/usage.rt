@@ -1,0 +1,395 @@
+//! What `clap` tells of a command line: help, the version, and why words aren't accepted.
+
+use clap::error::ErrorKind;
+use service::{CommandError, command};
+use std::alloc::Global;
+use std::test::Fail;
+
+/// Words of which `clap` tells something: the kind of its error, the exit status, and the text, whose end several share.
+struct Shown {
+    words: &'static [&'static str],
+    kind: ErrorKind,
+    code: u8,
+    text: &'static str,
+    end: &'static str,
+}
+
+const HELP: &str = "A route history archive for BGP
+
+Usage: rha <COMMAND>
+
+Commands:
+  create  Makes the folder DIR, which isn't there yet, with an empty archive
+  load    Loads a file of MRT records as a collector's
+  ask     Answers a request line
+
+Options:
+  -h, --help     Print help
+  -V, --version  Print version
+
+Example:
+  rha create a --collectors 1 --ring 16 --pages 64 --blocks 64
+  rha load a --collector 0 --mark 2024-01-01T00:15:00Z updates.mrt
+  rha ask a at 2024-01-01T00:10:00Z prefix 10.0.0.0/8
+
+`rha COMMAND --help` has the limits of a command, its defaults and its exit statuses.
+
+Exit status: 0 where all is done, 1 where something was refused or couldn't be written (told on standard
+error as `rha: NUMBER NAME` where it has no line of its own), 2 where the command line isn't accepted.
+";
+
+const CREATE_HELP: &str = "Makes the folder DIR, which isn't there yet, with an empty archive
+
+Usage: rha create --collectors <N> --ring <P> --pages <N> --blocks <N> <DIR>
+
+Arguments:
+  <DIR>  The folder of the archive
+
+Options:
+      --collectors <N>  How many collectors there will be, 1 to 16
+      --ring <P>        The pages of each collector's ring, 9 to 65535
+      --pages <N>       The pages of the archive, its rings' included, 1 to 1000000000
+      --blocks <N>      The write-once blocks of the archive, 1 to 1000000000
+  -h, --help            Print help
+
+Pages and blocks have 16384 octets each, and take room on the disk as they are used. What is loaded of a
+collector waits in its ring until it may be applied; a table dump of one moment waits there whole. There must
+be a page for each page of each ring and 3 more. Nothing is left behind where the archive can't be made.
+Prints `created COLLECTORS RING PAGES BLOCKS`.
+
+Example:
+  rha create a --collectors 1 --ring 16 --pages 64 --blocks 64
+
+Exit status: 0 where the archive is made; 1 where it is refused, told on standard error as
+`rha: NUMBER NAME`; 2 where the command line isn't accepted.
+";
+
+const LOAD_HELP: &str = "Loads a file of MRT records as a collector's
+
+Usage: rha load [OPTIONS] --collector <C> <DIR> <FILE>
+
+Arguments:
+  <DIR>   The folder of the archive
+  <FILE>  The MRT file to load
+
+Options:
+      --collector <C>  The collector's number, 0 to 15
+      --batch <N>      The most records of a batch, 1 to 1000 [default: 1000]
+      --mark <M>       The collector's mark once the file is loaded
+      --resume         Goes on behind the records that were offered before
+  -h, --help           Print help
+
+M is seconds since 1970, 0 to 4294967296, or a timestamp as 2024-01-01T00:00:00Z. It is set where FILE was
+read to its end: what the collector gives later isn't of earlier moments. FILE may be a pipe, as /dev/stdin.
+With --resume, FILE is all that the collector ever gave, from its beginning: as many of its first records as
+were offered before are left out, so a load that was broken off goes on.
+
+Prints, as soon as each is true:
+  B|FROM|TO|OFFERED          a batch is kept: its records have the numbers FROM to below TO
+  L|INDEX|TIME|MARK          behind it: the record at this place of the batch came late
+  X|NUMBER|NAME|RECORD       a record is refused, or the file ends in one
+  F|RECORDS|ADMITTED|LATE|REFUSED|SKIPPED
+  S|SETTLED                  questions of moments below this one are answered
+
+Example:
+  rha load a --collector 0 --mark 2024-01-01T00:15:00Z updates.mrt
+
+Exit status: 0 where FILE was read to its end, also where records of it were late or refused; 1 where it ends
+inside a record, or something else was refused or couldn't be written (told on standard error as
+`rha: NUMBER NAME` where it has no line of its own); 2 where the command line isn't accepted.
+";
+
+const ASK_HELP: &str = "Answers a request line
+
+Usage: rha ask <DIR> <WORD>...
+
+Arguments:
+  <DIR>      The folder of the archive
+  <WORD>...  The words of a request line
+
+Options:
+  -h, --help  Print help
+
+The words are one request line:
+  at T route PEER PREFIX           the peer's route for the prefix
+  at T prefix PREFIX               every peer's route for the prefix
+  at T cover ADDRESS               every peer's route for each prefix that contains the address
+  at T peer PEER                   all routes of the peer
+  at T all                         all routes of all peers
+  history FROM TO PEER PREFIX      what the peer told of the prefix, FROM and TO included
+  watermark                        the settled watermark
+  durable COLLECTOR                how many records of the collector are admitted
+The last four of `at` may end with `after PEER PREFIX`, which goes on behind that row, and `history` with
+`skip N`, which leaves the first N events out: an answer has 256 rows or events at most.
+PEER is COLLECTOR ADDRESS AS, and PREFIX is ADDRESS/LENGTH. T, FROM and TO are moments: seconds since 1970,
+or timestamps as 2024-01-01T00:00:00Z. T and TO have to be below the settled watermark.
+
+Example:
+  rha ask a at 2024-01-01T00:10:00Z prefix 10.0.0.0/8
+
+Exit status: 0 where the line is answered; 1 where it is refused (`X|NUMBER|NAME`), or something else was
+refused or couldn't be written (told on standard error as `rha: NUMBER NAME`); 2 where the command line isn't
+accepted.
+";
+
+/// What is told of a wrong use ends with a usage: of the program, of what a command requires, or of all that it takes.
+const USAGE_END: &str = "\n\nUsage: rha <COMMAND>\n\nFor more information, try '--help'.\n";
+
+const CREATE_END: &str =
+    "\n\nUsage: rha create --collectors <N> --ring <P> --pages <N> --blocks <N> <DIR>\n\nFor more information, try '--help'.\n";
+
+const LOAD_END: &str =
+    "\n\nUsage: rha load [OPTIONS] --collector <C> <DIR> <FILE>\n\nFor more information, try '--help'.\n";
+
+const ASK_END: &str = "\n\nUsage: rha ask <DIR> <WORD>...\n\nFor more information, try '--help'.\n";
+
+const MORE_END: &str = "\n\nFor more information, try '--help'.\n";
+
+/// Help and the version.
+const ASKED_FOR: [Shown; 6] = [
+    Shown {
+        words: &["rha", "--help"],
+        kind: ErrorKind::DisplayHelp,
+        code: 0,
+        text: HELP,
+        end: "",
+    },
+    Shown {
+        words: &["rha", "-h"],
+        kind: ErrorKind::DisplayHelp,
+        code: 0,
+        text: HELP,
+        end: "",
+    },
+    Shown {
+        words: &["rha", "create", "--help"],
+        kind: ErrorKind::DisplayHelp,
+        code: 0,
+        text: CREATE_HELP,
+        end: "",
+    },
+    Shown {
+        words: &["rha", "load", "--help"],
+        kind: ErrorKind::DisplayHelp,
+        code: 0,
+        text: LOAD_HELP,
+        end: "",
+    },
+    Shown {
+        words: &["rha", "ask", "--help"],
+        kind: ErrorKind::DisplayHelp,
+        code: 0,
+        text: ASK_HELP,
+        end: "",
+    },
+    Shown {
+        words: &["rha", "--version"],
+        kind: ErrorKind::DisplayVersion,
+        code: 0,
+        text: "rha 0.3.0\n",
+        end: "",
+    },
+];
+
+/// Words that aren't accepted.
+const WRONG: [Shown; 10] = [
+    Shown {
+        words: &["rha"],
+        kind: ErrorKind::MissingSubcommand,
+        code: 2,
+        text: "error: 'rha' requires a subcommand but one was not provided\n  [subcommands: create, load, ask]",
+        end: USAGE_END,
+    },
+    Shown {
+        words: &["rha", "try", "a.mrt", "at"],
+        kind: ErrorKind::InvalidSubcommand,
+        code: 2,
+        text: "error: unrecognized subcommand 'try'",
+        end: USAGE_END,
+    },
+    Shown {
+        words: &["rha", "help"],
+        kind: ErrorKind::InvalidSubcommand,
+        code: 2,
+        text: "error: unrecognized subcommand 'help'",
+        end: USAGE_END,
+    },
+    Shown {
+        words: &["rha", "create", "a"],
+        kind: ErrorKind::MissingRequiredArgument,
+        code: 2,
+        text: "error: the following required arguments were not provided:\n  --collectors <N>\n  --ring <P>\n  --pages <N>\n  --blocks <N>",
+        end: CREATE_END,
+    },
+    Shown {
+        words: &["rha", "load", "a", "a.mrt"],
+        kind: ErrorKind::MissingRequiredArgument,
+        code: 2,
+        text: "error: the following required arguments were not provided:\n  --collector <C>",
+        end: "\n\nUsage: rha load --collector <C> <DIR> <FILE>\n\nFor more information, try '--help'.\n",
+    },
+    Shown {
+        words: &["rha", "load", "a", "--collector", "0"],
+        kind: ErrorKind::MissingRequiredArgument,
+        code: 2,
+        text: "error: the following required arguments were not provided:\n  <FILE>",
+        end: "\n\nUsage: rha load --collector <C> <DIR> <FILE>\n\nFor more information, try '--help'.\n",
+    },
+    Shown {
+        words: &["rha", "ask", "a"],
+        kind: ErrorKind::MissingRequiredArgument,
+        code: 2,
+        text: "error: the following required arguments were not provided:\n  <WORD>...",
+        end: ASK_END,
+    },
+    Shown {
+        words: &[
+            "rha",
+            "load",
+            "a",
+            "--collector=0",
+            "--collector=0",
+            "a.mrt",
+        ],
+        kind: ErrorKind::ArgumentConflict,
+        code: 2,
+        text: "error: the argument '--collector <C>' cannot be used multiple times",
+        end: LOAD_END,
+    },
+    Shown {
+        words: &[
+            "rha",
+            "load",
+            "a",
+            "--collector=0",
+            "--resume",
+            "--resume",
+            "a.mrt",
+        ],
+        kind: ErrorKind::ArgumentConflict,
+        code: 2,
+        text: "error: the argument '--resume' cannot be used multiple times",
+        end: LOAD_END,
+    },
+    Shown {
+        words: &["rha", "load", "a", "--collector=0", "--resume=no", "a.mrt"],
+        kind: ErrorKind::TooManyValues,
+        code: 2,
+        text: "error: unexpected value 'no' for '--resume' found; no more were expected",
+        end: LOAD_END,
+    },
+];
+
+/// An option whose number is beyond its limits, or is none, behind words that want it, and what is told of it.
+const BEYOND: [(&[&str], &str); 14] = [
+    (
+        &["rha", "create", "a", "--collectors=0"],
+        "'0' for '--collectors <N>': 0 is not in 1..=16",
+    ),
+    (
+        &["rha", "create", "a", "--collectors=17"],
+        "'17' for '--collectors <N>': 17 is not in 1..=16",
+    ),
+    (
+        &["rha", "create", "a", "--ring=8"],
+        "'8' for '--ring <P>': 8 is not in 9..=65535",
+    ),
+    (
+        &["rha", "create", "a", "--ring=65536"],
+        "'65536' for '--ring <P>': 65536 is not in 9..=65535",
+    ),
+    (
+        &["rha", "create", "a", "--pages=0"],
+        "'0' for '--pages <N>': 0 is not in 1..=1000000000",
+    ),
+    (
+        &["rha", "create", "a", "--pages=1000000001"],
+        "'1000000001' for '--pages <N>': 1000000001 is not in 1..=1000000000",
+    ),
+    (
+        &["rha", "create", "a", "--blocks=0"],
+        "'0' for '--blocks <N>': 0 is not in 1..=1000000000",
+    ),
+    (
+        &["rha", "create", "a", "--blocks=1000000001"],
+        "'1000000001' for '--blocks <N>': 1000000001 is not in 1..=1000000000",
+    ),
+    (
+        &["rha", "load", "a", "--collector=16"],
+        "'16' for '--collector <C>': 16 is not in 0..=15",
+    ),
+    (
+        &["rha", "load", "a", "--collector=256"],
+        "'256' for '--collector <C>': 256 is not in 0..=15",
+    ),
+    (
+        &["rha", "load", "a", "--collector="],
+        "'' for '--collector <C>': cannot parse integer from empty string",
+    ),
+    (
+        &["rha", "load", "a", "--collector=one"],
+        "'one' for '--collector <C>': invalid digit found in string",
+    ),
+    (
+        &["rha", "load", "a", "--batch=0"],
+        "'0' for '--batch <N>': 0 is not in 1..=1000",
+    ),
+    (
+        &["rha", "load", "a", "--batch=1001"],
+        "'1001' for '--batch <N>': 1001 is not in 1..=1000",
+    ),
+];
+
+/// Whether `clap` tells this of the words, with this kind and status.
+fn is_told(
+    alloc: Global,
+    words: &[&str],
+    kind: ErrorKind,
+    code: u8,
+    parts: &[&str],
+) -> Result<bool, Fail> {
+    let Err(error) = command(alloc, words) else {
+        return Ok(false);
+    };
+    let same = match &error {
+        CommandError::Usage(told) => told.kind() == kind,
+        CommandError::BadMark | CommandError::OutOfMemory => false,
+    };
+    let shown = format!(in alloc; "{error}")?;
+    let text = parts.join(alloc, "")?;
+    Ok(same && error.code() == code && shown.as_str() == text.as_str())
+}
+
+fn is_shown(alloc: Global, wanted: &Shown) -> Result<bool, Fail> {
+    let parts = [wanted.text, wanted.end];
+    is_told(alloc, wanted.words, wanted.kind, wanted.code, &parts)
+}
+
+fn is_beyond(alloc: Global, words: &[&str], told: &str) -> Result<bool, Fail> {
+    let parts = ["error: invalid value ", told, MORE_END];
+    is_told(alloc, words, ErrorKind::ValueValidation, 2, &parts)
+}
+
+#[test]
+fn help_is_shown(rt: HostRuntime) -> Result<(), Fail> {
+    for wanted in &ASKED_FOR {
+        assert!(rt; is_shown(rt.alloc(), wanted)?, "{}", wanted.text);
+    }
+    Ok(())
+}
+
+#[test]
+fn other_words_are_refused(rt: HostRuntime) -> Result<(), Fail> {
+    for wanted in &WRONG {
+        assert!(rt; is_shown(rt.alloc(), wanted)?, "{}", wanted.text);
+    }
+    Ok(())
+}
+
+#[test]
+fn numbers_beyond_their_limits_are_refused(rt: HostRuntime) -> Result<(), Fail> {
+    for (words, told) in &BEYOND {
+        assert!(rt; is_beyond(rt.alloc(), words, told)?, "{told}");
+    }
+    Ok(())
+}

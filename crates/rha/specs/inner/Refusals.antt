@@ -1,0 +1,21 @@
+-- Why no archive is made or opened, as a refusal.
+use Rattle.service.specs.declared.refusal.Refusal.{Refusal}
+use Rattle.service.specs.declared.refusal.Refusal.TheVariants as refusals
+use Rattle.disk_archive.specs.declared.create_error.CreateError.{CreateError}
+use Rattle.disk_archive.specs.declared.create_error.CreateError.TheVariants as creates
+use Rattle.disk_archive.specs.declared.open_error.OpenError.{OpenError}
+use Rattle.disk_archive.specs.declared.open_error.OpenError.TheVariants as opens
+
+-- why it isn't written to its files
+abbrev pub of_create : CreateError → Refusal
+of_create creates.PagesFull = refusals.PagesFull
+of_create creates.Fault = refusals.Fault
+of_create creates.OutOfMemory = refusals.OutOfMemory
+
+-- why it isn't read from its files; the page of a slot is a page of the disk, and the other one a home page
+abbrev pub of_open : OpenError → Refusal
+of_open opens.Fault = refusals.Fault
+of_open opens.NotAJournal = refusals.NotAJournal
+of_open (opens.BadSlot page) = refusals.BadNode page
+of_open (opens.BadNode page) = refusals.BadNode page
+of_open opens.OutOfMemory = refusals.OutOfMemory

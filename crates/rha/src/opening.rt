@@ -1,0 +1,26 @@
+//! The archive of a folder is opened for a command.
+
+use crate::refusals::{tell_no_file, tell_unopened};
+use file_archive::{FileArchive, OpenFault};
+use service::Output;
+use std::io::Write;
+
+/// The archive of a folder. Where it isn't opened, why is told, and the exit status is 1.
+pub(crate) fn open<E: Write>(
+    rt: &HostRuntime,
+    folder: &str,
+    err: &mut Output<E>,
+) -> Option<FileArchive> {
+    let alloc = rt.alloc();
+    match FileArchive::open(alloc, rt, folder) {
+        Ok(archive) => Some(archive),
+        Err(OpenFault::File(why)) => {
+            tell_no_file(alloc, folder, why, err);
+            None
+        }
+        Err(OpenFault::Archive(why)) => {
+            tell_unopened(why, err);
+            None
+        }
+    }
+}

@@ -1,0 +1,15 @@
+use Rattle.std.proofs.Common.{ℕ, List, ◌∙◌}
+use Rattle.clap.specs.Matches.{found_of}
+use Rattle.clap.proofs.WalkLemmas.{one_text-rows}
+use Rattle.service.proofs.command_line.is_there.Goals as goal
+
+pub returns : goal.returns
+returns c =
+    let same = one_text-rows (found_of c.args.matches.now) c.args.name.now in
+    record {
+      there = record {
+        given = λ e. c.get_flag.ensures.value (same ∙ e);
+        left_out = λ e. c.get_flag.ensures.other (same ∙ e);
+        unknown = λ e. c.get_flag.ensures.none (same ∙ e);
+      };
+    }

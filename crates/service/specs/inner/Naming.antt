@@ -1,0 +1,20 @@
+-- What the command that is named asks for. Contracts of private functions alone cite this file.
+use Rattle.std.specs.Prelude.{◌≡◌, ◌⊎◌, ℕ, List, Option, Some, codes}
+use Rattle.clap.specs.Walk.{Row, first_of}
+use Rattle.service.specs.CommandLines.{IsCreation, IsLoading, IsQuestion, IsNoMark}
+use Rattle.service.specs.declared.invocation.Invocation.{Invocation}
+use Rattle.service.specs.declared.invocation.Invocation.TheVariants.{Create, Load, Ask}
+
+-- a command is named, and it is one of the program's
+abbrev pub IsCommand : Option (List ℕ) → Type 0
+IsCommand name = (name ≡ Some (codes "create")) ⊎ ((name ≡ Some (codes "load")) ⊎ (name ≡ Some (codes "ask")))
+
+-- the command that is named asks for this, by its arguments
+abbrev pub AsksFor : Option (List ℕ × List Row) → Invocation → Type 0
+AsksFor named (Create c) = (rows : List Row) × (named ≡ Some (codes "create", rows)) × IsCreation rows c
+AsksFor named (Load l) = (rows : List Row) × (named ≡ Some (codes "load", rows)) × IsLoading rows l
+AsksFor named (Ask q) = (rows : List Row) × (named ≡ Some (codes "ask", rows)) × IsQuestion rows q
+
+-- `load` is named, and the text of its mark is that of no mark
+abbrev pub NamesNoMark : Option (List ℕ × List Row) → Type 0
+NamesNoMark named = (rows : List Row) × (named ≡ Some (codes "load", rows)) × IsNoMark (first_of (codes "mark") rows)

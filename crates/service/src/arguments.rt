@@ -1,0 +1,205 @@
+//! The command line that the program takes, as `clap` is told of it.
+
+ghost use Rattle.std.specs.Prelude.{◌≡◌, IfOk, false, codes};
+ghost use Rattle.clap.specs.Simple.{app_of};
+ghost use Rattle.clap.specs.Walk.{rule_of};
+ghost use Rattle.clap.specs.declared.builder.command.Command.TheViews.{out-Command};
+ghost use Rattle.service.specs.CommandLines.{batch_rule, mark_rule, resume_rule, words_rule, word_rule, number_rule, of_folder, creation_of_rings, creation, loading_of_batches, loading, question, bare_program, program};
+
+use crate::help;
+use clap::builder::ValueParser;
+use clap::{Arg, ArgAction, Command};
+use std::alloc::{AllocError, Global};
+
+/// The most collectors that an archive may have.
+pub(crate) const MAX_COLLECTORS: u64 = 16;
+
+/// The greatest number of a collector.
+pub(crate) const LAST_COLLECTOR: u64 = 15;
+
+/// The fewest pages of a ring.
+pub(crate) const MIN_RING: u64 = 9;
+
+/// The most pages of a ring.
+pub(crate) const MAX_RING: u64 = 65_535;
+
+/// The most home pages, and the most blocks, that an archive may be told to have.
+pub(crate) const MAX_SIZE: u64 = 1_000_000_000;
+
+/// The most admissions that a batch of a feed may be told to have, and those that it has where nothing is told.
+pub(crate) const MAX_BATCH: u64 = 1000;
+
+/// The version of the program.
+const VERSION: &str = "0.3.0";
+
+/// A word of this name, which has to be there.
+fn word<'a>(alloc: Global, name: &'a str, help: &'a str) -> Arg<'a>
+    ensures rule { rule_of result ≡ word_rule name.entry.now }
+    ensures own { result.global ≡ false }
+{
+    Arg::new(alloc, name)
+        .help(help)
+        .required(true)
+        .action(ArgAction::Set)
+}
+
+/// `--NAME LETTER`, which has to be there: a number from the least to the most.
+fn number<'a>(
+    alloc: Global,
+    name: &'a str,
+    letter: &'a str,
+    help: &'a str,
+    least: u64,
+    most: u64,
+) -> Arg<'a>
+    ensures rule { rule_of result ≡ number_rule name.entry.now least most }
+    ensures own { result.global ≡ false }
+{
+    Arg::new(alloc, name)
+        .long(name)
+        .value_name(letter)
+        .help(help)
+        .value_parser(ValueParser::unsigned(least, most))
+        .required(true)
+        .action(ArgAction::Set)
+}
+
+fn batch<'a>(alloc: Global) -> Arg<'a>
+    ensures rule { rule_of result ≡ batch_rule }
+    ensures own { result.global ≡ false }
+{
+    Arg::new(alloc, "batch")
+        .long("batch")
+        .value_name("N")
+        .help("The most records of a batch, 1 to 1000")
+        .value_parser(ValueParser::unsigned(1, MAX_BATCH))
+        .default_value("1000")
+        .action(ArgAction::Set)
+}
+
+fn mark<'a>(alloc: Global) -> Arg<'a>
+    ensures rule { rule_of result ≡ mark_rule }
+    ensures own { result.global ≡ false }
+{
+    Arg::new(alloc, "mark")
+        .long("mark")
+        .value_name("M")
+        .help("The collector's mark once the file is loaded")
+        .action(ArgAction::Set)
+}
+
+fn resume<'a>(alloc: Global) -> Arg<'a>
+    ensures rule { rule_of result ≡ resume_rule }
+    ensures own { result.global ≡ false }
+{
+    Arg::new(alloc, "resume")
+        .long("resume")
+        .help("Goes on behind the records that were offered before")
+        .action(ArgAction::SetTrue)
+}
+
+fn words<'a>(alloc: Global) -> Arg<'a>
+    ensures rule { rule_of result ≡ words_rule }
+    ensures own { result.global ≡ false }
+{
+    Arg::new(alloc, "WORD")
+        .help("The words of a request line")
+        .required(true)
+        .num_args(1..)
+        .trailing_var_arg(true)
+        .action(ArgAction::Append)
+}
+
+/// `NAME DIR`
+fn of_folder<'a>(
+    alloc: Global,
+    name: &'a str,
+    about: &'a str,
+    help: &'a str,
+) -> Result<Command<'a>, AllocError>
+    ensures app { IfOk result (λ c. app_of c ≡ of_folder name.entry.now) }
+    ensures own { IfOk result (λ c. (out-Command c).has_globals ≡ false) }
+{
+    Command::new(alloc, name)
+        .about(about)
+        .after_help(help)
+        .arg(word(alloc, "DIR", "The folder of the archive"))
+}
+
+/// `create DIR --collectors N --ring P`
+fn creation_of_rings<'a>(alloc: Global) -> Result<Command<'a>, AllocError>
+    ensures app { IfOk result (λ c. app_of c ≡ creation_of_rings) }
+    ensures own { IfOk result (λ c. (out-Command c).has_globals ≡ false) }
+{
+    let about = "Makes the folder DIR, which isn't there yet, with an empty archive";
+    let collectors = "How many collectors there will be, 1 to 16";
+    let ring = "The pages of each collector's ring, 9 to 65535";
+    of_folder(alloc, "create", about, help::CREATE)?
+        .arg(number(alloc, "collectors", "N", collectors, 1, MAX_COLLECTORS))?
+        .arg(number(alloc, "ring", "P", ring, MIN_RING, MAX_RING))
+}
+
+/// `create DIR --collectors N --ring P --pages N --blocks N`
+fn creation<'a>(alloc: Global) -> Result<Command<'a>, AllocError>
+    ensures app { IfOk result (λ c. app_of c ≡ creation) }
+    ensures own { IfOk result (λ c. (out-Command c).has_globals ≡ false) }
+{
+    let pages = "The pages of the archive, its rings' included, 1 to 1000000000";
+    let blocks = "The write-once blocks of the archive, 1 to 1000000000";
+    creation_of_rings(alloc)?
+        .arg(number(alloc, "pages", "N", pages, 1, MAX_SIZE))?
+        .arg(number(alloc, "blocks", "N", blocks, 1, MAX_SIZE))
+}
+
+/// `load DIR --collector C [--batch N]`
+fn loading_of_batches<'a>(alloc: Global) -> Result<Command<'a>, AllocError>
+    ensures app { IfOk result (λ c. app_of c ≡ loading_of_batches) }
+    ensures own { IfOk result (λ c. (out-Command c).has_globals ≡ false) }
+{
+    let about = "Loads a file of MRT records as a collector's";
+    let collector = "The collector's number, 0 to 15";
+    of_folder(alloc, "load", about, help::LOAD)?
+        .arg(number(alloc, "collector", "C", collector, 0, LAST_COLLECTOR))?
+        .arg(batch(alloc))
+}
+
+/// `load DIR --collector C [--batch N] [--mark M] [--resume] FILE`
+fn loading<'a>(alloc: Global) -> Result<Command<'a>, AllocError>
+    ensures app { IfOk result (λ c. app_of c ≡ loading) }
+    ensures own { IfOk result (λ c. (out-Command c).has_globals ≡ false) }
+{
+    loading_of_batches(alloc)?
+        .arg(mark(alloc))?
+        .arg(resume(alloc))?
+        .arg(word(alloc, "FILE", "The MRT file to load"))
+}
+
+/// `ask DIR WORD..`
+fn question<'a>(alloc: Global) -> Result<Command<'a>, AllocError>
+    ensures app { IfOk result (λ c. app_of c ≡ question) }
+    ensures own { IfOk result (λ c. (out-Command c).has_globals ≡ false) }
+{
+    of_folder(alloc, "ask", "Answers a request line", help::ASK)?.arg(words(alloc))
+}
+
+/// The program, without its commands.
+fn bare_program<'a>(alloc: Global) -> Command<'a>
+    ensures app { app_of result ≡ bare_program }
+{
+    Command::new(alloc, "rha")
+        .about("A route history archive for BGP")
+        .version(VERSION)
+        .after_help(help::PROGRAM)
+        .subcommand_required(true)
+        .disable_help_subcommand(true)
+}
+
+/// The command line that the program takes.
+pub(crate) fn program<'a>(alloc: Global) -> Result<Command<'a>, AllocError>
+    ensures app { IfOk result (λ c. app_of c ≡ program) }
+{
+    bare_program(alloc)
+        .subcommand(creation(alloc)?)?
+        .subcommand(loading(alloc)?)?
+        .subcommand(question(alloc)?)
+}

@@ -1,0 +1,68 @@
+//! What the help of the program and of its commands tells behind what `clap` shows.
+
+/// Of the program.
+pub(crate) const PROGRAM: &str = "Example:
+  rha create a --collectors 1 --ring 16 --pages 64 --blocks 64
+  rha load a --collector 0 --mark 2024-01-01T00:15:00Z updates.mrt
+  rha ask a at 2024-01-01T00:10:00Z prefix 10.0.0.0/8
+
+`rha COMMAND --help` has the limits of a command, its defaults and its exit statuses.
+
+Exit status: 0 where all is done, 1 where something was refused or couldn't be written (told on standard
+error as `rha: NUMBER NAME` where it has no line of its own), 2 where the command line isn't accepted.";
+
+/// Of `create`.
+pub(crate) const CREATE: &str =
+    "Pages and blocks have 16384 octets each, and take room on the disk as they are used. What is loaded of a
+collector waits in its ring until it may be applied; a table dump of one moment waits there whole. There must
+be a page for each page of each ring and 3 more. Nothing is left behind where the archive can't be made.
+Prints `created COLLECTORS RING PAGES BLOCKS`.
+
+Example:
+  rha create a --collectors 1 --ring 16 --pages 64 --blocks 64
+
+Exit status: 0 where the archive is made; 1 where it is refused, told on standard error as
+`rha: NUMBER NAME`; 2 where the command line isn't accepted.";
+
+/// Of `load`.
+pub(crate) const LOAD: &str =
+    "M is seconds since 1970, 0 to 4294967296, or a timestamp as 2024-01-01T00:00:00Z. It is set where FILE was
+read to its end: what the collector gives later isn't of earlier moments. FILE may be a pipe, as /dev/stdin.
+With --resume, FILE is all that the collector ever gave, from its beginning: as many of its first records as
+were offered before are left out, so a load that was broken off goes on.
+
+Prints, as soon as each is true:
+  B|FROM|TO|OFFERED          a batch is kept: its records have the numbers FROM to below TO
+  L|INDEX|TIME|MARK          behind it: the record at this place of the batch came late
+  X|NUMBER|NAME|RECORD       a record is refused, or the file ends in one
+  F|RECORDS|ADMITTED|LATE|REFUSED|SKIPPED
+  S|SETTLED                  questions of moments below this one are answered
+
+Example:
+  rha load a --collector 0 --mark 2024-01-01T00:15:00Z updates.mrt
+
+Exit status: 0 where FILE was read to its end, also where records of it were late or refused; 1 where it ends
+inside a record, or something else was refused or couldn't be written (told on standard error as
+`rha: NUMBER NAME` where it has no line of its own); 2 where the command line isn't accepted.";
+
+/// Of `ask`.
+pub(crate) const ASK: &str = "The words are one request line:
+  at T route PEER PREFIX           the peer's route for the prefix
+  at T prefix PREFIX               every peer's route for the prefix
+  at T cover ADDRESS               every peer's route for each prefix that contains the address
+  at T peer PEER                   all routes of the peer
+  at T all                         all routes of all peers
+  history FROM TO PEER PREFIX      what the peer told of the prefix, FROM and TO included
+  watermark                        the settled watermark
+  durable COLLECTOR                how many records of the collector are admitted
+The last four of `at` may end with `after PEER PREFIX`, which goes on behind that row, and `history` with
+`skip N`, which leaves the first N events out: an answer has 256 rows or events at most.
+PEER is COLLECTOR ADDRESS AS, and PREFIX is ADDRESS/LENGTH. T, FROM and TO are moments: seconds since 1970,
+or timestamps as 2024-01-01T00:00:00Z. T and TO have to be below the settled watermark.
+
+Example:
+  rha ask a at 2024-01-01T00:10:00Z prefix 10.0.0.0/8
+
+Exit status: 0 where the line is answered; 1 where it is refused (`X|NUMBER|NAME`), or something else was
+refused or couldn't be written (told on standard error as `rha: NUMBER NAME`); 2 where the command line isn't
+accepted.";

@@ -1,0 +1,92 @@
+//! What a command line asks for, and why it asks for nothing.
+
+ghost use Rattle.std.specs.Prelude.{◌≡◌};
+ghost use Rattle.clap.specs.Values.{kind_of};
+ghost use Rattle.clap.specs.declared.error.Error.{Error};
+
+use clap::error::ErrorKind;
+use route_model::Mark;
+use thiserror::Error;
+
+/// What `create` is given.
+#[derive(Debug, Drop)]
+pub struct Creation<'a> {
+    /// The folder to make.
+    pub folder: &'a str,
+    /// How many collectors there will be, 1 to 16.
+    pub collectors: u8,
+    /// The pages of each collector's ring, 9 to 65535.
+    pub ring: u16,
+    /// The home pages, 1 to 1000000000.
+    pub pages: u64,
+    /// The write-once blocks, 1 to 1000000000.
+    pub blocks: u64,
+}
+
+/// What `load` is given.
+#[derive(Debug, Drop)]
+pub struct Loading<'a> {
+    /// The folder of the archive.
+    pub folder: &'a str,
+    /// Whose feed the file is, 0 to 15.
+    pub collector: u8,
+    /// The most admissions of a batch, 1 to 1000.
+    pub batch: usize,
+    /// The collector's mark once the file is loaded.
+    pub mark: Option<Mark>,
+    /// Whether as many of the file's first admissions are dropped as were offered of the collector until now.
+    pub resume: bool,
+    /// The file to load.
+    pub file: &'a str,
+}
+
+/// What `ask` is given.
+#[derive(Debug, Drop)]
+pub struct Question<'a> {
+    /// The folder of the archive.
+    pub folder: &'a str,
+    /// The request line to answer.
+    pub line: String,
+}
+
+/// What a command line asks for.
+#[derive(Debug, Drop)]
+pub enum Invocation<'a> {
+    /// An archive is made in a new folder.
+    Create(Creation<'a>),
+    /// A file is loaded into an archive.
+    Load(Loading<'a>),
+    /// A request line is answered by an archive.
+    Ask(Question<'a>),
+}
+
+/// Why a command line asks for nothing.
+#[derive(Debug, Drop, Error)]
+pub enum CommandError {
+    /// The words aren't accepted, or they ask for help: `clap`'s text.
+    #[error(transparent)]
+    Usage(clap::Error),
+    /// The text behind `--mark` is that of no mark.
+    #[error("the text behind --mark is that of no mark")]
+    BadMark,
+    /// A growth of memory was refused.
+    #[error("out of memory")]
+    OutOfMemory,
+}
+
+impl CommandError {
+    /// The exit status of the program: 2 where the words aren't accepted, 0 where they ask for help, else 1.
+    pub fn code(&self) -> u8
+        ensures usage { (e : Error) → self.now ≡ CommandError.Usage e → (kind_of e ≡ ErrorKind.DisplayHelp → ⊥) → (kind_of e ≡ ErrorKind.DisplayVersion → ⊥) → result ≡ 2 }
+        ensures help { (e : Error) → self.now ≡ CommandError.Usage e → kind_of e ≡ ErrorKind.DisplayHelp → result ≡ 0 }
+        ensures version { (e : Error) → self.now ≡ CommandError.Usage e → kind_of e ≡ ErrorKind.DisplayVersion → result ≡ 0 }
+        ensures bad_mark { self.now ≡ CommandError.BadMark → result ≡ 1 }
+        ensures memory { self.now ≡ CommandError.OutOfMemory → result ≡ 1 }
+    {
+        match self {
+            CommandError::Usage(error) if error.use_stderr() => 2,
+            CommandError::Usage(_) => 0,
+            CommandError::BadMark | CommandError::OutOfMemory => 1,
+        }
+    }
+}

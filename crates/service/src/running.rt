@@ -1,0 +1,117 @@
+//! What the program does of a command, once its archive is made or open.
+
+ghost use Rattle.std.specs.Prelude.{◌≡◌, true, false, [], string_bytes};
+ghost use Rattle.route_meaning.specs.History.{History};
+ghost use Rattle.service.specs.Outputs.{Tells};
+ghost use Rattle.service.specs.Refusals.{TellsFailure};
+ghost use Rattle.service.specs.Running.{created_line, IsWrittenOut, IsFileLoaded, IsLineAsked, IsCreationTold};
+
+use crate::asking::ask;
+use crate::invocation::{Creation, Loading, Question};
+use crate::loading::{LoadSettings, load};
+use crate::output::{Input, Output};
+use crate::refusal::{Refusal, write_error};
+use crate::status::Status;
+use crate::telling::tell_refusal;
+use archive_calls::RouteArchive;
+use std::alloc::Global;
+use std::io::{Read, Write};
+
+/// Writes out what is buffered: `Failed` where that fails, which `err` is told where nothing failed before.
+fn write_out<W: Write, E: Write>(out: &mut Output<W>, err: &mut Output<E>) -> Status
+    ensures flushed { Tells out.old out.new [] }
+    ensures done { out.new.failed ≡ false → result ≡ Status.Done }
+    ensures failed { out.new.failed ≡ true → result ≡ Status.Failed }
+    ensures quiet { out.old.failed ≡ true → err.new ≡ err.old }
+    ensures told { out.old.failed ≡ false → TellsFailure out.new.failed err.old err.new }
+{
+    if out.has_failed() {
+        return Status::Failed;
+    }
+    out.flush();
+    if out.has_failed() {
+        write_error(err, &Refusal::Outside);
+        return Status::Failed;
+    }
+    Status::Done
+}
+
+/// The exit status of the program whose command ended so: what is buffered is written out first, and where not all could
+/// be written, it is 1.
+pub fn finish<W: Write, E: Write>(ended: Status, out: &mut Output<W>, err: &mut Output<E>) -> u8
+    ensures written { IsWrittenOut ended result out.old out.new err.old err.new }
+{
+    let written = write_out(out, err);
+    ended.code().max(written.code())
+}
+
+/// Loads the file as the command line asks, and writes out what is buffered. The exit status of the program is that of
+/// the load, and 1 where not all lines could be written.
+pub fn load_file<A: RouteArchive, R: Read, W: Write, E: Write>(
+    alloc: Global,
+    archive: &mut A,
+    asked: &Loading<'_>,
+    file: &mut Input<R>,
+    out: &mut Output<W>,
+    err: &mut Output<E>,
+) -> u8
+    ensures ended { (h : History) → A.carries archive.old h → IsFileLoaded asked.now (A.most archive.old) h file.old.left file.old.failed file.new.failed result (A.carries archive.new) out.old out.new err.old err.new }
+    ensures sound { result ≡ 0 → file.new.failed ≡ file.old.failed }
+{
+    let how = LoadSettings {
+        collector: asked.collector,
+        limit: asked.batch,
+        mark: asked.mark,
+        resume: asked.resume,
+    };
+    let loaded = load(alloc, archive, how, file, out, err);
+    finish(loaded, out, err)
+}
+
+/// Answers the line that the command line asks, and writes out what is buffered. The exit status of the program is that
+/// of the answer, and 1 where not all lines could be written.
+pub fn ask_line<A: RouteArchive, W: Write, E: Write>(
+    alloc: Global,
+    archive: &mut A,
+    asked: &Question<'_>,
+    out: &mut Output<W>,
+    err: &mut Output<E>,
+) -> u8
+    ensures ended { (h : History) → A.carries archive.old h → IsLineAsked (string_bytes asked.now.line) h result out.old out.new err.old err.new }
+    ensures kept { (h : History) → A.carries archive.old h → A.carries archive.new h }
+{
+    let answered = ask(alloc, archive, asked.line.as_str(), out, err);
+    finish(answered, out, err)
+}
+
+/// Writes what an archive is made with.
+fn write_created<W: Write>(out: &mut Output<W>, made: &Creation<'_>)
+    ensures line { Tells out.old out.new (created_line made.now) }
+{
+    out.text("created ");
+    out.number(u64::from(made.collectors));
+    out.text(" ");
+    out.number(u64::from(made.ring));
+    out.text(" ");
+    out.number(made.pages);
+    out.text(" ");
+    out.number(made.blocks);
+    out.text("\n");
+}
+
+/// Tells that an archive is made: `created COLLECTORS RING PAGES BLOCKS`, and writes out what is buffered. The exit status
+/// of the program is 0, and 1 where not all could be written, which `err` is told.
+pub fn tell_created<W: Write, E: Write>(
+    made: &Creation<'_>,
+    out: &mut Output<W>,
+    err: &mut Output<E>,
+) -> u8
+    ensures told { IsCreationTold made.now result out.old out.new err.old err.new }
+{
+    write_created(out, made);
+    out.flush();
+    if out.has_failed() {
+        return tell_refusal(&Refusal::Outside, err);
+    }
+    0
+}
