@@ -276,7 +276,7 @@ const WRONG: [Shown; 10] = [
         kind: ErrorKind::TooManyValues,
         code: 2,
         text: "error: unexpected value 'no' for '--resume' found; no more were expected",
-        end: LOAD_END,
+        end: "\n\nUsage: rha load --collector <C> --resume <DIR> <FILE>\n\nFor more information, try '--help'.\n",
     },
 ];
 
