@@ -21,6 +21,7 @@ mod Looking
 mod Found
 mod NoteReading
 mod Recalled
+mod Rooted
 mod Reopened
 mod Meanings
 mod Empties

@@ -17,12 +17,12 @@ ghost use Rattle.archive_pages.specs.Carried.{Bears, Represents};
 ghost use Rattle.archive_pages.specs.Places.{AreSettings};
 ghost use Rattle.disk_archive.specs.Mirrors.{Mirrors};
 ghost use Rattle.disk_archive.specs.Trees.{TreeLies};
-ghost use Rattle.disk_archive.specs.inner.Recalling.{RecallRefusal};
+ghost use Rattle.disk_archive.specs.inner.Recalling.{HasRoot, RecallRefusal};
 
 use crate::archive::Archive;
 use crate::looks::Looks;
 use crate::open_error::OpenError;
-use crate::recalling::{read_head, recall};
+use crate::recalling::{has_root, read_head, recall};
 use crate::refused::Refused;
 use crate::restoring::{Restored, restore};
 use archive_head::Head;
@@ -50,6 +50,7 @@ fn remember<P: Pages>(alloc: Global, pages: &mut P, settings: Settings) -> Resul
     ensures lanes { IfOk result (λ memory. length memory.head.lanes ≡ settings.collectors) }
     ensures numbers { IfOk result (λ memory. length memory.sequencer ≡ settings.collectors) }
     ensures valid { IfOk result (λ memory. IsHead memory.head) }
+    ensures rooted { IfOk result (λ memory. HasRoot (P.homes pages.old) settings memory.head) }
     ensures first { IfOk result (λ memory. (start : Start) (shown : List (List ℕ)) → P.shows pages.old start shown → page_at shown 0 ≡ head_octets memory.head) }
     ensures bears { IfOk result (λ memory. (count : ℕ) (o : OnceState) (start : Start) (shown : List (List ℕ)) (h : History) → P.shows pages.old start shown → Represents (TreeLies count) settings (settled_in o) shown h
         → Bears (TreeLies count) settings (settled_in o) memory.head shown h) }
@@ -61,12 +62,16 @@ fn remember<P: Pages>(alloc: Global, pages: &mut P, settings: Settings) -> Resul
     ensures same { OnlyReads P.Pages pages.old pages.new (result ≡ Err OpenError.Fault) }
 {
     let head = read_head(alloc, pages, settings.collectors)?;
+    if !has_root(pages.home_pages(), settings, &head) {
+        return Err(OpenError::BadNode(0));
+    }
     let sequencer = recall(alloc, pages, settings, &head)?;
     Ok(Memory { head, sequencer })
 }
 
 impl<E: EraseDisk + Drop, O: OnceDisk + Drop> Archive<E, O> {
     ghost use Rattle.disk_archive.specs.Archives.{Carries, Stands, site_of};
+    ghost use Rattle.disk_archive.specs.Creations.{CountsOne};
     ghost use Rattle.disk_archive.specs.Outcome.{erase_after, once_after, outcome, pen_after};
     ghost use Rattle.disk_archive.specs.Notes.{note_octets};
     ghost use Rattle.disk_archive.specs.Openings.{IsWant, NamesArchive, ReadsAs};
@@ -141,6 +146,7 @@ impl<E: EraseDisk + Drop, O: OnceDisk + Drop> Archive<E, O> {
         ensures once { O.honest once.value pen ↔ O.honest once.value (pen_after result) }
         ensures unburnt { O.honest once.value pen → O.model (pen_after result) ≡ O.model pen }
         ensures quiet { outcome result ≢ Err OpenError.Fault → (E.fault_count (erase_after result) ≡ E.fault_count erase) × (O.pen_fault_count (pen_after result) ≡ O.pen_fault_count pen) }
+        ensures counted { outcome result ≡ Err OpenError.Fault → CountsOne (E.fault_count erase) (E.fault_count (erase_after result)) (O.pen_fault_count pen) (O.pen_fault_count (pen_after result)) }
     {
         match restore(alloc, erase, once.blocks()) {
             Ok(
@@ -197,12 +203,13 @@ impl<E: EraseDisk + Drop, O: OnceDisk + Drop> Archive<E, O> {
         ensures named { E.honest erase → OnOk result (NamesArchive (E.octet_count erase) (E.model erase).octet (O.block_count once.value)) }
         ensures unnamed { E.honest erase → outcome result ≡ Err OpenError.NotAJournal → NamesArchive (E.octet_count erase) (E.model erase).octet (O.block_count once.value) → ⊥ }
 
-        // Both disks are the archive's, or handed back, and nothing was burnt.
+        // Both disks are the archive's, or handed back, and nothing was burnt. Of them one failed where that is told, and none elsewhere.
         ensures erase { E.honest erase ↔ E.honest (erase_after result) }
         ensures disk { once_after result ≡ once.value }
         ensures once { O.honest once.value pen ↔ O.honest once.value (pen_after result) }
         ensures unburnt { O.honest once.value pen → O.model (pen_after result) ≡ O.model pen }
         ensures quiet { outcome result ≢ Err OpenError.Fault → (E.fault_count (erase_after result) ≡ E.fault_count erase) × (O.pen_fault_count (pen_after result) ≡ O.pen_fault_count pen) }
+        ensures counted { outcome result ≡ Err OpenError.Fault → CountsOne (E.fault_count erase) (E.fault_count (erase_after result)) (O.pen_fault_count pen) (O.pen_fault_count (pen_after result)) }
     {
         Archive::reopen(alloc, erase, once, pen)
     }

@@ -1,6 +1,6 @@
 //! What an archive keeps in memory is read from its pages again: the head, each collector's mark, and the times of what waits.
 
-ghost use Rattle.std.specs.Prelude.{◌≡◌, ◌≢◌, ◌<◌, ◌≤◌, ◌↔◌, ℕ, List, length, map, IfOk, OnOk, IfErr, Err, slice_set, false};
+ghost use Rattle.std.specs.Prelude.{◌≡◌, ◌≢◌, ◌<◌, ◌≤◌, ◌↔◌, ℕ, List, length, map, IfOk, OnOk, IfErr, Err, IsTrue, slice_set, false};
 ghost use Rattle.std.specs.List.{AllByRecursion};
 ghost use Rattle.disk_models.specs.Once.{OnceState, settled_in};
 ghost use Rattle.page_tx.specs.Start.{Start};
@@ -17,7 +17,7 @@ ghost use Rattle.archive_pages.specs.Carried.{Bears};
 ghost use Rattle.archive_pages.specs.Places.{ring_of};
 ghost use Rattle.disk_archive.specs.Mirrors.{Mirrors};
 ghost use Rattle.disk_archive.specs.Trees.{TreeLies};
-ghost use Rattle.disk_archive.specs.inner.Recalling.{IsUnknown, RecallRefusal};
+ghost use Rattle.disk_archive.specs.inner.Recalling.{HasRoot, IsUnknown, RecallRefusal};
 
 use crate::open_error::OpenError;
 use archive_head::Head;
@@ -74,6 +74,13 @@ pub(crate) fn read_head<P: Pages>(
         Some(head) => Ok(head),
         None => Err(OpenError::BadNode(0)),
     }
+}
+
+/// Whether the head names one of the tree's pages as its root, and one that was used.
+pub(crate) fn has_root(homes: u64, settings: Settings, head: &Head) -> bool
+    ensures has { IsTrue result ↔ HasRoot homes settings head.now }
+{
+    settings.tree_low() <= head.root && head.root < head.fresh && head.root < homes
 }
 
 // The times of all that waits of a collector, in its order.

@@ -15,7 +15,7 @@ same_page (o ∷ old) [] n octets len e at = absurd (omega (arith, len))
 same_page (o ∷ old) (p ∷ new) zero octets len e at = let here : o ≡ octets = cc in ap Some (e ∙ here)
 same_page (o ∷ old) (p ∷ new) (suc n) octets len e at = same_page old new n octets (omega (arith, len)) e at
 
-not_own : {X : Type 0} (x : X) → None ≡ Some x → ⊥
+pub not_own : {X : Type 0} (x : X) → None ≡ Some x → ⊥
 not_own x e = cc
 
 pub tree_framed : (count : ℕ) (settled : ℕ → List ℕ → Type 0) → IsFramed (TreeLies count) settled

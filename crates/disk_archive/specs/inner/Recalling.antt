@@ -3,9 +3,10 @@ use Rattle.std.specs.Prelude.{◌≡◌, ◌<◌, ◌≤◌, ⊤, ℕ, List, [],
 use Rattle.route_model.specs.Admission.{Admitted}
 use Rattle.sequencer.specs.Lanes.{Waiting, marks, waiting_times}
 use Rattle.archive_head.specs.declared.lane.Lane.{Lane}
+use Rattle.archive_head.specs.Head.{Contents}
 use Rattle.intake.specs.Ring.{Holds, time_of}
 use Rattle.archive_pages.specs.declared.settings.Settings.{Settings}
-use Rattle.archive_pages.specs.Places.{ring_of}
+use Rattle.archive_pages.specs.Places.{ring_of, tree_low}
 use Rattle.disk_archive.specs.declared.open_error.OpenError.{OpenError}
 use Rattle.disk_archive.specs.declared.open_error.OpenError.TheVariants as openings
 
@@ -16,6 +17,12 @@ RecallRefusal openings.OutOfMemory = ⊤
 RecallRefusal openings.NotAJournal = ⊥
 RecallRefusal (openings.BadSlot page) = ⊥
 RecallRefusal (openings.BadNode page) = ⊤
+
+-- the head names one of the tree's pages as its root, and one that was used
+pub record HasRoot (homes : ℕ) (s : Settings) (head : Contents) : Type 0 where
+  pub low : tree_low s ≤ head.root
+  pub used : head.root < head.fresh
+  pub inside : head.root < homes
 
 -- nothing is known of the collector: its mark is 0, and nothing waits
 pub record IsUnknown (lanes : List Waiting) (c : ℕ) : Type 0 where
