@@ -1,16 +1,16 @@
 //! What calls answer, one after another, on an archive that was created.
 
-use crate::made::{Made, empty_at, made, mark_at, vectors};
+use crate::made::{Made, empty_at, made, mark_at, peer_of, vectors};
 use archive_pages::Settings;
 use disk_archive::{AdmitError, Flush, MarkError, Step};
 use interleaving_core::{BatchReply, Resume};
-use route_model::{Address, Admission, Change, Moment, Peer, Prefix};
+use route_model::{Address, Admission, Change, Moment, Prefix};
 use sequencer::Late;
 use std::alloc::Global;
 use std::test::Fail;
 
 /// What is offered of a collector.
-enum Batch {
+pub(crate) enum Batch {
     /// Records without changes, at these times.
     Times(&'static [u32]),
     /// So many records of 67 octets.
@@ -20,7 +20,7 @@ enum Batch {
 }
 
 /// What is done with an archive or asked of it, and what has to come of it.
-enum Act {
+pub(crate) enum Act {
     /// A collector offers a batch: how many records it offered until now, and the numbers from which and to below which
     /// they are admitted.
     Offer(u8, Batch, Result<(u64, u64, u64), AdmitError>),
@@ -37,13 +37,13 @@ enum Act {
 }
 
 /// What is done one after another with an archive of so many collectors to which nothing was given.
-struct Script {
-    name: &'static str,
-    collectors: u8,
-    acts: &'static [Act],
+pub(crate) struct Script {
+    pub(crate) name: &'static str,
+    pub(crate) collectors: u8,
+    pub(crate) acts: &'static [Act],
 }
 
-const SCRIPTS: [Script; 7] = [
+pub(crate) const SCRIPTS: [Script; 7] = [
     Script {
         name: "an archive begins with nothing",
         collectors: 2,
@@ -135,11 +135,7 @@ const SCRIPTS: [Script; 7] = [
 ];
 
 fn two_changes(alloc: Global) -> Result<Vec<Admission>, Fail> {
-    let peer = Peer {
-        collector: 0,
-        address: Address::V4([192, 0, 2, 1]),
-        as_number: 65001,
-    };
+    let peer = peer_of(0);
     let ten = Prefix::containing(Address::V4([10, 0, 0, 0]), 8);
     let changes = vec![in alloc; Change::Withdraw(peer, ten), Change::Down(peer)]?;
     Ok(vec![in alloc; Admission::new(Moment::from(7), changes)?]?)
@@ -167,7 +163,7 @@ fn numbers(
     Ok((reply.offered, reply.receipt.from, reply.receipt.to))
 }
 
-fn resume_of(archive: &Made, collector: u8) -> Result<Resume, Fail> {
+pub(crate) fn resume_of(archive: &Made, collector: u8) -> Result<Resume, Fail> {
     if collector >= archive.collectors() {
         return Err(Fail::from("no such collector"));
     }
@@ -185,7 +181,7 @@ fn flushed(archive: &mut Made) -> Result<u32, Fail> {
 }
 
 /// Whether what is done gives what it has to.
-fn is_done(alloc: Global, archive: &mut Made, act: &Act) -> Result<bool, Fail> {
+pub(crate) fn is_done(alloc: Global, archive: &mut Made, act: &Act) -> Result<bool, Fail> {
     Ok(match act {
         Act::Offer(collector, batch, reply) => {
             numbers(archive, *collector, &offered(alloc, batch)?) == *reply

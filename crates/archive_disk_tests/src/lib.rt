@@ -2,14 +2,28 @@
 #![tactic(auto)]
 
 #[cfg(test)]
+mod asked;
+#[cfg(test)]
 mod calls;
 #[cfg(test)]
+mod checked;
+#[cfg(test)]
+mod crashed;
+#[cfg(test)]
 mod created;
+#[cfg(test)]
+mod disks;
 #[cfg(test)]
 mod failing;
 #[cfg(test)]
 mod full_rings;
 #[cfg(test)]
+mod given;
+#[cfg(test)]
 mod made;
+#[cfg(test)]
+mod mixed;
+#[cfg(test)]
+mod opened;
 #[cfg(test)]
 mod served;

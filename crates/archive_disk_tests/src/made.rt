@@ -4,7 +4,7 @@ use archive_pages::Settings;
 use disk_archive::{Archive, CreateError};
 use disk_memory::{Failure, MemErase, MemOnce, OnceFailure};
 use disk_models::EraseDisk;
-use route_model::{Admission, Mark, Moment};
+use route_model::{Address, Admission, Change, Mark, Moment, Peer, Prefix, Route, SharedRoute};
 use std::alloc::Global;
 use std::sync::Arc;
 use std::test::Fail;
@@ -12,7 +12,7 @@ use std::test::Fail;
 // The octets of a page.
 pub(crate) const PAGE: u64 = 16_384;
 
-// The blocks of each write-once disk.
+// The blocks of a write-once disk.
 const BLOCKS: u64 = 5;
 
 /// At 1704067200 peer 192.0.2.1 of AS 65001 announces 10.0.0.0/8: 67 octets.
@@ -22,9 +22,10 @@ const VECTOR: [u8; 67] = [
     2, 1, 0, 0, 0, 0, 1, 1, 0, 0, 4, 8, 0x0A, 0, 0,
 ];
 
-/// Disks below an archive: so many home pages, and the calls that fail.
+/// Disks below an archive: so many home pages and blocks, and the calls that fail.
 #[derive(Drop)]
 pub(crate) struct Disks {
+    pub(crate) blocks: u64,
     pub(crate) homes: u64,
     pub(crate) erase: Vec<Failure>,
     pub(crate) once: Vec<OnceFailure>,
@@ -32,6 +33,7 @@ pub(crate) struct Disks {
 
 pub(crate) fn disks_of(alloc: Global, homes: u64) -> Disks {
     Disks {
+        blocks: BLOCKS,
         homes,
         erase: Vec::new(alloc),
         once: Vec::new(alloc),
@@ -51,7 +53,7 @@ pub(crate) fn made_on(
     }
     let mut erase = MemErase::new(alloc, (265 + disks.homes) * PAGE);
     erase.set_script(disks.erase);
-    let (once, mut pen) = MemOnce::new(alloc, BLOCKS);
+    let (once, mut pen) = MemOnce::new(alloc, disks.blocks);
     pen.set_script(disks.once);
     Ok(
         match Archive::create(alloc, erase, Arc::new(alloc, once)?, pen, settings) {
@@ -89,6 +91,39 @@ pub(crate) fn empty_at(alloc: Global, times: &[u32]) -> Result<Vec<Admission>, F
     let mut batch = Vec::new(alloc);
     for &seconds in times {
         batch.push(Admission::new(Moment::from(seconds), Vec::new(alloc))?)?;
+    }
+    Ok(batch)
+}
+
+/// A route of 2,925 octets by 65001 and 65002, 65003 or so on.
+pub(crate) fn large_route(alloc: Global, number: u8) -> Result<SharedRoute, Fail> {
+    let mut octets = VECTOR[36..55].to_vec(alloc)?;
+    octets[12] = 0xEA + number.min(15);
+    // An attribute of type 99, with 2,900 octets.
+    octets.extend_from_slice(&[0, 1, 99, 0xC0, 0x0B, 0x54])?;
+    octets.extend_from_slice(&vec![in alloc; 0u8; 2_900]?)?;
+    let route = Route::decode(alloc, &octets)?.ok_or("no route")?;
+    Ok(SharedRoute::new(alloc, route)?)
+}
+
+/// The peer 192.0.2.1 of AS 65001, of a collector.
+pub(crate) fn peer_of(collector: u8) -> Peer {
+    Peer {
+        collector,
+        address: Address::V4([192, 0, 2, 1]),
+        as_number: 65001,
+    }
+}
+
+/// So many admissions, a second after another from 1704067200 on, of which each announces 10.0.0.0/8 by a route of 2,925 octets.
+pub(crate) fn large(alloc: Global, count: u8) -> Result<Vec<Admission>, Fail> {
+    let ten = Prefix::containing(Address::V4([10, 0, 0, 0]), 8);
+    let mut batch = Vec::new(alloc);
+    for number in 0..count {
+        let route = large_route(alloc, number)?;
+        let changes = vec![in alloc; Change::Announce(peer_of(0), ten, route)]?;
+        let time = Moment::from(1_704_067_200 + u32::from(number));
+        batch.push(Admission::new(time, changes)?)?;
     }
     Ok(batch)
 }

@@ -1,10 +1,11 @@
-//! A load and a question over an archive on disks in memory, by a worked example: its octets, and the lines that come of it.
+//! A load, a question and a check over an archive on disks in memory, by a worked example: its octets, and the lines that come of
+//! it.
 
 use crate::made::made;
 use archive_pages::Settings;
 use memory_archive::MemArchive;
 use route_model::Mark;
-use service::{Input, LoadSettings, Output, Status, ask, load};
+use service::{Input, LoadSettings, Output, Status, ask, check, load};
 use std::test::Fail;
 
 /// At 1704067200 peer 192.0.2.1 of AS 65001 announces 10.0.0.0/8: an MRT record of type BGP4MP, in 73 octets.
@@ -20,10 +21,11 @@ F|1|1|0|0|0
 S|1704067201
 R|0|192.0.2.1|65001|10.0.0.0/8|65001 65002|IGP|192.0.2.1|||NAG||
 E|1
+ok|1|1704067201
 ";
 
 #[test]
-fn a_record_is_loaded_and_its_route_is_answered(rt: HostRuntime) -> Result<(), Fail> {
+fn a_record_is_loaded_its_route_is_answered_and_it_is_counted(rt: HostRuntime) -> Result<(), Fail> {
     let alloc = rt.alloc();
     let settings = Settings {
         collectors: 1,
@@ -53,8 +55,10 @@ fn a_record_is_loaded_and_its_route_is_answered(rt: HostRuntime) -> Result<(), F
     );
     let line = "at 1704067200 prefix 10.0.0.0/8";
     let asked = ask(alloc, &mut archive, line, &mut lines, &mut refusals);
+    let checked = check(&mut archive, &mut lines, &mut refusals);
     assert_eq!(rt; loaded, Status::Done);
     assert_eq!(rt; asked, Status::Done);
+    assert_eq!(rt; checked, Status::Done);
     assert!(rt; out.as_slice() == LINES.as_bytes());
     assert!(rt; err.is_empty());
     Ok(())

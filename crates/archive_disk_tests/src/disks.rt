@@ -1,0 +1,134 @@
+//! Both disks below an archive: given up, torn by a crash, and opened again.
+
+use crate::made::Made;
+use disk_archive::{Archive, OpenError, Refused};
+use disk_memory::{Failure, MemErase, MemOnce, MemPen, OnceFailure, Torn, crash_both};
+use std::alloc::{AllocError, Global};
+use std::sync::Arc;
+use std::test::Fail;
+
+/// How many kinds of torn ranges there are.
+pub(crate) const KINDS: u8 = 4;
+
+/// How many crashes are tried: for each kind one that tears all ranges so, and one that tears them in turn.
+pub(crate) const CRASHES: u8 = 5;
+
+/// The crash that tears ranges in turn.
+pub(crate) const IN_TURN: u8 = 4;
+
+// The most ranges that are torn.
+const RANGES: u8 = 40;
+
+/// What a torn range holds: the last kind is octets that nobody wrote, an open gate's first of all.
+pub(crate) fn torn(alloc: Global, kind: u8) -> Result<Torn, AllocError> {
+    Ok(match kind {
+        0 => Torn::Old,
+        1 => Torn::New,
+        2 => Torn::Half,
+        _ => Torn::Octets(Vec::from_slice(alloc, &[0xA5, 1, 2, 3, 4, 5, 6, 7, 8, 9])?),
+    })
+}
+
+// What the ranges hold after a crash.
+fn choice(alloc: Global, crash: u8) -> Result<Vec<Torn>, AllocError> {
+    let mut choice = Vec::new(alloc);
+    for place in 0..RANGES {
+        let kind = if crash < KINDS {
+            crash
+        } else {
+            place.wrapping_add(crash) % KINDS
+        };
+        choice.push(torn(alloc, kind)?)?;
+    }
+    Ok(choice)
+}
+
+/// Both disks, with the pen of the write-once one.
+#[derive(Drop)]
+pub(crate) struct Both {
+    pub(crate) erase: MemErase,
+    pub(crate) once: MemOnce,
+    pub(crate) pen: MemPen,
+}
+
+impl Both {
+    /// The same disks once more. No failure is to come.
+    pub(crate) fn copy(&self) -> Result<Both, AllocError> {
+        let erase = self.erase.copy()?;
+        let (once, pen) = self.once.copy(&self.pen)?;
+        Ok(Both { erase, once, pen })
+    }
+
+    /// The disks behind a crash now.
+    pub(crate) fn crash(&self, alloc: Global, crash: u8) -> Result<Both, AllocError> {
+        let choice = choice(alloc, crash)?;
+        let (erase, once, pen) = crash_both(&self.erase, &self.once, &self.pen, &choice, &choice)?;
+        Ok(Both { erase, once, pen })
+    }
+
+    /// Lets a call of the erasable disk fail.
+    pub(crate) fn fail(&mut self, alloc: Global, failure: Failure) -> Result<(), AllocError> {
+        self.erase.set_script(vec![in alloc; failure]?);
+        Ok(())
+    }
+
+    /// Lets a call of the write-once disk fail.
+    pub(crate) fn fail_once(
+        &mut self,
+        alloc: Global,
+        failure: OnceFailure,
+    ) -> Result<(), AllocError> {
+        self.pen.set_script(vec![in alloc; failure]?);
+        Ok(())
+    }
+}
+
+/// The disks of an archive.
+pub(crate) fn given_up(archive: Made) -> Both {
+    let (erase, once, pen) = archive.into_disks();
+    Both {
+        erase,
+        once: *once,
+        pen,
+    }
+}
+
+/// Disks that aren't opened.
+#[derive(Drop)]
+pub(crate) struct Unopened {
+    pub(crate) disks: Both,
+    pub(crate) error: OpenError,
+}
+
+/// What opening these disks answers.
+pub(crate) fn open(alloc: Global, disks: Both) -> Result<Result<Made, Unopened>, AllocError> {
+    let Both { erase, once, pen } = disks;
+    Ok(
+        match Archive::open(alloc, erase, Arc::new(alloc, once)?, pen) {
+            Ok(archive) => Ok(archive),
+            Err(
+                Refused {
+                    erase,
+                    once,
+                    pen,
+                    error,
+                },
+            ) => Err(Unopened {
+                disks: Both {
+                    erase,
+                    once: *once,
+                    pen,
+                },
+                error,
+            }),
+        },
+    )
+}
+
+/// The archive on these disks, which name one.
+pub(crate) fn opened(alloc: Global, disks: Both) -> Result<Made, Fail> {
+    match open(alloc, disks)? {
+        Ok(archive) => Ok(archive),
+        Err(unopened) => Err(unopened.error.into()),
+    }
+}
