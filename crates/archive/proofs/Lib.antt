@@ -7,3 +7,4 @@ pub mod Giving
 pub mod Applying
 pub mod Answering
 pub mod Calling
+mod Counting

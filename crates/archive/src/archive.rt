@@ -1,16 +1,17 @@
 //! The plain archive: all in memory, in lists.
 
-ghost use Rattle.std.specs.Prelude.{◌≡◌, ◌≤◌, ◌<◌, ◌↔◌, ℕ, map, length, Some, IfOk, OnOk, OnErr, slice_get, IsOk};
+ghost use Rattle.std.specs.Prelude.{◌≡◌, ◌≤◌, ◌<◌, ◌↔◌, ℕ, map, length, Some, IfOk, IfSome, IfNone, OnOk, OnErr, slice_get, IsOk};
 ghost use Rattle.route_meaning.specs.History.{History, Intake, applied, settled};
 ghost use Rattle.archive.specs.Carries.{Carries};
 ghost use Rattle.interleaving_core.specs.Steps.{empty, marked, given, IsCollector, IsMarkAbove, Applies, NothingToApply};
 ghost use Rattle.interleaving_core.specs.World.{resume_of};
 ghost use Rattle.interleaving_core.specs.Does.{last_moment, IsReply};
+ghost use Rattle.archive_calls.specs.Does.{applied_changes};
 ghost use Rattle.archive_calls.specs.Limits.{batch_octets, IsCounterFull};
 ghost use Rattle.archive.specs.Replies.{IsTurn};
 
 use crate::admit::{AdmitRefusal, fits, take_in};
-use crate::applied::{AppliedAdmission, put};
+use crate::applied::{AppliedAdmission, count_changes, put};
 use crate::question::{Cursor, DescendRefusal, Turn, answer_over};
 use crate::queue::Queue;
 use archive_calls::{Flush, Step};
@@ -190,6 +191,17 @@ impl Archive {
         ensures same { (h : History) → Carries self.old h → Carries self.new h }
     {
         Flush::Clean
+    }
+
+    /// How many changes are applied; none where more than a `u64` tells.
+    pub fn applied_changes(&self) -> Option<u64>
+        ensures some { (h : History) → Carries self.now h → IfSome result (λ count. count ≡ applied_changes h) }
+        ensures none { (h : History) → Carries self.now h → IfNone result (18446744073709551615 < applied_changes h) }
+    {
+        let Some(whole) = count_changes(&self.applied) else {
+            return None;
+        };
+        whole.checked_add(self.begun as u64)
     }
 
     /// The start of a question. It waits for nothing.

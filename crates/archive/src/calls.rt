@@ -86,4 +86,11 @@ impl RouteArchive for Archive {
             Err(refusal) => Err(unanswered(refusal)),
         }
     }
+
+    fn check(&mut self) -> Result<u64, Trouble> {
+        match self.applied_changes() {
+            Some(count) => Ok(count),
+            None => Err(Trouble::CounterFull),
+        }
+    }
 }

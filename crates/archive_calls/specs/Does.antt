@@ -1,6 +1,7 @@
 -- What a call on an archive does to the history that it carries, and what it tells.
-use Rattle.std.specs.Prelude.{◌≡◌, ◌<◌, ◌≤◌, ⊤, ℕ, List, length, Some, slice_get, Result, Ok, Err}
+use Rattle.std.specs.Prelude.{◌≡◌, ◌<◌, ◌≤◌, ⊤, ℕ, List, length, sum_by, Some, slice_get, Result, Ok, Err}
 use Rattle.route_model.specs.Admission.{Admitted}
+use Rattle.route_meaning.specs.Merged.{Placed}
 use Rattle.route_meaning.specs.History.{Intake, History, applied, settled}
 use Rattle.interleaving_core.specs.declared.reply.BatchReply.{BatchReply}
 use Rattle.interleaving_core.specs.declared.query.Query.{Query}
@@ -10,6 +11,7 @@ use Rattle.interleaving_core.specs.Headline.{IsAnswered}
 use Rattle.interleaving_core.specs.Steps.{IsCollector, IsMarkAbove, given, marked, Applies, AppliesMore, NothingToApply}
 use Rattle.archive_calls.specs.Limits.{batch_octets, IsCounterFull}
 use Rattle.archive_calls.specs.declared.refusal.Trouble.{Trouble}
+use Rattle.archive_calls.specs.declared.refusal.Trouble.TheVariants as troubles
 use Rattle.archive_calls.specs.declared.refusal.AdmitError.{AdmitError}
 use Rattle.archive_calls.specs.declared.refusal.AdmitError.TheVariants as admits
 use Rattle.archive_calls.specs.declared.refusal.MarkError.{MarkError}
@@ -64,3 +66,29 @@ abbrev pub IsAnswerOf : History → Query → Result Answer AskError → Type 0
 IsAnswerOf h query (Ok answer) = (last_moment query < settled h) × IsAnswered (applied h) query answer
 IsAnswerOf h query (Err (asks.AboveWatermark watermark)) = (watermark ≡ settled h) × (settled h ≤ last_moment query)
 IsAnswerOf h query (Err (asks.Trouble trouble)) = ⊤
+
+-- how many changes the admissions have
+abbrev pub changes_in : List (Placed Admitted) → ℕ
+changes_in ps = sum_by (λ p. length p.item.changes) ps
+
+-- how many changes are applied
+abbrev pub applied_changes : History → ℕ
+applied_changes h = changes_in (applied h)
+
+-- Why what is applied isn't counted: a device failed, the archive must be opened again, or memory was wanting; or a count has no room for so
+-- many changes. Of an archive that carries a history no page and no block is called damaged.
+abbrev pub IsUnchecked : History → Trouble → Type 0
+IsUnchecked h troubles.Fault = ⊤
+IsUnchecked h troubles.NeedsRecovery = ⊤
+IsUnchecked h troubles.PagesFull = ⊥
+IsUnchecked h troubles.OnceFull = ⊥
+IsUnchecked h (troubles.Damaged block) = ⊥
+IsUnchecked h (troubles.BadNode page) = ⊥
+IsUnchecked h troubles.TooHigh = ⊥
+IsUnchecked h troubles.CounterFull = 18446744073709551615 < applied_changes h
+IsUnchecked h troubles.OutOfMemory = ⊤
+
+-- this is how many changes are applied; or it isn't told, for its reason
+abbrev pub DoesCheck : Result ℕ Trouble → History → Type 0
+DoesCheck (Ok count) h = count ≡ applied_changes h
+DoesCheck (Err trouble) h = IsUnchecked h trouble

@@ -3,7 +3,7 @@
 ghost use Rattle.std.specs.Prelude.{◌≡◌, ◌≤◌, ℕ, length, map, slice_get};
 ghost use Rattle.route_meaning.specs.History.{History, IsHistory, settled};
 ghost use Rattle.interleaving_core.specs.World.{resume_of};
-ghost use Rattle.archive_calls.specs.Does.{DoesAdmit, DoesMark, DoesApply, IsAnswerOf};
+ghost use Rattle.archive_calls.specs.Does.{DoesAdmit, DoesMark, DoesApply, DoesCheck, IsAnswerOf};
 
 use crate::refusal::{AdmitError, AskError, MarkError, Trouble};
 use crate::told::{Flush, Step};
@@ -65,6 +65,13 @@ pub trait RouteArchive {
     /// Answers a question whose last moment is below the settled watermark.
     fn answer(&mut self, query: Query) -> Result<Answer, AskError>
         ensures done { (h : History) → carries self.old h → IsAnswerOf h query result }
+        ensures carries { (h : History) → carries self.old h → carries self.new h }
+        ensures most { most self.new ≡ most self.old };
+
+    /// Reads all that the archive keeps of what is applied, and tells how many changes that is. The first page or block that
+    /// isn't what may stand there is told; of an archive that carries a history none is.
+    fn check(&mut self) -> Result<u64, Trouble>
+        ensures done { (h : History) → carries self.old h → DoesCheck result h }
         ensures carries { (h : History) → carries self.old h → carries self.new h }
         ensures most { most self.new ≡ most self.old };
 

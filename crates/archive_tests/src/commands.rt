@@ -1,6 +1,6 @@
 //! The command line: which words are accepted and as what.
 
-use service::{CommandError, Creation, Invocation, Loading, Question, command};
+use service::{Checking, CommandError, Creation, Invocation, Loading, Question, command};
 use std::alloc::Global;
 
 /// Words that are those of `create` with the folder a, and the numbers that they say.
@@ -209,6 +209,15 @@ const ASKED: [(&[&str], &str); 7] = [
     (&["rha", "ask", "--", "a", "check"], "check"),
 ];
 
+/// Words that are those of `check`, and the folder that they say.
+const CHECKED: [(&[&str], &str); 4] = [
+    (&["rha", "check", "a"], "a"),
+    (&["rha", "check", ""], ""),
+    (&["rha", "check", "--", "a"], "a"),
+    // Behind two dashes alone no word is an option.
+    (&["rha", "check", "--", "--help"], "--help"),
+];
+
 /// Texts that are no marks.
 const NO_MARKS: [&str; 6] = [
     "",
@@ -240,6 +249,10 @@ fn is_asked(asked: &Question<'_>, line: &str) -> bool {
     asked.folder == "a" && asked.line.as_str() == line
 }
 
+fn is_of(asked: &Checking<'_>, folder: &str) -> bool {
+    asked.folder == folder
+}
+
 /// Whether the words are those of `create`, as this.
 fn is_creation(alloc: Global, wanted: &Created) -> bool {
     match command(alloc, wanted.words) {
@@ -261,6 +274,14 @@ fn is_loading(alloc: Global, wanted: &Loaded) -> bool {
 fn is_question(alloc: Global, words: &[&str], line: &str) -> bool {
     match command(alloc, words) {
         Ok(Invocation::Ask(asked)) => is_asked(&asked, line),
+        _ => false,
+    }
+}
+
+/// Whether the words are those of `check`, with this folder.
+fn is_checking(alloc: Global, words: &[&str], folder: &str) -> bool {
+    match command(alloc, words) {
+        Ok(Invocation::Check(asked)) => is_of(&asked, folder),
         _ => false,
     }
 }
@@ -301,6 +322,13 @@ fn words_of_load_are_accepted(rt: HostRuntime) {
 fn words_of_ask_are_accepted(rt: HostRuntime) {
     for (words, line) in &ASKED {
         assert!(rt; is_question(rt.alloc(), words, line), "{line}");
+    }
+}
+
+#[test]
+fn words_of_check_are_accepted(rt: HostRuntime) {
+    for (words, folder) in &CHECKED {
+        assert!(rt; is_checking(rt.alloc(), words, folder), "{folder}");
     }
 }
 

@@ -65,6 +65,10 @@ impl RouteArchive for Crowded {
     fn answer(&mut self, query: Query) -> Result<Answer, AskError> {
         RouteArchive::answer(&mut self.archive, query)
     }
+
+    fn check(&mut self) -> Result<u64, Trouble> {
+        RouteArchive::check(&mut self.archive)
+    }
 }
 
 /// What a feed of one UPDATE writes into a full archive, and how it ends.

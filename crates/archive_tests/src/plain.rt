@@ -51,6 +51,8 @@ enum Act {
     Rows(u32, Option<usize>),
     /// How many events a question has up to the moment.
     Events(u32, Option<usize>),
+    /// How many changes are applied.
+    Changes(u64),
 }
 
 /// What is done one after another with an empty archive of so many collectors.
@@ -121,10 +123,13 @@ const SCRIPTS: [Script; 6] = [
         acts: &[
             Act::Offer(0, Batch::TwoChanges, Ok((1, 0, 1))),
             Act::Mark(0, 9, Ok(())),
+            Act::Changes(0),
             Act::Apply(Step::Applied),
+            Act::Changes(1),
             Act::Settled(7),
             Act::Events(7, None),
             Act::Apply(Step::Applied),
+            Act::Changes(2),
             Act::Settled(9),
             Act::Events(7, Some(2)),
             Act::Apply(Step::Idle),
@@ -283,6 +288,7 @@ fn is_done(alloc: Global, archive: &mut Archive, act: &Act) -> Result<bool, Fail
         }
         Act::Rows(seconds, rows) => told(archive, rows_at(*seconds))? == *rows,
         Act::Events(seconds, events) => told(archive, events_to(*seconds))? == *events,
+        Act::Changes(count) => archive.applied_changes() == Some(*count),
     })
 }
 

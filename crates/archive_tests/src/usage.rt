@@ -22,6 +22,7 @@ Commands:
   create  Makes the folder DIR, which isn't there yet, with an empty archive
   load    Loads a file of MRT records as a collector's
   ask     Answers a request line
+  check   Reads through an archive, and tells the first damage
 
 Options:
   -h, --help     Print help
@@ -31,6 +32,7 @@ Example:
   rha create a --collectors 1 --ring 16 --pages 64 --blocks 64
   rha load a --collector 0 --mark 2024-01-01T00:15:00Z updates.mrt
   rha ask a at 2024-01-01T00:10:00Z prefix 10.0.0.0/8
+  rha check a
 
 `rha COMMAND --help` has the limits of a command, its defaults and its exit statuses.
 
@@ -132,6 +134,28 @@ refused or couldn't be written (told on standard error as `rha: NUMBER NAME`); 2
 accepted.
 ";
 
+const CHECK_HELP: &str = "Reads through an archive, and tells the first damage
+
+Usage: rha check <DIR>
+
+Arguments:
+  <DIR>  The folder of the archive
+
+Options:
+  -h, --help  Print help
+
+Reads every page and block that answers come from, and counts the changes in them. What waits in the rings
+isn't read. Nothing that is answered later is changed.
+Prints `ok|CHANGES|SETTLED`: how many changes are applied, and the settled watermark.
+
+Example:
+  rha check a
+
+Exit status: 0 where all could be read, and has as many changes as were applied; 1 where a block or a page
+isn't what may stand there, which standard error tells as `rha: 8 Damaged` or `rha: 9 BadNode`, or something
+else was refused or couldn't be written (`rha: NUMBER NAME`); 2 where the command line isn't accepted.
+";
+
 /// What is told of a wrong use ends with a usage: of the program, of what a command requires, or of all that it takes.
 const USAGE_END: &str = "\n\nUsage: rha <COMMAND>\n\nFor more information, try '--help'.\n";
 
@@ -143,10 +167,12 @@ const LOAD_END: &str =
 
 const ASK_END: &str = "\n\nUsage: rha ask <DIR> <WORD>...\n\nFor more information, try '--help'.\n";
 
+const CHECK_END: &str = "\n\nUsage: rha check <DIR>\n\nFor more information, try '--help'.\n";
+
 const MORE_END: &str = "\n\nFor more information, try '--help'.\n";
 
 /// Help and the version.
-const ASKED_FOR: [Shown; 6] = [
+const ASKED_FOR: [Shown; 7] = [
     Shown {
         words: &["rha", "--help"],
         kind: ErrorKind::DisplayHelp,
@@ -183,6 +209,13 @@ const ASKED_FOR: [Shown; 6] = [
         end: "",
     },
     Shown {
+        words: &["rha", "check", "--help"],
+        kind: ErrorKind::DisplayHelp,
+        code: 0,
+        text: CHECK_HELP,
+        end: "",
+    },
+    Shown {
         words: &["rha", "--version"],
         kind: ErrorKind::DisplayVersion,
         code: 0,
@@ -192,12 +225,12 @@ const ASKED_FOR: [Shown; 6] = [
 ];
 
 /// Words that aren't accepted.
-const WRONG: [Shown; 10] = [
+const WRONG: [Shown; 13] = [
     Shown {
         words: &["rha"],
         kind: ErrorKind::MissingSubcommand,
         code: 2,
-        text: "error: 'rha' requires a subcommand but one was not provided\n  [subcommands: create, load, ask]",
+        text: "error: 'rha' requires a subcommand but one was not provided\n  [subcommands: create, load, ask, check]",
         end: USAGE_END,
     },
     Shown {
@@ -241,6 +274,27 @@ const WRONG: [Shown; 10] = [
         code: 2,
         text: "error: the following required arguments were not provided:\n  <WORD>...",
         end: ASK_END,
+    },
+    Shown {
+        words: &["rha", "check"],
+        kind: ErrorKind::MissingRequiredArgument,
+        code: 2,
+        text: "error: the following required arguments were not provided:\n  <DIR>",
+        end: CHECK_END,
+    },
+    Shown {
+        words: &["rha", "check", "a", "b"],
+        kind: ErrorKind::UnknownArgument,
+        code: 2,
+        text: "error: unexpected argument 'b' found",
+        end: CHECK_END,
+    },
+    Shown {
+        words: &["rha", "check", "a", "--collector=0"],
+        kind: ErrorKind::UnknownArgument,
+        code: 2,
+        text: "error: unexpected argument '--collector' found\n\n  tip: to pass '--collector' as a value, use '-- --collector'",
+        end: CHECK_END,
     },
     Shown {
         words: &[

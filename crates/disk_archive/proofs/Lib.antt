@@ -26,4 +26,5 @@ mod Reopened
 mod Meanings
 mod Empties
 mod Asking
+mod Counts
 pub mod api

@@ -11,4 +11,5 @@ pub mod Notes
 pub mod Openings
 pub mod Creations
 pub mod Outcome
+pub mod Checks
 pub mod inner

@@ -11,3 +11,4 @@ pub mod Restoring
 pub mod Recalling
 pub mod Creating
 pub mod Asking
+pub mod Checking

@@ -14,7 +14,7 @@ use Rattle.interleaving_core.specs.declared.query.Query.{Query}
 use Rattle.interleaving_core.specs.declared.query.Answer.{Answer}
 use Rattle.interleaving_core.specs.declared.reply.BatchReply.{BatchReply}
 use Rattle.intake.specs.Ring.{entry_octets}
-use Rattle.archive_calls.specs.Does.{IsAnswerOf, IsRefusal, IsTaken, DoesMark, AppliesSome}
+use Rattle.archive_calls.specs.Does.{IsAnswerOf, IsRefusal, IsTaken, IsUnchecked, DoesMark, AppliesSome}
 use Rattle.archive_calls.specs.Limits.{batch_octets, IsCounterFull as IsCountFull}
 use Rattle.disk_archive.specs.declared.archive.Archive.{Archive}
 use Rattle.disk_archive.specs.declared.error.AdmitError.{AdmitError}
@@ -23,12 +23,14 @@ use Rattle.disk_archive.specs.declared.mark_error.MarkError.{MarkError}
 use Rattle.disk_archive.specs.declared.mark_error.MarkError.TheVariants as marks
 use Rattle.disk_archive.specs.declared.ask_error.AskError.{AskError}
 use Rattle.disk_archive.specs.declared.ask_error.AskError.TheVariants as asks
+use Rattle.disk_archive.specs.declared.check_error.CheckError.{CheckError}
+use Rattle.disk_archive.specs.declared.check_error.CheckError.TheVariants as checks
 use Rattle.disk_archive.specs.Archives.{GoesOn, IsHonest, Stands, settings_of}
 use Rattle.disk_archive.specs.Crashes.{Lasts}
 use Rattle.route_meaning.proofs.api.Beginning.{Begins-refl}
 use Rattle.disk_archive.specs.Limits.{IsCounterFull}
 use Rattle.disk_archive.specs.Moves.{Moves}
-use Rattle.file_archive.specs.Refusals.{of_admit, of_ask, of_mark}
+use Rattle.file_archive.specs.Refusals.{of_admit, of_ask, of_check, of_mark}
 
 -- an archive goes on with a history only on disks that follow their models
 pub honest_of : {E O Pen Seen : Type 0} {erase : EraseGhosts E} {once : OnceGhosts O Pen Seen} (a : Archive E O Pen Seen erase once) (h : History) → GoesOn a h → IsHonest a
@@ -102,6 +104,14 @@ not_answered down h query (asks.BadNode page) above = tt
 not_answered down h query (asks.Damaged block) above = tt
 not_answered down h query asks.Fault above = tt
 not_answered down h query asks.OutOfMemory above = tt
+
+-- why the changes that are applied aren't counted
+pub not_checked : (h : History) (e : CheckError) → ((page : ℕ) → e ≡ checks.BadNode page → ⊥) → ((block : ℕ) → e ≡ checks.Damaged block → ⊥) → IsUnchecked h (of_check e)
+not_checked h checks.NeedsRecovery bad damaged = tt
+not_checked h (checks.BadNode page) bad damaged = bad page refl
+not_checked h (checks.Damaged block) bad damaged = damaged block refl
+not_checked h checks.Fault bad damaged = tt
+not_checked h checks.OutOfMemory bad damaged = tt
 
 -- some of the history is applied
 pub moves_some : (h g : History) → Moves h g → AppliesSome h g

@@ -17,6 +17,8 @@ use Rattle.disk_archive.specs.declared.flush_error.FlushError.{FlushError}
 use Rattle.disk_archive.specs.declared.flush_error.FlushError.TheVariants as flushes
 use Rattle.disk_archive.specs.declared.ask_error.AskError.{AskError}
 use Rattle.disk_archive.specs.declared.ask_error.AskError.TheVariants as asks
+use Rattle.disk_archive.specs.declared.check_error.CheckError.{CheckError}
+use Rattle.disk_archive.specs.declared.check_error.CheckError.TheVariants as checks
 
 -- why a batch isn't taken
 abbrev pub of_admit : AdmitError → AdmitRefusal
@@ -61,3 +63,11 @@ of_ask (asks.BadNode page) = ask_refusals.Trouble (troubles.BadNode page)
 of_ask (asks.Damaged block) = ask_refusals.Trouble (troubles.Damaged block)
 of_ask asks.Fault = ask_refusals.Trouble troubles.Fault
 of_ask asks.OutOfMemory = ask_refusals.Trouble troubles.OutOfMemory
+
+-- why a check isn't done, or what it found
+abbrev pub of_check : CheckError → Trouble
+of_check checks.NeedsRecovery = troubles.NeedsRecovery
+of_check (checks.BadNode page) = troubles.BadNode page
+of_check (checks.Damaged block) = troubles.Damaged block
+of_check checks.Fault = troubles.Fault
+of_check checks.OutOfMemory = troubles.OutOfMemory

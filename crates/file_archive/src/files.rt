@@ -2,7 +2,9 @@
 
 ghost use Rattle.std.specs.Prelude.{◌≡◌, ◌≤◌, ◌↔◌, ◌*◌, min, max};
 
-use crate::refusals::{admit_refusal, apply_trouble, ask_refusal, flush_trouble, mark_refusal};
+use crate::refusals::{
+    admit_refusal, apply_trouble, ask_refusal, check_trouble, flush_trouble, mark_refusal,
+};
 use archive_calls::{
     AdmitError, AskError, Flush, MAX_BATCH_LEN, MarkError, RouteArchive, Step, Trouble,
 };
@@ -108,6 +110,13 @@ impl RouteArchive for FileArchive {
         match self.archive.answer(query) {
             Ok(answer) => Ok(answer),
             Err(refusal) => Err(ask_refusal(refusal)),
+        }
+    }
+
+    fn check(&mut self) -> Result<u64, Trouble> {
+        match self.archive.check() {
+            Ok(count) => Ok(count),
+            Err(refusal) => Err(check_trouble(refusal)),
         }
     }
 }

@@ -1,7 +1,7 @@
 //! Why calls on an archive on disks are refused, as feeds and questions know it.
 
 ghost use Rattle.std.specs.Prelude.{◌≡◌};
-ghost use Rattle.file_archive.specs.Refusals.{of_admit, of_apply, of_ask, of_flush, of_mark};
+ghost use Rattle.file_archive.specs.Refusals.{of_admit, of_apply, of_ask, of_check, of_flush, of_mark};
 
 use archive_calls::{AdmitError, AskError, MarkError, Trouble};
 use disk_archive as disks;
@@ -72,5 +72,18 @@ pub(crate) fn ask_refusal(refusal: disks::AskError) -> AskError
         disks::AskError::Damaged(block) => AskError::Trouble(Trouble::Damaged(block)),
         disks::AskError::Fault => AskError::Trouble(Trouble::Fault),
         disks::AskError::OutOfMemory => AskError::Trouble(Trouble::OutOfMemory),
+    }
+}
+
+/// Why a check isn't done, or what it found.
+pub(crate) fn check_trouble(refusal: disks::CheckError) -> Trouble
+    ensures why { result ≡ of_check refusal }
+{
+    match refusal {
+        disks::CheckError::NeedsRecovery => Trouble::NeedsRecovery,
+        disks::CheckError::BadNode(page) => Trouble::BadNode(page),
+        disks::CheckError::Damaged(block) => Trouble::Damaged(block),
+        disks::CheckError::Fault => Trouble::Fault,
+        disks::CheckError::OutOfMemory => Trouble::OutOfMemory,
     }
 }

@@ -1,6 +1,8 @@
 //! The archive on disks in memory, as feeds and questions use it.
 
-use crate::refusals::{admit_refusal, apply_trouble, ask_refusal, flush_trouble, mark_refusal};
+use crate::refusals::{
+    admit_refusal, apply_trouble, ask_refusal, check_trouble, flush_trouble, mark_refusal,
+};
 use archive_calls as calls;
 use archive_calls::{RouteArchive, Trouble};
 use disk_archive::{Archive, Flush, Step};
@@ -87,6 +89,13 @@ impl RouteArchive for MemArchive {
         match self.archive.answer(query) {
             Ok(answer) => Ok(answer),
             Err(refusal) => Err(ask_refusal(refusal)),
+        }
+    }
+
+    fn check(&mut self) -> Result<u64, Trouble> {
+        match self.archive.check() {
+            Ok(count) => Ok(count),
+            Err(refusal) => Err(check_trouble(refusal)),
         }
     }
 }

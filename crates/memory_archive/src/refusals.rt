@@ -1,11 +1,11 @@
 //! The refusals of an archive on disks, as those that feeds and questions know.
 
 ghost use Rattle.std.specs.Prelude.{◌≡◌};
-ghost use Rattle.memory_archive.specs.inner.RouteCalls.{of_admit, of_apply, of_ask, of_flush, of_mark};
+ghost use Rattle.memory_archive.specs.inner.RouteCalls.{of_admit, of_apply, of_ask, of_check, of_flush, of_mark};
 
 use archive_calls as calls;
 use archive_calls::Trouble;
-use disk_archive::{AdmitError, ApplyError, AskError, FlushError, MarkError};
+use disk_archive::{AdmitError, ApplyError, AskError, CheckError, FlushError, MarkError};
 
 // Why a batch isn't taken.
 pub fn admit_refusal(refusal: AdmitError) -> calls::AdmitError
@@ -73,5 +73,18 @@ pub fn ask_refusal(refusal: AskError) -> calls::AskError
         AskError::Damaged(block) => calls::AskError::Trouble(Trouble::Damaged(block)),
         AskError::Fault => calls::AskError::Trouble(Trouble::Fault),
         AskError::OutOfMemory => calls::AskError::Trouble(Trouble::OutOfMemory),
+    }
+}
+
+// Why a check isn't done, or what it found.
+pub fn check_trouble(refusal: CheckError) -> Trouble
+    ensures why { result ≡ of_check refusal }
+{
+    match refusal {
+        CheckError::NeedsRecovery => Trouble::NeedsRecovery,
+        CheckError::BadNode(page) => Trouble::BadNode(page),
+        CheckError::Damaged(block) => Trouble::Damaged(block),
+        CheckError::Fault => Trouble::Fault,
+        CheckError::OutOfMemory => Trouble::OutOfMemory,
     }
 }

@@ -10,8 +10,8 @@ use crate::refusals::{tell_no_file, tell_unmade, tell_unopened};
 use archive_pages::Settings;
 use file_archive::{FileArchive, FileDisks};
 use service::{
-    Creation, Input, Loading, Output, Question, ask_line, load_file, tell_created, tell_failures,
-    tell_out_of_memory, tell_outside, tell_unwritten,
+    Checking, Creation, Input, Loading, Output, Question, ask_line, check_archive, load_file,
+    tell_created, tell_failures, tell_out_of_memory, tell_outside, tell_unwritten,
 };
 use std::fs::File;
 use std::io::{BufWriter, Write};
@@ -87,6 +87,21 @@ pub(crate) fn ask<E: Write>(rt: &HostRuntime, asked: &Question<'_>, err: &mut Ou
     };
     let mut out = Output::new(buffer);
     let code = ask_line(alloc, &mut archive, asked, &mut out, err);
+    tell_unwritten(alloc, &out, err);
+    code
+}
+
+/// Checks the archive of a folder.
+pub(crate) fn check<E: Write>(rt: &HostRuntime, asked: &Checking<'_>, err: &mut Output<E>) -> u8 {
+    let alloc = rt.alloc();
+    let Some(mut archive) = open(rt, asked.folder, err) else {
+        return 1;
+    };
+    let Ok(buffer) = BufWriter::new(alloc, rt.stdout()) else {
+        return tell_out_of_memory(err);
+    };
+    let mut out = Output::new(buffer);
+    let code = check_archive(&mut archive, &mut out, err);
     tell_unwritten(alloc, &out, err);
     code
 }

@@ -6,7 +6,7 @@ mod commands;
 mod opening;
 mod refusals;
 
-use crate::commands::{ask, create, load};
+use crate::commands::{ask, check, create, load};
 use service::{Invocation, Output, command, tell_out_of_memory, tell_outside, tell_usage};
 use std::env;
 use std::io::Write;
@@ -26,6 +26,7 @@ fn run<E: Write>(rt: &HostRuntime, err: &mut Output<E>) -> u8 {
         Ok(Invocation::Create(asked)) => create(rt, &asked, err),
         Ok(Invocation::Load(asked)) => load(rt, &asked, err),
         Ok(Invocation::Ask(asked)) => ask(rt, &asked, err),
+        Ok(Invocation::Check(asked)) => check(rt, &asked, err),
         Err(error) => tell_usage(rt, &error, err),
     }
 }

@@ -18,7 +18,7 @@ use Rattle.std.specs.Box.{box_value}
 use Rattle.service.specs.CommandLines.{program, AreWordsOf, IsInvocation, HasBadMark}
 use Rattle.service.specs.inner.Naming.{IsCommand, AsksFor, NamesNoMark}
 use Rattle.service.specs.declared.invocation.Invocation.{Invocation}
-use Rattle.service.specs.declared.invocation.Invocation.TheVariants.{Create, Load, Ask}
+use Rattle.service.specs.declared.invocation.Invocation.TheVariants.{Create, Load, Ask, Check}
 use Rattle.service.specs.declared.invocation.CommandError.{CommandError}
 use Rattle.service.specs.declared.invocation.CommandError.TheVariants.{Usage, OutOfMemory}
 
@@ -58,23 +58,30 @@ has_entered words e =
     let defaults = last_fault (settle_fault top.rules top.args_override_self end) _ level in
     is_checked _ (finished top.rules end) (last_fault (defaults_fault (settled top.rules end).rows top.rules) _ defaults)
 
--- where one of three is found, it is the first, the second or the third
-one_of_three : {A B : Type 0} (f : A → B) (a b c : Bool) (w x y : A) → is_some (option_map f (cond a (Some w) (cond b (Some x) (cond c (Some y) None)))) ≡ true
-    → (option_map f (cond a (Some w) (cond b (Some x) (cond c (Some y) None))) ≡ Some (f w))
-    ⊎ ((option_map f (cond a (Some w) (cond b (Some x) (cond c (Some y) None))) ≡ Some (f x))
-    ⊎ (option_map f (cond a (Some w) (cond b (Some x) (cond c (Some y) None))) ≡ Some (f y)))
-one_of_three f true b c w x y e = inl refl
-one_of_three f false true c w x y e = inr (inl refl)
-one_of_three f false false true w x y e = inr (inr refl)
-one_of_three f false false false w x y e = absurd cc
+-- the first that is chosen of four
+abbrev first_of_four : {A : Type 0} (a b c d : Bool) (w x y z : A) → Option A
+first_of_four a b c d w x y z = cond a (Some w) (cond b (Some x) (cond c (Some y) (cond d (Some z) None)))
+
+-- where one of four is found, it is the first, the second, the third or the fourth
+one_of_four : {A B : Type 0} (f : A → B) (a b c d : Bool) (w x y z : A) → is_some (option_map f (first_of_four a b c d w x y z)) ≡ true
+    → (option_map f (first_of_four a b c d w x y z) ≡ Some (f w))
+    ⊎ ((option_map f (first_of_four a b c d w x y z) ≡ Some (f x))
+    ⊎ ((option_map f (first_of_four a b c d w x y z) ≡ Some (f y))
+    ⊎ (option_map f (first_of_four a b c d w x y z) ≡ Some (f z))))
+one_of_four f true b c d w x y z e = inl refl
+one_of_four f false true c d w x y z e = inr (inl refl)
+one_of_four f false false true d w x y z e = inr (inr (inl refl))
+one_of_four f false false false true w x y z e = inr (inr (inr refl))
+one_of_four f false false false false w x y z e = absurd cc
 
 abbrev name_in : Option (Text × List Row) → Option Text
 name_in = option_map (λ (p : Text × List Row). p.0)
 
 enters_one : (found : Option (Text × List Text)) → is_some (entered (built program) found) ≡ true → IsCommand (name_in (entered (built program) found))
 enters_one None e = absurd cc
-enters_one (Some p) e = ⊎_elim (λ h. inl (ap name_in h)) (λ r. ⊎_elim (λ h. inr (inl (ap name_in h))) (λ h. inr (inr (ap name_in h))) r)
-    (one_of_three (λ (s : Shape). rows_at s p.1) _ _ _ _ _ _ e)
+enters_one (Some p) e = ⊎_elim (λ h. inl (ap name_in h))
+    (λ r. ⊎_elim (λ h. inr (inl (ap name_in h))) (λ s. ⊎_elim (λ h. inr (inr (inl (ap name_in h)))) (λ h. inr (inr (inr (ap name_in h)))) s) r)
+    (one_of_four (λ (s : Shape). rows_at s p.1) _ _ _ _ _ _ _ _ e)
 
 -- ---- what a parse that succeeds has met
 
@@ -109,6 +116,7 @@ pub asked_by : (app : App) (words : List Text) (m : ArgMatches) (i : Invocation)
 asked_by app words m (Create c) h a = (a.0, words_met app words m (codes "create") a.0 h a.1, a.2)
 asked_by app words m (Load l) h a = (a.0, words_met app words m (codes "load") a.0 h a.1, a.2)
 asked_by app words m (Ask q) h a = (a.0, words_met app words m (codes "ask") a.0 h a.1, a.2)
+asked_by app words m (Check c) h a = (a.0, words_met app words m (codes "check") a.0 h a.1, a.2)
 
 pub no_mark_by : (app : App) (words : List Text) (m : ArgMatches) → IsMet app words m → NamesNoMark (subcommand_rows_of m) → HasBadMark words
 no_mark_by app words m h a = (a.0, words_met app words m (codes "load") a.0 h a.1, a.2)

@@ -15,3 +15,4 @@ pub mod Statuses
 pub mod OneRequest
 pub mod Answered
 pub mod Counting
+pub mod Checked

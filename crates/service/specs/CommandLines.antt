@@ -13,8 +13,9 @@ use Rattle.route_text.specs.MomentText.{IsMarkText}
 use Rattle.service.specs.declared.invocation.Creation.{Creation}
 use Rattle.service.specs.declared.invocation.Loading.{Loading}
 use Rattle.service.specs.declared.invocation.Question.{Question}
+use Rattle.service.specs.declared.invocation.Checking.{Checking}
 use Rattle.service.specs.declared.invocation.Invocation.{Invocation}
-use Rattle.service.specs.declared.invocation.Invocation.TheVariants.{Create, Load, Ask}
+use Rattle.service.specs.declared.invocation.Invocation.TheVariants.{Create, Load, Ask, Check}
 
 -- a word with this name, which has to be there
 abbrev pub word_rule : List ℕ → Rule
@@ -81,13 +82,17 @@ loading = with_rule (with_rule (with_rule loading_of_batches mark_rule) resume_r
 abbrev pub question : App
 question = with_rule (of_folder (codes "ask")) words_rule
 
+-- check DIR
+abbrev pub checking : App
+checking = of_folder (codes "check")
+
 -- the program without its commands, of which one has to be there
 abbrev pub bare_program : App
 bare_program = on_top (λ s. record s { subcommand_required = true; disable_help_subcommand = true; has_version = true }) (new_app (codes "rha"))
 
 -- the program
 abbrev pub program : App
-program = with_subcommand (with_subcommand (with_subcommand bare_program creation.top) loading.top) question.top
+program = with_subcommand (with_subcommand (with_subcommand (with_subcommand bare_program creation.top) loading.top) question.top) checking.top
 
 -- what a mark has to be, as standard error tells it
 abbrev pub mark_texts : List ℕ
@@ -147,6 +152,10 @@ pub record IsQuestion (rows : List Row) (q : Question) : Type 0 where
   pub folder : q.folder.now ≡ word_in (codes "DIR") rows
   pub line : string_bytes q.line ≡ spaced (unwrap_or (all_of (codes "WORD") rows) [])
 
+-- what is read of the arguments of `check`
+abbrev pub IsChecking : List Row → Checking → Type 0
+IsChecking rows c = c.folder.now ≡ word_in (codes "DIR") rows
+
 -- the words are accepted: they are those of the command of this name with these arguments
 pub record AreWordsOf (name : List ℕ) (words : List (List ℕ)) (rows : List Row) : Type 0 where
   pub accepted : fault_of program words ≡ []
@@ -157,6 +166,7 @@ abbrev pub IsInvocation : List (List ℕ) → Invocation → Type 0
 IsInvocation words (Create c) = (rows : List Row) × AreWordsOf (codes "create") words rows × IsCreation rows c
 IsInvocation words (Load l) = (rows : List Row) × AreWordsOf (codes "load") words rows × IsLoading rows l
 IsInvocation words (Ask q) = (rows : List Row) × AreWordsOf (codes "ask") words rows × IsQuestion rows q
+IsInvocation words (Check c) = (rows : List Row) × AreWordsOf (codes "check") words rows × IsChecking rows c
 
 -- the words are accepted as those of `load`, but the text of the mark is that of no mark
 abbrev pub HasBadMark : List (List ℕ) → Type 0

@@ -16,4 +16,5 @@ pub mod CommandLines
 pub mod RequestLaws
 pub mod Running
 pub mod Telling
+pub mod Checks
 pub mod inner

@@ -2,6 +2,7 @@
 use Rattle.std.specs.Prelude.{◌≡◌, ℕ, Bool, true, false, Option, List, [], ◌++◌, codes, decimal, string_bytes}
 use Rattle.route_meaning.specs.History.{History}
 use Rattle.service.specs.Carried.{Carried}
+use Rattle.service.specs.Checks.{IsCheckEnd}
 use Rattle.service.specs.Feeds.{MayGive}
 use Rattle.service.specs.FeedTexts.{intake_in}
 use Rattle.service.specs.Loads.{IsLoadEnd}
@@ -41,6 +42,14 @@ pub record IsLineAsked (line : List ℕ) (h : History) (code : ℕ) (was now err
   pub answered_err : OutputState
   pub answer : IsAskEnd h line answered was answered_to err_was answered_err
   pub written : IsWrittenOut answered code answered_to now answered_err err_now
+
+-- the archive, which carries h, was checked, and what was buffered was written out
+pub record IsArchiveChecked (h : History) (code : ℕ) (was now err_was err_now : OutputState) : Type 0 where
+  pub checked : Status
+  pub checked_to : OutputState
+  pub checked_err : OutputState
+  pub check : IsCheckEnd h checked was checked_to err_was checked_err
+  pub written : IsWrittenOut checked code checked_to now checked_err err_now
 
 -- what an archive is made with: its collectors, the pages of a ring, its pages and its blocks
 abbrev pub created_line : Creation → List ℕ

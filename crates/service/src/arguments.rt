@@ -4,7 +4,7 @@ ghost use Rattle.std.specs.Prelude.{◌≡◌, IfOk, false, codes};
 ghost use Rattle.clap.specs.Simple.{app_of};
 ghost use Rattle.clap.specs.Walk.{rule_of};
 ghost use Rattle.clap.specs.declared.builder.command.Command.TheViews.{out-Command};
-ghost use Rattle.service.specs.CommandLines.{batch_rule, mark_rule, resume_rule, words_rule, word_rule, number_rule, of_folder, creation_of_rings, creation, loading_of_batches, loading, question, bare_program, program};
+ghost use Rattle.service.specs.CommandLines.{batch_rule, mark_rule, resume_rule, words_rule, word_rule, number_rule, of_folder, creation_of_rings, creation, loading_of_batches, loading, question, checking, bare_program, program};
 
 use crate::help;
 use clap::builder::ValueParser;
@@ -182,6 +182,15 @@ fn question<'a>(alloc: Global) -> Result<Command<'a>, AllocError>
     of_folder(alloc, "ask", "Answers a request line", help::ASK)?.arg(words(alloc))
 }
 
+/// `check DIR`
+fn checking<'a>(alloc: Global) -> Result<Command<'a>, AllocError>
+    ensures app { IfOk result (λ c. app_of c ≡ checking) }
+    ensures own { IfOk result (λ c. (out-Command c).has_globals ≡ false) }
+{
+    let about = "Reads through an archive, and tells the first damage";
+    of_folder(alloc, "check", about, help::CHECK)
+}
+
 /// The program, without its commands.
 fn bare_program<'a>(alloc: Global) -> Command<'a>
     ensures app { app_of result ≡ bare_program }
@@ -201,5 +210,6 @@ pub(crate) fn program<'a>(alloc: Global) -> Result<Command<'a>, AllocError>
     bare_program(alloc)
         .subcommand(creation(alloc)?)?
         .subcommand(loading(alloc)?)?
-        .subcommand(question(alloc)?)
+        .subcommand(question(alloc)?)?
+        .subcommand(checking(alloc)?)
 }

@@ -8,13 +8,13 @@ ghost use Rattle.clap.specs.Simple.{subcommand_rows_of};
 ghost use Rattle.clap.specs.Walk.{Row, rows_of, first_of, one_of};
 ghost use Rattle.clap.specs.Values.{kind_of};
 ghost use Rattle.clap.specs.declared.error.Error.{Error};
-ghost use Rattle.service.specs.CommandLines.{program, spaced, word_in, IsMarkIf, IsNoMark, IsNumber, IsThere, IsCreation, IsLoading, IsQuestion, IsInvocation, HasBadMark};
+ghost use Rattle.service.specs.CommandLines.{program, spaced, word_in, IsMarkIf, IsNoMark, IsNumber, IsThere, IsCreation, IsLoading, IsQuestion, IsChecking, IsInvocation, HasBadMark};
 ghost use Rattle.service.specs.inner.Naming.{AsksFor, IsCommand, NamesNoMark};
 
 use crate::arguments::{
     LAST_COLLECTOR, MAX_BATCH, MAX_COLLECTORS, MAX_RING, MAX_SIZE, MIN_RING, program,
 };
-use crate::invocation::{CommandError, Creation, Invocation, Loading, Question};
+use crate::invocation::{Checking, CommandError, Creation, Invocation, Loading, Question};
 use clap::ArgMatches;
 use clap::error::ErrorKind;
 use route_model::Mark;
@@ -117,6 +117,15 @@ fn question_of<'a>(alloc: Global, matches: &ArgMatches<'a>) -> Result<Question<'
     Ok(Question { folder, line })
 }
 
+/// What the arguments of `check` say.
+fn checking_of<'a>(matches: &ArgMatches<'a>) -> Checking<'a>
+    ensures found { IsChecking (rows_of (found_of matches.now)) result }
+{
+    Checking {
+        folder: word_of(matches, "DIR"),
+    }
+}
+
 /// What the command that is named asks for.
 fn invocation_of<'a>(
     alloc: Global,
@@ -136,13 +145,16 @@ fn invocation_of<'a>(
             Err(BadText) => Err(CommandError::BadMark),
         };
     }
-    let Some(matches) = matches.subcommand_matches("ask") else {
+    if let Some(matches) = matches.subcommand_matches("ask") {
+        return match question_of(alloc, matches) {
+            Ok(question) => Ok(Invocation::Ask(question)),
+            Err(_) => Err(CommandError::OutOfMemory),
+        };
+    }
+    let Some(matches) = matches.subcommand_matches("check") else {
         unreachable!()
     };
-    match question_of(alloc, matches) {
-        Ok(question) => Ok(Invocation::Ask(question)),
-        Err(_) => Err(CommandError::OutOfMemory),
-    }
+    Ok(Invocation::Check(checking_of(matches)))
 }
 
 /// What an error of `clap` is.
@@ -161,6 +173,7 @@ fn usage(error: clap::Error) -> CommandError
 /// - `rha create DIR --collectors N --ring P --pages N --blocks N`
 /// - `rha load DIR --collector C [--batch N] [--mark M] [--resume] FILE`
 /// - `rha ask DIR WORD..`
+/// - `rha check DIR`
 ///
 /// `clap` reads the words, and each number within its limits; the N of `--batch` is 1000 where it isn't there. Then M is
 /// read as a mark, and the WORDs are joined to a line with one space between two; what stands behind the first WORD is a

@@ -66,7 +66,7 @@ fn skips_of(item: &Item) -> u64
 }
 
 /// Writes a letter, the numbers with a bar before each, and LF.
-fn write_numbers<W: Write>(out: &mut Output<W>, letter: &str, numbers: &[u64])
+pub(crate) fn write_numbers<W: Write>(out: &mut Output<W>, letter: &str, numbers: &[u64])
     ensures line { Tells out.old out.new (numbers_line letter.now numbers.now) }
 {
     out.text(letter);

@@ -5,6 +5,7 @@ pub(crate) const PROGRAM: &str = "Example:
   rha create a --collectors 1 --ring 16 --pages 64 --blocks 64
   rha load a --collector 0 --mark 2024-01-01T00:15:00Z updates.mrt
   rha ask a at 2024-01-01T00:10:00Z prefix 10.0.0.0/8
+  rha check a
 
 `rha COMMAND --help` has the limits of a command, its defaults and its exit statuses.
 
@@ -66,3 +67,16 @@ Example:
 Exit status: 0 where the line is answered; 1 where it is refused (`X|NUMBER|NAME`), or something else was
 refused or couldn't be written (told on standard error as `rha: NUMBER NAME`); 2 where the command line isn't
 accepted.";
+
+/// Of `check`.
+pub(crate) const CHECK: &str =
+    "Reads every page and block that answers come from, and counts the changes in them. What waits in the rings
+isn't read. Nothing that is answered later is changed.
+Prints `ok|CHANGES|SETTLED`: how many changes are applied, and the settled watermark.
+
+Example:
+  rha check a
+
+Exit status: 0 where all could be read, and has as many changes as were applied; 1 where a block or a page
+isn't what may stand there, which standard error tells as `rha: 8 Damaged` or `rha: 9 BadNode`, or something
+else was refused or couldn't be written (`rha: NUMBER NAME`); 2 where the command line isn't accepted.";

@@ -49,6 +49,13 @@ pub struct Question<'a> {
     pub line: String,
 }
 
+/// What `check` is given.
+#[derive(Debug, Drop)]
+pub struct Checking<'a> {
+    /// The folder of the archive.
+    pub folder: &'a str,
+}
+
 /// What a command line asks for.
 #[derive(Debug, Drop)]
 pub enum Invocation<'a> {
@@ -58,6 +65,8 @@ pub enum Invocation<'a> {
     Load(Loading<'a>),
     /// A request line is answered by an archive.
     Ask(Question<'a>),
+    /// All that an archive keeps of what is applied is read.
+    Check(Checking<'a>),
 }
 
 /// Why a command line asks for nothing.

@@ -4,6 +4,7 @@
 mod answer_lines;
 mod arguments;
 mod asking;
+mod checking;
 mod command_line;
 mod event_lines;
 mod events_request;
@@ -31,12 +32,13 @@ mod telling;
 
 pub use answer_lines::write_answer;
 pub use asking::ask;
+pub use checking::check;
 pub use command_line::command;
 pub use event_lines::write_events;
 pub use faults::{FeedCut, FeedStop, LoadStop, Unanswered};
 pub use feed_lines::{FeedCounts, write_admitted, write_counts, write_settled};
 pub use intake::{End, feed};
-pub use invocation::{CommandError, Creation, Invocation, Loading, Question};
+pub use invocation::{Checking, CommandError, Creation, Invocation, Loading, Question};
 pub use laws::{batches_share_a_feed, resumed_feeds_drop_the_first};
 pub use limits::BatchLimits;
 pub use loading::{LoadSettings, load};
@@ -45,7 +47,7 @@ pub use refusal::{Refusal, write_error, write_reason, write_refusal, write_refus
 pub use replying::reply;
 pub use request::{Request, RequestError, read_request};
 pub use request_laws::lines_are_one_request;
-pub use running::{ask_line, finish, load_file, tell_created};
+pub use running::{ask_line, check_archive, finish, load_file, tell_created};
 pub use status::Status;
 pub use telling::{
     tell_failures, tell_out_of_memory, tell_outside, tell_refusal, tell_unwritten, tell_usage,

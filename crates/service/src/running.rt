@@ -4,9 +4,10 @@ ghost use Rattle.std.specs.Prelude.{◌≡◌, true, false, [], string_bytes};
 ghost use Rattle.route_meaning.specs.History.{History};
 ghost use Rattle.service.specs.Outputs.{Tells};
 ghost use Rattle.service.specs.Refusals.{TellsFailure};
-ghost use Rattle.service.specs.Running.{created_line, IsWrittenOut, IsFileLoaded, IsLineAsked, IsCreationTold};
+ghost use Rattle.service.specs.Running.{created_line, IsWrittenOut, IsFileLoaded, IsLineAsked, IsArchiveChecked, IsCreationTold};
 
 use crate::asking::ask;
+use crate::checking::check;
 use crate::invocation::{Creation, Loading, Question};
 use crate::loading::{LoadSettings, load};
 use crate::output::{Input, Output};
@@ -82,6 +83,20 @@ pub fn ask_line<A: RouteArchive, W: Write, E: Write>(
 {
     let answered = ask(alloc, archive, asked.line.as_str(), out, err);
     finish(answered, out, err)
+}
+
+/// Checks the archive, and writes out what is buffered. The exit status of the program is that of the check, and 1 where
+/// not all could be written.
+pub fn check_archive<A: RouteArchive, W: Write, E: Write>(
+    archive: &mut A,
+    out: &mut Output<W>,
+    err: &mut Output<E>,
+) -> u8
+    ensures ended { (h : History) → A.carries archive.old h → IsArchiveChecked h result out.old out.new err.old err.new }
+    ensures kept { (h : History) → A.carries archive.old h → A.carries archive.new h }
+{
+    let checked = check(archive, out, err);
+    finish(checked, out, err)
 }
 
 /// Writes what an archive is made with.

@@ -1,0 +1,131 @@
+use Rattle.std.proofs.Common.{rules, ◌≡◌, ℕ, List, Option, refl, sym, ◌∙◌, ap, subst, true≢false, IfOk, Err}
+use Rattle.disk_models.specs.Once.{OnceState, Grows}
+use Rattle.once_store.specs.Shelves.{pen_of}
+use Rattle.page_journal.specs.Journal.{home_pages, note_of}
+use Rattle.buffer_pool.specs.Pool.{journal_of}
+use Rattle.page_tx.specs.Start.{Start}
+use Rattle.page_tx.specs.Tx.{pool_of}
+use Rattle.route_meaning.specs.History.{applied}
+use Rattle.route_history.specs.Stamps.{stamp_of}
+use Rattle.archive_pages.specs.Places.{tree_low}
+use Rattle.disk_archive.specs.Archives.{erase_state, once_of, once_state}
+use Rattle.disk_archive.specs.Checks.{IsAllRead, IsBadBlock, IsBadPage}
+use Rattle.disk_archive.specs.inner.Asking.{HasTree}
+use Rattle.disk_archive.proofs.Calling.{Ready, start_of, grows_none, unwritten, kept}
+use Rattle.disk_archive.proofs.Asking.{rises_applied, lies_known, reads_well}
+use Rattle.disk_archive.proofs.Counts.{at_disk}
+use Rattle.disk_archive.proofs.archive.Archive.try_check.Goals as goal
+
+pub returns-in_err-begin-clause-carries : goal.returns-in_err-begin-clause-carries
+returns-in_err-begin-clause-carries g c h k =
+    absurd (true≢false (sym c.in_err-begin.ensures.down ∙ k.maps.keeps.usable))
+
+pub returns-in_err-begin-clause-crash : goal.returns-in_err-begin-clause-crash
+returns-in_err-begin-clause-crash g c h k =
+    absurd (true≢false (sym c.in_err-begin.ensures.down ∙ k.maps.keeps.usable))
+
+pub returns-in_err-reader-clause-carries : goal.returns-in_err-reader-clause-carries
+returns-in_err-reader-clause-carries g c h k =
+    let a = c.args.self.now in
+    let start : Start = start_of a h k in
+    let s0 = c.in_ok-begin.ensures.shown k.honest.0 k.pages k.maps in
+    let homes0 = ap home_pages c.begin.ensures.same in
+    let r : Ready a h k c.begin.new.tx k.pages = record { shows = s0; homes = homes0 } in
+    kept a _ h k k.pages r refl refl refl refl (s0.honest, k.honest.1) k.mirrors
+
+pub returns-in_err-reader-clause-crash : goal.returns-in_err-reader-clause-crash
+returns-in_err-reader-clause-crash g c h k =
+    let a = c.args.self.now in
+    let start : Start = start_of a h k in
+    let s0 = c.in_ok-begin.ensures.shown k.honest.0 k.pages k.maps in
+    let homes0 = ap home_pages c.begin.ensures.same in
+    let r : Ready a h k c.begin.new.tx k.pages = record { shows = s0; homes = homes0 } in
+    unwritten a _ h h k k.pages g.met.E.EraseDisk.sound r (grows_none (once_state a))
+
+pub returns-in_err-seen-clause-carries : goal.returns-in_err-seen-clause-carries
+returns-in_err-seen-clause-carries g c h k =
+    let a = c.args.self.now in
+    let start : Start = start_of a h k in
+    let s0 = c.in_ok-begin.ensures.shown k.honest.0 k.pages k.maps in
+    let homes0 = ap home_pages c.begin.ensures.same in
+    let r : Ready a h k c.begin.new.tx k.pages = record { shows = s0; homes = homes0 } in
+    let pen = subst (λ d. g.O.OnceDisk.honest d (pen_of c.seen.new.self)) (sym c.seen.ensures.disk) (c.seen.ensures.honest.0 k.honest.1) in
+    kept a _ h k k.pages r c.seen.ensures.disk (c.seen.ensures.same k.honest.1) refl refl (s0.honest, pen) k.mirrors
+
+pub returns-in_err-seen-clause-crash : goal.returns-in_err-seen-clause-crash
+returns-in_err-seen-clause-crash g c h k =
+    let a = c.args.self.now in
+    let start : Start = start_of a h k in
+    let s0 = c.in_ok-begin.ensures.shown k.honest.0 k.pages k.maps in
+    let homes0 = ap home_pages c.begin.ensures.same in
+    let r : Ready a h k c.begin.new.tx k.pages = record { shows = s0; homes = homes0 } in
+    unwritten a _ h h k k.pages g.met.E.EraseDisk.sound r (subst (λ (o : OnceState). Grows (once_state a) o) (sym (c.seen.ensures.same k.honest.1)) (grows_none (once_state a)))
+
+pub returns-clause-carries : goal.returns-clause-carries
+returns-clause-carries g c h k =
+    let a = c.args.self.now in
+    let start : Start = start_of a h k in
+    let s0 = c.in_ok-begin.ensures.shown k.honest.0 k.pages k.maps in
+    let homes0 = ap home_pages c.begin.ensures.same in
+    let s1 = c.count_by.ensures.reads start k.pages s0 in
+    let r : Ready a h k c.count_by.new.pages k.pages = record { shows = s1; homes = c.count_by.ensures.homes ∙ homes0 } in
+    let pen = subst (λ d. g.O.OnceDisk.honest d (pen_of c.seen.new.self)) (sym c.seen.ensures.disk) (c.seen.ensures.honest.0 k.honest.1) in
+    kept a _ h k k.pages r c.seen.ensures.disk (c.seen.ensures.same k.honest.1) refl refl (s1.honest, pen) k.mirrors
+
+pub returns-clause-crash : goal.returns-clause-crash
+returns-clause-crash g c h k =
+    let a = c.args.self.now in
+    let start : Start = start_of a h k in
+    let s0 = c.in_ok-begin.ensures.shown k.honest.0 k.pages k.maps in
+    let homes0 = ap home_pages c.begin.ensures.same in
+    let s1 = c.count_by.ensures.reads start k.pages s0 in
+    let r : Ready a h k c.count_by.new.pages k.pages = record { shows = s1; homes = c.count_by.ensures.homes ∙ homes0 } in
+    unwritten a _ h h k k.pages g.met.E.EraseDisk.sound r (subst (λ (o : OnceState). Grows (once_state a) o) (sym (c.seen.ensures.same k.honest.1)) (grows_none (once_state a)))
+
+pub returns-clause-finds : goal.returns-clause-finds
+returns-clause-finds g c h k =
+    let a = c.args.self.now in
+    let start : Start = start_of a h k in
+    let s0 = c.in_ok-begin.ensures.shown k.honest.0 k.pages k.maps in
+    let tree : HasTree _ c.begin.new.tx g.O.OnceDisk c.in_ok-reader.reader c.in_ok-seen.seen a.head.root (applied h) = record {
+      start = start;
+      shown = k.pages;
+      shows = s0;
+      well = reads_well g.O.OnceDisk c.in_ok-reader.reader c.in_ok-seen.seen (once_of a) c.in_ok-reader.ensures.disk (c.in_ok-seen.ensures.seen k.honest.1) c.in_ok-reader.ensures.none;
+      low = tree_low a.settings;
+      fresh = a.head.fresh;
+      block = a.head.block;
+      stamp = stamp_of a.head.last a.head.applied;
+      versions = k.bears.versions;
+      lies = lies_known g.O.OnceDisk c.in_ok-reader.reader c.in_ok-seen.seen (once_of a) (once_state a) k.pages (tree_low a.settings) a.head.root a.head.fresh a.head.block (stamp_of a.head.last a.head.applied) k.bears.versions c.in_ok-reader.ensures.disk (c.in_ok-seen.ensures.known k.honest.1) k.bears.tree;
+      timely = rises_applied h;
+      kept = k.bears.kept;
+    } in
+    c.count_by.ensures.finds (applied h) tree k.bears.numbered k.valid.applied
+
+pub returns-clause-read : goal.returns-clause-read
+returns-clause-read g c honest pages maps =
+    let a = c.args.self.now in
+    let start : Start = record { note = note_of (journal_of (pool_of a.tx)); pages = pages; clock = (erase_state a).clock } in
+    let s0 = c.in_ok-begin.ensures.shown honest.0 pages maps in
+    let well = reads_well g.O.OnceDisk c.in_ok-reader.reader c.in_ok-seen.seen (once_of a) c.in_ok-reader.ensures.disk (c.in_ok-seen.ensures.seen honest.1) c.in_ok-reader.ensures.none in
+    at_disk g.O.OnceDisk c.in_ok-reader.reader c.in_ok-seen.seen (once_of a) (once_state a).settled (λ (f : ℕ → Option (List ℕ)) (n : ℕ). IfOk c.count_by.result (IsAllRead pages f n a.head.root))
+    c.in_ok-reader.ensures.disk (c.in_ok-seen.ensures.known honest.1) (c.count_by.ensures.read start pages s0 well)
+
+pub returns-clause-bad : goal.returns-clause-bad
+returns-clause-bad g c honest pages maps page e =
+    let a = c.args.self.now in
+    let start : Start = record { note = note_of (journal_of (pool_of a.tx)); pages = pages; clock = (erase_state a).clock } in
+    let s0 = c.in_ok-begin.ensures.shown honest.0 pages maps in
+    let well = reads_well g.O.OnceDisk c.in_ok-reader.reader c.in_ok-seen.seen (once_of a) c.in_ok-reader.ensures.disk (c.in_ok-seen.ensures.seen honest.1) c.in_ok-reader.ensures.none in
+    at_disk g.O.OnceDisk c.in_ok-reader.reader c.in_ok-seen.seen (once_of a) (once_state a).settled (λ (f : ℕ → Option (List ℕ)) (n : ℕ). IsBadPage pages f n a.head.root a.head.applied page)
+    c.in_ok-reader.ensures.disk (c.in_ok-seen.ensures.known honest.1) (c.count_by.ensures.bad start pages s0 well page e)
+
+pub returns-clause-damaged : goal.returns-clause-damaged
+returns-clause-damaged g c honest pages maps block e =
+    let a = c.args.self.now in
+    let start : Start = record { note = note_of (journal_of (pool_of a.tx)); pages = pages; clock = (erase_state a).clock } in
+    let s0 = c.in_ok-begin.ensures.shown honest.0 pages maps in
+    let well = reads_well g.O.OnceDisk c.in_ok-reader.reader c.in_ok-seen.seen (once_of a) c.in_ok-reader.ensures.disk (c.in_ok-seen.ensures.seen honest.1) c.in_ok-reader.ensures.none in
+    at_disk g.O.OnceDisk c.in_ok-reader.reader c.in_ok-seen.seen (once_of a) (once_state a).settled (λ (f : ℕ → Option (List ℕ)) (n : ℕ). IsBadBlock pages f n a.head.root block)
+    c.in_ok-reader.ensures.disk (c.in_ok-seen.ensures.known honest.1) (c.count_by.ensures.damaged start pages s0 well block e)

@@ -1,0 +1,74 @@
+use Rattle.std.proofs.Common.{rules, ◌≡◌, ◌<◌, ◌^◌, ℕ, Bool, refl, sym, ◌∙◌, ap, subst, Err, IfErr, length}
+use Rattle.once_store.specs.Readers.{reader_disk}
+use Rattle.archive_head.specs.Head.{Contents}
+use Rattle.route_history.specs.Kept.{timed}
+use Rattle.tsb_walk.specs.AllVersions.{VersionsRefusal}
+use Rattle.version_model.specs.Pages.{TreeStands}
+use Rattle.tsb_tree.specs.Opened.{ShowsRoot}
+use Rattle.disk_archive.specs.Checks.{IsBadPage, IsRootPlace, no_root, bad_under, other_number}
+use Rattle.disk_archive.specs.inner.Checking.{check_of_node, CountRefusal, FindsNone}
+use Rattle.disk_archive.proofs.Asking.{at_root, if_err}
+use Rattle.disk_archive.proofs.Counts.{as_many, count_refused, finds_none, known_of, passed, passed_node, told_is}
+use Rattle.disk_archive.proofs.checking.count_by.Goals as goal
+
+pub returns-in_err-root-clause-finds : goal.returns-in_err-root-clause-finds
+returns-in_err-root-clause-finds g c ps t number few =
+    let root = ap (λ (x : Contents). x.root) c.head.view_is in
+    let stands = subst (λ (r : ℕ). TreeStands t.lies.store t.versions r t.lies.level) (sym root) t.lies.has.stands in
+    let f = c.root_of.ensures.finds t.start t.shown t.lies.store t.versions t.lies.level t.shows t.lies.says stands in
+    search (rules, f)
+
+pub returns-in_err-count-clause-finds : goal.returns-in_err-count-clause-finds
+returns-in_err-count-clause-finds g c ps t number few =
+    let root = c.in_ok-root.root in
+    let top = ap (λ (x : Contents). x.root) c.head.view_is in
+    let tree = c.in_ok-root.ensures.stands t.start t.shown t.lies.store t.versions t.lies.level t.shows t.lies.says (subst (λ (r : ℕ). TreeStands t.lies.store t.versions r t.lies.level) (sym top) t.lies.has.stands) in
+    let shows = c.root_of.ensures.reads t.start t.shown t.shows in
+    let stands = at_root t.shown t.lies.store t.versions root.page root.level root refl refl c.in_ok-root.ensures.place.keys t.lies.says tree in
+    let known = known_of g.P.Pages c.args.pages.now g.O.OnceDisk c.args.reader.now c.args.seen.now c.args.head.now.root ps t in
+    let f = finds_none c.check.result (λ page e. c.check.ensures.blames t.start t.shown shows t.lies.store t.versions stands page e) (λ block e. c.check.ensures.never t.start t.shown shows t.lies.store t.versions stands t.well known block e) in
+    search (rules, f)
+
+pub returns-in_err-root-clause-bad : goal.returns-in_err-root-clause-bad
+returns-in_err-root-clause-bad g c start shown shows well page is =
+    let told : IfErr c.from_residual.result (λ e. e ≡ c.in_err-root.field-0.0) = search rules in
+    let was = passed c.from_residual.result c.root_of.result c.in_err-root.field-0.0 page told c.in_err-root.was is in
+    let top = ap (λ (x : Contents). x.root) c.head.view_is in
+    let bad = c.root_of.ensures.bad start shown shows page was in
+    let known = g.O.OnceDisk.known c.args.seen.now in
+    let blocks = g.O.OnceDisk.block_count (reader_disk c.args.reader.now) in
+    subst (λ (p : ℕ). IsBadPage shown known blocks c.args.head.now.root c.args.head.now.applied p) (sym (bad.0 ∙ top))
+    (no_root (subst (λ (r : ℕ). (level : ℕ) → ShowsRoot shown r level → ⊥) top bad.1))
+
+pub returns-in_err-count-clause-bad : goal.returns-in_err-count-clause-bad
+returns-in_err-count-clause-bad g c start shown shows well page is =
+    let told : IfErr c.from_residual-in_err-count.result (λ e. e ≡ check_of_node c.in_err-count.field-0.0) = search rules in
+    let was = passed_node c.from_residual-in_err-count.result c.check.result c.in_err-count.field-0.0 page told c.in_err-count.was is in
+    let top = ap (λ (x : Contents). x.root) c.head.view_is in
+    let place = subst (λ (r : ℕ). IsRootPlace r c.in_ok-root.root) top c.in_ok-root.ensures.place in
+    bad_under c.in_ok-root.root place page (c.check.ensures.bad start shown (c.root_of.ensures.reads start shown shows) page was)
+
+pub returns-then-count-head-clause-finds : goal.returns-then-count-head-clause-finds
+returns-then-count-head-clause-finds g c ps t number few =
+    let top = ap (λ (x : Contents). x.root) c.head.view_is in
+    let tree = c.in_ok-root.ensures.stands t.start t.shown t.lies.store t.versions t.lies.level t.shows t.lies.says (subst (λ (r : ℕ). TreeStands t.lies.store t.versions r t.lies.level) (sym top) t.lies.has.stands) in
+    let shows = c.root_of.ensures.reads t.start t.shown t.shows in
+    let known = known_of g.P.Pages c.args.pages.now g.O.OnceDisk c.args.reader.now c.args.seen.now c.args.head.now.root ps t in
+    let counted = c.in_ok-count.ensures.counted t.start t.shown shows t.lies.store t.versions t.lies.says c.in_ok-root.ensures.place.keys tree t.well known in
+    let many = as_many 0 (timed ps) t.versions t.kept in
+    let is = told_is c.in_ok-count.count (length t.versions) (length (timed ps)) counted many (subst (λ n. n < 2 ^ 64) number few) in
+    let applied = ap (λ (x : Contents). x.applied) c.head.view_is in
+    c.if-count-head.true (is ∙ sym (applied ∙ number))
+
+pub returns-then-count-head-clause-bad : goal.returns-then-count-head-clause-bad
+returns-then-count-head-clause-bad g c start shown shows well page is =
+    let top = ap (λ (x : Contents). x.root) c.head.view_is in
+    let applied = ap (λ (x : Contents). x.applied) c.head.view_is in
+    let place = subst (λ (r : ℕ). IsRootPlace r c.in_ok-root.root) top c.in_ok-root.ensures.place in
+    let known = g.O.OnceDisk.known c.args.seen.now in
+    let blocks = g.O.OnceDisk.block_count (reader_disk c.args.reader.now) in
+    let read = c.in_ok-count.ensures.checked start shown (c.root_of.ensures.reads start shown shows) well in
+    let here : 0 ≡ page = cc in
+    subst (λ (p : ℕ). IsBadPage shown known blocks c.args.head.now.root c.args.head.now.applied p) here
+    (other_number c.in_ok-count.count (record { place = c.in_ok-root.root; top = place; read = read })
+    (λ e. c.if-count-head.true (e ∙ sym applied)))

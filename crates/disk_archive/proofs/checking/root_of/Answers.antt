@@ -1,0 +1,31 @@
+use Rattle.std.proofs.Common.{◌≡◌, ℕ, sym, ◌∙◌, ap, subst, Err}
+use Rattle.tsb_tree.specs.declared.error.TreeError.{TreeError}
+use Rattle.version_model.specs.Pages.{TreeStands}
+use Rattle.disk_archive.specs.declared.check_error.CheckError.TheVariants as checks
+use Rattle.disk_archive.proofs.Counts.{root_finds}
+use Rattle.disk_archive.proofs.checking.root_of.Goals as goal
+
+pub of_root-requires : goal.of_root-requires
+of_root-requires g c = record { read = (g.P.Pages.down c.args.pages.now, c.in-Err.ensures.refused) }
+
+pub returns-in-Ok-clause-place : goal.returns-in-Ok-clause-place
+returns-in-Ok-clause-place g c = record { page = c.root.ensures.page ∙ c.in-Ok.ensures.root; keys = c.root.ensures.keys }
+
+pub returns-in-Ok-clause-stands : goal.returns-in-Ok-clause-stands
+returns-in-Ok-clause-stands g c start shown s all level shows are t =
+    let told = c.in-Ok.ensures.opened start shown shows s all level are t in
+    subst (λ (r : ℕ). TreeStands s all r c.root.result.level) (sym (c.root.ensures.page ∙ c.in-Ok.ensures.root))
+    (subst (λ (l : ℕ). TreeStands s all c.args.root l) (sym (c.root.ensures.level ∙ told)) t)
+
+pub returns-in-Err-clause-finds : goal.returns-in-Err-clause-finds
+returns-in-Err-clause-finds g c start shown s all level shows are t =
+    let honest = c.in-Err.ensures.honest start shown shows s all level are t in
+    root_finds c.in-Err.refusal c.of_root.result honest c.of_root.ensures.bad c.of_root.ensures.damaged
+
+pub returns-in-Err-clause-refused : goal.returns-in-Err-clause-refused
+returns-in-Err-clause-refused g c = c.of_root.ensures.refused _ c.in-Err.ensures.refused
+
+pub returns-in-Err-clause-bad : goal.returns-in-Err-clause-bad
+returns-in-Err-clause-bad g c start shown shows page is =
+    let same : c.of_root.result ≡ checks.BadNode page = cc in
+    c.in-Err.ensures.bad start shown shows page (ap (λ (e : TreeError). Err e) (c.of_root.ensures.bad page same))

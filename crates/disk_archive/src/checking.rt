@@ -1,0 +1,139 @@
+//! The whole tree is read, and what is applied is counted.
+
+ghost use Rattle.std.specs.Prelude.{◌≡◌, ◌↔◌, ◌<◌, ◌^◌, ℕ, List, length, sum_by, IfOk, IfErr, OnOk, Err, true, false};
+ghost use Rattle.once_store.specs.Readers.{reader_disk};
+ghost use Rattle.page_tx.specs.Start.{Start};
+ghost use Rattle.route_model.specs.Admission.{Admitted};
+ghost use Rattle.route_meaning.specs.History.{History, applied};
+ghost use Rattle.route_meaning.specs.Merged.{Placed};
+ghost use Rattle.route_history.specs.Kept.{timed};
+ghost use Rattle.version_model.specs.Pages.{Store, TreeStands};
+ghost use Rattle.version_model.specs.Versions.{Version};
+ghost use Rattle.tsb_tree.specs.Opened.{ShowsRoot};
+ghost use Rattle.tsb_walk.specs.Knowing.{ReadsWell};
+ghost use Rattle.tsb_walk.specs.Shown.{AreShown};
+ghost use Rattle.disk_archive.specs.Checks.{IsAllRead, IsBadBlock, IsBadPage, IsRootPlace};
+ghost use Rattle.disk_archive.specs.inner.Asking.{HasTree};
+ghost use Rattle.disk_archive.specs.inner.Checking.{CountRefusal, FindsNone};
+
+use crate::archive::Archive;
+use crate::check_error::{CheckError, of_root};
+use crate::committing::begin;
+use archive_head::Head;
+use disk_models::{EraseDisk, OnceDisk};
+use once_store::ShelfReader;
+use page_tx::Pages;
+use std::alloc::Global;
+use tsb_check::check;
+use tsb_tree::open;
+use tsb_walk::PagePlace;
+use version_model::Stamp;
+
+// How many blocks a check keeps in memory at most: columns that were divided lead to the same ones.
+const KEPT_BLOCKS: usize = 64;
+
+// Where the root of a tree lies.
+fn root_of<P: Pages>(pages: &mut P, root: u64) -> Result<PagePlace, CheckError>
+    ensures place { IfOk result (IsRootPlace root) }
+    ensures stands { (start : Start) (shown : List (List ℕ)) (s : Store) (all : List Version) (level : ℕ) → P.shows pages.old start shown → AreShown shown s.nodes → TreeStands s all root level → IfOk result (λ place. TreeStands s all place.page place.level) }
+    ensures finds { (start : Start) (shown : List (List ℕ)) (s : Store) (all : List Version) (level : ℕ) → P.shows pages.old start shown → AreShown shown s.nodes → TreeStands s all root level → IfErr result FindsNone }
+    ensures bad { (start : Start) (shown : List (List ℕ)) → P.shows pages.old start shown → (page : ℕ) → result ≡ Err (CheckError.BadNode page) → (page ≡ root) × ((level : ℕ) → ShowsRoot shown root level → ⊥) }
+    ensures damaged { (block : ℕ) → result ≡ Err (CheckError.Damaged block) → ⊥ }
+    ensures refused { IfErr result (CountRefusal (P.down pages.old)) }
+    ensures reads { (start : Start) (shown : List (List ℕ)) → P.shows pages.old start shown → P.shows pages.new start shown }
+    ensures homes { P.homes pages.new ≡ P.homes pages.old }
+    ensures down { P.down pages.new ≡ P.down pages.old }
+    ensures honest { P.honest pages.old ↔ P.honest pages.new }
+{
+    let least = Stamp::new(0, 0);
+    match open(pages, root, least) {
+        Ok(place) => Ok(PagePlace::root(place.root, place.level)),
+        Err(refusal) => Err(of_root(refusal)),
+    }
+}
+
+// How many versions the archive's tree has: as many as the head tells changes that are applied.
+fn count_by<P: Pages, O: OnceDisk + Drop>(
+    alloc: Global,
+    pages: &mut P,
+    reader: &mut ShelfReader<O>,
+    seen: &mut O::Seen,
+    head: &Head,
+) -> Result<u64, CheckError>
+    ensures counted { IfOk result (λ n. n ≡ head.now.applied) }
+    ensures finds { (ps : List (Placed Admitted)) → HasTree P.Pages pages.old O.OnceDisk reader.old seen.old head.now.root ps → head.now.applied ≡ length (timed ps) → head.now.applied < 2 ^ 64 → IfErr result FindsNone }
+    ensures read { (start : Start) (shown : List (List ℕ)) → P.shows pages.old start shown → ReadsWell O.OnceDisk reader.old seen.old → IfOk result (IsAllRead shown (O.known seen.old) (O.block_count (reader_disk reader.old)) head.now.root) }
+    ensures bad { (start : Start) (shown : List (List ℕ)) → P.shows pages.old start shown → ReadsWell O.OnceDisk reader.old seen.old
+        → (page : ℕ) → result ≡ Err (CheckError.BadNode page) → IsBadPage shown (O.known seen.old) (O.block_count (reader_disk reader.old)) head.now.root head.now.applied page }
+    ensures damaged { (start : Start) (shown : List (List ℕ)) → P.shows pages.old start shown → ReadsWell O.OnceDisk reader.old seen.old
+        → (block : ℕ) → result ≡ Err (CheckError.Damaged block) → IsBadBlock shown (O.known seen.old) (O.block_count (reader_disk reader.old)) head.now.root block }
+    ensures refused { IfErr result (CountRefusal (P.down pages.old)) }
+    ensures reads { (start : Start) (shown : List (List ℕ)) → P.shows pages.old start shown → P.shows pages.new start shown }
+    ensures homes { P.homes pages.new ≡ P.homes pages.old }
+    ensures down { P.down pages.new ≡ P.down pages.old }
+    ensures honest { P.honest pages.old ↔ P.honest pages.new }
+{
+    let root = root_of(pages, head.root)?;
+    let count = check(pages, reader, seen, alloc, &root)?;
+    if count != head.applied {
+        return Err(CheckError::BadNode(0));
+    }
+    Ok(count)
+}
+
+impl<E: EraseDisk + Drop, O: OnceDisk + Drop> Archive<E, O> {
+    ghost use Rattle.disk_archive.specs.Archives.{Carries, Holds, Stands, IsHonest, is_down, once_of, once_state, settings_of, site_of};
+    ghost use Rattle.disk_archive.specs.Checks.{HasPages, applied_in, root_in};
+    ghost use Rattle.disk_archive.specs.Sites.{LeftCarries, LeftEither};
+    ghost use Rattle.disk_archive.specs.Crashes.{Crashes, Lasts};
+    ghost use Rattle.disk_archive.specs.inner.Idle.{IsAsBefore};
+
+    // Checks the archive where it needn't be opened again.
+    fn try_check(&mut self) -> Result<u64, CheckError>
+        ensures usable { OnOk result (is_down self.old ≡ false) }
+        ensures idle { is_down self.old ≡ true → IsAsBefore self.old self.new }
+        ensures told { is_down self.old ≡ true → result ≡ Err CheckError.NeedsRecovery }
+        ensures recovery { result ≡ Err CheckError.NeedsRecovery → is_down self.old ≡ true }
+        ensures honest { IsHonest self.old ↔ IsHonest self.new }
+        ensures counted { IfOk result (λ n. n ≡ applied_in self.old) }
+        ensures finds { (h : History) → Carries self.old h → IfErr result FindsNone }
+        ensures read { IsHonest self.old → (pages : List (List ℕ)) → HasPages self.old pages → IfOk result (IsAllRead pages (once_state self.old).settled (O.block_count (once_of self.old)) (root_in self.old)) }
+        ensures bad { IsHonest self.old → (pages : List (List ℕ)) → HasPages self.old pages
+            → (page : ℕ) → result ≡ Err (CheckError.BadNode page) → IsBadPage pages (once_state self.old).settled (O.block_count (once_of self.old)) (root_in self.old) (applied_in self.old) page }
+        ensures damaged { IsHonest self.old → (pages : List (List ℕ)) → HasPages self.old pages
+            → (block : ℕ) → result ≡ Err (CheckError.Damaged block) → IsBadBlock pages (once_state self.old).settled (O.block_count (once_of self.old)) (root_in self.old) block }
+        ensures carries { (h : History) → Carries self.old h → Carries self.new h }
+        ensures crash { (h : History) → Carries self.old h → Crashes self.old self.new (LeftEither (site_of self.old) h h) }
+        ensures settings { settings_of self.new ≡ settings_of self.old }
+    {
+        begin(&mut self.tx)?;
+        let mut reader = self.shelf.reader(self.alloc, KEPT_BLOCKS)?;
+        let mut seen = self.shelf.seen()?;
+        count_by(self.alloc, &mut self.tx, &mut reader, &mut seen, &self.head)
+    }
+
+    /// Reads every page and every block that the tree leads to, and tells how many changes are applied: as many as the tree has
+    /// versions. The first page or block that isn't what it is to be is told; page 0, where the head tells another number.
+    ///
+    /// Nothing is written. Pages come through the archive's cache, and at most 64 blocks are kept, for the time of the call. After each
+    /// outcome the archive holds the history that it held.
+    pub fn check(&mut self) -> Result<u64, CheckError>
+        ensures counted { IfOk result (λ n. IsHonest self.old → (h : History) → Holds self.old h → n ≡ sum_by (λ p. length p.item.changes) (applied h)) }
+        ensures sound { IsHonest self.old → (h : History) → Holds self.old h → (page : ℕ) → result ≡ Err (CheckError.BadNode page) → ⊥ }
+        ensures undamaged { IsHonest self.old → (h : History) → Holds self.old h → (block : ℕ) → result ≡ Err (CheckError.Damaged block) → ⊥ }
+        ensures read { IsHonest self.old → (pages : List (List ℕ)) → HasPages self.old pages → IfOk result (IsAllRead pages (once_state self.old).settled (O.block_count (once_of self.old)) (root_in self.old)) }
+        ensures bad { IsHonest self.old → (pages : List (List ℕ)) → HasPages self.old pages
+            → (page : ℕ) → result ≡ Err (CheckError.BadNode page) → IsBadPage pages (once_state self.old).settled (O.block_count (once_of self.old)) (root_in self.old) (applied_in self.old) page }
+        ensures damaged { IsHonest self.old → (pages : List (List ℕ)) → HasPages self.old pages
+            → (block : ℕ) → result ≡ Err (CheckError.Damaged block) → IsBadBlock pages (once_state self.old).settled (O.block_count (once_of self.old)) (root_in self.old) block }
+        ensures holds { (h : History) → Holds self.old h → Holds self.new h }
+        ensures crash { (h : History) → Carries self.old h → Crashes self.old self.new (LeftCarries (site_of self.old) h) }
+        ensures lasts { (h : History) → Stands self.old h → Lasts self.old self.new h }
+        ensures usable { OnOk result (is_down self.old ≡ false) }
+        ensures recovery { (result ≡ Err CheckError.NeedsRecovery) ↔ (is_down self.old ≡ true) }
+        ensures honest { IsHonest self.old ↔ IsHonest self.new }
+        ensures settings { settings_of self.new ≡ settings_of self.old }
+    {
+        self.try_check()
+    }
+}

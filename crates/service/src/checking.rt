@@ -1,0 +1,47 @@
+//! Archives that are checked.
+
+ghost use Rattle.std.specs.Prelude.{◌≡◌};
+ghost use Rattle.route_meaning.specs.History.{History};
+ghost use Rattle.service.specs.Checks.{IsCheckEnd, checked_line};
+ghost use Rattle.service.specs.Outputs.{Tells};
+
+use crate::feed_lines::write_numbers;
+use crate::output::Output;
+use crate::refusal::{Refusal, write_error};
+use crate::status::{Status, told};
+use archive_calls::RouteArchive;
+use route_model::Mark;
+use std::io::Write;
+
+/// Writes how many changes are applied and the settled watermark: `ok|CHANGES|SETTLED`.
+fn write_checked<W: Write>(out: &mut Output<W>, changes: u64, settled: Mark)
+    ensures line { Tells out.old out.new (checked_line changes settled) }
+{
+    write_numbers(out, "ok", &[changes, settled.seconds()]);
+}
+
+/// Has the archive read all that it keeps of what is applied, and writes `ok|CHANGES|SETTLED`: how many changes are applied, and the
+/// settled watermark. What can't be read, or isn't what it is to be, is told to `err`, and nothing is written to `out`. Where a line
+/// can't be written, `err` is told so; where `out` had failed before, nothing is done. No memory is needed but the archive's.
+pub fn check<A: RouteArchive, W: Write, E: Write>(
+    archive: &mut A,
+    out: &mut Output<W>,
+    err: &mut Output<E>,
+) -> Status
+    ensures ended { (h : History) → A.carries archive.old h → IsCheckEnd h result out.old out.new err.old err.new }
+    ensures kept { (h : History) → A.carries archive.old h → A.carries archive.new h }
+{
+    if out.has_failed() {
+        return Status::Failed;
+    }
+    match archive.check() {
+        Ok(changes) => {
+            write_checked(out, changes, archive.settled());
+            told(Status::Done, out, err)
+        }
+        Err(trouble) => {
+            write_error(err, &Refusal::from(trouble));
+            told(Status::Refused, out, err)
+        }
+    }
+}
