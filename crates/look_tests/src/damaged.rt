@@ -1,7 +1,9 @@
 //! Pages and blocks that someone damaged: each look answers, or names the one that isn't what it is to be.
 use crate::answers::{Comes, In, all_of, found_at, next_at, part_at};
 use crate::spelling::At;
-use crate::tree::{Tree, Turned, key_node, octets_of, page_with, set_page, tree_with, whole_tree};
+use crate::tree::{
+    Tree, Turned, block_octets, key_node, octets_of, page_with, set_page, spoil_block, whole_tree,
+};
 use std::alloc::Global;
 use std::test::Fail;
 use tsb_walk::NodeError;
@@ -58,23 +60,68 @@ const WAYS: [(u64, u8, At); 11] = [
     (11, 16, (40, 0)),
 ];
 
-// Octets that a page's header doesn't leave free: its kind, unit, level, count and size, its low key and its high key, its start and
-// its end; and behind all entries, and at the end, where zeros stand.
-const FIXED: [usize; 21] = [
-    0, 1, 2, 3, 4, 5, 6, 7, 8, 47, 48, 87, 88, 95, 103, 104, 111, 119, 16_351, 16_352, 16_383,
-];
+// Octets behind all entries, and at the end, where zeros stand.
+const BEHIND: [usize; 3] = [16_351, 16_352, 16_383];
+
+// Whether all looks at a key and a stamp call the page bad of which this octet is turned.
+fn is_bad(tree: &mut Tree, n: u64, octet: usize, key: u8, at: At) -> Result<bool, Fail> {
+    let bad = NodeError::BadNode(n);
+    spoil(tree, n, octet)?;
+    Ok(is_told(tree, key, at, &Err(bad))? && all_of(tree, key)?.err() == Some(bad))
+}
 
 #[test]
 fn a_page_with_a_damaged_header_is_bad(rt: HostRuntime) -> Result<(), Fail> {
     let mut tree = whole_tree(rt.alloc())?;
     for (n, key, at) in WAYS.as_slice() {
-        for octet in FIXED {
-            spoil(&mut tree, *n, octet)?;
-            assert!(rt; is_told(&mut tree, *key, *at, &Err(NodeError::BadNode(*n)))?);
-            assert!(rt; all_of(&mut tree, *key)?.err() == Some(NodeError::BadNode(*n)));
+        // A header leaves no octet free: kind, unit, level, count and size, keys and stamps.
+        for octet in 0..120usize {
+            assert!(rt; is_bad(&mut tree, *n, octet, *key, *at)?, "{n} {octet}");
+        }
+        for octet in BEHIND {
+            assert!(rt; is_bad(&mut tree, *n, octet, *key, *at)?, "{n} {octet}");
         }
         mend(&mut tree, *n)?;
         assert!(rt; next_at(&mut tree, *key, *at)?.is_ok());
+    }
+    Ok(())
+}
+
+// Why the looks at a key and a stamp are refused, none where they answer: all of them do, or none.
+fn refusal_at(tree: &mut Tree, key: u8, at: At) -> Result<Option<NodeError>, Fail> {
+    let refusal = next_at(tree, key, at)?.err();
+    if found_at(tree, key, at)?.err() != refusal || part_at(tree, key, at)?.err() != refusal {
+        return Err(Fail::from("one look is refused for another reason"));
+    }
+    Ok(refusal)
+}
+
+// Whether looks answer, or name a page or a block as damaged; of a leaf, just this one.
+fn is_named(refusal: Option<NodeError>, leaf: Option<NodeError>) -> bool {
+    match refusal {
+        None => true,
+        Some(NodeError::BadNode(_) | NodeError::Damaged(_)) => leaf.is_none() || refusal == leaf,
+        Some(_) => false,
+    }
+}
+
+#[test]
+fn each_octet_of_the_entries_of_a_page_is_read_or_told(rt: HostRuntime) -> Result<(), Fail> {
+    let alloc = rt.alloc();
+    let mut tree = whole_tree(alloc)?;
+    for (n, key, at) in WAYS.as_slice() {
+        let leaf = if *n < 9 {
+            None
+        } else {
+            Some(NodeError::BadNode(*n))
+        };
+        let octets = octets_of(alloc, *n)?.len();
+        for octet in 120..octets {
+            spoil(&mut tree, *n, octet)?;
+            let refusal = refusal_at(&mut tree, *key, *at)?;
+            assert!(rt; is_named(refusal, leaf), "{n} {octet}");
+        }
+        mend(&mut tree, *n)?;
     }
     Ok(())
 }
@@ -255,21 +302,21 @@ fn a_key_node_that_names_itself_is_bad(rt: HostRuntime) -> Result<(), Fail> {
     Ok(())
 }
 
-// A tree with an octet of a block turned, and whether its looks tell this.
-fn is_told_of_block(alloc: Global, turned: Turned, told: &Told) -> Result<bool, Fail> {
-    let mut tree = tree_with(alloc, Some(turned))?;
-    is_told(&mut tree, told.2, told.3, &told.4)
+// Whether the tree's looks tell this where an octet of a block is turned.
+fn is_told_of_block(tree: &mut Tree, turned: Turned, told: &Told) -> Result<bool, Fail> {
+    spoil_block(tree, turned)?;
+    is_told(tree, told.2, told.3, &told.4)
 }
 
 // Whether looks tell these of blocks with a digest of what they are then.
-fn are_told_of_blocks(alloc: Global, wanted: &[Told]) -> Result<bool, Fail> {
+fn are_told_of_blocks(tree: &mut Tree, wanted: &[Told]) -> Result<bool, Fail> {
     for told in wanted {
         let turned = Turned {
             block: told.0,
             octet: told.1,
             is_sealed: true,
         };
-        if !is_told_of_block(alloc, turned, told)? {
+        if !is_told_of_block(tree, turned, told)? {
             return Ok(false);
         }
     }
@@ -286,16 +333,47 @@ const BLOCK_WAYS: [(u64, u8, At, Comes, In); 4] = [
 
 #[test]
 fn a_block_with_a_damaged_header_is_damaged(rt: HostRuntime) -> Result<(), Fail> {
+    let mut tree = whole_tree(rt.alloc())?;
     for (n, key, at, comes, place) in BLOCK_WAYS.as_slice() {
-        // All that a header doesn't leave free, zeros behind the entries too; a block may have more keys than its place.
-        let fixed = [0, 1, 2, 3, 5, 7, 8, 47, 88, 103, 104, 119, 16_351];
-        for octet in fixed {
-            let told = (*n, octet, *key, *at, Err(NodeError::Damaged(*n)));
-            assert!(rt; are_told_of_blocks(rt.alloc(), [told].as_slice())?);
+        // A block may have more keys than its place; no other octet of a header is free, and none behind the entries.
+        for octet in 0..120usize {
+            let answer = if 48 <= octet && octet < 88 {
+                Ok((*place, *comes))
+            } else {
+                Err(NodeError::Damaged(*n))
+            };
+            let told = (*n, octet, *key, *at, answer);
+            assert!(rt;
+                are_told_of_blocks(&mut tree, [told].as_slice())?,
+                "{n} {octet}"
+            );
         }
-        for octet in [48, 87] {
-            let told = (*n, octet, *key, *at, Ok((*place, *comes)));
-            assert!(rt; are_told_of_blocks(rt.alloc(), [told].as_slice())?);
+        let told = (*n, 16_351, *key, *at, Err(NodeError::Damaged(*n)));
+        assert!(rt; are_told_of_blocks(&mut tree, [told].as_slice())?, "{n}");
+    }
+    Ok(())
+}
+
+#[test]
+fn each_octet_of_the_entries_of_a_block_is_read_or_told(rt: HostRuntime) -> Result<(), Fail> {
+    let alloc = rt.alloc();
+    let mut tree = whole_tree(alloc)?;
+    for (n, key, at, _, _) in BLOCK_WAYS.as_slice() {
+        let leaf = if *n < 3 {
+            Some(NodeError::Damaged(*n))
+        } else {
+            None
+        };
+        let octets = block_octets(alloc, *n)?.len();
+        for octet in 120..octets {
+            let turned = Turned {
+                block: *n,
+                octet,
+                is_sealed: true,
+            };
+            spoil_block(&mut tree, turned)?;
+            let refusal = refusal_at(&mut tree, *key, *at)?;
+            assert!(rt; is_named(refusal, leaf), "{n} {octet}");
         }
     }
     Ok(())
@@ -303,6 +381,7 @@ fn a_block_with_a_damaged_header_is_damaged(rt: HostRuntime) -> Result<(), Fail>
 
 #[test]
 fn a_block_without_its_digest_is_damaged(rt: HostRuntime) -> Result<(), Fail> {
+    let mut tree = whole_tree(rt.alloc())?;
     for (n, key, at, _, _) in BLOCK_WAYS.as_slice() {
         for octet in [0, 87, 159, 16_351, 16_352, 16_383] {
             let turned = Turned {
@@ -311,7 +390,7 @@ fn a_block_without_its_digest_is_damaged(rt: HostRuntime) -> Result<(), Fail> {
                 is_sealed: false,
             };
             let told = (*n, octet, *key, *at, Err(NodeError::Damaged(*n)));
-            assert!(rt; is_told_of_block(rt.alloc(), turned, &told)?);
+            assert!(rt; is_told_of_block(&mut tree, turned, &told)?);
         }
     }
     Ok(())
@@ -319,6 +398,7 @@ fn a_block_without_its_digest_is_damaged(rt: HostRuntime) -> Result<(), Fail> {
 
 #[test]
 fn a_damaged_leaf_of_the_past_is_named_or_has_other_versions(rt: HostRuntime) -> Result<(), Fail> {
+    let mut tree = whole_tree(rt.alloc())?;
     let wanted: [Told; 20] = [
         (0, 120, 0, (1, 0), Err(NodeError::Damaged(0))),
         (
@@ -407,12 +487,13 @@ fn a_damaged_leaf_of_the_past_is_named_or_has_other_versions(rt: HostRuntime) ->
             Ok((LATE, Comes::To(6, (199, 0), Some(170)))),
         ),
     ];
-    assert!(rt; are_told_of_blocks(rt.alloc(), wanted.as_slice())?);
+    assert!(rt; are_told_of_blocks(&mut tree, wanted.as_slice())?);
     Ok(())
 }
 
 #[test]
 fn a_damaged_column_of_the_past_is_named_or_leads_to_what_is(rt: HostRuntime) -> Result<(), Fail> {
+    let mut tree = whole_tree(rt.alloc())?;
     let wanted: [Told; 14] = [
         // The first part: its start, its kind and its number.
         (3, 127, 0, (100, 0), Err(NodeError::Damaged(3))),
@@ -443,6 +524,6 @@ fn a_damaged_column_of_the_past_is_named_or_leads_to_what_is(rt: HostRuntime) ->
         ),
         (3, 170, 0, (100, 0), Err(NodeError::Damaged(3))),
     ];
-    assert!(rt; are_told_of_blocks(rt.alloc(), wanted.as_slice())?);
+    assert!(rt; are_told_of_blocks(&mut tree, wanted.as_slice())?);
     Ok(())
 }

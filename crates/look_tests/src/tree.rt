@@ -290,8 +290,8 @@ fn pages(alloc: Global) -> Result<Tx<MemErase>, Fail> {
     Ok(Tx::new(alloc, pool, 0))
 }
 
-// The tree, of whose blocks one has an octet turned. Its pages are in the pool, and no image is held.
-pub(crate) fn tree_with(alloc: Global, turned: Option<Turned>) -> Result<Tree, Fail> {
+// What is seen of the tree's blocks, and a reader of them. Of one of them an octet is turned.
+fn past(alloc: Global, turned: Option<Turned>) -> Result<(ShelfReader<MemOnce>, MemSeen), Fail> {
     let (disk, pen) = MemOnce::new(alloc, 16);
     let mut shelf = match Shelf::open(Arc::new(alloc, disk)?, pen, 0) {
         Ok(shelf) => shelf,
@@ -308,6 +308,12 @@ pub(crate) fn tree_with(alloc: Global, turned: Option<Turned>) -> Result<Tree, F
     }
     let seen = shelf.seen()?;
     let reader = shelf.reader(alloc, 4)?;
+    Ok((reader, seen))
+}
+
+// The tree. Its pages are in the pool, and no image is held.
+pub(crate) fn whole_tree(alloc: Global) -> Result<Tree, Fail> {
+    let (reader, seen) = past(alloc, None)?;
     let mut tree = Tree {
         alloc,
         tx: pages(alloc)?,
@@ -322,6 +328,10 @@ pub(crate) fn tree_with(alloc: Global, turned: Option<Turned>) -> Result<Tree, F
     Ok(tree)
 }
 
-pub(crate) fn whole_tree(alloc: Global) -> Result<Tree, Fail> {
-    tree_with(alloc, None)
+// Gives the tree blocks of which one has an octet turned.
+pub(crate) fn spoil_block(tree: &mut Tree, turned: Turned) -> Result<(), Fail> {
+    let (reader, seen) = past(tree.alloc, Some(turned))?;
+    tree.reader = reader;
+    tree.seen = seen;
+    Ok(())
 }
