@@ -3,4 +3,5 @@ pub mod Releasing
 pub mod Leasts
 pub mod Running
 pub mod Told
+pub mod Aheads
 pub mod api

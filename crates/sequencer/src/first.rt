@@ -24,7 +24,11 @@ pub(crate) fn is_open(lanes: &[Lane], time: Moment) -> bool
 }
 
 /// The earlier of two, the one that was found before where both have one time.
-fn better(found: Option<Candidate>, number: usize, first: Option<Moment>) -> Option<Candidate>
+pub(crate) fn better(
+    found: Option<Candidate>,
+    number: usize,
+    first: Option<Moment>,
+) -> Option<Candidate>
     ensures { result ≡ better_of found number first }
 {
     match (found, first) {

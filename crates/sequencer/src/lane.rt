@@ -1,6 +1,6 @@
 //! What waits of one collector.
 
-ghost use Rattle.std.specs.Prelude.{◌≡◌, ◌<◌, ◌≤◌, ◌∷◌, ◌++◌, [], List, ℕ, OnOk, slice_get, length, suc};
+ghost use Rattle.std.specs.Prelude.{◌≡◌, ◌<◌, ◌≤◌, ◌∷◌, ◌++◌, [], List, ℕ, OnOk, drop, slice_get, length, suc};
 ghost use Rattle.sequencer.specs.Lanes.{bound_of};
 
 use route_model::{Mark, Moment};
@@ -60,12 +60,37 @@ impl Lane {
         }
     }
 
+    /// The first time that waits behind so many others.
+    pub(crate) fn behind(&self, passed: usize) -> Option<Moment>
+        ensures { result ≡ slice_get self.now.times passed }
+    {
+        self.times.get(passed).copied()
+    }
+
+    /// How many times wait.
+    pub(crate) fn waiting(&self) -> usize
+        ensures { result ≡ length self.now.times }
+    {
+        self.times.len()
+    }
+
     /// Takes the first time that waits.
     pub(crate) fn pop(&mut self)
         ensures mark { self.new.mark ≡ self.old.mark }
         ensures times { (time : ℕ) (rest : List ℕ) → self.old.times ≡ time ∷ rest → self.new.times ≡ rest }
+        ensures rest { self.new.times ≡ drop 1 self.old.times }
     {
         let _ = self.times.pop_front();
+    }
+
+    /// Takes so many of the first times that wait, or all where fewer do.
+    pub(crate) fn pop_passed(&mut self, passed: usize)
+        ensures mark { self.new.mark ≡ self.old.mark }
+        ensures times { self.new.times ≡ drop passed self.old.times }
+    {
+        for _ in 0..passed {
+            self.pop();
+        }
     }
 
     /// Raises the mark.

@@ -2,6 +2,7 @@
 //! all is settled.
 #![tactic(auto)]
 
+mod ahead;
 mod batch;
 mod first;
 mod lane;
@@ -9,6 +10,7 @@ mod late;
 mod laws;
 mod sequencer;
 
+pub use ahead::Ahead;
 pub use batch::{timely_of, times_of};
 pub use late::{Late, Sieved, sieve};
 pub use laws::runs_release_in_order;

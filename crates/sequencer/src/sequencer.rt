@@ -2,11 +2,13 @@
 
 ghost use Rattle.std.specs.Prelude.{map, ◌≡◌, ◌<◌, ◌≤◌, ◌++◌, [], ℕ, List, IfOk, IfSome, IfNone, OnOk, OnErr, Some, IsErr, slice_get, length, replicate, ◌↔◌};
 ghost use Rattle.std.specs.List.{AllByRecursion};
+ghost use Rattle.sequencer.specs.Ahead.{behind};
 ghost use Rattle.sequencer.specs.Lanes.{Waiting, Releases, NoneOpen, SameLanes, Raises, HasMarkAbove, marks, waiting_times, bound_of};
 ghost use Rattle.route_meaning.specs.History.{least};
 ghost use Rattle.sequencer.specs.First.{IsNext};
 ghost use Rattle.sequencer.specs.Taking.{IsSieved, MayTakeIn, TakesIn};
 
+use crate::ahead::{Ahead, first_behind, pop_passed};
 use crate::first::{first_lane, is_open, least_bound};
 use crate::lane::Lane;
 use crate::late::{Sieved, sieve};
@@ -144,6 +146,56 @@ impl Sequencer {
         };
         self.take(collector);
         Some(collector)
+    }
+
+    /// A look ahead from here: no time is passed over.
+    pub fn ahead(&self, alloc: Global) -> Result<Ahead, AllocError>
+        ensures count { IfOk result (λ ahead. length ahead ≡ length self.now) }
+        ensures same { IfOk result (λ ahead. behind ahead self.now ≡ self.now) }
+    {
+        let mut passed = Vec::with_capacity(alloc, self.lanes.len())?;
+        for _ in 0..self.lanes.len() {
+            passed.push(0)?;
+        }
+        Ok(Ahead { passed })
+    }
+
+    /// The collector whose first time that isn't passed over is the next of all of these, where that time is below every mark. Of
+    /// equal times that of the lowest collector goes first.
+    pub fn next_behind(&self, ahead: &Ahead) -> Option<usize>
+        requires count { length ahead.now ≡ length self.now }
+        ensures some { IfSome result (IsNext (behind ahead.now self.now)) }
+        ensures none { IfNone result (NoneOpen (behind ahead.now self.now)) }
+    {
+        let Some(first) = first_behind(&self.lanes, &ahead.passed) else {
+            return None;
+        };
+        if !is_open(&self.lanes, first.time) {
+            return None;
+        }
+        Some(first.number)
+    }
+
+    /// Passes over one more time of the collector that [`Sequencer::next_behind`] tells.
+    pub fn pass(&self, ahead: &mut Ahead, collector: usize)
+        requires count { length ahead.old ≡ length self.now }
+        requires next { IsNext (behind ahead.old self.now) collector }
+        ensures count { length ahead.new ≡ length self.now }
+        ensures released { Releases (behind ahead.old self.now) collector (behind ahead.new self.now) }
+    {
+        let passed = &mut ahead.passed[collector];
+        if *passed < self.lanes[collector].waiting() {
+            *passed += 1;
+        }
+    }
+
+    /// Takes all that is passed over.
+    pub fn take_passed(&mut self, ahead: &Ahead)
+        requires count { length ahead.now ≡ length self.old }
+        ensures taken { SameLanes (behind ahead.now self.old) self.new }
+        ensures count { length self.new ≡ length self.old }
+    {
+        pop_passed(&mut self.lanes, &ahead.passed);
     }
 
     /// The settled watermark: the least of the first times that wait, and of the marks where none waits.
