@@ -8,11 +8,15 @@ use crate::leaf::{FIRST, LAST, ROOM};
 use disk_models::{Block, Page};
 use once_store::is_whole;
 
-/// Whether all octets are zero.
+/// Whether all octets are zero. Each one is looked at, whatever those before it are: so the loop goes by many at once.
 pub fn are_zeros(octets: &[u8]) -> bool
     ensures { IsTrue result ↔ All (λ octet. octet ≡ 0) octets.now }
 {
-    octets.iter().all(|octet| *octet == 0)
+    let mut seen = 0u8;
+    for octet in octets {
+        seen |= *octet;
+    }
+    seen == 0
 }
 
 /// The header of the node with which octets begin, and the octets of its entries. None where they begin as no node does:

@@ -13,3 +13,4 @@ pub mod Untouched
 pub mod PageWalking
 pub mod PageStanding
 pub mod PageWaysMeet
+pub mod Insides

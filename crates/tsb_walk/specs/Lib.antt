@@ -2,6 +2,7 @@ pub mod AllVersions
 pub mod Answers
 pub mod Borders
 pub mod HistLooks
+pub mod Inside
 pub mod Knowing
 pub mod Looked
 pub mod PageLooks

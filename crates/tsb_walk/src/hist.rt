@@ -8,6 +8,7 @@ ghost use Rattle.version_model.specs.Entries.{versions_of};
 ghost use Rattle.once_store.specs.Readers.{capacity_of, reader_disk};
 ghost use Rattle.tsb_walk.specs.Answers.{found_as, reached_as};
 ghost use Rattle.tsb_walk.specs.HistLooks.{TellsNext, TellsPart, TellsFound, ComesToTelling};
+ghost use Rattle.tsb_walk.specs.Inside.{KeepsInside};
 ghost use Rattle.tsb_walk.specs.Knowing.{ReadsWell, StandsKnown};
 ghost use Rattle.tsb_walk.specs.Looked.{GoesOnFrom, TellsFrom};
 ghost use Rattle.tsb_walk.specs.Ways.{ComesToDamage, ComesToUnknown};
@@ -53,6 +54,7 @@ pub fn hist_next<O: OnceDisk + Drop>(
     ensures checked { ReadsWell O.OnceDisk reader.old seen.old → IfOk result (λ reached. ComesToTelling (O.known seen.old) (O.block_count (reader_disk reader.old)) from stamp place.now (TellsNext from stamp reached)) }
     ensures damaged { ReadsWell O.OnceDisk reader.old seen.old → (block : ℕ) → result ≡ Err (BlockError.Damaged block) → ComesToDamage (O.known seen.old) (O.block_count (reader_disk reader.old)) from stamp place.now block }
     ensures onward { IfOk result (GoesOnFrom from) }
+    ensures inside { KeepsInside O.OnceDisk reader.old → KeepsInside O.OnceDisk reader.new }
     ensures same { O.honest_seen (reader_disk reader.old) seen.old → O.known seen.new ≡ O.known seen.old }
     ensures disk { reader_disk reader.new ≡ reader_disk reader.old }
     ensures capacity { capacity_of reader.new ≡ capacity_of reader.old }
@@ -90,6 +92,7 @@ pub fn hist_part<O: OnceDisk + Drop>(
     ensures checked { ReadsWell O.OnceDisk reader.old seen.old → IfOk result (λ part. ComesToTelling (O.known seen.old) (O.block_count (reader_disk reader.old)) key from place.now (TellsPart key from part)) }
     ensures damaged { ReadsWell O.OnceDisk reader.old seen.old → (block : ℕ) → result ≡ Err (BlockError.Damaged block) → ComesToDamage (O.known seen.old) (O.block_count (reader_disk reader.old)) key from place.now block }
     ensures told { IfOk result (TellsFrom from) }
+    ensures inside { KeepsInside O.OnceDisk reader.old → KeepsInside O.OnceDisk reader.new }
     ensures same { O.honest_seen (reader_disk reader.old) seen.old → O.known seen.new ≡ O.known seen.old }
     ensures disk { reader_disk reader.new ≡ reader_disk reader.old }
     ensures capacity { capacity_of reader.new ≡ capacity_of reader.old }
@@ -126,6 +129,7 @@ pub fn hist_find<O: OnceDisk + Drop>(
     ensures reads_on { ReadsWell O.OnceDisk reader.old seen.old → ReadsWell O.OnceDisk reader.new seen.new ⊎ ComesToUnknown (O.known seen.old) (O.block_count (reader_disk reader.old)) key stamp place.now }
     ensures checked { ReadsWell O.OnceDisk reader.old seen.old → IfOk result (λ found. ComesToTelling (O.known seen.old) (O.block_count (reader_disk reader.old)) key stamp place.now (TellsFound key stamp found)) }
     ensures damaged { ReadsWell O.OnceDisk reader.old seen.old → (block : ℕ) → result ≡ Err (BlockError.Damaged block) → ComesToDamage (O.known seen.old) (O.block_count (reader_disk reader.old)) key stamp place.now block }
+    ensures inside { KeepsInside O.OnceDisk reader.old → KeepsInside O.OnceDisk reader.new }
     ensures same { O.honest_seen (reader_disk reader.old) seen.old → O.known seen.new ≡ O.known seen.old }
     ensures disk { reader_disk reader.new ≡ reader_disk reader.old }
     ensures capacity { capacity_of reader.new ≡ capacity_of reader.old }

@@ -4,6 +4,7 @@ ghost use Rattle.std.specs.Prelude.{◌≡◌, ◌↔◌, ◌⊎◌, ℕ, List, 
 ghost use Rattle.version_model.specs.Versions.{Version};
 ghost use Rattle.version_model.specs.Ranges.{IsPoint, range_of};
 ghost use Rattle.once_store.specs.Readers.{IsKept, capacity_of, reader_disk};
+ghost use Rattle.tsb_walk.specs.Inside.{KeepsInside};
 ghost use Rattle.tsb_walk.specs.Knowing.{ReadsWell, IsKnown, StandsKnown};
 ghost use Rattle.tsb_walk.specs.Ways.{IsFit, ComesToDamage, ComesToUnknown};
 ghost use Rattle.tsb_walk.specs.inner.Steps.{IsStep, GoesDown};
@@ -30,6 +31,7 @@ fn take_step<O: OnceDisk + Drop>(
     ensures number { (m : ℕ) → result ≡ Err (BlockError.Damaged m) → m ≡ place.now.part.block }
     ensures down { IfOk result (GoesDown place.now key stamp) }
     ensures kept { OnOk result ((octets : List ℕ) × IsKept reader.new place.now.part.block octets) }
+    ensures inside { KeepsInside O.OnceDisk reader.old → KeepsInside O.OnceDisk reader.new }
     ensures same { O.honest_seen (reader_disk reader.old) seen.old → O.known seen.new ≡ O.known seen.old }
     ensures disk { reader_disk reader.new ≡ reader_disk reader.old }
     ensures capacity { capacity_of reader.new ≡ capacity_of reader.old }
@@ -65,6 +67,7 @@ pub fn leaf_place<O: OnceDisk + Drop>(
     ensures damaged { ReadsWell O.OnceDisk reader.old seen.old → (m : ℕ) → result ≡ Err (BlockError.Damaged m) → ComesToDamage (O.known seen.old) (O.block_count (reader_disk reader.old)) key stamp place.now m }
     ensures point { IfOk result (λ last. IsPoint (range_of last.bounds) key stamp) }
     ensures kept { IfOk result (λ last. (octets : List ℕ) × IsKept reader.new last.part.block octets) }
+    ensures inside { KeepsInside O.OnceDisk reader.old → KeepsInside O.OnceDisk reader.new }
     ensures same { O.honest_seen (reader_disk reader.old) seen.old → O.known seen.new ≡ O.known seen.old }
     ensures disk { reader_disk reader.new ≡ reader_disk reader.old }
     ensures capacity { capacity_of reader.new ≡ capacity_of reader.old }

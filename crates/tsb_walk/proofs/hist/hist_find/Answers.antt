@@ -42,3 +42,15 @@ returns-in-Err-clause-damaged g c = λ well block e.
     let d : c.fault_of.result ≡ Damaged block = search rules in
     no_damage g.O.OnceDisk c.leaf_place.new.reader (g.O.OnceDisk.known c.args.seen.now) (g.O.OnceDisk.block_count (reader_disk c.args.reader.now)) c.args.key c.args.stamp c.args.place.now c.in_ok-last.last (c.in_ok-last.ensures.arrives well)
     c.in-Some.block.now c.octets.result.now c.in-Some.ensures.some c.octets.ensures.value (λ leaf begins. c.found_in.ensures.leaf leaf begins (c.in-Err.is ∙ ap Err (c.fault_of.ensures.damaged block d).1)) block
+
+pub returns-in_err-last-clause-inside : goal.returns-in_err-last-clause-inside
+returns-in_err-last-clause-inside g c = c.leaf_place.ensures.inside
+
+pub returns-in_default-clause-inside : goal.returns-in_default-clause-inside
+returns-in_default-clause-inside g c = c.leaf_place.ensures.inside
+
+pub returns-in-Ok-clause-inside : goal.returns-in-Ok-clause-inside
+returns-in-Ok-clause-inside g c = c.leaf_place.ensures.inside
+
+pub returns-in-Err-clause-inside : goal.returns-in-Err-clause-inside
+returns-in-Err-clause-inside g c = c.leaf_place.ensures.inside

@@ -12,6 +12,7 @@ loop-at-init g c = record {
   point = c.requires.point;
   walked = walk_starts g.O.OnceDisk c.args.key c.args.stamp c.args.place.now c.args.reader.now c.args.seen.now;
   stands = λ all stands. stands;
+  inside = λ k. k;
   same = λ h. refl;
   disk = refl;
   capacity = refl;
@@ -79,6 +80,7 @@ loop-at-preserved g c =
           stands_on g.O.OnceDisk c.loop-at.reader c.take_step.new.reader c.loop-at.seen c.take_step.new.seen all c.loop-at.at now c.args.key c.args.stamp c.in-Further.next (c.take_step.ensures.same now.well.honest) c.take_step.ensures.disk
           (λ octets is. subst (IsStep c.loop-at.at octets c.args.key c.args.stamp) c.in-Further.is (c.in_ok-take_step.ensures.step now.well octets is))
           (λ octets is. c.take_step.ensures.reads now.well octets is);
+      inside = λ k. c.take_step.ensures.inside (i.inside k);
       same = λ h. c.take_step.ensures.same (subst (λ d. H d c.loop-at.seen) (sym i.disk) (i.honest.0 h)) ∙ i.same h;
       disk = c.take_step.ensures.disk ∙ i.disk;
       capacity = c.take_step.ensures.capacity ∙ i.capacity;
@@ -97,3 +99,9 @@ returns-in-InLeaf-clause-reads_on g c =
     let i = c.loop-at.invariant in
     reads_or g.O.OnceDisk c.args.key c.args.stamp c.args.place.now c.args.reader.now c.args.seen.now c.loop-at.reader c.loop-at.seen c.loop-at.at i.same i.disk i.walked c.take_step.new.reader c.take_step.new.seen
     (λ w octets is. c.take_step.ensures.reads w octets is)
+
+pub returns-in_err-take_step-clause-inside : goal.returns-in_err-take_step-clause-inside
+returns-in_err-take_step-clause-inside g c = λ k. c.take_step.ensures.inside (c.loop-at.invariant.inside k)
+
+pub returns-in-InLeaf-clause-inside : goal.returns-in-InLeaf-clause-inside
+returns-in-InLeaf-clause-inside g c = λ k. c.take_step.ensures.inside (c.loop-at.invariant.inside k)

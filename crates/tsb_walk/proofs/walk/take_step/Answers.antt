@@ -3,6 +3,7 @@ use Rattle.once_store.specs.declared.error.BlockError.TheVariants.{Damaged}
 use Rattle.once_store.specs.Digests.{IsWhole}
 use Rattle.tsb_walk.specs.Ways.{IsFit}
 use Rattle.tsb_walk.specs.inner.Steps.{IsStep}
+use Rattle.tsb_walk.proofs.Insides.{inside_fewer, inside_read}
 use Rattle.tsb_walk.proofs.Walking.{reads_on, only_kept, fit_whole}
 use Rattle.tsb_walk.proofs.walk.take_step.Goals as goal
 
@@ -44,3 +45,15 @@ returns-in-None-clause-unfit g c = λ well octets is m e fit.
     let same = only_kept g.O.OnceDisk c.args.reader.now c.fetch.new.self c.args.seen.now c.fetch.new.seen c.args.place.now.part.block octets well' (c.fetch.ensures.same well.honest) is c.in-Some.block.now c.in-Some.ensures.some in
     let here : c.octets.result.now ≡ octets = c.octets.ensures.value ∙ same in
     c.in-None.ensures.none (subst (λ (o : List ℕ). IsFit c.args.place.now o c.args.key c.args.stamp) (sym here) fit)
+
+pub returns-in_err-fetch-clause-inside : goal.returns-in_err-fetch-clause-inside
+returns-in_err-fetch-clause-inside g c = inside_fewer g.O.OnceDisk c.args.reader.now c.fetch.new.self c.fetch.ensures.disk c.in_err-fetch.ensures.refused
+
+pub returns-in_default-clause-inside : goal.returns-in_default-clause-inside
+returns-in_default-clause-inside g c = inside_read g.O.OnceDisk c.args.reader.now c.fetch.new.self c.args.place.now.part.block c.fetch.ensures.disk c.fetch.ensures.first c.in_ok-fetch.ensures.added (λ le none. absurd (let e = c.in_ok-fetch.ensures.beyond le none in cc))
+
+pub returns-in-Some-step_in-clause-inside : goal.returns-in-Some-step_in-clause-inside
+returns-in-Some-step_in-clause-inside g c = inside_read g.O.OnceDisk c.args.reader.now c.fetch.new.self c.args.place.now.part.block c.fetch.ensures.disk c.fetch.ensures.first c.in_ok-fetch.ensures.added (λ le none. absurd (let e = c.in_ok-fetch.ensures.beyond le none in cc))
+
+pub returns-in-None-clause-inside : goal.returns-in-None-clause-inside
+returns-in-None-clause-inside g c = inside_read g.O.OnceDisk c.args.reader.now c.fetch.new.self c.args.place.now.part.block c.fetch.ensures.disk c.fetch.ensures.first c.in_ok-fetch.ensures.added (λ le none. absurd (let e = c.in_ok-fetch.ensures.beyond le none in cc))
