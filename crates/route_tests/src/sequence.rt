@@ -119,6 +119,38 @@ fn of_equal_times_the_lower_collector_goes_first(rt: HostRuntime) -> Result<(), 
 }
 
 #[test]
+fn a_look_ahead_takes_nothing(rt: HostRuntime) -> Result<(), Fail> {
+    let alloc = rt.alloc();
+    let mut two = Sequencer::new(alloc, 2)?;
+    offer(alloc, &mut two, 1, &[5, 7])?;
+    offer(alloc, &mut two, 0, &[7, 8])?;
+    raise(&mut two, 0, 9)?;
+    raise(&mut two, 1, 8)?;
+    let mut ahead = two.ahead(alloc)?;
+    let Some(first) = two.next_behind(&ahead) else {
+        return Err("nothing is next".into());
+    };
+    two.pass(&mut ahead, first);
+    let Some(second) = two.next_behind(&ahead) else {
+        return Err("nothing is next behind one".into());
+    };
+    two.pass(&mut ahead, second);
+    let Some(third) = two.next_behind(&ahead) else {
+        return Err("nothing is next behind two".into());
+    };
+    two.pass(&mut ahead, third);
+    assert!(rt; [first, second, third] == [1, 0, 1]);
+    // The moment 8 isn't below the mark of the collector 1.
+    assert!(rt; two.next_behind(&ahead) == None);
+    assert!(rt; two.next() == Some(1));
+    assert!(rt; settled(&two)? == mark(5));
+    two.take_passed(&ahead);
+    assert!(rt; two.next() == None);
+    assert!(rt; settled(&two)? == mark(8));
+    Ok(())
+}
+
+#[test]
 fn a_mark_never_goes_back(rt: HostRuntime) -> Result<(), Fail> {
     let alloc = rt.alloc();
     let mut one = Sequencer::new(alloc, 1)?;
