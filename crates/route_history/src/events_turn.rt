@@ -1,6 +1,6 @@
 //! Turns of a question of a history, and errands of two looks.
 
-ghost use Rattle.std.specs.Prelude.{◌≡◌, ◌↔◌, ◌+◌, ℕ, List, Option, Some, None, IfOk, IfErr, OnOk, OnErr, Err};
+ghost use Rattle.std.specs.Prelude.{◌≡◌, ◌↔◌, ◌+◌, ℕ, List, Option, Some, None, IfOk, IfErr, OnOk, OnErr, IsErrOf, Err, min};
 ghost use Rattle.route_model.specs.Admission.{Admitted};
 ghost use Rattle.route_model.specs.Keys.{key_number, session_number};
 ghost use Rattle.route_meaning.specs.Merged.{Placed};
@@ -9,6 +9,7 @@ ghost use Rattle.version_model.specs.Blocks.{BlockNode};
 ghost use Rattle.version_model.specs.Looks.{IsPart};
 ghost use Rattle.version_model.specs.Entries.{versions_of};
 ghost use Rattle.once_store.specs.Readers.{capacity_of, reader_disk};
+ghost use Rattle.tsb_walk.specs.Inside.{KeepsInside};
 ghost use Rattle.tsb_walk.specs.Knowing.{ReadsWell};
 ghost use Rattle.route_history.specs.Blame.{BlamesNone};
 ghost use Rattle.route_history.specs.Walks.{Rose};
@@ -118,10 +119,13 @@ fn part_of<O: OnceDisk + Drop>(
     ensures part { (all : List Version) → IsRising all → IsKnownPart O.OnceDisk reader.old seen.old all key from parted → IfOk result (λ part. IsPart all key from (versions_of part.entries.items) part.told) }
     ensures reads { (all : List Version) → IsKnownPart O.OnceDisk reader.old seen.old all key from parted → ReadsWell O.OnceDisk reader.new seen.new }
     ensures never { (all : List Version) → IsKnownPart O.OnceDisk reader.old seen.old all key from parted → (block : ℕ) → result ≡ Err (BlockError.Damaged block) → ⊥ }
+    ensures inside { KeepsInside O.OnceDisk reader.old → KeepsInside O.OnceDisk reader.new }
     ensures same { O.honest_seen (reader_disk reader.old) seen.old → O.known seen.new ≡ O.known seen.old }
     ensures disk { reader_disk reader.new ≡ reader_disk reader.old }
     ensures capacity { capacity_of reader.new ≡ capacity_of reader.old }
     ensures honest { O.honest_seen (reader_disk reader.old) seen.old ↔ O.honest_seen (reader_disk reader.old) seen.new }
+    ensures quiet { (IsErrOf result BlockError.Fault → ⊥) → O.seen_fault_count seen.new ≡ O.seen_fault_count seen.old }
+    ensures counted { IsErrOf result BlockError.Fault → O.seen_fault_count seen.new ≡ min (O.seen_fault_count seen.old + 1) 18446744073709551615 }
 {
     match parted {
         Parted::Here(part) => Ok(part),
@@ -131,7 +135,8 @@ fn part_of<O: OnceDisk + Drop>(
 
 impl EventsErrand {
     /// Finishes the turn in the past: the cursor has then told as much as the turn would have, and its stamp has risen. It is the
-    /// cursor as its turn left it. A refusal leaves it so. It takes no lock, and waits for nothing but the disk.
+    /// cursor as its turn left it. A refusal leaves it so, and a fault is counted once. It takes no lock, and waits for nothing but the
+    /// disk.
     pub fn finish<O: OnceDisk + Drop>(
         self,
         reader: &mut ShelfReader<O>,
@@ -145,10 +150,13 @@ impl EventsErrand {
         ensures refused { OnErr result (IsSameTelling cursor.old cursor.new) }
         ensures reads { (all : List Version) → AreKnownParts O.OnceDisk reader.old seen.old all cursor.old self → ReadsWell O.OnceDisk reader.new seen.new }
         ensures never { (all : List Version) → AreKnownParts O.OnceDisk reader.old seen.old all cursor.old self → (block : ℕ) → result ≡ Err (BlockError.Damaged block) → ⊥ }
+        ensures inside { KeepsInside O.OnceDisk reader.old → KeepsInside O.OnceDisk reader.new }
         ensures same { O.honest_seen (reader_disk reader.old) seen.old → O.known seen.new ≡ O.known seen.old }
         ensures disk { reader_disk reader.new ≡ reader_disk reader.old }
         ensures capacity { capacity_of reader.new ≡ capacity_of reader.old }
         ensures honest { O.honest_seen (reader_disk reader.old) seen.old ↔ O.honest_seen (reader_disk reader.old) seen.new }
+        ensures quiet { (IsErrOf result BlockError.Fault → ⊥) → O.seen_fault_count seen.new ≡ O.seen_fault_count seen.old }
+        ensures counted { IsErrOf result BlockError.Fault → O.seen_fault_count seen.new ≡ min (O.seen_fault_count seen.old + 1) 18446744073709551615 }
     {
         let route_key = Key::prefix(&cursor.question.peer, &cursor.question.prefix);
         let session_key = Key::session(&cursor.question.peer);

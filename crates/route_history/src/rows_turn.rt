@@ -6,6 +6,7 @@ ghost use Rattle.route_meaning.specs.Merged.{Placed};
 ghost use Rattle.version_model.specs.Versions.{Version};
 ghost use Rattle.version_model.specs.Blocks.{BlockNode};
 ghost use Rattle.once_store.specs.Readers.{capacity_of, reader_disk};
+ghost use Rattle.tsb_walk.specs.Inside.{KeepsInside};
 ghost use Rattle.tsb_walk.specs.Knowing.{ReadsWell, StandsKnown};
 ghost use Rattle.route_history.specs.Stamps.{last_stamp};
 ghost use Rattle.route_history.specs.Fronts.{front_number};
@@ -119,7 +120,8 @@ pub fn take_rows_turn<V: Versions>(
 
 impl RowsErrand {
     /// Finishes the turn in the past: the cursor has then gathered as much as the turn would have given, and has come further. It
-    /// is the cursor as its turn left it. A refusal leaves it so. It takes no lock, and waits for nothing but the disk.
+    /// is the cursor as its turn left it. A refusal leaves it so, and a fault is counted once. It takes no lock, and waits for nothing
+    /// but the disk.
     pub fn finish<O: OnceDisk + Drop>(
         self,
         reader: &mut ShelfReader<O>,
@@ -133,10 +135,13 @@ impl RowsErrand {
         ensures refused { OnErr result (IsSame cursor.old cursor.new) }
         ensures reads { (all : List Version) → StandsKnown O.OnceDisk reader.old seen.old all self.place → ReadsWell O.OnceDisk reader.new seen.new }
         ensures never { (all : List Version) → StandsKnown O.OnceDisk reader.old seen.old all self.place → (block : ℕ) → result ≡ Err (BlockError.Damaged block) → ⊥ }
+        ensures inside { KeepsInside O.OnceDisk reader.old → KeepsInside O.OnceDisk reader.new }
         ensures same { O.honest_seen (reader_disk reader.old) seen.old → O.known seen.new ≡ O.known seen.old }
         ensures disk { reader_disk reader.new ≡ reader_disk reader.old }
         ensures capacity { capacity_of reader.new ≡ capacity_of reader.old }
         ensures honest { O.honest_seen (reader_disk reader.old) seen.old ↔ O.honest_seen (reader_disk reader.old) seen.new }
+        ensures quiet { (IsErrOf result BlockError.Fault → ⊥) → O.seen_fault_count seen.new ≡ O.seen_fault_count seen.old }
+        ensures counted { IsErrOf result BlockError.Fault → O.seen_fault_count seen.new ≡ min (O.seen_fault_count seen.old + 1) 18446744073709551615 }
     {
         let Some(front) = cursor.front else {
             return Ok(());

@@ -74,3 +74,15 @@ returns-clause-finished g c = λ all ps k t told.
     let under = subst (λ (o : Option ℕ). HasTold all ps q o c.args.cursor.now.left c.args.cursor.now.told.items c.args.cursor.now.more) c.requires.fits.here told in
     let r = c.in_ok-take.ensures.told all ps t under a b in
     (r.0, subst (λ (o : Option ℕ). Rose o c.take.new.self.at) (sym c.requires.fits.here) r.1)
+
+pub returns-in_err-route-clause-inside : goal.returns-in_err-route-clause-inside
+returns-in_err-route-clause-inside g c = c.part_of.ensures.inside
+
+pub returns-in_err-session-clause-inside : goal.returns-in_err-session-clause-inside
+returns-in_err-session-clause-inside g c = λ k. c.part_of-2.ensures.inside (c.part_of.ensures.inside k)
+
+pub returns-in_err-take-clause-inside : goal.returns-in_err-take-clause-inside
+returns-in_err-take-clause-inside g c = λ k. c.part_of-2.ensures.inside (c.part_of.ensures.inside k)
+
+pub returns-clause-inside : goal.returns-clause-inside
+returns-clause-inside g c = λ k. c.part_of-2.ensures.inside (c.part_of.ensures.inside k)

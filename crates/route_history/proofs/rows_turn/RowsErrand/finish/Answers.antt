@@ -21,3 +21,12 @@ returns-clause-finished g c = λ all ps stands t gathered.
     let reached : IsReached all (last_stamp q.moment) (number_at c.in-Some.front) (reached_as c.in_ok-found.found) = subst (λ (n : ℕ). IsReached all (last_stamp q.moment) n (reached_as c.in_ok-found.found)) at (subst (λ (s : ℕ). IsReached all s c.args.self.from (reached_as c.in_ok-found.found)) c.last_stamp-stamp.ensures next) in
     let taken = c.in_ok-take.ensures.taken all ps t under reached in
     (taken.0, rose_from c.args.cursor.now.front c.in-Some.front (front_number c.take.new.self.front) c.in-Some.is taken.1)
+
+pub returns-in_err-found-clause-inside : goal.returns-in_err-found-clause-inside
+returns-in_err-found-clause-inside g c = c.hist_next.ensures.inside
+
+pub returns-in_err-take-clause-inside : goal.returns-in_err-take-clause-inside
+returns-in_err-take-clause-inside g c = c.hist_next.ensures.inside
+
+pub returns-clause-inside : goal.returns-clause-inside
+returns-clause-inside g c = c.hist_next.ensures.inside
