@@ -94,10 +94,6 @@ bare_program = on_top (λ s. record s { subcommand_required = true; disable_help
 abbrev pub program : App
 program = with_subcommand (with_subcommand (with_subcommand (with_subcommand bare_program creation.top) loading.top) question.top) checking.top
 
--- what a mark has to be, as standard error tells it
-abbrev pub mark_texts : List ℕ
-mark_texts = codes "a mark is a number 0 to 4294967296, or a timestamp as 2024-01-01T00:00:00Z"
-
 -- the words, with one space between two
 abbrev pub spaced : List (List ℕ) → List ℕ
 spaced words = join_by (λ word. word) (codes " ") words

@@ -1,11 +1,10 @@
 //! What the program tells on standard error besides the lines of its command, and the exit status that follows.
 
-ghost use Rattle.std.specs.Prelude.{◌≡◌, ◌⊎◌, ◌++◌, false, codes};
+ghost use Rattle.std.specs.Prelude.{◌≡◌, ◌⊎◌, false, codes};
 ghost use Rattle.clap.specs.Values.{kind_of};
 ghost use Rattle.clap.specs.declared.error.Error.{Error as Usage};
-ghost use Rattle.service.specs.CommandLines.{mark_texts};
 ghost use Rattle.service.specs.Outputs.{Tells};
-ghost use Rattle.service.specs.Refusals.{error_line, reason_line};
+ghost use Rattle.service.specs.Refusals.{error_line};
 ghost use Rattle.service.specs.Telling.{TellsReason, TellsOutside, TellsFailures};
 
 use crate::invocation::CommandError;
@@ -14,10 +13,6 @@ use crate::refusal::{Refusal, write_error, write_reason};
 use clap::error::ErrorKind as UsageKind;
 use std::alloc::Global;
 use std::io::{Eprint, Error, ErrorKind, Print, Read, Write};
-
-/// What a mark has to be.
-const MARK_TEXTS: &str =
-    "a mark is a number 0 to 4294967296, or a timestamp as 2024-01-01T00:00:00Z";
 
 /// Tells behind a refusal what it is of, as a file or an argument, and the system's reason. Where there is no memory
 /// for the reason, the refusal stands alone.
@@ -95,14 +90,6 @@ pub fn tell_failures<R: Read, W: Write, E: Write>(
     tell_unwritten(alloc, out, err);
 }
 
-/// Tells that the text behind `--mark` is that of no mark, and what a mark has to be.
-fn tell_bad_mark<E: Write>(err: &mut Output<E>)
-    ensures told { Tells err.old err.new (error_line Refusal.BadText ++ reason_line (codes "--mark") mark_texts) }
-{
-    write_error(err, &Refusal::BadText);
-    write_reason(err, "--mark", MARK_TEXTS);
-}
-
 /// Tells why the command line asks for nothing, or shows the help or version that it asks for. The exit status is that
 /// of the error, or 1 where help or version couldn't be shown.
 pub fn tell_usage<R: Print + Eprint, E: Write>(
@@ -112,7 +99,7 @@ pub fn tell_usage<R: Print + Eprint, E: Write>(
 ) -> u8
     ensures usage { (e : Usage) → error.now ≡ CommandError.Usage e → (kind_of e ≡ UsageKind.DisplayHelp → ⊥) → (kind_of e ≡ UsageKind.DisplayVersion → ⊥) → (result ≡ 2) × (err.new ≡ err.old) }
     ensures shown { (e : Usage) → error.now ≡ CommandError.Usage e → (kind_of e ≡ UsageKind.DisplayHelp) ⊎ (kind_of e ≡ UsageKind.DisplayVersion) → ((result ≡ 0) × (err.new ≡ err.old)) ⊎ ((result ≡ 1) × Tells err.old err.new (error_line Refusal.Outside)) }
-    ensures bad_mark { error.now ≡ CommandError.BadMark → (result ≡ 1) × Tells err.old err.new (error_line Refusal.BadText ++ reason_line (codes "--mark") mark_texts) }
+    ensures bad_mark { error.now ≡ CommandError.BadMark → (result ≡ 1) × Tells err.old err.new (error_line Refusal.BadText) }
     ensures memory { error.now ≡ CommandError.OutOfMemory → (result ≡ 1) × Tells err.old err.new (error_line Refusal.OutOfMemory) }
 {
     match error {
@@ -123,7 +110,7 @@ pub fn tell_usage<R: Print + Eprint, E: Write>(
                 return 1;
             }
         }
-        CommandError::BadMark => tell_bad_mark(err),
+        CommandError::BadMark => write_error(err, &Refusal::BadText),
         CommandError::OutOfMemory => write_error(err, &Refusal::OutOfMemory),
     }
     error.code()
