@@ -29,6 +29,7 @@ use Rattle.tsb_tree.specs.declared.error.TreeError.{TreeError}
 use Rattle.tsb_tree.specs.declared.error.TreeError.TheVariants as errors
 use Rattle.tsb_tree.specs.declared.tree.TreePlace.{TreePlace}
 use Rattle.tsb_tree.specs.Inserted.{PlansTree, TakenIn}
+use Rattle.tsb_tree.specs.NoRoom.{AtRoot}
 use Rattle.tsb_tree.specs.Plans.{Plans}
 use Rattle.tsb_tree.specs.Raises.{GrowsRoot, RootRefusal, TreeCanBeLaid}
 use Rattle.tsb_tree.specs.Refusals.{PlanRefusal, InsertRefusal, of_page}
@@ -181,6 +182,13 @@ root_can pages held device shelf start shown all place root level least v page_i
   bounded = tree.has.bounded;
   inside = key;
 }
+
+-- what is so on the way down from that root
+pub root_so : {P O Pen Seen : Type 0} (pages : Ghosts P) (held : P) (device : OnceGhosts O Pen Seen) (shelf : Shelf O Pen Seen) (start : Start) (shown : List (List ℕ)) (all : List Version) (place : PagePlace) (root level least : ℕ) (v : Version) (fact : List (List ℕ) → PagePlace → Type 0)
+    (page_is : place.page ≡ root) (level_is : place.level ≡ level) (keys_are : keys_at place ≡ all_keys) (tree : TreeShown pages held device shelf start shown all root level least) (later : least ≤ v.stamp) (key : v.key + 1 < key_end)
+    → fact (root_can pages held device shelf start shown all place root level least v page_is level_is keys_are tree later key).shown place → AtRoot (fact shown) root level
+unfolding root_can
+root_so pages held device shelf start shown all place root level least v fact page_is level_is keys_are tree later key is = (place, page_is, level_is, keys_are, is)
 
 -- what is planned at the root's place is planned at the root
 pub root_plans : {O Pen Seen : Type 0} (device : OnceGhosts O Pen Seen) (shelf : Shelf O Pen Seen) (homes : ℕ) (s : Store) (v : Version) (place : PagePlace) (root level : ℕ) (change : Change) → place.page ≡ root → place.level ≡ level

@@ -25,3 +25,5 @@ pub mod Insertion
 pub mod Roots
 pub mod Looks
 pub mod Beginning
+pub mod Wanting
+pub mod Outliving

@@ -13,3 +13,6 @@ pub mod Read
 pub mod Raises
 pub mod Inserted
 pub mod Opened
+pub mod NoRoom
+pub mod InPlace
+pub mod Outlived

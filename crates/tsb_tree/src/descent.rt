@@ -1,5 +1,5 @@
 //! A version goes down through key nodes to the column that has its key, and what is planned there comes up again.
-ghost use Rattle.std.specs.Prelude.{◌≡◌, ◌<◌, ◌≤◌, ◌+◌, ◌^◌, ℕ, suc, List, Some, None, Ok, length, IfOk, OnOk, IfErr, IsSome};
+ghost use Rattle.std.specs.Prelude.{◌≡◌, ◌<◌, ◌≤◌, ◌+◌, ◌^◌, ◌⊎◌, ℕ, suc, List, Some, None, Ok, length, IfOk, OnOk, IfErr, IsSome};
 ghost use Rattle.std.specs.List.{insert};
 ghost use Rattle.page_journal.specs.Layout.{pages_of};
 ghost use Rattle.page_journal.specs.Recovers.{AreDistinct};
@@ -13,6 +13,9 @@ ghost use Rattle.tsb_node.specs.Views.{keys_between};
 ghost use Rattle.tsb_walk.specs.PageWays.{IsLower};
 ghost use Rattle.tsb_walk.specs.Shown.{Says, HasKey, keys_at};
 ghost use Rattle.tsb_tree.specs.KeyNodes.{IsWide};
+ghost use Rattle.tsb_tree.specs.InPlace.{IsInPlace};
+ghost use Rattle.tsb_tree.specs.NoRoom.{IsForWant, IsFullWay, LeadsToFullLeaf};
+ghost use Rattle.tsb_tree.specs.Outlived.{LeadsToOutdated};
 ghost use Rattle.tsb_tree.specs.Plans.{CanBeLaid, Plans};
 ghost use Rattle.tsb_tree.specs.Puts.{PutsChild};
 ghost use Rattle.tsb_tree.specs.Raises.{HasRoomBehind, RaiseRefusal};
@@ -80,6 +83,8 @@ fn raise<P: Pages>(
     ensures kept { change.new ≡ None → result ≡ Ok change }
     ensures puts { (start : Start) (shown : List (List ℕ)) (new : ChildValue) (room : HasRoomBehind shown place.now new) → P.shows pages.old start shown → change.new ≡ Some new
         → IfOk result (PutsChild place.now.page place.now.level (keys_at place.now) (insert room.children (suc room.at) new) change) }
+    ensures full { (start : Start) (shown : List (List ℕ)) (level : ℕ) (k : Keys) (children : List ChildValue) → P.shows pages.old start shown → Says shown place.now.page (KeyNode level k children)
+        → IfOk result (λ put. IsSome put.new → length children ≡ 338) }
     ensures inside { IsSome change.new → OnOk result (place.now.page < P.homes pages.old) }
     ensures laid { (next level : ℕ) → CanBeLaid (P.homes pages.old) next level change → IfOk result (CanBeLaid (P.homes pages.old) next (suc level)) }
     ensures honest { (start : Start) (shown : List (List ℕ)) → P.shows pages.old start shown → ((new : ChildValue) → change.new ≡ Some new → HasRoomBehind shown place.now new) → IsHonest result }
@@ -118,6 +123,13 @@ pub fn plan_under<P: Pages, O: OnceDisk + Drop>(
     ensures plans { (s : Store) (all : List Version) → CanTake P.Pages pages.old O.OnceDisk shelf.old s all place.now (version_of entry.now)
         → IfOk result (λ change. Plans O.OnceDisk shelf.new (P.homes pages.old) s (version_of entry.now) place.now.level place.now.page change) }
     ensures honest { (s : Store) (all : List Version) → CanTake P.Pages pages.old O.OnceDisk shelf.old s all place.now (version_of entry.now) → IsHonest result }
+    ensures full { (s : Store) (all : List Version) → (can : CanTake P.Pages pages.old O.OnceDisk shelf.old s all place.now (version_of entry.now))
+        → IfOk result (λ change. IsSome change.new → IsFullWay can.shown (version_of entry.now) place.now) }
+    ensures wants { (s : Store) (all : List Version) → (can : CanTake P.Pages pages.old O.OnceDisk shelf.old s all place.now (version_of entry.now))
+        → IfErr result (λ e. IsForWant e → LeadsToFullLeaf can.shown (version_of entry.now) place.now) }
+    ensures light { (s : Store) (all : List Version) → (can : CanTake P.Pages pages.old O.OnceDisk shelf.old s all place.now (version_of entry.now))
+        → IfOk result (λ change. (IsInPlace (P.next pages.old) change × (shelf.new ≡ shelf.old)) ⊎ LeadsToFullLeaf can.shown (version_of entry.now) place.now) }
+    ensures burns { (s : Store) (all : List Version) → (can : CanTake P.Pages pages.old O.OnceDisk shelf.old s all place.now (version_of entry.now)) → (shelf.new ≡ shelf.old) ⊎ LeadsToOutdated can.shown (version_of entry.now) place.now }
     ensures laid { IfOk result (λ change. CanBeLaid (P.homes pages.old) (P.next pages.old) place.now.level change) }
     ensures refused { IfErr result (PlanRefusal (P.homes pages.old) (P.next pages.old) place.now.level (P.down pages.old)) }
     ensures reads { ReadsAlone P.Pages pages.old pages.new result }

@@ -2,9 +2,10 @@
 ghost use Rattle.std.specs.Prelude.{◌≡◌, ℕ, ◌+◌, ◌-◌, ◌/◌, ◌<◌, ◌≤◌, ◌++◌, ◌∷◌, [], List, Some, IfOk, OnOk, IfSome, IfNone, MatchOption};
 ghost use Rattle.version_model.specs.Entries.{version_of};
 ghost use Rattle.version_model.specs.Ranges.{key_end};
-ghost use Rattle.version_model.specs.Versions.{Version, Has, IsAbove};
+ghost use Rattle.version_model.specs.Versions.{Version, Has, IsAbove, IsRising};
 ghost use Rattle.version_model.specs.Shows.{IsFrom};
 ghost use Rattle.version_model.specs.Sizes.{octets, IsSingle, IsSplitPoint};
+ghost use Rattle.tsb_tree.specs.Outlived.{HasOutlived};
 ghost use Rattle.tsb_tree.specs.Shapes.{IsFull, IsWhole, least_of};
 ghost use Rattle.tsb_tree.specs.Wholes.{AreHalves};
 
@@ -31,6 +32,7 @@ pub fn newer_of(alloc: Global, leaf: &Leaf, at: Stamp) -> Result<Option<Leaf>, A
     ensures size { IfOk result (λ newer. IfSome newer (λ newer. octets newer ≤ octets leaf.now)) }
     ensures single { (front : List Version) (v : Version) → leaf.now ≡ front ++ v ∷ [] → v.stamp ≡ at → IsAbove front at
         → IfOk result (λ newer. MatchOption newer (IsSingle leaf.now) IsSingle) }
+    ensures moves { (front : List Version) (v : Version) → leaf.now ≡ front ++ v ∷ [] → v.stamp ≡ at → IsAbove front at → IsRising front → IfOk result (λ newer. IfSome newer (λ newer. HasOutlived front v)) }
 {
     let newer = leaf.since(alloc, at)?;
     if newer.len() == leaf.len() {

@@ -8,6 +8,7 @@ ghost use Rattle.version_model.specs.Sizes.{octets, entry_octets, IsSingle};
 ghost use Rattle.version_model.specs.Versions.{Version, Has, IsAbove};
 ghost use Rattle.tsb_node.specs.Leaves.{IsLeafPage};
 ghost use Rattle.worm_migration.specs.Settled.{ShelfSays};
+ghost use Rattle.tsb_tree.specs.Outlived.{HasOutlived};
 ghost use Rattle.tsb_tree.specs.Refusals.{IsHonest, GrowRefusal};
 ghost use Rattle.tsb_tree.specs.Shapes.{IsWhole, leaf_in_page};
 ghost use Rattle.tsb_tree.specs.Shelves.{KeepsShelf, TakesOn};
@@ -44,6 +45,7 @@ pub fn grow<O: OnceDisk + Drop>(
     ensures most { OnOk result (octets whole.new.leaf ≤ 19363) }
     ensures only { OnOk result ((v : Version) → Has whole.new.leaf v → Has whole.old.leaf v ⊎ (v ≡ version_of entry.now)) }
     ensures honest { IsAbove whole.old.leaf entry.now.stamp → whole.old.start < entry.now.stamp → IsHonest result }
+    ensures burns { (shelf.new ≡ shelf.old) ⊎ HasOutlived whole.old.leaf (version_of entry.now) }
     ensures refused { IfErr result GrowRefusal }
     ensures shelf { KeepsShelf O.OnceDisk 2 shelf.old shelf.new result }
 {

@@ -1,5 +1,5 @@
 //! A tree takes a version.
-ghost use Rattle.std.specs.Prelude.{◌≡◌, ◌↔◌, ◌<◌, ◌≤◌, ◌+◌, ◌*◌, ◌^◌, ◌++◌, ◌∷◌, [], ℕ, suc, List, length, Err, IfOk, OnOk, OnErr, IfErr, IsErrOf};
+ghost use Rattle.std.specs.Prelude.{◌≡◌, ◌↔◌, ◌<◌, ◌≤◌, ◌+◌, ◌*◌, ◌^◌, ◌⊎◌, ◌++◌, ◌∷◌, [], ℕ, suc, List, length, Err, IfOk, OnOk, OnErr, IfErr, IsErrOf};
 ghost use Rattle.page_tx.specs.Device.{KeepsDevice};
 ghost use Rattle.page_tx.specs.Images.{joined};
 ghost use Rattle.page_tx.specs.Start.{Start};
@@ -8,6 +8,9 @@ ghost use Rattle.version_model.specs.Ranges.{key_end};
 ghost use Rattle.version_model.specs.Sizes.{entry_octets};
 ghost use Rattle.version_model.specs.Versions.{Version};
 ghost use Rattle.tsb_tree.specs.Inserted.{PlansTree, TakenIn};
+ghost use Rattle.tsb_tree.specs.InPlace.{IsInPlace, TakesInPlace};
+ghost use Rattle.tsb_tree.specs.NoRoom.{AtRoot, IsForWant, IsFullWay, LeadsToFullLeaf};
+ghost use Rattle.tsb_tree.specs.Outlived.{LeadsToOutdated};
 ghost use Rattle.tsb_tree.specs.Raises.{TreeCanBeLaid};
 ghost use Rattle.tsb_tree.specs.Refusals.{IsHonest, InsertRefusal};
 ghost use Rattle.tsb_tree.specs.Shelves.{KeepsShelf};
@@ -54,7 +57,19 @@ fn planned<P: Pages, O: OnceDisk + Drop>(
     ensures plans { (start : Start) (shown : List (List ℕ)) (all : List Version) (tree : TreeShown P.Pages pages.old O.OnceDisk shelf.old start shown all place.root place.level place.least) → place.least ≤ entry.now.stamp
         → IfOk result (λ plan. PlansTree O.OnceDisk shelf.new (P.homes pages.old) tree.store (all ++ version_of entry.now ∷ []) plan.0 plan.1) }
     ensures honest { (start : Start) (shown : List (List ℕ)) (all : List Version) → TreeShown P.Pages pages.old O.OnceDisk shelf.old start shown all place.root place.level place.least → place.least ≤ entry.now.stamp → IsHonest result }
+    ensures high { (start : Start) (shown : List (List ℕ)) (all : List Version) → TreeShown P.Pages pages.old O.OnceDisk shelf.old start shown all place.root place.level place.least → place.least ≤ entry.now.stamp
+        → result ≡ Err TreeError.TooHigh → AtRoot (IsFullWay shown (version_of entry.now)) place.root place.level }
+    ensures wants { (start : Start) (shown : List (List ℕ)) (all : List Version) → TreeShown P.Pages pages.old O.OnceDisk shelf.old start shown all place.root place.level place.least → place.least ≤ entry.now.stamp
+        → IfErr result (λ e. IsForWant e → AtRoot (LeadsToFullLeaf shown (version_of entry.now)) place.root place.level) }
+    ensures light { (start : Start) (shown : List (List ℕ)) (all : List Version) → TreeShown P.Pages pages.old O.OnceDisk shelf.old start shown all place.root place.level place.least → place.least ≤ entry.now.stamp
+        → IfOk result (λ plan. (IsInPlace (P.next pages.old) plan.0 × (shelf.new ≡ shelf.old) × (plan.1.root ≡ place.root) × (plan.1.level ≡ place.level)) ⊎ AtRoot (LeadsToFullLeaf shown (version_of entry.now)) place.root place.level) }
+    ensures burns { (start : Start) (shown : List (List ℕ)) (all : List Version) → TreeShown P.Pages pages.old O.OnceDisk shelf.old start shown all place.root place.level place.least → place.least ≤ entry.now.stamp
+        → (shelf.new ≡ shelf.old) ⊎ AtRoot (LeadsToOutdated shown (version_of entry.now)) place.root place.level }
+    ensures grows { (start : Start) (shown : List (List ℕ)) (all : List Version) → TreeShown P.Pages pages.old O.OnceDisk shelf.old start shown all place.root place.level place.least → place.least ≤ entry.now.stamp
+        → IfOk result (λ plan. ((plan.1.root ≡ place.root) × (plan.1.level ≡ place.level)) ⊎ ((plan.1.level ≡ suc place.level) × AtRoot (IsFullWay shown (version_of entry.now)) place.root place.level)) }
+    ensures highest { place.level ≡ 7 → result ≡ Err (TreeError.Pages PageError.PagesFull) → P.homes pages.old < P.next pages.old + 8 }
     ensures laid { IfOk result (λ plan. TreeCanBeLaid (P.homes pages.old) (P.next pages.old) place.level plan.0) }
+    ensures images { IfOk result (λ plan. length plan.0.images.items ≤ 2 * plan.1.level + 2) }
     ensures least { IfOk result (λ plan. plan.1.least ≡ entry.now.stamp + 1) }
     ensures some { IfOk result (λ plan. 1 ≤ plan.1.level) }
     ensures few { IfOk result (λ plan. plan.1.level ≤ 7) }
@@ -109,6 +124,17 @@ pub fn insert<P: Pages, O: OnceDisk + Drop>(
     ensures err { OnErr result ((start : Start) (shown : List (List ℕ)) (all : List Version) → TreeShown P.Pages pages.old O.OnceDisk shelf.old start shown all place.root place.level place.least
         → TreeShown P.Pages pages.new O.OnceDisk shelf.new start shown all place.root place.level place.least) }
     ensures honest { (start : Start) (shown : List (List ℕ)) (all : List Version) → TreeShown P.Pages pages.old O.OnceDisk shelf.old start shown all place.root place.level place.least → IsHonest result }
+    ensures high { (start : Start) (shown : List (List ℕ)) (all : List Version) → TreeShown P.Pages pages.old O.OnceDisk shelf.old start shown all place.root place.level place.least
+        → result ≡ Err TreeError.TooHigh → AtRoot (IsFullWay shown (version_of entry.now)) place.root place.level }
+    ensures wants { (start : Start) (shown : List (List ℕ)) (all : List Version) → TreeShown P.Pages pages.old O.OnceDisk shelf.old start shown all place.root place.level place.least
+        → IfErr result (λ e. IsForWant e → AtRoot (LeadsToFullLeaf shown (version_of entry.now)) place.root place.level) }
+    ensures in_place { (start : Start) (shown : List (List ℕ)) (all : List Version) → TreeShown P.Pages pages.old O.OnceDisk shelf.old start shown all place.root place.level place.least
+        → IfOk result (λ now. TakesInPlace P.Pages pages.old pages.new shelf.old shelf.new place now ⊎ AtRoot (LeadsToFullLeaf shown (version_of entry.now)) place.root place.level) }
+    ensures burns { (start : Start) (shown : List (List ℕ)) (all : List Version) → TreeShown P.Pages pages.old O.OnceDisk shelf.old start shown all place.root place.level place.least
+        → (shelf.new ≡ shelf.old) ⊎ AtRoot (LeadsToOutdated shown (version_of entry.now)) place.root place.level }
+    ensures grows { (start : Start) (shown : List (List ℕ)) (all : List Version) → TreeShown P.Pages pages.old O.OnceDisk shelf.old start shown all place.root place.level place.least
+        → IfOk result (λ now. ((now.root ≡ place.root) × (now.level ≡ place.level)) ⊎ ((now.level ≡ suc place.level) × AtRoot (IsFullWay shown (version_of entry.now)) place.root place.level)) }
+    ensures highest { place.level ≡ 7 → result ≡ Err (TreeError.Pages PageError.PagesFull) → P.homes pages.old < P.next pages.old + 8 }
     ensures back { (result ≡ Err TreeError.StampBack) ↔ (entry.now.stamp < place.least) }
     ensures refused { IfErr result (InsertRefusal (P.homes pages.old) (P.next pages.old) (length (P.named pages.old)) place.level (P.down pages.old) place.least entry.now.stamp) }
     ensures least { IfOk result (λ now. now.least ≡ entry.now.stamp + 1) }
@@ -121,6 +147,7 @@ pub fn insert<P: Pages, O: OnceDisk + Drop>(
     ensures onward { P.next pages.old ≤ P.next pages.new }
     ensures next { P.next pages.new ≤ P.next pages.old + place.level + 2 }
     ensures named { OnOk result ((ns : List ℕ) × (length ns ≤ 2 * place.level + 3) × (P.named pages.new ≡ joined (P.named pages.old) ns)) }
+    ensures images { IfOk result (λ now. (ns : List ℕ) × (length ns ≤ 2 * now.level + 2) × (P.named pages.new ≡ joined (P.named pages.old) ns)) }
     ensures homes { P.homes pages.new ≡ P.homes pages.old }
     ensures down { P.down pages.new ≡ P.down pages.old }
 {

@@ -1,10 +1,13 @@
 //! What a column becomes that takes a version is planned.
-ghost use Rattle.std.specs.Prelude.{◌≡◌, ◌+◌, ◌^◌, ◌<◌, ◌≤◌, ℕ, List, IfOk, IfErr, OnOk, Some, slice_get};
+ghost use Rattle.std.specs.Prelude.{◌≡◌, ◌+◌, ◌^◌, ◌<◌, ◌≤◌, ◌⊎◌, ℕ, List, IfOk, IfErr, OnOk, IsSome, Some, slice_get};
 ghost use Rattle.version_model.specs.Entries.{version_of};
 ghost use Rattle.version_model.specs.Pages.{Store};
 ghost use Rattle.version_model.specs.Sizes.{entry_octets};
 ghost use Rattle.version_model.specs.Versions.{Version};
 ghost use Rattle.tsb_walk.specs.Shown.{HasKey};
+ghost use Rattle.tsb_tree.specs.InPlace.{IsInPlace};
+ghost use Rattle.tsb_tree.specs.NoRoom.{IsForWant, IsFullWay, LeadsToFullLeaf};
+ghost use Rattle.tsb_tree.specs.Outlived.{IsOutdated, LeadsToOutdated};
 ghost use Rattle.tsb_tree.specs.Plans.{CanBeLaid, Plans};
 ghost use Rattle.tsb_tree.specs.Read.{IsFilled, IsLeafOf};
 ghost use Rattle.tsb_tree.specs.Refusals.{IsHonest, PlanRefusal};
@@ -44,6 +47,7 @@ fn plan_splits<P: Pages, O: OnceDisk + Drop>(
         → IfOk result (λ change. Plans O.OnceDisk shelf.new (P.homes pages.old) s (version_of entry.now) place.now.level place.now.page change) }
     ensures honest { (s : Store) (all : List Version) → (can : CanTake P.Pages pages.old O.OnceDisk shelf.old s all place.now (version_of entry.now)) → IsLeafOf can.shown place.now leaf.now.page leaf.now.image
         → IsFilled place.now leaf.now.image (version_of entry.now) → IsHonest result }
+    ensures burns { (shelf.new ≡ shelf.old) ⊎ IsOutdated place.now leaf.now.image (version_of entry.now) }
     ensures laid { IfOk result (λ change. CanBeLaid (P.homes pages.old) (P.next pages.old) place.now.level change) }
     ensures inside { OnOk result (place.now.page < P.homes pages.old) }
     ensures refused { IfErr result (PlanRefusal (P.homes pages.old) (P.next pages.old) place.now.level (P.down pages.old)) }
@@ -77,6 +81,13 @@ pub fn plan_column<P: Pages, O: OnceDisk + Drop>(
     ensures plans { (s : Store) (all : List Version) → CanTake P.Pages pages.old O.OnceDisk shelf.old s all place.now (version_of entry.now)
         → IfOk result (λ change. Plans O.OnceDisk shelf.new (P.homes pages.old) s (version_of entry.now) place.now.level place.now.page change) }
     ensures honest { (s : Store) (all : List Version) → CanTake P.Pages pages.old O.OnceDisk shelf.old s all place.now (version_of entry.now) → IsHonest result }
+    ensures full { (s : Store) (all : List Version) → (can : CanTake P.Pages pages.old O.OnceDisk shelf.old s all place.now (version_of entry.now))
+        → IfOk result (λ change. IsSome change.new → IsFullWay can.shown (version_of entry.now) place.now) }
+    ensures wants { (s : Store) (all : List Version) → (can : CanTake P.Pages pages.old O.OnceDisk shelf.old s all place.now (version_of entry.now))
+        → IfErr result (λ e. IsForWant e → LeadsToFullLeaf can.shown (version_of entry.now) place.now) }
+    ensures light { (s : Store) (all : List Version) → (can : CanTake P.Pages pages.old O.OnceDisk shelf.old s all place.now (version_of entry.now))
+        → IfOk result (λ change. (IsInPlace (P.next pages.old) change × (shelf.new ≡ shelf.old)) ⊎ LeadsToFullLeaf can.shown (version_of entry.now) place.now) }
+    ensures burns { (s : Store) (all : List Version) → (can : CanTake P.Pages pages.old O.OnceDisk shelf.old s all place.now (version_of entry.now)) → (shelf.new ≡ shelf.old) ⊎ LeadsToOutdated can.shown (version_of entry.now) place.now }
     ensures laid { IfOk result (λ change. CanBeLaid (P.homes pages.old) (P.next pages.old) place.now.level change) }
     ensures inside { OnOk result (place.now.page < P.homes pages.old) }
     ensures refused { IfErr result (PlanRefusal (P.homes pages.old) (P.next pages.old) place.now.level (P.down pages.old)) }

@@ -1,5 +1,5 @@
 //! A column takes a version for which its leaf has no room, and is laid out as one or as two.
-ghost use Rattle.std.specs.Prelude.{◌≡◌, ◌+◌, ◌^◌, ◌<◌, ◌≤◌, ℕ, Bool, Option, IfOk, IfErr, IsErrOf};
+ghost use Rattle.std.specs.Prelude.{◌≡◌, ◌+◌, ◌^◌, ◌<◌, ◌≤◌, ◌⊎◌, ℕ, Bool, Option, IfOk, IfErr, IsErrOf};
 ghost use Rattle.once_store.specs.Shelves.{disk_of, next_of, pen_of};
 ghost use Rattle.version_model.specs.Blocks.{BlockNode};
 ghost use Rattle.version_model.specs.Entries.{version_of};
@@ -9,6 +9,7 @@ ghost use Rattle.version_model.specs.Versions.{Version, Has, IsAbove};
 ghost use Rattle.tsb_node.specs.Leaves.{IsLeafPage};
 ghost use Rattle.worm_migration.specs.Settled.{ShelfSays};
 ghost use Rattle.tsb_tree.specs.Layouts.{LaysOut, TakesOut};
+ghost use Rattle.tsb_tree.specs.Outlived.{HasOutlived};
 ghost use Rattle.tsb_tree.specs.Plans.{CanBeLaid};
 ghost use Rattle.tsb_tree.specs.Refusals.{IsHonest, LayoutRefusal, PlanRefusal};
 ghost use Rattle.tsb_tree.specs.Shapes.{IsWhole, leaf_in_page};
@@ -90,6 +91,7 @@ pub fn split_column<O: OnceDisk + Drop>(
     ensures laid { page < unused.homes → leaf.now.page < unused.homes → IfOk result (λ change. CanBeLaid unused.homes unused.next 1 change) }
     ensures inside { IfOk result (λ change. change.unused ≤ unused.homes) }
     ensures honest { IsAbove whole.leaf entry.now.stamp → whole.start < entry.now.stamp → ((v : Version) → Has whole.leaf v → v.key + 1 < key_end) → entry.now.key + 1 < key_end → IsHonest result }
+    ensures burns { (shelf.new ≡ shelf.old) ⊎ HasOutlived whole.leaf (version_of entry.now) }
     ensures refused { (down : Bool) → IfErr result (PlanRefusal unused.homes unused.next 1 down) }
     ensures read { IsErrOf result (TreeError.Pages PageError.Fault) → ⊥ }
     ensures shelf { KeepsShelf O.OnceDisk 2 shelf.old shelf.new result }

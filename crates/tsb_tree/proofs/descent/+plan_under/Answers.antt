@@ -1,10 +1,14 @@
-use Rattle.std.proofs.Common.{◌≡◌, ◌<◌, ℕ, suc, rules, sym, ◌∙◌, subst, arith}
+use Rattle.std.proofs.Common.{◌≡◌, ◌<◌, ℕ, suc, length, rules, sym, ◌∙◌, subst, arith}
 use Rattle.std.specs.Prelude.{IfOk, OnOk}
 use Rattle.version_model.specs.Entries.{version_of}
 use Rattle.version_model.specs.Versions.{Version}
 use Rattle.tsb_walk.specs.declared.page_place.PagePlace.{PagePlace}
+use Rattle.tsb_tree.specs.NoRoom.{IsForWant, LeadsToFullLeaf}
 use Rattle.tsb_tree.specs.Plans.{Plans, CanBeLaid}
-use Rattle.tsb_tree.proofs.Raising.{take_lower, can_said, raised, half_room}
+use Rattle.tsb_tree.proofs.Raising.{take_lower, full_lower, leads_lower, outdated_lower, can_said, raised, half_room}
+use Rattle.tsb_walk.specs.Shown.{keys_at}
+use Rattle.tsb_tree.proofs.Outliving.{or_else}
+use Rattle.tsb_tree.proofs.Wanting.{full_leads, raised_full, raised_light, raised_wants, read_wants_none}
 use Rattle.tsb_tree.proofs.descent.+plan_under.Goals as goal
 
 pub returns-in_err-next-clause-honest : goal.returns-in_err-next-clause-honest
@@ -58,3 +62,57 @@ returns-clause-honest g t c s all can =
     let shows = c.in_ok-change.ensures.reads.shown can.start can.shown (c.in_ok-next.ensures.reads.shown can.start can.shown can.is.shows) in
     c.raise.ensures.honest can.start can.shown shows
     (λ new some. half_room g.O.OnceDisk c.plan_under.new.shelf (pages.homes c.child_at.new.pages) can.shown s all v place next can.is.tells lower above can.stands change plans can.above new some)
+
+pub returns-in_err-next-clause-wants : goal.returns-in_err-next-clause-wants
+returns-in_err-next-clause-wants g t c s all can =
+    let h = read_wants_none _ (g.P.Pages.down c.args.pages.now) c.in_err-next.ensures.refused in
+    search rules
+
+pub returns-in_err-change-clause-wants : goal.returns-in_err-change-clause-wants
+returns-in_err-change-clause-wants g t c s all can =
+    let above : 1 < c.args.place.now.level = omega (arith, c.requires.level, c.if-place-eq1.false) in
+    let lower = c.in_ok-next.ensures.lower can.start can.shown can.is.shows in
+    let can' = take_lower g.P.Pages c.args.pages.now c.child_at.new.pages _ g.O.OnceDisk c.args.shelf.now s all c.args.place.now c.in_ok-next.next (version_of c.args.entry.now) c.in_ok-next.ensures.reads can above lower in
+    let h : IsForWant c.in_err-change.field-0.0 → LeadsToFullLeaf can.shown (version_of c.args.entry.now) c.args.place.now = λ want. leads_lower g.P.Pages c.args.pages.now c.child_at.new.pages _ g.O.OnceDisk c.args.shelf.now s all c.args.place.now c.in_ok-next.next (version_of c.args.entry.now) c.in_ok-next.ensures.reads can above lower (c.in_err-change.ensures.wants s all can' want) in
+    search rules
+
+pub returns-clause-full : goal.returns-clause-full
+returns-clause-full g t c s all can =
+    let place : PagePlace = c.args.place.now in
+    let above : 1 < c.args.place.now.level = omega (arith, c.requires.level, c.if-place-eq1.false) in
+    let lower = c.in_ok-next.ensures.lower can.start can.shown can.is.shows in
+    let can' = take_lower g.P.Pages c.args.pages.now c.child_at.new.pages _ g.O.OnceDisk c.args.shelf.now s all c.args.place.now c.in_ok-next.next (version_of c.args.entry.now) c.in_ok-next.ensures.reads can above lower in
+    let shows = c.in_ok-change.ensures.reads.shown can.start can.shown (c.in_ok-next.ensures.reads.shown can.start can.shown can.is.shows) in
+    raised_full (length lower.children ≡ 338) c.in_ok-change.change c.raise.result c.raise.ensures.kept (c.raise.ensures.full can.start can.shown place.level (keys_at place) lower.children shows lower.says)
+    (λ some many. full_lower g.P.Pages c.args.pages.now c.child_at.new.pages _ g.O.OnceDisk c.args.shelf.now s all c.args.place.now c.in_ok-next.next (version_of c.args.entry.now) c.in_ok-next.ensures.reads can above lower many (c.in_ok-change.ensures.full s all can' some))
+
+pub returns-clause-wants : goal.returns-clause-wants
+returns-clause-wants g t c s all can =
+    let above : 1 < c.args.place.now.level = omega (arith, c.requires.level, c.if-place-eq1.false) in
+    let lower = c.in_ok-next.ensures.lower can.start can.shown can.is.shows in
+    let can' = take_lower g.P.Pages c.args.pages.now c.child_at.new.pages _ g.O.OnceDisk c.args.shelf.now s all c.args.place.now c.in_ok-next.next (version_of c.args.entry.now) c.in_ok-next.ensures.reads can above lower in
+    raised_wants c.in_ok-change.change c.raise.result c.raise.ensures.kept
+    (λ some. leads_lower g.P.Pages c.args.pages.now c.child_at.new.pages _ g.O.OnceDisk c.args.shelf.now s all c.args.place.now c.in_ok-next.next (version_of c.args.entry.now) c.in_ok-next.ensures.reads can above lower (full_leads _ _ _ (c.in_ok-change.ensures.full s all can' some)))
+
+pub returns-clause-light : goal.returns-clause-light
+returns-clause-light g t c s all can =
+    let above : 1 < c.args.place.now.level = omega (arith, c.requires.level, c.if-place-eq1.false) in
+    let lower = c.in_ok-next.ensures.lower can.start can.shown can.is.shows in
+    let can' = take_lower g.P.Pages c.args.pages.now c.child_at.new.pages _ g.O.OnceDisk c.args.shelf.now s all c.args.place.now c.in_ok-next.next (version_of c.args.entry.now) c.in_ok-next.ensures.reads can above lower in
+    raised_light (g.P.Pages.next c.args.pages.now) (g.P.Pages.next c.child_at.new.pages) c.in_ok-change.change c.raise.result c.raise.ensures.kept c.in_ok-next.ensures.reads.next
+    (leads_lower g.P.Pages c.args.pages.now c.child_at.new.pages _ g.O.OnceDisk c.args.shelf.now s all c.args.place.now c.in_ok-next.next (version_of c.args.entry.now) c.in_ok-next.ensures.reads can above lower)
+    (c.in_ok-change.ensures.light s all can')
+
+pub returns-in_err-change-clause-burns : goal.returns-in_err-change-clause-burns
+returns-in_err-change-clause-burns g t c s all can =
+    let above : 1 < c.args.place.now.level = omega (arith, c.requires.level, c.if-place-eq1.false) in
+    let lower = c.in_ok-next.ensures.lower can.start can.shown can.is.shows in
+    let can' = take_lower g.P.Pages c.args.pages.now c.child_at.new.pages _ g.O.OnceDisk c.args.shelf.now s all c.args.place.now c.in_ok-next.next (version_of c.args.entry.now) c.in_ok-next.ensures.reads can above lower in
+    or_else (outdated_lower g.P.Pages c.args.pages.now c.child_at.new.pages _ g.O.OnceDisk c.args.shelf.now s all c.args.place.now c.in_ok-next.next (version_of c.args.entry.now) c.in_ok-next.ensures.reads can above lower) (c.in_err-change.ensures.burns s all can')
+
+pub returns-clause-burns : goal.returns-clause-burns
+returns-clause-burns g t c s all can =
+    let above : 1 < c.args.place.now.level = omega (arith, c.requires.level, c.if-place-eq1.false) in
+    let lower = c.in_ok-next.ensures.lower can.start can.shown can.is.shows in
+    let can' = take_lower g.P.Pages c.args.pages.now c.child_at.new.pages _ g.O.OnceDisk c.args.shelf.now s all c.args.place.now c.in_ok-next.next (version_of c.args.entry.now) c.in_ok-next.ensures.reads can above lower in
+    or_else (outdated_lower g.P.Pages c.args.pages.now c.child_at.new.pages _ g.O.OnceDisk c.args.shelf.now s all c.args.place.now c.in_ok-next.next (version_of c.args.entry.now) c.in_ok-next.ensures.reads can above lower) (c.in_ok-change.ensures.burns s all can')

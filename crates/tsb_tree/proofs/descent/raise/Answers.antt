@@ -1,4 +1,4 @@
-use Rattle.std.proofs.Common.{◌≡◌, ◌<◌, suc, rules, sym, ◌∙◌, subst, arith}
+use Rattle.std.proofs.Common.{◌≡◌, ◌<◌, suc, length, rules, sym, ◌∙◌, ap, subst, arith}
 use Rattle.std.specs.List.{insert}
 use Rattle.std.proofs.lemmas.Option.{same_Some}
 use Rattle.version_model.specs.declared.child.Child.{Child}
@@ -8,6 +8,7 @@ use Rattle.tsb_tree.specs.KeyNodes.{BeginsBehind}
 use Rattle.tsb_tree.specs.Plans.{CanBeLaid}
 use Rattle.tsb_tree.specs.Puts.{PutsChild}
 use Rattle.tsb_tree.proofs.Raising.{said_behind, said_below, said_puts}
+use Rattle.tsb_tree.proofs.Wanting.{no_half}
 use Rattle.tsb_tree.proofs.descent.raise.Goals as goal
 
 pub returns-in_err-node-in-Some-clause-honest : goal.returns-in_err-node-in-Some-clause-honest
@@ -39,3 +40,13 @@ returns-in-Err-clause-honest g c start shown shows room =
     let r = room new c.in-Some.is in
     let said = (c.in_ok-node-in-Some.ensures.says start shown place.level (keys_at place) r.children shows r.says).0 in
     c.in-Err.ensures.honest r.at (said_behind node shown place new r said) (said_below node shown place new r said)
+
+pub returns-in-None-clause-full : goal.returns-in-None-clause-full
+returns-in-None-clause-full g c start shown level k children shows says some = no_half _ c.in-None.is some
+
+pub returns-in-Ok-clause-full : goal.returns-in-Ok-clause-full
+returns-in-Ok-clause-full g c start shown level k children shows says some =
+    let node = c.in_ok-node-in-Some.node in
+    let said = (c.in_ok-node-in-Some.ensures.says start shown level k children shows says).0 in
+    let same : node.children.items ≡ children = cc in
+    ap length (sym same) ∙ c.in-Ok.ensures.full some

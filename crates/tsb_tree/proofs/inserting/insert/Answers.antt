@@ -1,10 +1,13 @@
-use Rattle.std.proofs.Common.{◌≡◌, ◌≤◌, ◌++◌, ◌∷◌, [], ℕ, length, rules, sym, ◌∙◌, ap, subst, arith}
+use Rattle.std.proofs.Common.{◌≡◌, ◌≤◌, ◌++◌, ◌∷◌, [], ℕ, length, rules, inl, inr, sym, ◌∙◌, ap, subst, arith}
 use Rattle.std.proofs.lemmas.Result.{err_from_is_err_and}
 use Rattle.page_journal.specs.Layout.{pages_of}
 use Rattle.page_tx.proofs.Laying.{length_pages_of}
 use Rattle.page_tx.specs.Images.{joined}
 use Rattle.page_tx.specs.Refusals.{LayRefusal}
+use Rattle.version_model.specs.Entries.{version_of}
+use Rattle.tsb_tree.specs.NoRoom.{AtRoot, IsForWant, LeadsToFullLeaf}
 use Rattle.tsb_tree.specs.Refusals.{InsertRefusal}
+use Rattle.tsb_tree.proofs.Wanting.{lay_never_full, lay_wants_none, page_never_high}
 use Rattle.tsb_tree.proofs.Insertion.{as_it_was, taken_in, lay_insert, never_back, lay_reads, not_less}
 use Rattle.tsb_tree.proofs.Shelving.{honest_on}
 use Rattle.tsb_tree.proofs.inserting.insert.Goals as goal
@@ -67,3 +70,77 @@ returns-in-Err-clause-refused g c =
     let two = subst (λ ns. LayRefusal (pages.homes held) change.unused (length (joined ns (pages_of change.images.items))) c.in-Err.refusal) plan.reads.named one in
     let h = lay_insert c.in-Err.refusal (pages.homes held) (pages.next held) (pages.named held) place.level (pages.down held) place.least c.args.entry.now.stamp change plan.laid two in
     subst (λ e. InsertRefusal (pages.homes held) (pages.next held) (length (pages.named held)) place.level (pages.down held) place.least c.args.entry.now.stamp e) (sym c.from.ensures) h
+
+pub returns-in_err-change-clause-high : goal.returns-in_err-change-clause-high
+returns-in_err-change-clause-high g c start shown all tree high =
+    let later : c.args.place.least ≤ c.args.entry.now.stamp = not_less c.lt.result _ _ c.lt.ensures c.if-lt.false in
+    let p = err_from_is_err_and c.from_residual.result c.from_residual.ensures.1 in
+    c.in_err-change.ensures.high start shown all tree later (cc)
+
+pub returns-in_err-change-clause-wants : goal.returns-in_err-change-clause-wants
+returns-in_err-change-clause-wants g c start shown all tree =
+    let later : c.args.place.least ≤ c.args.entry.now.stamp = not_less c.lt.result _ _ c.lt.ensures c.if-lt.false in
+    let h = c.in_err-change.ensures.wants start shown all tree later in
+    search rules
+
+pub returns-in-Err-clause-high : goal.returns-in-Err-clause-high
+returns-in-Err-clause-high g c start shown all tree high = absurd (page_never_high c.in-Err.refusal (let e = c.from.ensures in cc))
+
+pub returns-in-Err-clause-wants : goal.returns-in-Err-clause-wants
+returns-in-Err-clause-wants g c start shown all tree =
+    let same = c.from.ensures in
+    let homes : g.P.Pages.homes c.planned.new.pages ≡ g.P.Pages.homes c.args.pages.now = c.in_ok-change.ensures.reads.homes in
+    let never = lay_wants_none c.in-Err.refusal _ _ _ c.in-Err.ensures.refused (omega (arith, homes, c.in_ok-change.ensures.laid.inside)) in
+    subst (λ e. IsForWant e → AtRoot (LeadsToFullLeaf shown (version_of c.args.entry.now)) c.args.place.root c.args.place.level) (sym same) (λ want. absurd (never want))
+
+pub returns-in-Ok-clause-images : goal.returns-in-Ok-clause-images
+returns-in-Ok-clause-images g c =
+    let plan = c.in_ok-change.ensures in
+    let images = c.in_ok-change.change.images.items in
+    (pages_of images, omega (arith, length_pages_of images, plan.images), c.in-Ok.ensures.named ∙ ap (λ ns. joined ns (pages_of images)) plan.reads.named)
+
+pub returns-in-Ok-clause-in_place : goal.returns-in-Ok-clause-in_place
+returns-in-Ok-clause-in_place g c start shown all tree =
+    let later : c.args.place.least ≤ c.args.entry.now.stamp = not_less c.lt.result _ _ c.lt.ensures c.if-lt.false in
+    let plan = c.in_ok-change.ensures in
+    let images = c.in_ok-change.change.images.items in
+    elim (plan.light start shown all tree later) [
+      | inl light ↦ inl (record {
+        named = (pages_of images, omega (arith, length_pages_of images, light.0.few), c.in-Ok.ensures.named ∙ ap (λ ns. joined ns (pages_of images)) plan.reads.named);
+        next = c.in-Ok.ensures.next ∙ light.0.unused;
+        shelf = light.1;
+        root = light.2;
+        level = light.3;
+      })
+      | inr full ↦ inr full
+    ]
+
+pub returns-in_err-change-clause-burns : goal.returns-in_err-change-clause-burns
+returns-in_err-change-clause-burns g c start shown all tree =
+    let later : c.args.place.least ≤ c.args.entry.now.stamp = not_less c.lt.result _ _ c.lt.ensures c.if-lt.false in
+    c.in_err-change.ensures.burns start shown all tree later
+
+pub returns-in-Ok-clause-burns : goal.returns-in-Ok-clause-burns
+returns-in-Ok-clause-burns g c start shown all tree =
+    let later : c.args.place.least ≤ c.args.entry.now.stamp = not_less c.lt.result _ _ c.lt.ensures c.if-lt.false in
+    c.in_ok-change.ensures.burns start shown all tree later
+
+pub returns-in-Err-clause-burns : goal.returns-in-Err-clause-burns
+returns-in-Err-clause-burns g c start shown all tree =
+    let later : c.args.place.least ≤ c.args.entry.now.stamp = not_less c.lt.result _ _ c.lt.ensures c.if-lt.false in
+    c.in_ok-change.ensures.burns start shown all tree later
+
+pub returns-in_err-change-clause-highest : goal.returns-in_err-change-clause-highest
+returns-in_err-change-clause-highest g c seven full =
+    let p = err_from_is_err_and c.from_residual.result c.from_residual.ensures.1 in
+    c.in_err-change.ensures.highest seven (cc)
+
+pub returns-in-Ok-clause-grows : goal.returns-in-Ok-clause-grows
+returns-in-Ok-clause-grows g c start shown all tree =
+    let later : c.args.place.least ≤ c.args.entry.now.stamp = not_less c.lt.result _ _ c.lt.ensures c.if-lt.false in
+    c.in_ok-change.ensures.grows start shown all tree later
+
+pub returns-in-Err-clause-highest : goal.returns-in-Err-clause-highest
+returns-in-Err-clause-highest g c seven full =
+    let homes : g.P.Pages.homes c.planned.new.pages ≡ g.P.Pages.homes c.args.pages.now = c.in_ok-change.ensures.reads.homes in
+    absurd (lay_never_full c.in-Err.refusal _ _ _ c.in-Err.ensures.refused (omega (arith, homes, c.in_ok-change.ensures.laid.inside)) (let e = c.from.ensures in cc))

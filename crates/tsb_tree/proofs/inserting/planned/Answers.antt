@@ -1,11 +1,17 @@
-use Rattle.std.proofs.Common.{◌≡◌, ◌<◌, ℕ, rules, None, Some, refl, sym, ◌∙◌, subst, arith}
-use Rattle.std.specs.Prelude.{IfOk}
+use Rattle.std.proofs.Common.{◌≡◌, ◌<◌, ℕ, Option, rules, None, Some, inl, inr, refl, sym, ◌∙◌, subst, arith}
+use Rattle.std.proofs.lemmas.Result.{err_from_is_err_and}
+use Rattle.std.specs.Prelude.{IfOk, IsSome}
+use Rattle.version_model.specs.declared.child.Child.{Child}
 use Rattle.version_model.specs.Entries.{version_of}
 use Rattle.version_model.specs.Ranges.{stamp_end}
 use Rattle.version_model.specs.Versions.{Version}
+use Rattle.tsb_tree.specs.NoRoom.{AtRoot, IsForWant, IsFullWay, LeadsToFullLeaf}
+use Rattle.tsb_tree.specs.Outlived.{LeadsToOutdated}
 use Rattle.tsb_tree.specs.Plans.{CanBeLaid}
 use Rattle.tsb_tree.specs.Raises.{TreeCanBeLaid}
-use Rattle.tsb_tree.proofs.Insertion.{root_can, root_plans, tree_same, tree_grown, half_above, not_highest}
+use Rattle.tsb_tree.proofs.Outliving.{or_else}
+use Rattle.tsb_tree.proofs.Wanting.{full_leads, plan_full, plan_never_high}
+use Rattle.tsb_tree.proofs.Insertion.{root_can, root_so, root_plans, tree_same, tree_grown, half_above, not_highest}
 use Rattle.tsb_tree.proofs.inserting.planned.Goals as goal
 
 pub returns-in_err-change-clause-honest : goal.returns-in_err-change-clause-honest
@@ -74,3 +80,123 @@ returns-clause-laid g c =
     let fits : CanBeLaid c.home_pages.result next place.level change =
     subst (λ (h : ℕ). CanBeLaid h next place.level change) (sym same) (subst (λ (l : ℕ). CanBeLaid homes next l change) root.ensures.level c.in_ok-change.ensures.laid) in
     subst (λ (h : ℕ). TreeCanBeLaid h next place.level made) same (c.in_ok-change-2.ensures.laid next fits)
+
+pub returns-in_err-change-clause-high : goal.returns-in_err-change-clause-high
+returns-in_err-change-clause-high g c start shown all tree later high =
+    let p = err_from_is_err_and c.from_residual.result c.from_residual.ensures.1 in
+    absurd (plan_never_high _ _ _ _ _ c.in_err-change.ensures.refused (cc))
+
+pub returns-in_err-change-clause-wants : goal.returns-in_err-change-clause-wants
+returns-in_err-change-clause-wants g c start shown all tree later =
+    let root = c.root-root in
+    let place = c.args.place in
+    let v : Version = version_of c.args.entry.now in
+    let can = root_can g.P.Pages c.args.pages.now g.O.OnceDisk c.args.shelf.now start shown all root.result place.root place.level place.least v root.ensures.page root.ensures.level root.ensures.keys tree later c.requires.inside in
+    let h : IsForWant c.in_err-change.field-0.0 → AtRoot (LeadsToFullLeaf shown v) place.root place.level = λ want. root_so g.P.Pages c.args.pages.now g.O.OnceDisk c.args.shelf.now start shown all root.result place.root place.level place.least v (λ pages at. LeadsToFullLeaf pages v at) root.ensures.page root.ensures.level root.ensures.keys tree later c.requires.inside (c.in_err-change.ensures.wants tree.store all can want) in
+    search rules
+
+pub returns-in_err-change-2-clause-high : goal.returns-in_err-change-2-clause-high
+returns-in_err-change-2-clause-high g c start shown all tree later high =
+    let root = c.root-root in
+    let place = c.args.place in
+    let v : Version = version_of c.args.entry.now in
+    let can = root_can g.P.Pages c.args.pages.now g.O.OnceDisk c.args.shelf.now start shown all root.result place.root place.level place.least v root.ensures.page root.ensures.level root.ensures.keys tree later c.requires.inside in
+    root_so g.P.Pages c.args.pages.now g.O.OnceDisk c.args.shelf.now start shown all root.result place.root place.level place.least v (λ pages at. IsFullWay pages v at) root.ensures.page root.ensures.level root.ensures.keys tree later c.requires.inside (c.in_ok-change.ensures.full tree.store all can (subst (λ (o : Option Child). IsSome o) (sym c.in-Some.is) refl))
+
+pub returns-in_err-change-2-clause-wants : goal.returns-in_err-change-2-clause-wants
+returns-in_err-change-2-clause-wants g c start shown all tree later =
+    let root = c.root-root in
+    let place = c.args.place in
+    let v : Version = version_of c.args.entry.now in
+    let can = root_can g.P.Pages c.args.pages.now g.O.OnceDisk c.args.shelf.now start shown all root.result place.root place.level place.least v root.ensures.page root.ensures.level root.ensures.keys tree later c.requires.inside in
+    let full = root_so g.P.Pages c.args.pages.now g.O.OnceDisk c.args.shelf.now start shown all root.result place.root place.level place.least v (λ pages at. LeadsToFullLeaf pages v at) root.ensures.page root.ensures.level root.ensures.keys tree later c.requires.inside (full_leads _ _ _ (c.in_ok-change.ensures.full tree.store all can (subst (λ (o : Option Child). IsSome o) (sym c.in-Some.is) refl))) in
+    search rules
+
+pub returns-in_default-clause-images : goal.returns-in_default-clause-images
+returns-in_default-clause-images g c = omega (arith, c.in_ok-change.ensures.laid.few, c.root-root.ensures.level)
+
+pub returns-clause-images : goal.returns-clause-images
+returns-clause-images g c =
+    let root = c.root-root in
+    let place = c.args.place in
+    let homes : ℕ = g.P.Pages.homes c.args.pages.now in
+    let change = c.in_ok-change.change in
+    let same : c.home_pages.result ≡ homes = c.home_pages.ensures ∙ c.in_ok-change.ensures.reads.homes in
+    let next : ℕ = g.P.Pages.next c.args.pages.now in
+    let fits : CanBeLaid c.home_pages.result next place.level change =
+    subst (λ (h : ℕ). CanBeLaid h next place.level change) (sym same) (subst (λ (l : ℕ). CanBeLaid homes next l change) root.ensures.level c.in_ok-change.ensures.laid) in
+    let laid = c.in_ok-change-2.ensures.laid next fits in
+    omega (arith, laid.few)
+
+pub returns-in_default-clause-light : goal.returns-in_default-clause-light
+returns-in_default-clause-light g c start shown all tree later =
+    let root = c.root-root in
+    let place = c.args.place in
+    let v : Version = version_of c.args.entry.now in
+    let can = root_can g.P.Pages c.args.pages.now g.O.OnceDisk c.args.shelf.now start shown all root.result place.root place.level place.least v root.ensures.page root.ensures.level root.ensures.keys tree later c.requires.inside in
+    elim (c.in_ok-change.ensures.light tree.store all can) [
+      | inl light ↦ inl (light.0, light.1, refl, refl)
+      | inr full ↦ inr (root_so g.P.Pages c.args.pages.now g.O.OnceDisk c.args.shelf.now start shown all root.result place.root place.level place.least v (λ pages at. LeadsToFullLeaf pages v at) root.ensures.page root.ensures.level root.ensures.keys tree later c.requires.inside full)
+    ]
+
+pub returns-clause-light : goal.returns-clause-light
+returns-clause-light g c start shown all tree later =
+    let root = c.root-root in
+    let place = c.args.place in
+    let v : Version = version_of c.args.entry.now in
+    let can = root_can g.P.Pages c.args.pages.now g.O.OnceDisk c.args.shelf.now start shown all root.result place.root place.level place.least v root.ensures.page root.ensures.level root.ensures.keys tree later c.requires.inside in
+    inr (root_so g.P.Pages c.args.pages.now g.O.OnceDisk c.args.shelf.now start shown all root.result place.root place.level place.least v (λ pages at. LeadsToFullLeaf pages v at) root.ensures.page root.ensures.level root.ensures.keys tree later c.requires.inside (full_leads _ _ _ (c.in_ok-change.ensures.full tree.store all can (subst (λ (o : Option Child). IsSome o) (sym c.in-Some.is) refl))))
+
+pub returns-in_err-change-clause-burns : goal.returns-in_err-change-clause-burns
+returns-in_err-change-clause-burns g c start shown all tree later =
+    let root = c.root-root in
+    let place = c.args.place in
+    let v : Version = version_of c.args.entry.now in
+    let can = root_can g.P.Pages c.args.pages.now g.O.OnceDisk c.args.shelf.now start shown all root.result place.root place.level place.least v root.ensures.page root.ensures.level root.ensures.keys tree later c.requires.inside in
+    or_else (root_so g.P.Pages c.args.pages.now g.O.OnceDisk c.args.shelf.now start shown all root.result place.root place.level place.least v (λ pages at. LeadsToOutdated pages v at) root.ensures.page root.ensures.level root.ensures.keys tree later c.requires.inside) (c.in_err-change.ensures.burns tree.store all can)
+
+pub returns-in_default-clause-burns : goal.returns-in_default-clause-burns
+returns-in_default-clause-burns g c start shown all tree later =
+    let root = c.root-root in
+    let place = c.args.place in
+    let v : Version = version_of c.args.entry.now in
+    let can = root_can g.P.Pages c.args.pages.now g.O.OnceDisk c.args.shelf.now start shown all root.result place.root place.level place.least v root.ensures.page root.ensures.level root.ensures.keys tree later c.requires.inside in
+    or_else (root_so g.P.Pages c.args.pages.now g.O.OnceDisk c.args.shelf.now start shown all root.result place.root place.level place.least v (λ pages at. LeadsToOutdated pages v at) root.ensures.page root.ensures.level root.ensures.keys tree later c.requires.inside) (c.in_ok-change.ensures.burns tree.store all can)
+
+pub returns-in_err-change-2-clause-burns : goal.returns-in_err-change-2-clause-burns
+returns-in_err-change-2-clause-burns g c start shown all tree later =
+    let root = c.root-root in
+    let place = c.args.place in
+    let v : Version = version_of c.args.entry.now in
+    let can = root_can g.P.Pages c.args.pages.now g.O.OnceDisk c.args.shelf.now start shown all root.result place.root place.level place.least v root.ensures.page root.ensures.level root.ensures.keys tree later c.requires.inside in
+    or_else (root_so g.P.Pages c.args.pages.now g.O.OnceDisk c.args.shelf.now start shown all root.result place.root place.level place.least v (λ pages at. LeadsToOutdated pages v at) root.ensures.page root.ensures.level root.ensures.keys tree later c.requires.inside) (c.in_ok-change.ensures.burns tree.store all can)
+
+pub returns-clause-burns : goal.returns-clause-burns
+returns-clause-burns g c start shown all tree later =
+    let root = c.root-root in
+    let place = c.args.place in
+    let v : Version = version_of c.args.entry.now in
+    let can = root_can g.P.Pages c.args.pages.now g.O.OnceDisk c.args.shelf.now start shown all root.result place.root place.level place.least v root.ensures.page root.ensures.level root.ensures.keys tree later c.requires.inside in
+    or_else (root_so g.P.Pages c.args.pages.now g.O.OnceDisk c.args.shelf.now start shown all root.result place.root place.level place.least v (λ pages at. LeadsToOutdated pages v at) root.ensures.page root.ensures.level root.ensures.keys tree later c.requires.inside) (c.in_ok-change.ensures.burns tree.store all can)
+
+pub returns-in_default-clause-grows : goal.returns-in_default-clause-grows
+returns-in_default-clause-grows g c start shown all tree later = inl (refl, refl)
+
+pub returns-clause-grows : goal.returns-clause-grows
+returns-clause-grows g c start shown all tree later =
+    let root = c.root-root in
+    let place = c.args.place in
+    let v : Version = version_of c.args.entry.now in
+    let can = root_can g.P.Pages c.args.pages.now g.O.OnceDisk c.args.shelf.now start shown all root.result place.root place.level place.least v root.ensures.page root.ensures.level root.ensures.keys tree later c.requires.inside in
+    inr (omega arith, root_so g.P.Pages c.args.pages.now g.O.OnceDisk c.args.shelf.now start shown all root.result place.root place.level place.least v (λ pages at. IsFullWay pages v at) root.ensures.page root.ensures.level root.ensures.keys tree later c.requires.inside (c.in_ok-change.ensures.full tree.store all can (subst (λ (o : Option Child). IsSome o) (sym c.in-Some.is) refl)))
+
+pub returns-in_err-change-clause-highest : goal.returns-in_err-change-clause-highest
+returns-in_err-change-clause-highest g c seven full =
+    let p = err_from_is_err_and c.from_residual.result c.from_residual.ensures.1 in
+    omega (arith, seven, c.root-root.ensures.level, plan_full _ _ _ _ _ c.in_err-change.ensures.refused (cc))
+
+pub returns-in_err-change-2-clause-highest : goal.returns-in_err-change-2-clause-highest
+returns-in_err-change-2-clause-highest g c seven full =
+    let p = err_from_is_err_and c.from_residual-in_err-change-2.result c.from_residual-in_err-change-2.ensures.1 in
+    let high = c.in_err-change-2.ensures.high.1 seven in
+    absurd (cc)

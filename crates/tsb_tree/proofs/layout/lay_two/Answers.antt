@@ -1,6 +1,5 @@
-use Rattle.std.proofs.Common.{◌≡◌, ◌+◌, List, [], ℕ, refl, sym, ◌∙◌, ap, subst}
+use Rattle.std.proofs.Common.{◌≡◌, List, ℕ, refl, sym, ap, subst}
 use Rattle.page_journal.specs.Layout.{Image}
-use Rattle.version_model.specs.declared.child.Child.{Child}
 use Rattle.tsb_tree.specs.Layouts.{LaysWhole}
 use Rattle.tsb_tree.proofs.layout.lay_two.Goals as goal
 

@@ -1,4 +1,4 @@
-use Rattle.std.proofs.Common.{◌≡◌, ◌+◌, ◌<◌, ◌≤◌, List, ℕ, set, refl, sym, ◌∙◌, ap, arith}
+use Rattle.std.proofs.Common.{List, ℕ, set, ◌∙◌, ap, arith}
 use Rattle.tsb_tree.proofs.layout.lay_whole.Goals as goal
 
 pub returns : goal.returns

@@ -1,4 +1,4 @@
-use Rattle.std.proofs.Common.{rules, ◌≡◌, ◌<◌, Err, Result, Some, length, slice_get, sym, subst, arith}
+use Rattle.std.proofs.Common.{rules, ◌≡◌, Err, Result, Some, length, slice_get, sym, subst, arith}
 use Rattle.tsb_tree.specs.declared.error.TreeError.TheVariants as errors
 use Rattle.tsb_tree.specs.declared.tree.TreePlace.{TreePlace}
 use Rattle.tsb_tree.specs.declared.error.TreeError.{TreeError}

@@ -1,4 +1,4 @@
-use Rattle.std.proofs.Common.{ℕ, List}
+use Rattle.std.proofs.Common.{List}
 use Rattle.version_model.specs.declared.child.Child.{Child}
 use Rattle.version_model.specs.Pages.{KeyNode, all_keys}
 use Rattle.tsb_node.specs.Views.{PageSays}

@@ -2,15 +2,19 @@ use Rattle.std.proofs.Common.{rules, ◌≡◌, ◌<◌, ◌≤◌, ℕ, Err, Re
 use Rattle.once_store.specs.Shelves.{next_of}
 use Rattle.version_model.specs.Entries.{version_of}
 use Rattle.version_model.specs.Ranges.{high_or}
-use Rattle.version_model.specs.Pages.{Keys}
+use Rattle.version_model.specs.Pages.{Keys, CurrentLeaf}
 use Rattle.version_model.specs.Versions.{Version, Has}
 use Rattle.tsb_tree.specs.declared.change.Change.{Change}
 use Rattle.tsb_tree.specs.declared.error.TreeError.{TreeError}
+use Rattle.tsb_node.specs.Views.{PageSays, says_leaf}
+use Rattle.tsb_tree.specs.Outlived.{HasOutlived}
 use Rattle.tsb_tree.specs.Plans.{Plans}
 use Rattle.tsb_tree.specs.Refusals.{PlanRefusal, ReadRefusal}
-use Rattle.tsb_tree.specs.Wholes.{IsAt}
+use Rattle.tsb_tree.specs.Shapes.{leaf_in_page}
+use Rattle.tsb_tree.specs.Wholes.{IsAt, keys_of_whole}
 use Rattle.tsb_tree.proofs.Columns.{is_at, ok_both}
 use Rattle.tsb_tree.proofs.LayingOut.{plans_taken, read_plan, keeps_none}
+use Rattle.tsb_tree.proofs.Outliving.{or_else}
 use Rattle.tsb_tree.proofs.Pushing.{whole_among, whole_forward}
 use Rattle.tsb_tree.proofs.planning_column.plan_splits.Goals as goal
 
@@ -72,3 +76,14 @@ returns-clause-honest g c s all can of filled =
     let among : (x : Version) → Has w.leaf x → Has all x = whole_among s all place leaf.page leaf.image w v at can.stands page in
     c.split_column.ensures.honest (record { above = λ x h. can.above.above x (among x h) }) (whole_forward s all place leaf.page leaf.image w v at can.stands page can.above c.requires.small filled)
     (λ x h. can.bounded x (among x h)) can.inside
+
+pub returns-clause-burns : goal.returns-clause-burns
+returns-clause-burns g c =
+    let w = c.in_ok-whole.whole in
+    let said : PageSays c.args.leaf.now.image (CurrentLeaf (keys_of_whole w) w.start w.leaf) = says_leaf (leaf_in_page w) c.in_ok-whole.ensures.leaf in
+    or_else (λ (out : HasOutlived w.leaf (version_of c.args.entry.now)). record {
+      start = w.start;
+      versions = w.leaf;
+      says = subst (λ (k : Keys). PageSays c.args.leaf.now.image (CurrentLeaf k w.start w.leaf)) c.in_ok-whole.ensures.keys said;
+      outlived = out;
+    }) c.split_column.ensures.burns

@@ -1,5 +1,4 @@
-use Rattle.std.proofs.Common.{rules}
-use Rattle.tsb_walk.specs.Looked.{IsLooked, IsParted}
+use Rattle.tsb_walk.specs.Looked.{IsParted}
 use Rattle.tsb_tree.proofs.Looks.{store_of, at_root, ok_all, err_none}
 use Rattle.tsb_tree.proofs.looking.TreeVersions.part.Goals as goal
 

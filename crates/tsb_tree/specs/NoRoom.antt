@@ -1,0 +1,39 @@
+-- Versions for which a tree has no room.
+use Rattle.std.specs.Prelude.{◌≡◌, ℕ, List, length}
+use Rattle.page_tx.specs.declared.error.PageError.TheVariants as pages
+use Rattle.tsb_walk.specs.declared.page_place.PagePlace.{PagePlace}
+use Rattle.tsb_walk.specs.PageWays.{IsLower}
+use Rattle.tsb_walk.specs.Shown.{keys_at}
+use Rattle.version_model.specs.Pages.{all_keys}
+use Rattle.version_model.specs.Versions.{Version}
+use Rattle.tsb_tree.specs.declared.error.TreeError.{TreeError}
+use Rattle.tsb_tree.specs.declared.error.TreeError.TheVariants as errors
+use Rattle.tsb_tree.specs.Read.{IsLeafOf, IsFilled}
+
+-- The version's key leads from a place down to a column whose current leaf has no room for the version.
+pub data LeadsToFullLeaf (shown : List (List ℕ)) (v : Version) : PagePlace → Type 0 where
+  in_leaf : (column : PagePlace) (page : ℕ) (image : List ℕ) → IsLeafOf shown column page image → IsFilled column image v → LeadsToFullLeaf shown v column
+  in_child : (place next : PagePlace) → IsLower shown v.key place next → LeadsToFullLeaf shown v next → LeadsToFullLeaf shown v place
+
+-- The same, and each key node on the way has as many children as one can have.
+pub data IsFullWay (shown : List (List ℕ)) (v : Version) : PagePlace → Type 0 where
+  full_leaf : (column : PagePlace) (page : ℕ) (image : List ℕ) → IsLeafOf shown column page image → IsFilled column image v → IsFullWay shown v column
+  full_key_node : (place next : PagePlace) (lower : IsLower shown v.key place next) → length lower.children ≡ 338 → IsFullWay shown v next → IsFullWay shown v place
+
+-- the fact holds of the root of a tree: in this page, of this level, with all keys
+abbrev pub AtRoot : (PagePlace → Type 0) → ℕ → ℕ → Type 0
+AtRoot fact root level = (place : PagePlace) × (place.page ≡ root) × (place.level ≡ level) × (keys_at place ≡ all_keys) × fact place
+
+-- a refusal for want of pages, of blocks or of levels
+abbrev pub IsForWant : TreeError → Type 0
+IsForWant errors.StampBack = ⊥
+IsForWant errors.TooHigh = Unit {0}
+IsForWant (errors.BadNode page) = ⊥
+IsForWant (errors.Damaged block) = ⊥
+IsForWant (errors.Pages pages.PagesFull) = Unit {0}
+IsForWant (errors.Pages pages.TooManyImages) = ⊥
+IsForWant (errors.Pages pages.OutOfMemory) = ⊥
+IsForWant (errors.Pages pages.Fault) = ⊥
+IsForWant (errors.Pages pages.NeedsRecovery) = ⊥
+IsForWant (errors.Once refusal) = Unit {0}
+IsForWant errors.OutOfMemory = ⊥
