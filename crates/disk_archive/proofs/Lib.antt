@@ -15,6 +15,7 @@ mod Fronts
 mod Keeping
 mod Taking
 mod Stepping
+mod Reaching
 mod Burning
 mod Applied
 mod Looking
@@ -27,4 +28,5 @@ mod Meanings
 mod Empties
 mod Asking
 mod Counts
+mod Turning
 pub mod api

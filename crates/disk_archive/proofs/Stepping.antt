@@ -24,12 +24,10 @@ use Rattle.archive_pages.specs.declared.settings.Settings.{Settings}
 use Rattle.archive_pages.specs.Carried.{Bears, last_time}
 use Rattle.archive_pages.specs.Changes.{Takes, next_change}
 use Rattle.archive_pages.specs.Batches.{HasLane}
-use Rattle.archive_pages.proofs.api.Bearing.{bears_headed}
 use Rattle.archive_pages.proofs.api.Passing.{Passes, steps_passed}
 use Rattle.disk_archive.specs.Trees.{TreeLies}
 use Rattle.disk_archive.specs.Moves.{Moves}
-use Rattle.disk_archive.specs.inner.Applications.{TreeTakes, TakesNext, MovesOn, PlansMove}
-use Rattle.disk_archive.proofs.api.Trees.{tree_framed}
+use Rattle.disk_archive.specs.inner.Applications.{TreeTakes, TakesNext, MovesOn}
 
 -- a change is applied
 pub moves_one : (h g : History) → Applies h g → Moves h g
@@ -45,6 +43,15 @@ one_more (suc n) f m g (inr stop) a =
 -- and one more
 pub moves_more : (h m g : History) → Moves h m → Applies m g → Moves h g
 moves_more h m g k a = record { first = k.first; next = k.next; more = suc k.more; others = one_more k.more k.first m g k.others a }
+
+more_then : (n : ℕ) (f m g : History) → AppliesMore n f m → Moves m g → (more : ℕ) × AppliesMore more f g
+more_then zero f m g e moves = let moves' : Moves f g = subst (λ (x : History). Moves x g) e moves in (suc moves'.more, inl (moves'.first, moves'.next, moves'.others))
+more_then (suc n) f m g (inl rest) moves = let r = more_then n rest.0 m g rest.2 moves in (suc r.0, inl (rest.0, rest.1, r.1))
+more_then (suc n) f m g (inr stop) moves = let moves' : Moves f g = subst (λ (x : History). Moves x g) stop.1 moves in (suc moves'.more, inl (moves'.first, moves'.next, moves'.others))
+
+-- and further ones
+pub moves_then : (h m g : History) → Moves h m → Moves m g → Moves h g
+moves_then h m g k moves = let r = more_then k.more k.first m g k.others moves in record { first = k.first; next = k.next; more = r.0; others = r.1 }
 
 -- the tree took the next change, and the head passed over it
 pub moves_on : (count : ℕ) (s : Settings) (settled few : ℕ → List ℕ → Type 0) (shows : List (List ℕ) → Type 0) (head after : Contents) (whole : Bool) (root fresh block : ℕ) (shown : List (List ℕ)) (h : History) (c : ℕ) (first : Admitted) (later : List (Placed Admitted)) (lane : Lane)
@@ -77,26 +84,6 @@ moves_on count s settled few shows head after whole root fresh block shown h c f
       shown = t.shown;
       bears = done.bears;
     }
-
--- and the head is laid over page 0
-pub plans_move : (count : ℕ) (s : Settings) (settled : ℕ → List ℕ → Type 0) (mid new : List (List ℕ) → Type 0) (head : Contents) (whole : Bool) (h : History)
-    → IsHead head → ((pages : List (List ℕ)) → mid pages → 0 < length pages) → ((pages : List (List ℕ)) → mid pages → new (slice_set pages 0 (head_octets head))) → MovesOn count s settled mid head whole h → PlansMove count s settled new head whole h
-plans_move count s settled mid new head whole h valid some written k = record {
-  after = k.after;
-  moves = k.moves;
-  stays = k.stays;
-  leaves = k.leaves;
-  planned = record {
-    pages = slice_set k.pages 0 (head_octets head);
-    shown = written k.pages k.shown;
-    headed = record {
-      valid = valid;
-      first = get_or-set_same k.pages 0 (head_octets head) [] (some k.pages k.shown);
-      bears = bears_headed (TreeLies count) s settled (tree_framed count settled) head k.pages (set k.pages 0 (head_octets head)) k.after (length-set k.pages 0 (head_octets head))
-          (λ n ge. get_or-set_other k.pages 0 n (head_octets head) [] (let other : n ≢ 0 = omega arith in other)) k.bears;
-    };
-  };
-}
 
 -- ---- the first that waits
 

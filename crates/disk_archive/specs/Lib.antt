@@ -12,4 +12,6 @@ pub mod Openings
 pub mod Creations
 pub mod Outcome
 pub mod Checks
+pub mod Cursors
+pub mod Descents
 pub mod inner

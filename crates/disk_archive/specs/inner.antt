@@ -12,3 +12,4 @@ pub mod Recalling
 pub mod Creating
 pub mod Asking
 pub mod Checking
+pub mod Descending

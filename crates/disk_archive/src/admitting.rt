@@ -52,7 +52,7 @@ fn may_take(
 }
 
 impl<E: EraseDisk + Drop, O: OnceDisk + Drop> Archive<E, O> {
-    ghost use Rattle.disk_archive.specs.Archives.{Carries, GoesOn, Holds, Stands, IsHonest, is_down, settings_of, site_of};
+    ghost use Rattle.disk_archive.specs.Archives.{Carries, GoesOn, Holds, Stands, IsHonest, is_down, once_of, once_state, settings_of, site_of};
     ghost use Rattle.disk_archive.specs.Sites.{LeftEither};
     ghost use Rattle.disk_archive.specs.Crashes.{Crashes, Lasts};
     ghost use Rattle.disk_archive.specs.Limits.{IsCounterFull, IsRingFull};
@@ -71,6 +71,8 @@ impl<E: EraseDisk + Drop, O: OnceDisk + Drop> Archive<E, O> {
         ensures undamaged { (h : History) → Carries self.old h → (page : ℕ) → result ≡ Err (AdmitError.BadNode page) → ⊥ }
         ensures honest { IsHonest self.old ↔ IsHonest self.new }
         ensures settings { settings_of self.new ≡ settings_of self.old }
+        ensures disk { once_of self.new ≡ once_of self.old }
+        ensures blocks { once_state self.new ≡ once_state self.old }
         ensures ok { OnOk result ((h : History) → Carries self.old h → Carries self.new (given h collector batch.now)) }
         ensures reply { (h : History) → Carries self.old h → (i : Intake) → slice_get h.intakes collector ≡ Some i → IfOk result (IsReply i collector batch.now) }
         ensures err { OnErr result ((h : History) → Carries self.old h → GoesOn self.new h) }
@@ -124,6 +126,8 @@ impl<E: EraseDisk + Drop, O: OnceDisk + Drop> Archive<E, O> {
         ensures undamaged { IsHonest self.old → (h : History) → Holds self.old h → (page : ℕ) → result ≡ Err (AdmitError.BadNode page) → ⊥ }
         ensures honest { IsHonest self.old ↔ IsHonest self.new }
         ensures settings { settings_of self.new ≡ settings_of self.old }
+        ensures disk { once_of self.new ≡ once_of self.old }
+        ensures blocks { once_state self.new ≡ once_state self.old }
     {
         self.try_admit(collector, batch)
     }

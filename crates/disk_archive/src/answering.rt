@@ -33,7 +33,7 @@ use version_model::Stamp;
 const KEPT_BLOCKS: usize = 64;
 
 // That the last moment of a question is settled; or the settled watermark, where it isn't.
-fn check_settled(sequencer: &Sequencer, query: &Query) -> Result<(), AskError>
+pub(crate) fn check_settled(sequencer: &Sequencer, query: &Query) -> Result<(), AskError>
     requires { 0 < length sequencer.now }
     ensures below { OnOk result (last_moment query.now < least (map bound_of sequencer.now)) }
     ensures above { IfErr result (λ e. (e ≡ AskError.AboveWatermark (least (map bound_of sequencer.now))) × (least (map bound_of sequencer.now) ≤ last_moment query.now)) }
@@ -47,12 +47,13 @@ fn check_settled(sequencer: &Sequencer, query: &Query) -> Result<(), AskError>
 }
 
 // Where the root of the archive's tree lies.
-fn root_of<P: Pages>(pages: &mut P, head: &Head) -> Result<PagePlace, AskError>
+pub(crate) fn root_of<P: Pages>(pages: &mut P, head: &Head) -> Result<PagePlace, AskError>
     ensures all { IfOk result (λ place. keys_at place ≡ all_keys) }
     ensures level { IfOk result (λ place. 1 ≤ place.level) }
     ensures stands { (start : Start) (shown : List (List ℕ)) (s : Store) (all : List Version) (level : ℕ) → P.shows pages.old start shown → AreShown shown s.nodes → TreeStands s all head.now.root level → IfOk result (StandsShown shown s all) }
     ensures blames { (start : Start) (shown : List (List ℕ)) (s : Store) (all : List Version) (level : ℕ) → P.shows pages.old start shown → AreShown shown s.nodes → TreeStands s all head.now.root level → IfErr result BlamesNone }
     ensures refused { IfErr result (LookRefusal (P.down pages.old)) }
+    ensures undamaged { (block : ℕ) → result ≡ Err (AskError.Damaged block) → ⊥ }
     ensures reads { (start : Start) (shown : List (List ℕ)) → P.shows pages.old start shown → P.shows pages.new start shown }
     ensures homes { P.homes pages.new ≡ P.homes pages.old }
     ensures down { P.down pages.new ≡ P.down pages.old }

@@ -1,10 +1,8 @@
-//! The next change is applied.
+//! The next changes are applied.
 
 ghost use Rattle.std.specs.Prelude.{◌≡◌, ◌⊎◌, ◌↔◌, ℕ, List, [], min, IfOk, OnOk, OnErr, IfErr, Ok, Err, true, false};
 ghost use Rattle.route_meaning.specs.History.{History};
 ghost use Rattle.interleaving_core.specs.Steps.{NothingToApply};
-ghost use Rattle.sequencer.specs.First.{IsNext};
-ghost use Rattle.sequencer.specs.Lanes.{Releases};
 ghost use Rattle.page_journal.specs.Journal.{disk_of, home_pages, needs_recovery, note_of};
 ghost use Rattle.buffer_pool.specs.Pool.{Maps, journal_of};
 ghost use Rattle.page_tx.specs.Tx.{Shows, named_pages, next_page, pool_of};
@@ -14,16 +12,15 @@ use crate::apply_error::ApplyError;
 use crate::archive::Archive;
 use crate::committing::{begin, commit};
 use crate::error::NeedsRecovery;
-use crate::planning_application::{Application, plan_application};
+use crate::planning_changes::{Application, plan_changes};
 use archive_head::Head;
 use disk_models::{EraseDisk, OnceDisk};
 use page_tx::{Pages, Tx};
-use sequencer::Sequencer;
 
 /// What a step of applying did.
 #[derive(Clone, Copy, Debug, PartialEq, Eq)]
 pub enum Step {
-    /// A change is applied, or an admission without changes.
+    /// At least one change is applied, or an admission without changes.
     Applied,
     /// No admission may be applied: none that waits is below every mark.
     Idle,
@@ -46,19 +43,9 @@ fn begin_from<E: EraseDisk + Drop>(tx: &mut Tx<E>, head: &Head) -> Result<(), Ne
     Ok(())
 }
 
-// The first time of the collector leaves, where its admission is wholly applied.
-fn leave(sequencer: &mut Sequencer, number: usize, whole: bool)
-    requires next { IsNext sequencer.old number }
-    ensures leaves { whole ≡ true → Releases sequencer.old number sequencer.new }
-    ensures stays { whole ≡ false → sequencer.new ≡ sequencer.old }
-{
-    if whole {
-        sequencer.take(number);
-    }
-}
-
 impl<E: EraseDisk + Drop, O: OnceDisk + Drop> Archive<E, O> {
-    ghost use Rattle.disk_archive.specs.Archives.{Carries, GoesOn, Holds, Stands, IsHonest, erase_of, is_down, once_state, settings_of, site_of};
+    ghost use Rattle.disk_models.specs.Once.{Grows};
+    ghost use Rattle.disk_archive.specs.Archives.{Carries, GoesOn, Holds, Stands, IsHonest, erase_of, is_down, once_of, once_state, settings_of, site_of};
     ghost use Rattle.disk_archive.specs.Blanks.{NoneBlank};
     ghost use Rattle.tsb_tree.specs.Shelves.{SpendsAtMost};
     ghost use Rattle.disk_archive.specs.Sites.{LeftEither};
@@ -67,7 +54,7 @@ impl<E: EraseDisk + Drop, O: OnceDisk + Drop> Archive<E, O> {
     ghost use Rattle.disk_archive.specs.inner.Idle.{IsAsBefore};
     ghost use Rattle.disk_archive.specs.inner.Outcomes.{StepIs, CrashesOnStep};
 
-    // Applies the next change where the archive carries a history.
+    // Applies the next changes where the archive carries a history.
     fn try_apply(&mut self) -> Result<Step, ApplyError>
         ensures usable { OnOk result (is_down self.old ≡ false) }
         ensures recovery { is_down self.old ≡ true → IsAsBefore self.old self.new }
@@ -75,7 +62,7 @@ impl<E: EraseDisk + Drop, O: OnceDisk + Drop> Archive<E, O> {
         ensures refused { IfErr result (ApplyRefusal (is_down self.old)) }
         ensures erase { E.honest (erase_of self.old) ↔ E.honest (erase_of self.new) }
         ensures settings { settings_of self.new ≡ settings_of self.old }
-        ensures shelf { KeepsBlocks O.OnceDisk self.old.shelf self.new.shelf (result ≡ Err ApplyError.OnceFull) }
+        ensures shelf { KeepsBlocks O.OnceDisk 2000 self.old.shelf self.new.shelf (result ≡ Err ApplyError.OnceFull) }
         ensures ok { IfOk result (λ step. (h : History) → Carries self.old h → StepIs self.new step h) }
         ensures still { result ≡ Ok Step.Idle → IsAsBefore self.old self.new }
         ensures err { OnErr result ((h : History) → Carries self.old h → GoesOn self.new h) }
@@ -86,27 +73,29 @@ impl<E: EraseDisk + Drop, O: OnceDisk + Drop> Archive<E, O> {
         let Some(number) = self.sequencer.next() else {
             return Ok(Step::Idle);
         };
-        let collector = number as u8;
-        let Application { head, whole } = plan_application(
+        let Application { head, ahead } = plan_changes(
             self.alloc,
             &mut self.tx,
             &mut self.shelf,
             self.settings,
             &self.head,
-            collector,
+            &self.sequencer,
+            number,
         )?;
         commit(&mut self.tx)?;
         self.head = head;
-        leave(&mut self.sequencer, number, whole);
+        self.sequencer.take_passed(&ahead);
         Ok(Step::Applied)
     }
 
-    /// Applies the next change of the first admission that waits, where that admission is below every mark. An admission without changes is
-    /// applied at once. With its last change an admission is wholly applied, and leaves its ring.
+    /// Applies the next changes, of the first admission that waits and of those behind it, of whatever collector: as many as surely fit one
+    /// transaction, up to 1,000, and none that isn't below every mark. An admission without changes counts as a change, and is applied at
+    /// once. With its last change an admission is wholly applied, and leaves its ring.
     ///
-    /// Blocks that are burnt for it are settled before a page is written. After a refusal the archive holds the history of before, and
-    /// nothing is left behind but blocks that are spent; where a write or a sync of pages failed, it must be opened again, and the change is
-    /// then applied or not.
+    /// Blocks that are burnt for it, two a change at most, are settled before a page is written. Where a change is refused behind others,
+    /// these are applied, and the next call meets the refusal. After a refusal the archive holds the history of before, and nothing is left
+    /// behind but blocks that are spent; where a write or a sync of pages failed, it must be opened again, and the changes are then applied,
+    /// all of them or none.
     pub fn apply_step(&mut self) -> Result<Step, ApplyError>
         ensures applied { IfOk result (λ step. step ≡ Step.Applied → IsHonest self.old → (h : History) → Holds self.old h → (g : History) × Moves h g × Holds self.new g) }
         ensures idle { IfOk result (λ step. IsHonest self.old → (h : History) → Holds self.old h → (step ≡ Step.Idle) ↔ NothingToApply h) }
@@ -119,10 +108,12 @@ impl<E: EraseDisk + Drop, O: OnceDisk + Drop> Archive<E, O> {
         ensures usable { OnOk result (is_down self.old ≡ false) }
         ensures recovery { (result ≡ Err ApplyError.NeedsRecovery) ↔ (is_down self.old ≡ true) }
         ensures full { IsHonest self.old → result ≡ Err ApplyError.OnceFull → NoneBlank self.new }
-        ensures spends { IsHonest self.old → SpendsAtMost 2 (once_state self.old) (once_state self.new) }
+        ensures spends { IsHonest self.old → SpendsAtMost 2000 (once_state self.old) (once_state self.new) }
         ensures sound { IsHonest self.old → (h : History) → Holds self.old h → (page : ℕ) → result ≡ Err (ApplyError.BadNode page) → ⊥ }
         ensures honest { IsHonest self.old ↔ IsHonest self.new }
         ensures settings { settings_of self.new ≡ settings_of self.old }
+        ensures disk { once_of self.new ≡ once_of self.old }
+        ensures grows { IsHonest self.old → Grows (once_state self.old) (once_state self.new) }
     {
         self.try_apply()
     }

@@ -1,6 +1,6 @@
 //! The archive, and what it tells.
 
-ghost use Rattle.std.specs.Prelude.{◌≡◌, ◌<◌, ◌≤◌, ℕ, List, length, map, Some, IfOk, slice_get};
+ghost use Rattle.std.specs.Prelude.{◌≡◌, ◌↔◌, ◌<◌, ◌≤◌, ℕ, List, length, map, Some, IfOk, slice_get};
 ghost use Rattle.page_journal.specs.Journal.{home_pages};
 ghost use Rattle.buffer_pool.specs.Pool.{journal_of};
 ghost use Rattle.once_store.specs.Shelves.{next_of};
@@ -88,6 +88,10 @@ impl<E: EraseDisk + Drop, O: OnceDisk + Drop> Archive<E, O> {
         ensures fresh { IfOk result (λ seen. O.seen_fault_count seen ≡ 0) }
         ensures counts { Counts (O.pen_fault_count (pen_in self.old)) (O.pen_fault_count (pen_in self.new)) result }
         ensures holds { (h : History) → Holds self.old h → Holds self.new h }
+        ensures honest { IsHonest self.old ↔ IsHonest self.new }
+        ensures settings { settings_of self.new ≡ settings_of self.old }
+        ensures disk { once_of self.new ≡ once_of self.old }
+        ensures blocks { IsHonest self.old → once_state self.new ≡ once_state self.old }
     {
         self.shelf.seen()
     }

@@ -119,6 +119,7 @@ impl<E: EraseDisk + Drop, O: OnceDisk + Drop> Archive<E, O> {
     /// outcome the archive holds the history that it held.
     pub fn check(&mut self) -> Result<u64, CheckError>
         ensures counted { IfOk result (λ n. IsHonest self.old → (h : History) → Holds self.old h → n ≡ sum_by (λ p. length p.item.changes) (applied h)) }
+        ensures head { IfOk result (λ n. n ≡ applied_in self.old) }
         ensures sound { IsHonest self.old → (h : History) → Holds self.old h → (page : ℕ) → result ≡ Err (CheckError.BadNode page) → ⊥ }
         ensures undamaged { IsHonest self.old → (h : History) → Holds self.old h → (block : ℕ) → result ≡ Err (CheckError.Damaged block) → ⊥ }
         ensures read { IsHonest self.old → (pages : List (List ℕ)) → HasPages self.old pages → IfOk result (IsAllRead pages (once_state self.old).settled (O.block_count (once_of self.old)) (root_in self.old)) }

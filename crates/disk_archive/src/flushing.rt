@@ -50,7 +50,7 @@ fn write_home<E: EraseDisk + Drop>(tx: &mut Tx<E>) -> Result<Flush, UseError>
 }
 
 impl<E: EraseDisk + Drop, O: OnceDisk + Drop> Archive<E, O> {
-    ghost use Rattle.disk_archive.specs.Archives.{Carries, GoesOn, Holds, Stands, IsHonest, is_down, settings_of, site_of};
+    ghost use Rattle.disk_archive.specs.Archives.{Carries, GoesOn, Holds, Stands, IsHonest, is_down, once_of, once_state, settings_of, site_of};
     ghost use Rattle.disk_archive.specs.Sites.{LeftCarries, LeftEither};
     ghost use Rattle.disk_archive.specs.Crashes.{Crashes, Lasts};
     ghost use Rattle.disk_archive.specs.Homes.{closed_in, dirty_pages};
@@ -63,6 +63,8 @@ impl<E: EraseDisk + Drop, O: OnceDisk + Drop> Archive<E, O> {
         ensures recovery { (result ≡ Err FlushError.NeedsRecovery) ↔ (is_down self.old ≡ true) }
         ensures honest { IsHonest self.old ↔ IsHonest self.new }
         ensures settings { settings_of self.new ≡ settings_of self.old }
+        ensures disk { once_of self.new ≡ once_of self.old }
+        ensures blocks { once_state self.new ≡ once_state self.old }
         ensures goes_on { (h : History) → Carries self.old h → GoesOn self.new h }
         ensures crash { (h : History) → Carries self.old h → Crashes self.old self.new (LeftEither (site_of self.old) h h) }
         ensures flushed { IfOk result (λ step. step ≡ Flush.Flushed → IsHomed (dirty_pages self.old) (dirty_pages self.new)) }
@@ -89,6 +91,8 @@ impl<E: EraseDisk + Drop, O: OnceDisk + Drop> Archive<E, O> {
         ensures only { IfOk result (λ step. (step ≡ Flush.Clean) ↔ (dirty_pages self.old ≡ [])) }
         ensures honest { IsHonest self.old ↔ IsHonest self.new }
         ensures settings { settings_of self.new ≡ settings_of self.old }
+        ensures disk { once_of self.new ≡ once_of self.old }
+        ensures blocks { once_state self.new ≡ once_state self.old }
     {
         self.try_flush()
     }

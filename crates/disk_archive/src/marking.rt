@@ -107,7 +107,7 @@ fn plan_mark<P: Pages>(
 }
 
 impl<E: EraseDisk + Drop, O: OnceDisk + Drop> Archive<E, O> {
-    ghost use Rattle.disk_archive.specs.Archives.{Carries, GoesOn, Holds, Stands, IsHonest, erase_of, is_down, settings_of, site_of};
+    ghost use Rattle.disk_archive.specs.Archives.{Carries, GoesOn, Holds, Stands, IsHonest, erase_of, is_down, once_of, once_state, settings_of, site_of};
     ghost use Rattle.disk_archive.specs.Sites.{LeftEither};
     ghost use Rattle.disk_archive.specs.Crashes.{Crashes, Lasts};
     ghost use Rattle.disk_archive.specs.inner.Idle.{IsAsBefore};
@@ -124,6 +124,8 @@ impl<E: EraseDisk + Drop, O: OnceDisk + Drop> Archive<E, O> {
         ensures present { (h : History) → Carries self.old h → (i : Intake) → slice_get h.intakes collector ≡ Some i → mark ≡ i.mark → IsOk result × IsAsBefore self.old self.new }
         ensures honest { IsHonest self.old ↔ IsHonest self.new }
         ensures settings { settings_of self.new ≡ settings_of self.old }
+        ensures disk { once_of self.new ≡ once_of self.old }
+        ensures blocks { once_state self.new ≡ once_state self.old }
         ensures ok { OnOk result ((h : History) → Carries self.old h → Carries self.new (marked h collector mark)) }
         ensures err { OnErr result ((h : History) → Carries self.old h → GoesOn self.new h) }
         ensures crash { (h : History) → Carries self.old h → Crashes self.old self.new (LeftMarked (site_of self.old) h collector mark) }
@@ -157,6 +159,8 @@ impl<E: EraseDisk + Drop, O: OnceDisk + Drop> Archive<E, O> {
         ensures present { IsHonest self.old → is_down self.old ≡ false → (h : History) → Holds self.old h → (i : Intake) → slice_get h.intakes collector ≡ Some i → mark ≡ i.mark → IsOk result × (erase_of self.new ≡ erase_of self.old) }
         ensures honest { IsHonest self.old ↔ IsHonest self.new }
         ensures settings { settings_of self.new ≡ settings_of self.old }
+        ensures disk { once_of self.new ≡ once_of self.old }
+        ensures blocks { once_state self.new ≡ once_state self.old }
     {
         self.try_mark(collector, mark)
     }

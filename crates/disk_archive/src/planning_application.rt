@@ -1,7 +1,7 @@
-//! What the application of a change is to commit: pages that are shown in a transaction, and their head. Blocks are burnt and settled
-//! on the way, and no page is written yet.
+//! The application of one change: pages are shown in a transaction, and the head passes over it. Blocks are burnt and settled on the
+//! way, and no page is written yet.
 
-ghost use Rattle.std.specs.Prelude.{◌≡◌, ◌≢◌, ◌<◌, ◌≤◌, ◌+◌, ◌^◌, ◌++◌, ◌∷◌, ◌↔◌, ℕ, List, [], length, min, Some, IfOk, OnOk, IfErr, Err, IfSome, IfNone, IsTrue, slice_get};
+ghost use Rattle.std.specs.Prelude.{◌≡◌, ◌≢◌, ◌<◌, ◌≤◌, ◌+◌, ◌*◌, ◌^◌, ◌++◌, ◌∷◌, ◌↔◌, ℕ, List, [], length, min, Some, IfOk, OnOk, OnErr, IfErr, Err, false, IfSome, IfNone, IsTrue, slice_get};
 ghost use Rattle.disk_models.specs.Once.{settled_in};
 ghost use Rattle.once_store.specs.Shelves.{disk_of, next_of, pen_of};
 ghost use Rattle.page_tx.specs.Start.{Start};
@@ -24,11 +24,11 @@ ghost use Rattle.archive_pages.specs.Carried.{Bears};
 ghost use Rattle.archive_pages.specs.Changes.{next_change};
 ghost use Rattle.archive_pages.specs.Places.{ring_of, tree_low};
 ghost use Rattle.disk_archive.specs.Trees.{TreeLies};
-ghost use Rattle.disk_archive.specs.inner.Applications.{ApplyRefusal, KeepsBlocks, MovesOn, PlansMove, TakesNext, TreeTakes};
+ghost use Rattle.disk_archive.specs.inner.Applications.{ApplyRefusal, KeepsBlocks, MovesOn, TakesNext, TreeTakes};
 
 use crate::apply_error::{ApplyError, of_pages, of_tree};
 use archive_head::Head;
-use archive_pages::{Settings, TreePlace, copy_head, lane_of, pass_change, put_head};
+use archive_pages::{Settings, TreePlace, lane_of, pass_change};
 use disk_models::OnceDisk;
 use intake::ReadError;
 use once_store::Shelf;
@@ -39,15 +39,8 @@ use std::alloc::{AllocError, Global};
 use tsb_tree::{insert, open};
 use version_model::{Entry, Stamp};
 
-/// What is to be committed: the head that is on its page, and whether the admission is wholly applied.
-#[derive(Drop)]
-pub(crate) struct Application {
-    pub(crate) head: Head,
-    pub(crate) whole: bool,
-}
-
-// The first admission that waits of a collector.
-fn front_of<P: Pages>(
+/// The first admission that waits of a collector.
+pub(crate) fn front_of<P: Pages>(
     alloc: Global,
     pages: &mut P,
     settings: Settings,
@@ -103,17 +96,18 @@ fn next_version(
     Ok(Some(entry))
 }
 
-// The tree takes a version. Tells where it lies then.
+// The tree takes a version. Tells where it lies then. A root of a higher level than it may be is damaged.
 fn take_version<P: Pages, O: OnceDisk + Drop>(
     alloc: Global,
     pages: &mut P,
     shelf: &mut Shelf<O>,
     head: &Head,
     entry: &Entry,
+    most_level: u8,
 ) -> Result<TreePlace, ApplyError>
     requires next { P.next pages.old ≡ min head.now.fresh (P.homes pages.old) }
     requires block { head.now.block ≤ next_of shelf.old }
-    requires few { length (P.named pages.old) ≤ 14 }
+    requires few { length (P.named pages.old) + (2 * most_level + 3) ≤ 30 }
     requires inside { entry.now.key + 1 < key_end }
     requires size { entry_octets (version_of entry.now) ≤ 3131 }
     requires end { entry.now.stamp + 1 < 2 ^ 128 }
@@ -121,15 +115,18 @@ fn take_version<P: Pages, O: OnceDisk + Drop>(
     ensures takes { (start : Start) (shown : List (List ℕ)) (low : ℕ) (versions : List Version) → P.shows pages.old start shown → O.honest (disk_of shelf.old) (pen_of shelf.old)
         → TreeLies (O.block_count (disk_of shelf.old)) shown (settled_in (O.model (pen_of shelf.old))) low head.now.root head.now.fresh head.now.block (stamp_of head.now.last head.now.applied) versions
         → IfOk result (λ place. TreeTakes (O.block_count (disk_of shelf.old)) (settled_in (O.model (pen_of shelf.new))) (P.shows pages.new start) low place.root place.fresh place.block (entry.now.stamp + 1) (versions ++ version_of entry.now ∷ []) shown) }
-    ensures sound { (start : Start) (shown : List (List ℕ)) (low : ℕ) (versions : List Version) → P.shows pages.old start shown → O.honest (disk_of shelf.old) (pen_of shelf.old)
+    ensures sound { 7 ≤ most_level → (start : Start) (shown : List (List ℕ)) (low : ℕ) (versions : List Version) → P.shows pages.old start shown → O.honest (disk_of shelf.old) (pen_of shelf.old)
         → TreeLies (O.block_count (disk_of shelf.old)) shown (settled_in (O.model (pen_of shelf.old))) low head.now.root head.now.fresh head.now.block (stamp_of head.now.last head.now.applied) versions
         → (page : ℕ) → result ≡ Err (ApplyError.BadNode page) → ⊥ }
     ensures fresh { IfOk result (λ place. place.fresh ≡ P.next pages.new) }
     ensures block { IfOk result (λ place. place.block ≡ next_of shelf.new) }
-    ensures few { OnOk result (length (P.named pages.new) ≤ length (P.named pages.old) + 17) }
+    ensures few { OnOk result (length (P.named pages.new) ≤ 30) }
+    ensures as_shown { OnErr result ((start : Start) (shown : List (List ℕ)) → P.shows pages.old start shown → P.shows pages.new start shown) }
+    ensures as_named { OnErr result (P.named pages.new ≡ P.named pages.old) }
+    ensures as_next { OnErr result (P.next pages.new ≡ P.next pages.old) }
     ensures refused { IfErr result (ApplyRefusal (P.down pages.old)) }
     ensures shows { (start : Start) (shown : List (List ℕ)) → P.shows pages.old start shown → (after : List (List ℕ)) × P.shows pages.new start after }
-    ensures shelf { KeepsBlocks O.OnceDisk shelf.old shelf.new (result ≡ Err ApplyError.OnceFull) }
+    ensures shelf { KeepsBlocks O.OnceDisk 2 shelf.old shelf.new (result ≡ Err ApplyError.OnceFull) }
     ensures homes { P.homes pages.new ≡ P.homes pages.old }
     ensures down { P.down pages.new ≡ P.down pages.old }
     ensures honest { P.honest pages.old ↔ P.honest pages.new }
@@ -139,6 +136,9 @@ fn take_version<P: Pages, O: OnceDisk + Drop>(
         Ok(place) => place,
         Err(refusal) => return Err(of_tree(refusal)),
     };
+    if place.level > most_level {
+        return Err(ApplyError::BadNode(head.root));
+    }
     match insert(pages, shelf, alloc, place, entry) {
         Ok(now) => Ok(TreePlace {
             fresh: pages.next_page(),
@@ -156,31 +156,35 @@ fn take_next<P: Pages, O: OnceDisk + Drop>(
     shelf: &mut Shelf<O>,
     head: &Head,
     admission: &Admission,
+    most_level: u8,
 ) -> Result<TreePlace, ApplyError>
     requires next { P.next pages.old ≡ min head.now.fresh (P.homes pages.old) }
     requires block { head.now.block ≤ next_of shelf.old }
-    requires few { length (P.named pages.old) ≤ 14 }
+    requires few { length (P.named pages.old) + (2 * most_level + 3) ≤ 30 }
     requires applied { head.now.applied + 1 < 2 ^ 64 }
     requires later { head.now.last ≤ admission.now.time }
     ensures takes { (start : Start) (shown : List (List ℕ)) (collector : ℕ) (versions : List Version) → P.shows pages.old start shown → O.honest (disk_of shelf.old) (pen_of shelf.old) → (settings : Settings)
         → TreeLies (O.block_count (disk_of shelf.old)) shown (settled_in (O.model (pen_of shelf.old))) (tree_low settings) head.now.root head.now.fresh head.now.block (stamp_of head.now.last head.now.applied) versions
         → IfOk result (λ place. TakesNext (O.block_count (disk_of shelf.old)) settings (settled_in (O.model (pen_of shelf.new))) (P.shows pages.new start) head.now (placed collector admission.now) place.root place.fresh place.block versions shown) }
-    ensures sound { (start : Start) (shown : List (List ℕ)) (low : ℕ) (versions : List Version) → P.shows pages.old start shown → O.honest (disk_of shelf.old) (pen_of shelf.old)
+    ensures sound { 7 ≤ most_level → (start : Start) (shown : List (List ℕ)) (low : ℕ) (versions : List Version) → P.shows pages.old start shown → O.honest (disk_of shelf.old) (pen_of shelf.old)
         → TreeLies (O.block_count (disk_of shelf.old)) shown (settled_in (O.model (pen_of shelf.old))) low head.now.root head.now.fresh head.now.block (stamp_of head.now.last head.now.applied) versions
         → (page : ℕ) → result ≡ Err (ApplyError.BadNode page) → ⊥ }
     ensures fresh { IfOk result (λ place. P.next pages.new ≡ min place.fresh (P.homes pages.new)) }
     ensures block { IfOk result (λ place. place.block ≤ next_of shelf.new) }
-    ensures few { OnOk result (length (P.named pages.new) ≤ length (P.named pages.old) + 17) }
+    ensures few { OnOk result (length (P.named pages.new) ≤ 30) }
+    ensures as_shown { OnErr result ((start : Start) (shown : List (List ℕ)) → P.shows pages.old start shown → P.shows pages.new start shown) }
+    ensures as_named { OnErr result (P.named pages.new ≡ P.named pages.old) }
+    ensures as_next { OnErr result (P.next pages.new ≡ P.next pages.old) }
     ensures refused { IfErr result (ApplyRefusal (P.down pages.old)) }
     ensures shows { (start : Start) (shown : List (List ℕ)) → P.shows pages.old start shown → (after : List (List ℕ)) × P.shows pages.new start after }
-    ensures shelf { KeepsBlocks O.OnceDisk shelf.old shelf.new (result ≡ Err ApplyError.OnceFull) }
+    ensures shelf { KeepsBlocks O.OnceDisk 2 shelf.old shelf.new (result ≡ Err ApplyError.OnceFull) }
     ensures homes { P.homes pages.new ≡ P.homes pages.old }
     ensures down { P.down pages.new ≡ P.down pages.old }
     ensures honest { P.honest pages.old ↔ P.honest pages.new }
 {
     let next = next_version(alloc, head, admission)?;
     match next {
-        Some(entry) => take_version(alloc, pages, shelf, head, &entry),
+        Some(entry) => take_version(alloc, pages, shelf, head, &entry, most_level),
         None => Ok(TreePlace {
             fresh: head.fresh,
             block: head.block,
@@ -189,9 +193,10 @@ fn take_next<P: Pages, O: OnceDisk + Drop>(
     }
 }
 
-// Applies the next change of an admission, the first that waits of its collector, or passes over it where it has no other. Tells whether
-// the admission is wholly applied then.
-fn plan_change<P: Pages, O: OnceDisk + Drop>(
+/// Applies the next change of an admission, the first that waits of its collector, or passes over it where it has no other. Tells whether
+/// the admission is wholly applied then. After a refusal the head is as it was, and the same pages are shown. A root of a level above
+/// the highest that it may have is told as damage.
+pub(crate) fn plan_change<P: Pages, O: OnceDisk + Drop>(
     alloc: Global,
     pages: &mut P,
     shelf: &mut Shelf<O>,
@@ -199,25 +204,31 @@ fn plan_change<P: Pages, O: OnceDisk + Drop>(
     head: &mut Head,
     collector: u8,
     admission: &Admission,
+    most_level: u8,
 ) -> Result<bool, ApplyError>
     requires collector { collector < length head.old.lanes }
     requires fits { (lane : Lane) → HasLane head.old collector lane → CanPop settings collector lane admission.now }
     requires next { P.next pages.old ≡ min head.old.fresh (P.homes pages.old) }
     requires block { head.old.block ≤ next_of shelf.old }
-    requires few { length (P.named pages.old) ≤ 14 }
+    requires few { length (P.named pages.old) + (2 * most_level + 3) ≤ 30 }
     ensures moves { IfOk result (λ whole. (start : Start) (shown : List (List ℕ)) (h : History) (later : List (Placed Admitted)) → P.shows pages.old start shown → O.honest (disk_of shelf.old) (pen_of shelf.old)
         → Bears (TreeLies (O.block_count (disk_of shelf.old))) settings (settled_in (O.model (pen_of shelf.old))) head.old shown h → waiting h ≡ placed collector admission.now ∷ later → IsBelowMarks h admission.now.time
         → MovesOn (O.block_count (disk_of shelf.old)) settings (settled_in (O.model (pen_of shelf.new))) (P.shows pages.new start) head.new whole h) }
-    ensures sound { (start : Start) (shown : List (List ℕ)) (h : History) (later : List (Placed Admitted)) → P.shows pages.old start shown → O.honest (disk_of shelf.old) (pen_of shelf.old)
+    ensures sound { 7 ≤ most_level → (start : Start) (shown : List (List ℕ)) (h : History) (later : List (Placed Admitted)) → P.shows pages.old start shown → O.honest (disk_of shelf.old) (pen_of shelf.old)
         → Bears (TreeLies (O.block_count (disk_of shelf.old))) settings (settled_in (O.model (pen_of shelf.old))) head.old shown h → waiting h ≡ placed collector admission.now ∷ later
         → (page : ℕ) → result ≡ Err (ApplyError.BadNode page) → ⊥ }
+    ensures as_before { OnErr result (head.new ≡ head.old) }
+    ensures stays { IfOk result (λ whole. whole ≡ false → head.new.lanes ≡ head.old.lanes) }
     ensures lanes { length head.new.lanes ≡ length head.old.lanes }
     ensures next { OnOk result (P.next pages.new ≡ min head.new.fresh (P.homes pages.new)) }
     ensures block { OnOk result (head.new.block ≤ next_of shelf.new) }
-    ensures few { OnOk result (length (P.named pages.new) ≤ length (P.named pages.old) + 17) }
+    ensures few { OnOk result (length (P.named pages.new) ≤ 30) }
+    ensures as_shown { OnErr result ((start : Start) (shown : List (List ℕ)) → P.shows pages.old start shown → P.shows pages.new start shown) }
+    ensures as_named { OnErr result (P.named pages.new ≡ P.named pages.old) }
+    ensures as_next { OnErr result (P.next pages.new ≡ P.next pages.old) }
     ensures refused { IfErr result (ApplyRefusal (P.down pages.old)) }
     ensures shows { (start : Start) (shown : List (List ℕ)) → P.shows pages.old start shown → (after : List (List ℕ)) × P.shows pages.new start after }
-    ensures shelf { KeepsBlocks O.OnceDisk shelf.old shelf.new (result ≡ Err ApplyError.OnceFull) }
+    ensures shelf { KeepsBlocks O.OnceDisk 2 shelf.old shelf.new (result ≡ Err ApplyError.OnceFull) }
     ensures homes { P.homes pages.new ≡ P.homes pages.old }
     ensures down { P.down pages.new ≡ P.down pages.old }
     ensures honest { P.honest pages.old ↔ P.honest pages.new }
@@ -228,47 +239,6 @@ fn plan_change<P: Pages, O: OnceDisk + Drop>(
     if admission.time() < head.last {
         return Err(ApplyError::BadNode(0));
     }
-    let place = take_next(alloc, pages, shelf, head, admission)?;
+    let place = take_next(alloc, pages, shelf, head, admission, most_level)?;
     Ok(pass_change(settings, head, collector, admission, place))
-}
-
-/// Shows the pages behind the next change of the first admission that waits of a collector, and answers their head.
-pub(crate) fn plan_application<P: Pages, O: OnceDisk + Drop>(
-    alloc: Global,
-    pages: &mut P,
-    shelf: &mut Shelf<O>,
-    settings: Settings,
-    head: &Head,
-    collector: u8,
-) -> Result<Application, ApplyError>
-    requires collector { collector < length head.now.lanes }
-    requires lanes { length head.now.lanes ≤ 16 }
-    requires some { 0 < P.homes pages.old }
-    requires next { P.next pages.old ≡ min head.now.fresh (P.homes pages.old) }
-    requires block { head.now.block ≤ next_of shelf.old }
-    requires none { P.named pages.old ≡ [] }
-    ensures planned { IfOk result (λ plan. (start : Start) (shown : List (List ℕ)) (h : History) (first : Admitted) (later : List (Placed Admitted)) → P.shows pages.old start shown → O.honest (disk_of shelf.old) (pen_of shelf.old)
-        → Bears (TreeLies (O.block_count (disk_of shelf.old))) settings (settled_in (O.model (pen_of shelf.old))) head.now shown h → waiting h ≡ placed collector first ∷ later → IsBelowMarks h first.time
-        → PlansMove (O.block_count (disk_of shelf.old)) settings (settled_in (O.model (pen_of shelf.new))) (P.shows pages.new start) plan.head plan.whole h) }
-    ensures sound { (start : Start) (shown : List (List ℕ)) (h : History) (first : Admitted) (later : List (Placed Admitted)) → P.shows pages.old start shown → O.honest (disk_of shelf.old) (pen_of shelf.old)
-        → Bears (TreeLies (O.block_count (disk_of shelf.old))) settings (settled_in (O.model (pen_of shelf.old))) head.now shown h → waiting h ≡ placed collector first ∷ later
-        → (page : ℕ) → result ≡ Err (ApplyError.BadNode page) → ⊥ }
-    ensures lanes { IfOk result (λ plan. length plan.head.lanes ≡ length head.now.lanes) }
-    ensures block { IfOk result (λ plan. plan.head.block ≤ next_of shelf.new) }
-    ensures refused { IfErr result (ApplyRefusal (P.down pages.old)) }
-    ensures shows { (start : Start) (shown : List (List ℕ)) → P.shows pages.old start shown → (after : List (List ℕ)) × P.shows pages.new start after }
-    ensures shelf { KeepsBlocks O.OnceDisk shelf.old shelf.new (result ≡ Err ApplyError.OnceFull) }
-    ensures homes { P.homes pages.new ≡ P.homes pages.old }
-    ensures down { P.down pages.new ≡ P.down pages.old }
-    ensures honest { P.honest pages.old ↔ P.honest pages.new }
-{
-    let mut next = copy_head(alloc, head)?;
-    let admission = front_of(alloc, pages, settings, &next, collector)?;
-    let whole = plan_change(
-        alloc, pages, shelf, settings, &mut next, collector, &admission,
-    )?;
-    if let Err(refusal) = put_head(alloc, pages, &next) {
-        return Err(of_pages(refusal));
-    }
-    Ok(Application { head: next, whole })
 }

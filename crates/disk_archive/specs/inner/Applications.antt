@@ -1,26 +1,35 @@
 -- What is to be committed when a change is applied, and why it isn't.
-use Rattle.std.specs.Prelude.{◌≡◌, ◌↔◌, ◌≤◌, ◌+◌, ◌++◌, ⊤, ℕ, suc, List, length, Bool, true, false}
+use Rattle.std.specs.Prelude.{◌≡◌, ◌↔◌, ◌⊎◌, ◌<◌, ◌≤◌, ◌+◌, ◌++◌, ◌∷◌, ⊤, ℕ, suc, List, length, min, Bool, true, false}
 use Rattle.disk_models.specs.declared.once.OnceDisk.{Ghosts as OnceGhosts}
 use Rattle.disk_models.specs.Once.{OnceState, Grows}
 use Rattle.once_store.specs.declared.shelf.Shelf.{Shelf}
 use Rattle.once_store.specs.Shelves.{AllTried, disk_of, pen_of, next_of}
 use Rattle.route_model.specs.Admission.{Admitted}
-use Rattle.route_meaning.specs.Merged.{Placed}
-use Rattle.route_meaning.specs.History.{History}
+use Rattle.route_meaning.specs.Merged.{Placed, placed}
+use Rattle.route_meaning.specs.History.{History, IsBelowMarks, waiting}
+use Rattle.sequencer.specs.Lanes.{Waiting}
+use Rattle.sequencer.specs.First.{IsNext}
+use Rattle.sequencer.specs.Ahead.{behind}
 use Rattle.interleaving_core.specs.Steps.{moved}
 use Rattle.version_model.specs.Versions.{Version}
 use Rattle.route_history.specs.Kept.{AreVersions}
 use Rattle.route_history.specs.Stamps.{stamp_of}
 use Rattle.tsb_tree.specs.Shelves.{SpendsAtMost}
 use Rattle.archive_head.specs.Head.{Contents}
+use Rattle.archive_head.specs.declared.lane.Lane.{Lane}
 use Rattle.archive_pages.specs.declared.settings.Settings.{Settings}
 use Rattle.archive_pages.specs.Places.{ChangesFrom, tree_low}
 use Rattle.archive_pages.specs.Carried.{Bears, last_time}
 use Rattle.archive_pages.specs.Changes.{next_change}
+use Rattle.archive_pages.specs.Batches.{CanPop, HasLane}
 use Rattle.disk_archive.specs.declared.apply_error.ApplyError.{ApplyError}
 use Rattle.disk_archive.specs.declared.apply_error.ApplyError.TheVariants as applies
 use Rattle.disk_archive.specs.declared.error.CommitError.{CommitError}
 use Rattle.disk_archive.specs.declared.error.CommitError.TheVariants as commits
+use Rattle.disk_archive.specs.declared.planning_changes.Front.{Front}
+use Rattle.disk_archive.specs.declared.planning_changes.Plan.{Plan}
+use Rattle.disk_archive.specs.declared.planning_changes.Application.{Application}
+use Rattle.disk_archive.specs.Mirrors.{Mirrors}
 use Rattle.disk_archive.specs.Trees.{TreeLies}
 use Rattle.disk_archive.specs.Moves.{Moves}
 use Rattle.disk_archive.specs.inner.Planning.{Planned}
@@ -42,14 +51,14 @@ ApplyRefusal down (applies.BadNode page) = ⊤
 ApplyRefusal down applies.Fault = ⊤
 ApplyRefusal down applies.OutOfMemory = ⊤
 
--- The shelf has its disk still, which follows its model as before; what is tried or settled stays so, two blocks at most are spent, and the
--- next number doesn't fall. Where the disk is told to be full, no blank block is left.
-pub record KeepsBlocks {O Pen Seen : Type 0} (device : OnceGhosts O Pen Seen) (old new : Shelf O Pen Seen) (full : Type 0) : Type 0 where
+-- The shelf has its disk still, which follows its model as before; what is tried or settled stays so, at most so many blocks are spent, and
+-- the next number doesn't fall. Where the disk is told to be full, no blank block is left.
+pub record KeepsBlocks {O Pen Seen : Type 0} (device : OnceGhosts O Pen Seen) (most : ℕ) (old new : Shelf O Pen Seen) (full : Type 0) : Type 0 where
   pub disk : disk_of new ≡ disk_of old
   pub honest : device.honest (disk_of old) (pen_of old) ↔ device.honest (disk_of new) (pen_of new)
   pub forward : next_of old ≤ next_of new
   pub grows : device.honest (disk_of old) (pen_of old) → Grows (device.model (pen_of old)) (device.model (pen_of new))
-  pub spends : device.honest (disk_of old) (pen_of old) → SpendsAtMost 2 (device.model (pen_of old)) (device.model (pen_of new))
+  pub spends : device.honest (disk_of old) (pen_of old) → SpendsAtMost most (device.model (pen_of old)) (device.model (pen_of new))
   pub none_left : device.honest (disk_of old) (pen_of old) → full → AllTried (device.model (pen_of new)) (next_of new) (device.block_count (disk_of old))
 
 -- Pages are shown on which the tree lies there and stands for these versions, and no page before its own is changed.
@@ -76,10 +85,53 @@ pub record MovesOn (count : ℕ) (s : Settings) (settled : ℕ → List ℕ → 
   pub shown : shows pages
   pub bears : Bears (TreeLies count) s settled head pages after
 
--- the same, with the head on its page
-pub record PlansMove (count : ℕ) (s : Settings) (settled : ℕ → List ℕ → Type 0) (shows : List (List ℕ) → Type 0) (head : Contents) (whole : Bool) (h : History) : Type 0 where
+-- ---- several changes
+
+-- In memory an admission is at hand: its collector is the next one of these lanes, and its ring can lose it.
+pub record IsAtHand (s : Settings) (head : Contents) (lanes : List Waiting) (front : Front) : Type 0 where
+  pub next : IsNext lanes front.collector
+  pub inside : front.collector < length head.lanes
+  pub fits : (lane : Lane) → HasLane head front.collector lane → CanPop s front.collector lane front.admission
+
+-- the history's first admission that waits is this one, and it is below every mark
+pub record IsFirst (h : History) (front : Front) : Type 0 where
+  pub later : List (Placed Admitted)
+  pub here : waiting h ≡ placed front.collector front.admission ∷ later
+  pub below : IsBelowMarks h front.admission.time
+
+-- What is planned goes with so many pages, of which this one was the first that was never used, with the next block, and with these lanes:
+-- its admission is at hand, where that isn't wholly applied.
+pub record IsPlan (s : Settings) (homes unused block : ℕ) (waits : List Waiting) (plan : Plan) : Type 0 where
+  pub pages : unused ≡ min plan.head.fresh homes
+  pub blocks : plan.head.block ≤ block
+  pub lanes : length plan.head.lanes ≡ length waits
+  pub count : length plan.ahead ≡ length waits
+  pub hand : plan.whole ≡ false → IsAtHand s plan.head (behind plan.ahead waits) plan.front
+
+-- Pages are shown that carry the history with the head of what is planned. The lanes, behind what it passes over, are those of the history,
+-- and the admission at hand is the first that waits, where it isn't wholly applied.
+pub record Reached (count : ℕ) (s : Settings) (settled : ℕ → List ℕ → Type 0) (shows : List (List ℕ) → Type 0) (lanes : List Waiting) (plan : Plan) (h : History) : Type 0 where
+  pub pages : List (List ℕ)
+  pub shown : shows pages
+  pub bears : Bears (TreeLies count) s settled plan.head pages h
+  pub mirrors : Mirrors (behind plan.ahead lanes) h
+  pub first : plan.whole ≡ false → IsFirst h plan.front
+
+-- the same of a history to which this one moves
+pub record Advances (count : ℕ) (s : Settings) (settled : ℕ → List ℕ → Type 0) (shows : List (List ℕ) → Type 0) (lanes : List Waiting) (plan : Plan) (h : History) : Type 0 where
   pub after : History
   pub moves : Moves h after
-  pub stays : whole ≡ false → (some : ℕ) × (after ≡ moved h h.whole some)
-  pub leaves : whole ≡ true → after ≡ moved h (suc h.whole) 0
-  pub planned : Planned count s settled shows head after
+  pub reached : Reached count s settled shows lanes plan after
+
+-- the same of this history, or of one to which it moves
+pub record Reaches (count : ℕ) (s : Settings) (settled : ℕ → List ℕ → Type 0) (shows : List (List ℕ) → Type 0) (lanes : List Waiting) (plan : Plan) (h : History) : Type 0 where
+  pub after : History
+  pub is : (after ≡ h) ⊎ Moves h after
+  pub reached : Reached count s settled shows lanes plan after
+
+-- The history moves on: pages are shown that carry it then, with the head on its page, and the lanes behind what is passed over are its own.
+pub record PlansMove (count : ℕ) (s : Settings) (settled : ℕ → List ℕ → Type 0) (shows : List (List ℕ) → Type 0) (lanes : List Waiting) (plan : Application) (h : History) : Type 0 where
+  pub after : History
+  pub moves : Moves h after
+  pub planned : Planned count s settled shows plan.head after
+  pub mirrors : Mirrors (behind plan.ahead lanes) after

@@ -1,6 +1,8 @@
 use Rattle.std.proofs.Common.{◌≡◌, ℕ, sym, ◌∙◌, ap, subst}
 use Rattle.archive_head.specs.Head.{Contents}
 use Rattle.version_model.specs.Pages.{TreeStands}
+use Rattle.tsb_tree.specs.Refusals.{ReadRefusal}
+use Rattle.disk_archive.specs.declared.ask_error.AskError.TheVariants as asks
 use Rattle.disk_archive.proofs.Asking.{at_root, root_blames}
 use Rattle.disk_archive.proofs.answering.root_of.Goals as goal
 
@@ -21,3 +23,8 @@ returns-in-Err-clause-blames g c start shown s all level shows are t =
 
 pub returns-in-Err-clause-refused : goal.returns-in-Err-clause-refused
 returns-in-Err-clause-refused g c = c.of_root.ensures.refused _ c.in-Err.ensures.refused
+
+pub returns-in-Err-clause-undamaged : goal.returns-in-Err-clause-undamaged
+returns-in-Err-clause-undamaged g c block is =
+    let told : c.of_root.result ≡ asks.Damaged block = cc in
+    subst (ReadRefusal (g.P.Pages.down c.args.pages.now)) (c.of_root.ensures.damaged block told) c.in-Err.ensures.refused

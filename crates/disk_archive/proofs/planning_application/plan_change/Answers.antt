@@ -1,4 +1,5 @@
-use Rattle.std.proofs.Common.{rules, ◌≡◌, ◌<◌, ◌≤◌, ◌∷◌, ℕ, List, length, min, sym, ◌∙◌, ap, subst, arith}
+use Rattle.std.proofs.Common.{rules, ◌≡◌, ◌<◌, ◌≤◌, ◌∷◌, inl, inr, ℕ, suc, List, length, min, sym, ◌∙◌, ap, subst, arith, true, false, true≢false}
+use Rattle.std.proofs.lemmas.Bool.{cases_lt}
 use Rattle.route_meaning.specs.Merged.{placed}
 use Rattle.disk_models.specs.Once.{settled_in}
 use Rattle.once_store.specs.Shelves.{disk_of, pen_of}
@@ -10,7 +11,7 @@ use Rattle.disk_archive.proofs.Stepping.{moves_on, kept_passed, last_no_later, K
 use Rattle.disk_archive.proofs.planning_application.plan_change.Goals as goal
 
 pub returns-in_err-place-clause-sound : goal.returns-in_err-place-clause-sound
-returns-in_err-place-clause-sound g c start shown h later shows honest b here page bad = c.take_next.ensures.sound start shown _ b.versions shows honest b.tree page (search (rules, bad))
+returns-in_err-place-clause-sound g c most start shown h later shows honest b here page bad = c.take_next.ensures.sound most start shown _ b.versions shows honest b.tree page (search (rules, bad))
 
 pub returns-clause-moves : goal.returns-clause-moves
 returns-clause-moves g c start shown h later shows honest b here below =
@@ -49,9 +50,17 @@ returns-clause-block g c =
     omega (arith, k, low)
 
 pub returns-then-lt-clause-sound : goal.returns-then-lt-clause-sound
-returns-then-lt-clause-sound g c start shown h later shows honest b here page bad =
+returns-then-lt-clause-sound g c most start shown h later shows honest b here page bad =
     let low = last_no_later (g.O.OnceDisk.block_count (disk_of c.args.shelf.now)) c.args.settings (settled_in (g.O.OnceDisk.model (pen_of c.args.shelf.now))) c.args.head.now shown h (placed c.args.collector c.args.admission.now) later b here in
     let lt = is_less c.lt.result c.time.result c.head.inside.last c.lt.ensures c.if-lt.true in
     let time = c.time.ensures.time in
     let last = ap (λ (x : Contents). x.last) c.head.view_is in
     absurd (omega (arith, low, lt, time, last))
+
+pub returns-clause-stays : goal.returns-clause-stays
+returns-clause-stays g c part =
+    let head = c.args.head.now in
+    elim (cases_lt (suc head.begun) (length c.args.admission.now.changes)) [
+      | inl lt ↦ ap (λ (x : Contents). x.lanes) (c.pass_change.ensures.stays lt)
+      | inr ge ↦ absurd (true≢false (sym (c.pass_change.ensures.whole.1 ge) ∙ part))
+    ]

@@ -54,7 +54,7 @@ returns-in-Ok-insert-clause-takes g c start shown low versions shows honest t =
     (subst (λ (l : ℕ). T (P.next c.insert.new.pages) (next_of c.insert.new.shelf) l) c.in-Ok-insert.ensures.least took))
 
 pub returns-in-Err-insert-clause-sound : goal.returns-in-Err-insert-clause-sound
-returns-in-Err-insert-clause-sound g c start shown low versions shows honest t page e =
+returns-in-Err-insert-clause-sound g c most start shown low versions shows honest t page e =
     let P = g.P.Pages in
     let O = g.O.OnceDisk in
     let h = c.args.head.now in

@@ -50,3 +50,9 @@ returns-clause-spends g c honest = c.try_apply.ensures.shelf.spends honest.1
 
 pub returns-clause-full : goal.returns-clause-full
 returns-clause-full g c honest e = none_blank c.args.self.now c.try_apply.new.self c.try_apply.ensures.shelf.disk (c.try_apply.ensures.shelf.none_left honest.1 e)
+
+pub returns-clause-disk : goal.returns-clause-disk
+returns-clause-disk g c = c.try_apply.ensures.shelf.disk
+
+pub returns-clause-grows : goal.returns-clause-grows
+returns-clause-grows g c honest = c.try_apply.ensures.shelf.grows honest.1

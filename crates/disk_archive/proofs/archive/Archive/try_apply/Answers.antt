@@ -1,31 +1,21 @@
 use Rattle.std.proofs.Common.{rules, ◌≡◌, ◌<◌, ◌≤◌, inl, inr, ℕ, List, [], length, refl, sym, ◌∙◌, ap, subst, arith, true, false, true≢false, Err}
 use Rattle.page_journal.specs.Journal.{home_pages, needs_recovery}
 use Rattle.page_tx.specs.Start.{Start}
-use Rattle.sequencer.proofs.api.Calls.{first_in}
 use Rattle.disk_archive.specs.Archives.{once_state, site_of}
+use Rattle.disk_archive.specs.Mirrors.{Mirrors}
 use Rattle.disk_archive.specs.inner.Applications.{ApplyRefusal}
-use Rattle.disk_archive.proofs.Fronts.{nothing_is, next_is, mirror_moved}
+use Rattle.disk_archive.proofs.Fronts.{nothing_is}
 use Rattle.disk_archive.proofs.Outcomes.{on_each_err}
 use Rattle.disk_archive.proofs.Calling.{Ready, start_of, grows_none, unwritten, written, kept}
 use Rattle.disk_archive.proofs.Burning.{carries_more, refused_more, done_more}
 use Rattle.disk_archive.proofs.Applied.{begins_moved, commit_not_bad, commit_told, both_same}
 use Rattle.disk_archive.proofs.archive.Archive.try_apply.Goals as goal
 
-pub overflow_cast-collector : goal.overflow_cast-collector
-overflow_cast-collector g c =
-    let a = c.args.self.now in
-    let lt = first_in a.sequencer c.in-Some.number c.in-Some.ensures.some.time c.in-Some.ensures.some.first in
-    let n = a.numbers in
-    let few = a.few in
-    omega (arith, lt, n, few)
+pub plan_changes-requires-clause-lanes : goal.plan_changes-requires-clause-lanes
+plan_changes-requires-clause-lanes g c = let n = c.args.self.now.numbers in let m = c.args.self.now.lanes in omega (arith, n, m)
 
-pub plan_application-requires-clause-collector : goal.plan_application-requires-clause-collector
-plan_application-requires-clause-collector g c =
-    let a = c.args.self.now in
-    let lt = first_in a.sequencer c.in-Some.number c.in-Some.ensures.some.time c.in-Some.ensures.some.first in
-    let n = a.numbers in
-    let m = a.lanes in
-    omega (arith, lt, n, m)
+pub plan_changes-requires-clause-few : goal.plan_changes-requires-clause-few
+plan_changes-requires-clause-few g c = let n = c.args.self.now.numbers in let few = c.args.self.now.few in omega (arith, n, few)
 
 pub returns-in_default-clause-ok : goal.returns-in_default-clause-ok
 returns-in_default-clause-ok g c h k =
@@ -55,14 +45,10 @@ returns-in_err-head-clause-err g c =
     let start : Start = start_of a h k in
     let s0 = c.in_ok-begin_from.ensures.shown k.honest.0 k.pages k.maps in
     let homes0 = ap home_pages c.begin_from.ensures.same in
-    let next = c.in-Some.ensures.some in
-    let lt = first_in a.sequencer c.in-Some.number next.time next.first in
-    let low : c.in-Some.number < length h.intakes = (let n = a.numbers in let m = k.bears.number in omega (arith, lt, n, m)) in
-    let f = next_is a.sequencer h c.in-Some.number low k.mirrors next in
-    let kb = c.plan_application.ensures.shelf in
+    let kb = c.plan_changes.ensures.shelf in
     let grows = kb.grows k.honest.1 in
-    let now = c.plan_application.ensures.shows start k.pages s0 in
-    let r : Ready a h k c.plan_application.new.pages now.0 = record { shows = now.1; homes = c.plan_application.ensures.homes ∙ homes0 } in
+    let now = c.plan_changes.ensures.shows start k.pages s0 in
+    let r : Ready a h k c.plan_changes.new.pages now.0 = record { shows = now.1; homes = c.plan_changes.ensures.homes ∙ homes0 } in
     inl (carries_more a _ h k kb.disk grows refl refl r.homes r.shows.noted (now.1.honest, kb.honest.0 k.honest.1) now.1.maps k.mirrors))
 
 pub returns-in_err-head-clause-crash : goal.returns-in_err-head-clause-crash
@@ -72,14 +58,10 @@ returns-in_err-head-clause-crash g c h k =
     let start : Start = start_of a h k in
     let s0 = c.in_ok-begin_from.ensures.shown k.honest.0 k.pages k.maps in
     let homes0 = ap home_pages c.begin_from.ensures.same in
-    let next = c.in-Some.ensures.some in
-    let lt = first_in a.sequencer c.in-Some.number next.time next.first in
-    let low : c.in-Some.number < length h.intakes = (let n = a.numbers in let m = k.bears.number in omega (arith, lt, n, m)) in
-    let f = next_is a.sequencer h c.in-Some.number low k.mirrors next in
-    let kb = c.plan_application.ensures.shelf in
+    let kb = c.plan_changes.ensures.shelf in
     let grows = kb.grows k.honest.1 in
-    let now = c.plan_application.ensures.shows start k.pages s0 in
-    let r : Ready a h k c.plan_application.new.pages now.0 = record { shows = now.1; homes = c.plan_application.ensures.homes ∙ homes0 } in
+    let now = c.plan_changes.ensures.shows start k.pages s0 in
+    let r : Ready a h k c.plan_changes.new.pages now.0 = record { shows = now.1; homes = c.plan_changes.ensures.homes ∙ homes0 } in
     record { after = h; is = inl refl; crashes = unwritten a _ h h k now.0 sound r grows }
 
 pub returns-in_err-head-clause-sound : goal.returns-in_err-head-clause-sound
@@ -89,13 +71,9 @@ returns-in_err-head-clause-sound g c h k page bad =
     let start : Start = start_of a h k in
     let s0 = c.in_ok-begin_from.ensures.shown k.honest.0 k.pages k.maps in
     let homes0 = ap home_pages c.begin_from.ensures.same in
-    let next = c.in-Some.ensures.some in
-    let lt = first_in a.sequencer c.in-Some.number next.time next.first in
-    let low : c.in-Some.number < length h.intakes = (let n = a.numbers in let m = k.bears.number in omega (arith, lt, n, m)) in
-    let f = next_is a.sequencer h c.in-Some.number low k.mirrors next in
-    let kb = c.plan_application.ensures.shelf in
+    let kb = c.plan_changes.ensures.shelf in
     let grows = kb.grows k.honest.1 in
-    c.plan_application.ensures.sound start k.pages h f.first f.later s0 k.honest.1 k.bears f.next page (search (rules, bad))
+    c.plan_changes.ensures.sound start k.pages h s0 k.honest.1 k.bears k.mirrors page (search (rules, bad))
 
 pub returns-in_err-commit-clause-err : goal.returns-in_err-commit-clause-err
 returns-in_err-commit-clause-err g c =
@@ -105,17 +83,13 @@ returns-in_err-commit-clause-err g c =
     let start : Start = start_of a h k in
     let s0 = c.in_ok-begin_from.ensures.shown k.honest.0 k.pages k.maps in
     let homes0 = ap home_pages c.begin_from.ensures.same in
-    let next = c.in-Some.ensures.some in
-    let lt = first_in a.sequencer c.in-Some.number next.time next.first in
-    let low : c.in-Some.number < length h.intakes = (let n = a.numbers in let m = k.bears.number in omega (arith, lt, n, m)) in
-    let f = next_is a.sequencer h c.in-Some.number low k.mirrors next in
-    let kb = c.plan_application.ensures.shelf in
+    let kb = c.plan_changes.ensures.shelf in
     let grows = kb.grows k.honest.1 in
-    let plan = c.in_ok-head.ensures.planned start k.pages h f.first f.later s0 k.honest.1 k.bears f.next f.below in
+    let plan = c.in_ok-head.ensures.planned start k.pages h s0 k.honest.1 k.bears k.mirrors in
     let p = plan.planned in
-    let r : Ready a h k c.plan_application.new.pages p.pages = record { shows = p.shown; homes = c.plan_application.ensures.homes ∙ homes0 } in
+    let r : Ready a h k c.plan_changes.new.pages p.pages = record { shows = p.shown; homes = c.plan_changes.ensures.homes ∙ homes0 } in
     let l = c.commit.ensures.crash start p.pages p.shown in
-    refused_more a _ h plan.after k c.plan_application.new.pages p.pages c.in_ok-head.field-0.head sound r c.commit.ensures.journal.homes c.commit.ensures.journal.note kb.disk grows refl refl
+    refused_more a _ h plan.after k c.plan_changes.new.pages p.pages c.in_ok-head.field-0.head sound r c.commit.ensures.journal.homes c.commit.ensures.journal.note kb.disk grows refl refl
     (c.commit.ensures.journal.serves.honest.0 p.shown.honest, kb.honest.0 k.honest.1) k.mirrors (begins_moved h plan.after k.bears.right plan.moves) p.headed l (c.in_err-commit.ensures.err start p.pages p.shown))
 
 pub returns-in_err-commit-clause-crash : goal.returns-in_err-commit-clause-crash
@@ -125,17 +99,13 @@ returns-in_err-commit-clause-crash g c h k =
     let start : Start = start_of a h k in
     let s0 = c.in_ok-begin_from.ensures.shown k.honest.0 k.pages k.maps in
     let homes0 = ap home_pages c.begin_from.ensures.same in
-    let next = c.in-Some.ensures.some in
-    let lt = first_in a.sequencer c.in-Some.number next.time next.first in
-    let low : c.in-Some.number < length h.intakes = (let n = a.numbers in let m = k.bears.number in omega (arith, lt, n, m)) in
-    let f = next_is a.sequencer h c.in-Some.number low k.mirrors next in
-    let kb = c.plan_application.ensures.shelf in
+    let kb = c.plan_changes.ensures.shelf in
     let grows = kb.grows k.honest.1 in
-    let plan = c.in_ok-head.ensures.planned start k.pages h f.first f.later s0 k.honest.1 k.bears f.next f.below in
+    let plan = c.in_ok-head.ensures.planned start k.pages h s0 k.honest.1 k.bears k.mirrors in
     let p = plan.planned in
-    let r : Ready a h k c.plan_application.new.pages p.pages = record { shows = p.shown; homes = c.plan_application.ensures.homes ∙ homes0 } in
+    let r : Ready a h k c.plan_changes.new.pages p.pages = record { shows = p.shown; homes = c.plan_changes.ensures.homes ∙ homes0 } in
     let l = c.commit.ensures.crash start p.pages p.shown in
-    record { after = plan.after; is = inr plan.moves; crashes = written a _ h plan.after k c.plan_application.new.pages p.pages c.in_ok-head.field-0.head sound r grows p.headed l }
+    record { after = plan.after; is = inr plan.moves; crashes = written a _ h plan.after k c.plan_changes.new.pages p.pages c.in_ok-head.field-0.head sound r grows p.headed l }
 
 pub returns-clause-crash : goal.returns-clause-crash
 returns-clause-crash g c h k =
@@ -144,17 +114,13 @@ returns-clause-crash g c h k =
     let start : Start = start_of a h k in
     let s0 = c.in_ok-begin_from.ensures.shown k.honest.0 k.pages k.maps in
     let homes0 = ap home_pages c.begin_from.ensures.same in
-    let next = c.in-Some.ensures.some in
-    let lt = first_in a.sequencer c.in-Some.number next.time next.first in
-    let low : c.in-Some.number < length h.intakes = (let n = a.numbers in let m = k.bears.number in omega (arith, lt, n, m)) in
-    let f = next_is a.sequencer h c.in-Some.number low k.mirrors next in
-    let kb = c.plan_application.ensures.shelf in
+    let kb = c.plan_changes.ensures.shelf in
     let grows = kb.grows k.honest.1 in
-    let plan = c.in_ok-head.ensures.planned start k.pages h f.first f.later s0 k.honest.1 k.bears f.next f.below in
+    let plan = c.in_ok-head.ensures.planned start k.pages h s0 k.honest.1 k.bears k.mirrors in
     let p = plan.planned in
-    let r : Ready a h k c.plan_application.new.pages p.pages = record { shows = p.shown; homes = c.plan_application.ensures.homes ∙ homes0 } in
+    let r : Ready a h k c.plan_changes.new.pages p.pages = record { shows = p.shown; homes = c.plan_changes.ensures.homes ∙ homes0 } in
     let l = c.commit.ensures.crash start p.pages p.shown in
-    record { after = plan.after; is = inr plan.moves; crashes = written a _ h plan.after k c.plan_application.new.pages p.pages c.in_ok-head.field-0.head sound r grows p.headed l }
+    record { after = plan.after; is = inr plan.moves; crashes = written a _ h plan.after k c.plan_changes.new.pages p.pages c.in_ok-head.field-0.head sound r grows p.headed l }
 
 pub returns-clause-ok : goal.returns-clause-ok
 returns-clause-ok g c h k =
@@ -163,15 +129,12 @@ returns-clause-ok g c h k =
     let start : Start = start_of a h k in
     let s0 = c.in_ok-begin_from.ensures.shown k.honest.0 k.pages k.maps in
     let homes0 = ap home_pages c.begin_from.ensures.same in
-    let next = c.in-Some.ensures.some in
-    let lt = first_in a.sequencer c.in-Some.number next.time next.first in
-    let low : c.in-Some.number < length h.intakes = (let n = a.numbers in let m = k.bears.number in omega (arith, lt, n, m)) in
-    let f = next_is a.sequencer h c.in-Some.number low k.mirrors next in
-    let kb = c.plan_application.ensures.shelf in
+    let kb = c.plan_changes.ensures.shelf in
     let grows = kb.grows k.honest.1 in
-    let plan = c.in_ok-head.ensures.planned start k.pages h f.first f.later s0 k.honest.1 k.bears f.next f.below in
+    let plan = c.in_ok-head.ensures.planned start k.pages h s0 k.honest.1 k.bears k.mirrors in
     let p = plan.planned in
-    let r : Ready a h k c.plan_application.new.pages p.pages = record { shows = p.shown; homes = c.plan_application.ensures.homes ∙ homes0 } in
+    let r : Ready a h k c.plan_changes.new.pages p.pages = record { shows = p.shown; homes = c.plan_changes.ensures.homes ∙ homes0 } in
     let l = c.commit.ensures.crash start p.pages p.shown in
-    let mirrors = mirror_moved a.sequencer c.leave.new.sequencer h plan.after c.in-Some.number c.in_ok-head.field-0.whole f low k.mirrors plan.stays plan.leaves c.leave.ensures.leaves c.leave.ensures.stays in
+    let taken = c.take_passed.ensures.taken in
+    let mirrors : Mirrors c.take_passed.new.self plan.after = record { marks = taken.marks ∙ plan.mirrors.marks; times = taken.times ∙ plan.mirrors.times } in
     (plan.after, plan.moves, done_more a _ plan.after p.pages kb.disk refl k.noted (c.commit.ensures.journal.homes ∙ r.homes) (c.commit.ensures.journal.note ∙ r.shows.noted) (c.commit.ensures.journal.serves.honest.0 p.shown.honest, kb.honest.0 k.honest.1) (c.in_ok-commit.ensures.ok start p.pages p.shown) mirrors p.headed)

@@ -1,0 +1,141 @@
+-- What was planned reaches further histories, change by change.
+use Rattle.std.proofs.Common.{◌≡◌, ◌≢◌, ◌⊎◌, ◌<◌, ◌≤◌, ℕ, List, [], ◌∷◌, length, set, Bool, true, false, refl, sym, ◌∙◌, ap, subst, inl, inr, ⊎_elim, arith, Some, Result, Ok, Err, length-set, get_or-set_same, get_or-set_other}
+use Rattle.std.specs.List.{slice_get, slice_set}
+use Rattle.std.specs.Prelude.{OnOk, OnErr}
+use Rattle.route_model.specs.Admission.{Admitted}
+use Rattle.route_meaning.specs.Merged.{Placed, placed}
+use Rattle.route_meaning.specs.History.{History, IsBelowMarks, waiting}
+use Rattle.interleaving_core.specs.Steps.{moved}
+use Rattle.sequencer.specs.Lanes.{Waiting, Releases}
+use Rattle.sequencer.specs.First.{IsNext}
+use Rattle.sequencer.specs.Ahead.{behind}
+use Rattle.archive_head.specs.declared.lane.Lane.{Lane}
+use Rattle.archive_head.specs.Head.{Contents, IsHead, head_octets}
+use Rattle.intake.specs.Ring.{IsRing, Holds}
+use Rattle.archive_pages.specs.declared.settings.Settings.{Settings}
+use Rattle.archive_pages.specs.Places.{ring_of}
+use Rattle.archive_pages.specs.Carried.{Bears}
+use Rattle.archive_pages.specs.Batches.{HasLane}
+use Rattle.archive_pages.proofs.api.Bearing.{bears_grown, bears_headed}
+use Rattle.disk_archive.specs.declared.planning_changes.Front.{Front}
+use Rattle.disk_archive.specs.declared.planning_changes.Plan.{Plan}
+use Rattle.disk_archive.specs.declared.planning_changes.Application.{Application}
+use Rattle.disk_archive.specs.Mirrors.{Mirrors}
+use Rattle.disk_archive.specs.Moves.{Moves}
+use Rattle.disk_archive.specs.Trees.{TreeLies}
+use Rattle.disk_archive.specs.inner.Planning.{Planned}
+use Rattle.disk_archive.specs.inner.Applications.{Advances, IsFirst, MovesOn, PlansMove, Reached, Reaches}
+use Rattle.disk_archive.proofs.Fronts.{next_is, mirror_moved}
+use Rattle.disk_archive.proofs.Stepping.{first_is, front_holds, moves_then}
+use Rattle.disk_archive.proofs.api.Trees.{tree_framed, tree_grows}
+
+-- ---- the admission at hand
+
+-- what is next in memory, and its ring's first admission: the first that waits
+pub first_found : (count : ℕ) (s : Settings) (settled : ℕ → List ℕ → Type 0) (head : Contents) (pages : List (List ℕ)) (lanes : List Waiting) (h : History) (c : ℕ) (a : Admitted) → c < length head.lanes → Bears (TreeLies count) s settled head pages h → Mirrors lanes h → IsNext lanes c
+    → ((lane : Lane) (waits : List Admitted) → HasLane head c lane → Holds pages (ring_of s c lane) waits → slice_get waits 0 ≡ Some a) → IsFirst h (record { collector = c; admission = a })
+first_found count s settled head pages lanes h c a low b m next told =
+    let f = next_is lanes h c (let n = b.number in let l = b.lanes_number in omega (arith, low, n, l)) m next in
+    let k = front_holds count s settled head pages h c f.first f.later low b f.next in
+    let is = told k.lane (f.first ∷ k.rest) k.at k.holds in
+    let same : f.first ≡ a = cc in
+    record {
+      later = f.later;
+      here = first_is h c f.first a f.later k.rest f.next is;
+      below = subst (λ (x : Admitted). IsBelowMarks h x.time) same f.below;
+    }
+
+-- its page isn't blamed
+pub first_sound : (count homes : ℕ) (s : Settings) (settled : ℕ → List ℕ → Type 0) (head : Contents) (pages : List (List ℕ)) (lanes : List Waiting) (h : History) (c : ℕ) (blamed : Type 0) → c < length head.lanes → Bears (TreeLies count) s settled head pages h → Mirrors lanes h → IsNext lanes c → length pages ≡ homes
+    → ((lane : Lane) (first : Admitted) (rest : List Admitted) → HasLane head c lane → IsRing homes (ring_of s c lane) → Holds pages (ring_of s c lane) (first ∷ rest) → blamed → ⊥) → blamed → ⊥
+first_sound count homes s settled head pages lanes h c blamed low b m next len never =
+    let f = next_is lanes h c (let n = b.number in let l = b.lanes_number in omega (arith, low, n, l)) m next in
+    let k = front_holds count s settled head pages h c f.first f.later low b f.next in
+    never k.lane f.first k.rest k.at (subst (λ n. IsRing n (ring_of s c k.lane)) len k.ring) k.holds
+
+-- ---- a change is applied
+
+-- the first that waits is the same until it is wholly applied
+first_stays : (h g : History) (front : Front) → (some : ℕ) × (g ≡ moved h h.whole some) → IsFirst h front → IsFirst g front
+first_stays h g front part f = subst (λ (x : History). IsFirst x front) (sym part.1) (record { later = f.later; here = f.here; below = f.below })
+
+pub advances : (count : ℕ) (s : Settings) (few many : ℕ → List ℕ → Type 0) (old new : List (List ℕ) → Type 0) (lanes : List Waiting) (plan after : Plan) (h : History) → (r : Reached count s few old lanes plan h) → IsFirst h plan.front → plan.front.collector < length h.intakes → after.front ≡ plan.front
+    → (after.whole ≡ true → Releases (behind plan.ahead lanes) plan.front.collector (behind after.ahead lanes)) → (after.whole ≡ false → behind after.ahead lanes ≡ behind plan.ahead lanes)
+    → MovesOn count s many new after.head after.whole h → Advances count s many new lanes after h
+advances count s few many old new lanes plan after h r f low front leaves stays m = record {
+  after = m.after;
+  moves = m.moves;
+  reached = record {
+    pages = m.pages;
+    shown = m.shown;
+    bears = m.bears;
+    mirrors = mirror_moved (behind plan.ahead lanes) (behind after.ahead lanes) h m.after plan.front.collector after.whole
+        (record { first = plan.front.admission; later = f.later; next = f.here; below = f.below }) low r.mirrors m.stays m.leaves leaves stays;
+    first = λ part. first_stays h m.after after.front (m.stays part) (subst (λ (x : Front). IsFirst h x) (sym front) f);
+  };
+}
+
+-- ---- nothing is applied
+
+-- more blocks are settled, and the same pages are shown
+pub reached_grown : (count : ℕ) (s : Settings) (few many : ℕ → List ℕ → Type 0) (old new : List (List ℕ) → Type 0) (lanes : List Waiting) (plan : Plan) (h : History) → ((b : ℕ) (octets : List ℕ) → few b octets → many b octets) → ((pages : List (List ℕ)) → old pages → new pages) → Reached count s few old lanes plan h → Reached count s many new lanes plan h
+reached_grown count s few many old new lanes plan h more shows r = record {
+  pages = r.pages;
+  shown = shows r.pages r.shown;
+  bears = bears_grown (TreeLies count) (tree_grows count) s few many more plan.head r.pages h r.bears;
+  mirrors = r.mirrors;
+  first = r.first;
+}
+
+pub reaches_same : (count : ℕ) (s : Settings) (settled : ℕ → List ℕ → Type 0) (shows : List (List ℕ) → Type 0) (lanes : List Waiting) (plan : Plan) (h : History) → Reached count s settled shows lanes plan h → Reaches count s settled shows lanes plan h
+reaches_same count s settled shows lanes plan h r = record { after = h; is = inl refl; reached = r }
+
+pub reaches_one : (count : ℕ) (s : Settings) (settled : ℕ → List ℕ → Type 0) (shows : List (List ℕ) → Type 0) (lanes : List Waiting) (plan : Plan) (h : History) → Advances count s settled shows lanes plan h → Reaches count s settled shows lanes plan h
+reaches_one count s settled shows lanes plan h a = record { after = a.after; is = inr a.moves; reached = a.reached }
+
+-- a change is applied, or the plan is as it was
+pub step_reaches : {X E : Type 0} (r : Result X E) (count : ℕ) (s : Settings) (few many : ℕ → List ℕ → Type 0) (old new : List (List ℕ) → Type 0) (lanes : List Waiting) (plan after : Plan) (h : History) → ((b : ℕ) (octets : List ℕ) → few b octets → many b octets)
+    → OnOk r (Advances count s many new lanes after h) → OnErr r (after ≡ plan) → OnErr r ((pages : List (List ℕ)) → old pages → new pages) → Reached count s few old lanes plan h → Reaches count s many new lanes after h
+step_reaches (Ok x) count s few many old new lanes plan after h more moves same shows r = reaches_one count s many new lanes after h moves
+step_reaches (Err e) count s few many old new lanes plan after h more moves same shows r =
+    reaches_same count s many new lanes after h (subst (λ (x : Plan). Reached count s many new lanes x h) (sym same) (reached_grown count s few many old new lanes plan h more shows r))
+
+-- ---- one after another
+
+onward : (h m g : History) → (m ≡ h) ⊎ Moves h m → (g ≡ m) ⊎ Moves m g → (g ≡ h) ⊎ Moves h g
+onward h m g (inl same) (inl same') = inl (same' ∙ same)
+onward h m g (inl same) (inr moves) = inr (subst (λ (x : History). Moves x g) same moves)
+onward h m g (inr moves) (inl same) = inr (subst (λ (x : History). Moves h x) (sym same) moves)
+onward h m g (inr moves) (inr more) = inr (moves_then h m g moves more)
+
+pub reaches_then : (count : ℕ) (s : Settings) (few many : ℕ → List ℕ → Type 0) (old new : List (List ℕ) → Type 0) (lanes : List Waiting) (plan after : Plan) (h : History) → Reaches count s few old lanes plan h → ((g : History) → Reached count s few old lanes plan g → Reaches count s many new lanes after g) → Reaches count s many new lanes after h
+reaches_then count s few many old new lanes plan after h r step =
+    let next = step r.after r.reached in
+    record { after = next.after; is = onward h r.after next.after r.is next.is; reached = next.reached }
+
+pub advances_then : (count : ℕ) (s : Settings) (few many : ℕ → List ℕ → Type 0) (old new : List (List ℕ) → Type 0) (lanes : List Waiting) (plan after : Plan) (h : History) → Advances count s few old lanes plan h → ((g : History) → Reached count s few old lanes plan g → Reaches count s many new lanes after g) → Advances count s many new lanes after h
+advances_then count s few many old new lanes plan after h a step =
+    let next = step a.after a.reached in
+    record { after = next.after; moves = ⊎_elim (λ same. subst (λ (x : History). Moves h x) (sym same) a.moves) (λ more. moves_then h a.after next.after a.moves more) next.is; reached = next.reached }
+
+-- ---- and the head is laid over page 0
+
+pub plans_move : (count : ℕ) (s : Settings) (settled : ℕ → List ℕ → Type 0) (mid new : List (List ℕ) → Type 0) (lanes : List Waiting) (plan : Plan) (told : Application) (h : History) → told.head ≡ plan.head → told.ahead ≡ plan.ahead
+    → IsHead plan.head → ((pages : List (List ℕ)) → mid pages → 0 < length pages) → ((pages : List (List ℕ)) → mid pages → new (slice_set pages 0 (head_octets plan.head))) → Advances count s settled mid lanes plan h → PlansMove count s settled new lanes told h
+plans_move count s settled mid new lanes plan told h head ahead valid some written a =
+    let r = a.reached in
+    record {
+      after = a.after;
+      moves = a.moves;
+      planned = subst (λ (x : Contents). Planned count s settled new x a.after) (sym head) (record {
+        pages = slice_set r.pages 0 (head_octets plan.head);
+        shown = written r.pages r.shown;
+        headed = record {
+          valid = valid;
+          first = get_or-set_same r.pages 0 (head_octets plan.head) [] (some r.pages r.shown);
+          bears = bears_headed (TreeLies count) s settled (tree_framed count settled) plan.head r.pages (set r.pages 0 (head_octets plan.head)) a.after (length-set r.pages 0 (head_octets plan.head))
+              (λ n ge. get_or-set_other r.pages 0 n (head_octets plan.head) [] (let other : n ≢ 0 = omega arith in other)) r.bears;
+        };
+      });
+      mirrors = subst (λ (ns : List ℕ). Mirrors (behind ns lanes) a.after) (sym ahead) r.mirrors;
+    }

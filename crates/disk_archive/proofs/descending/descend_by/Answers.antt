@@ -1,0 +1,108 @@
+use Rattle.std.proofs.Common.{rules, ◌≡◌, ◌<◌, ℕ, Bool, Err, IfErr, sym, subst}
+use Rattle.interleaving_core.specs.Does.{last_moment}
+use Rattle.route_meaning.specs.History.{settled}
+use Rattle.route_history.specs.Blame.{BlamesNone as NodeBlamesNone}
+use Rattle.tsb_walk.specs.Refusals.{LookRefusal as PageRefusal}
+use Rattle.tsb_walk.specs.declared.error.NodeError.{NodeError}
+use Rattle.disk_archive.specs.Cursors.{IsGathered, asks}
+use Rattle.disk_archive.specs.Descents.{Descends, GoesFurther}
+use Rattle.disk_archive.specs.declared.cursor.Cursor.{Cursor}
+use Rattle.disk_archive.specs.declared.cursor.Cursor.TheVariants.{Rows, Events}
+use Rattle.disk_archive.specs.declared.descending.Descent.{Descent}
+use Rattle.disk_archive.specs.inner.Asking.{ask_of_node, BlamesNone, LookRefusal}
+use Rattle.disk_archive.proofs.Asking.{ask_blames, if_err}
+use Rattle.disk_archive.proofs.Turning.{rows_descends, rows_gathered, rows_further, events_descends, events_gathered, events_further, shows_tree, turn_refused, turn_undamaged}
+use Rattle.disk_archive.proofs.descending.descend_by.Goals as goal
+
+pub returns-in_err-root-clause-blames : goal.returns-in_err-root-clause-blames
+returns-in_err-root-clause-blames g c count known h t =
+    let b = c.root_of.ensures.blames t.start t.shown t.lies.store t.versions t.lies.level t.shows t.lies.says t.lies.has.stands in
+    search (rules, b)
+
+pub returns-in_ok-turn-in-Rows-clause-descends : goal.returns-in_ok-turn-in-Rows-clause-descends
+returns-in_ok-turn-in-Rows-clause-descends g c count known h t below gathered =
+    let stands = c.in_ok-root.ensures.stands t.start t.shown t.lies.store t.versions t.lies.level t.shows t.lies.says t.lies.has.stands in
+    let is = c.in-Rows.is in
+    let moment = subst (λ (x : Cursor). last_moment (asks x) < settled h) is below in
+    let so_far = subst (λ (x : Cursor). IsGathered x h) is gathered in
+    let told = rows_descends g.P.Pages c.args.pages.now count known c.args.head.now.root h t c.versions_tell.ensures.rows c.gathered_follows_histories.ensures.rows c.root_of.new.pages c.in_ok-root.root c.root_of.ensures.reads stands c.in-Rows.rows c.rows_turn.new.cursor c.in_ok-turn-in-Rows.turn c.rows_turn.ensures.question moment so_far c.rows_turn.ensures.gathered c.in_ok-turn-in-Rows.ensures.turn in
+    subst (λ (x : Cursor). Descends count known h x (Rows c.rows_turn.new.cursor) c.of_rows.result) (sym is) (subst (λ (d : Descent). Descends count known h (Rows c.in-Rows.rows) (Rows c.rows_turn.new.cursor) d) (sym c.of_rows.ensures) told)
+
+pub returns-in_ok-turn-in-Rows-clause-gathered : goal.returns-in_ok-turn-in-Rows-clause-gathered
+returns-in_ok-turn-in-Rows-clause-gathered g c count known h t below gathered =
+    let stands = c.in_ok-root.ensures.stands t.start t.shown t.lies.store t.versions t.lies.level t.shows t.lies.says t.lies.has.stands in
+    let is = c.in-Rows.is in
+    let moment = subst (λ (x : Cursor). last_moment (asks x) < settled h) is below in
+    let so_far = subst (λ (x : Cursor). IsGathered x h) is gathered in
+    rows_gathered g.P.Pages c.args.pages.now count known c.args.head.now.root h t c.versions_tell.ensures.rows c.gathered_follows_histories.ensures.rows c.root_of.new.pages c.in_ok-root.root c.root_of.ensures.reads stands c.in-Rows.rows c.rows_turn.new.cursor c.rows_turn.ensures.question moment so_far c.rows_turn.ensures.gathered
+
+pub returns-in_err-turn-in-Rows-clause-gathered : goal.returns-in_err-turn-in-Rows-clause-gathered
+returns-in_err-turn-in-Rows-clause-gathered g c count known h t below gathered =
+    let stands = c.in_ok-root.ensures.stands t.start t.shown t.lies.store t.versions t.lies.level t.shows t.lies.says t.lies.has.stands in
+    let is = c.in-Rows.is in
+    let moment = subst (λ (x : Cursor). last_moment (asks x) < settled h) is below in
+    let so_far = subst (λ (x : Cursor). IsGathered x h) is gathered in
+    rows_gathered g.P.Pages c.args.pages.now count known c.args.head.now.root h t c.versions_tell.ensures.rows c.gathered_follows_histories.ensures.rows c.root_of.new.pages c.in_ok-root.root c.root_of.ensures.reads stands c.in-Rows.rows c.rows_turn.new.cursor c.rows_turn.ensures.question moment so_far c.rows_turn.ensures.gathered
+
+pub returns-in_ok-turn-in-Rows-clause-further : goal.returns-in_ok-turn-in-Rows-clause-further
+returns-in_ok-turn-in-Rows-clause-further g c =
+    let on = rows_further c.in-Rows.rows c.rows_turn.new.cursor c.in_ok-turn-in-Rows.turn c.in_ok-turn-in-Rows.ensures.goes_on in
+    subst (λ (x : Cursor). GoesFurther x (Rows c.rows_turn.new.cursor) c.of_rows.result) (sym c.in-Rows.is) (subst (λ (d : Descent). GoesFurther (Rows c.in-Rows.rows) (Rows c.rows_turn.new.cursor) d) (sym c.of_rows.ensures) on)
+
+pub returns-in_err-turn-in-Rows-clause-blames : goal.returns-in_err-turn-in-Rows-clause-blames
+returns-in_err-turn-in-Rows-clause-blames g c count known h t =
+    let stands = c.in_ok-root.ensures.stands t.start t.shown t.lies.store t.versions t.lies.level t.shows t.lies.says t.lies.has.stands in
+    let shown = shows_tree g.P.Pages c.args.pages.now count known c.args.head.now.root h t c.root_of.new.pages c.in_ok-root.root c.root_of.ensures.reads stands in
+    let b : IfErr c.rows_turn.result (λ e. BlamesNone (ask_of_node e)) = if_err ask_of_node NodeBlamesNone BlamesNone c.rows_turn.result ask_blames (c.rows_turn.ensures.blames t.lies.store t.versions shown) in
+    search (rules, b)
+
+pub returns-in_err-turn-in-Rows-clause-refused : goal.returns-in_err-turn-in-Rows-clause-refused
+returns-in_err-turn-in-Rows-clause-refused g c =
+    let down = g.P.Pages.down c.args.pages.now in
+    let r = subst (λ (d : Bool). IfErr c.rows_turn.result (PageRefusal d)) c.root_of.ensures.down c.rows_turn.ensures.refused in
+    let b : IfErr c.rows_turn.result (λ e. LookRefusal down (ask_of_node e)) = if_err ask_of_node (PageRefusal down) (LookRefusal down) c.rows_turn.result (turn_refused down) r in
+    search (rules, b)
+
+pub returns-in_ok-turn-in-Events-clause-descends : goal.returns-in_ok-turn-in-Events-clause-descends
+returns-in_ok-turn-in-Events-clause-descends g c count known h t below gathered =
+    let stands = c.in_ok-root.ensures.stands t.start t.shown t.lies.store t.versions t.lies.level t.shows t.lies.says t.lies.has.stands in
+    let is = c.in-Events.is in
+    let moment = subst (λ (x : Cursor). last_moment (asks x) < settled h) is below in
+    let so_far = subst (λ (x : Cursor). IsGathered x h) is gathered in
+    let told = events_descends g.P.Pages c.args.pages.now count known c.args.head.now.root h t c.versions_tell.ensures.events c.gathered_follows_histories.ensures.events c.root_of.new.pages c.in_ok-root.root c.root_of.ensures.reads stands c.in-Events.events c.events_turn.new.cursor c.in_ok-turn-in-Events.turn c.events_turn.ensures.question moment c.encoded_len-len.ensures.valid c.address-address.ensures.valid so_far c.events_turn.ensures.gathered c.in_ok-turn-in-Events.ensures.turn in
+    subst (λ (x : Cursor). Descends count known h x (Events c.events_turn.new.cursor) c.of_events.result) (sym is) (subst (λ (d : Descent). Descends count known h (Events c.in-Events.events) (Events c.events_turn.new.cursor) d) (sym c.of_events.ensures) told)
+
+pub returns-in_ok-turn-in-Events-clause-gathered : goal.returns-in_ok-turn-in-Events-clause-gathered
+returns-in_ok-turn-in-Events-clause-gathered g c count known h t below gathered =
+    let stands = c.in_ok-root.ensures.stands t.start t.shown t.lies.store t.versions t.lies.level t.shows t.lies.says t.lies.has.stands in
+    let is = c.in-Events.is in
+    let moment = subst (λ (x : Cursor). last_moment (asks x) < settled h) is below in
+    let so_far = subst (λ (x : Cursor). IsGathered x h) is gathered in
+    events_gathered g.P.Pages c.args.pages.now count known c.args.head.now.root h t c.versions_tell.ensures.events c.gathered_follows_histories.ensures.events c.root_of.new.pages c.in_ok-root.root c.root_of.ensures.reads stands c.in-Events.events c.events_turn.new.cursor c.events_turn.ensures.question moment c.encoded_len-len.ensures.valid c.address-address.ensures.valid so_far c.events_turn.ensures.gathered
+
+pub returns-in_err-turn-in-Events-clause-gathered : goal.returns-in_err-turn-in-Events-clause-gathered
+returns-in_err-turn-in-Events-clause-gathered g c count known h t below gathered =
+    let stands = c.in_ok-root.ensures.stands t.start t.shown t.lies.store t.versions t.lies.level t.shows t.lies.says t.lies.has.stands in
+    let is = c.in-Events.is in
+    let moment = subst (λ (x : Cursor). last_moment (asks x) < settled h) is below in
+    let so_far = subst (λ (x : Cursor). IsGathered x h) is gathered in
+    events_gathered g.P.Pages c.args.pages.now count known c.args.head.now.root h t c.versions_tell.ensures.events c.gathered_follows_histories.ensures.events c.root_of.new.pages c.in_ok-root.root c.root_of.ensures.reads stands c.in-Events.events c.events_turn.new.cursor c.events_turn.ensures.question moment c.encoded_len-len.ensures.valid c.address-address.ensures.valid so_far c.events_turn.ensures.gathered
+
+pub returns-in_ok-turn-in-Events-clause-further : goal.returns-in_ok-turn-in-Events-clause-further
+returns-in_ok-turn-in-Events-clause-further g c =
+    let on = events_further c.in-Events.events c.events_turn.new.cursor c.in_ok-turn-in-Events.turn c.in_ok-turn-in-Events.ensures.goes_on in
+    subst (λ (x : Cursor). GoesFurther x (Events c.events_turn.new.cursor) c.of_events.result) (sym c.in-Events.is) (subst (λ (d : Descent). GoesFurther (Events c.in-Events.events) (Events c.events_turn.new.cursor) d) (sym c.of_events.ensures) on)
+
+pub returns-in_err-turn-in-Events-clause-blames : goal.returns-in_err-turn-in-Events-clause-blames
+returns-in_err-turn-in-Events-clause-blames g c count known h t =
+    let stands = c.in_ok-root.ensures.stands t.start t.shown t.lies.store t.versions t.lies.level t.shows t.lies.says t.lies.has.stands in
+    let shown = shows_tree g.P.Pages c.args.pages.now count known c.args.head.now.root h t c.root_of.new.pages c.in_ok-root.root c.root_of.ensures.reads stands in
+    let b : IfErr c.events_turn.result (λ e. BlamesNone (ask_of_node e)) = if_err ask_of_node NodeBlamesNone BlamesNone c.events_turn.result ask_blames (c.events_turn.ensures.blames t.lies.store t.versions shown) in
+    search (rules, b)
+
+pub returns-in_err-turn-in-Events-clause-refused : goal.returns-in_err-turn-in-Events-clause-refused
+returns-in_err-turn-in-Events-clause-refused g c =
+    let down = g.P.Pages.down c.args.pages.now in
+    let r = subst (λ (d : Bool). IfErr c.events_turn.result (PageRefusal d)) c.root_of.ensures.down c.events_turn.ensures.refused in
+    let b : IfErr c.events_turn.result (λ e. LookRefusal down (ask_of_node e)) = if_err ask_of_node (PageRefusal down) (LookRefusal down) c.events_turn.result (turn_refused down) r in
+    search (rules, b)

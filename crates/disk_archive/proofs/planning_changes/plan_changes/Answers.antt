@@ -1,0 +1,97 @@
+use Rattle.std.proofs.Common.{rules, ◌≡◌, ◌*◌, ◌+◌, ◌<◌, ◌≤◌, ◌↔◌, [], ◌∷◌, ℕ, List, length, refl, sym, ◌∙◌, ap, subst, arith}
+use Rattle.std.specs.List.{slice_set}
+use Rattle.disk_models.specs.Once.{settled_in}
+use Rattle.once_store.specs.Shelves.{disk_of, next_of, pen_of}
+use Rattle.page_tx.specs.Images.{joined}
+use Rattle.archive_head.specs.Head.{head_octets}
+use Rattle.archive_pages.specs.Refusals.{HeadRefusal}
+use Rattle.disk_archive.specs.inner.Applications.{Advances, IsPlan, KeepsBlocks, Reached, Reaches}
+use Rattle.disk_archive.proofs.Keeping.{joined_few, keeps_none, keeps_then, keeps_fewer, keeps_told}
+use Rattle.disk_archive.proofs.Reaching.{advances_then, plans_move}
+use Rattle.disk_archive.proofs.planning_changes.plan_changes.Goals as goal
+
+pub plan_step-requires-clause-fits : goal.plan_step-requires-clause-fits
+plan_step-requires-clause-fits g c =
+    let P = g.P.Pages in
+    let e = c.begin_plan.ensures in
+    let fits = subst (λ (n : ℕ). IsPlan c.args.settings n (P.next c.begin_plan.new.pages) (next_of c.args.shelf.now) c.args.sequencer.now c.in_ok-plan.plan) (sym e.homes)
+    (subst (λ (n : ℕ). IsPlan c.args.settings (P.homes c.args.pages.now) n (next_of c.args.shelf.now) c.args.sequencer.now c.in_ok-plan.plan) (sym e.next)
+    (c.in_ok-plan.ensures.fits (next_of c.args.shelf.now) c.requires.next c.requires.block)) in
+    search (rules, fits)
+
+pub plan_step-requires-clause-few : goal.plan_step-requires-clause-few
+plan_step-requires-clause-few g c = let n = ap (λ (ns : List ℕ). length ns) (c.begin_plan.ensures.named ∙ c.requires.none) in omega (arith, n)
+
+pub put_head-requires-clause-few : goal.put_head-requires-clause-few
+put_head-requires-clause-few g c = let n = c.plan_more.ensures.fits.lanes in let few = c.requires.few in omega (arith, n, few)
+
+pub put_head-requires-clause-some : goal.put_head-requires-clause-some
+put_head-requires-clause-some g c = let x = c.plan_more.ensures.homes in let y = c.plan_step.ensures.homes in let z = c.begin_plan.ensures.homes in let some = c.requires.some in omega (arith, x, y, z, some)
+
+pub of_pages-requires : goal.of_pages-requires
+of_pages-requires g c = record {
+  few = λ e.
+      let over = subst (HeadRefusal (length (joined (g.P.Pages.named c.plan_more.new.pages) (0 ∷ [])))) e c.in-Err.ensures.refused in
+      let most = joined_few (g.P.Pages.named c.plan_more.new.pages) (0 ∷ []) in
+      let few = c.plan_more.ensures.few in
+      absurd (omega (arith, over, most, few));
+}
+
+pub returns-in_err-plan-clause-sound : goal.returns-in_err-plan-clause-sound
+returns-in_err-plan-clause-sound g c start shown h shows honest b m page bad =
+    c.begin_plan.ensures.sound (g.O.OnceDisk.block_count (disk_of c.args.shelf.now)) (g.O.OnceDisk.model (pen_of c.args.shelf.now)) start shown h shows b m page (search (rules, bad))
+
+pub returns-in_err-plan-clause-shelf : goal.returns-in_err-plan-clause-shelf
+returns-in_err-plan-clause-shelf g c = keeps_none g.O.OnceDisk 2000 c.args.shelf.now _ (λ full. c.begin_plan.ensures.once (search (rules, full)))
+
+pub returns-in_err-plan_step-clause-sound : goal.returns-in_err-plan_step-clause-sound
+returns-in_err-plan_step-clause-sound g c start shown h shows honest b m page bad =
+    let r = c.in_ok-plan.ensures.reached (g.O.OnceDisk.block_count (disk_of c.args.shelf.now)) (g.O.OnceDisk.model (pen_of c.args.shelf.now)) start shown h shows b m in
+    c.plan_step.ensures.sound (omega arith) start h honest r page (search (rules, bad))
+
+pub returns-in_err-plan_step-clause-shelf : goal.returns-in_err-plan_step-clause-shelf
+returns-in_err-plan_step-clause-shelf g c =
+    keeps_fewer g.O.OnceDisk 2 2000 c.args.shelf.now c.plan_step.new.shelf _ (omega arith) (keeps_told g.O.OnceDisk 2 c.args.shelf.now c.plan_step.new.shelf _ _ (λ full. search (rules, full)) c.plan_step.ensures.shelf)
+
+pub returns-in_err-plan_step-clause-shows : goal.returns-in_err-plan_step-clause-shows
+returns-in_err-plan_step-clause-shows g c start shown s = c.plan_step.ensures.shows start shown (c.begin_plan.ensures.reads start shown s)
+
+pub returns-in-Ok-clause-planned : goal.returns-in-Ok-clause-planned
+returns-in-Ok-clause-planned g c start shown h shows honest b m =
+    let P = g.P.Pages in
+    let O = g.O.OnceDisk in
+    let s = c.args.settings in
+    let lanes = c.args.sequencer.now in
+    let count = O.block_count (disk_of c.args.shelf.now) in
+    let step = c.plan_step.ensures.shelf in
+    let r = c.in_ok-plan.ensures.reached count (O.model (pen_of c.args.shelf.now)) start shown h shows b m in
+    let a = c.in_ok-plan_step.ensures.moves start h honest r in
+    let disk = ap (λ d. O.block_count d) step.disk in
+    let mid = settled_in (O.model (pen_of c.plan_step.new.shelf)) in
+    let all = settled_in (O.model (pen_of c.plan_more.new.shelf)) in
+    let moved : Advances count s all (P.shows c.plan_more.new.pages start) lanes c.plan_more.new.plan h =
+    advances_then count s mid all (P.shows c.plan_step.new.pages start) (P.shows c.plan_more.new.pages start) lanes c.plan_step.new.plan c.plan_more.new.plan h a
+    (λ n at. subst (λ (k : ℕ). Reaches k s all (P.shows c.plan_more.new.pages start) lanes c.plan_more.new.plan n) disk
+    (c.plan_more.ensures.reaches start n (step.honest.0 honest) (subst (λ (k : ℕ). Reached k s mid (P.shows c.plan_step.new.pages start) lanes c.plan_step.new.plan n) (sym disk) at))) in
+    plans_move count s all (P.shows c.plan_more.new.pages start) (P.shows c.put_head.new.pages start) lanes c.plan_more.new.plan _ h refl refl c.put_head.ensures.valid
+    (λ pages at. let n = g.met.P.Pages.count c.plan_more.new.pages start pages at in let x = c.plan_more.ensures.homes in let y = c.plan_step.ensures.homes in let z = c.begin_plan.ensures.homes in let some = c.requires.some in omega (arith, n, x, y, z, some))
+    (λ pages at. c.in-Ok.ensures.written start pages at) moved
+
+pub returns-in-Ok-clause-shelf : goal.returns-in-Ok-clause-shelf
+returns-in-Ok-clause-shelf g c =
+    keeps_told g.O.OnceDisk 2000 c.args.shelf.now c.plan_more.new.shelf ⊥ _ (λ full. absurd cc)
+    (keeps_then g.O.OnceDisk 2 1998 c.args.shelf.now c.plan_step.new.shelf c.plan_more.new.shelf ⊥ _ c.plan_step.ensures.shelf c.plan_more.ensures.shelf)
+
+pub returns-clause-shelf : goal.returns-clause-shelf
+returns-clause-shelf g c =
+    keeps_told g.O.OnceDisk 2000 c.args.shelf.now c.plan_more.new.shelf ⊥ _ (λ full. c.of_pages.ensures.once cc)
+    (keeps_then g.O.OnceDisk 2 1998 c.args.shelf.now c.plan_step.new.shelf c.plan_more.new.shelf ⊥ _ c.plan_step.ensures.shelf c.plan_more.ensures.shelf)
+
+pub returns-in-Ok-clause-shows : goal.returns-in-Ok-clause-shows
+returns-in-Ok-clause-shows g c start shown s =
+    let mid = c.plan_step.ensures.shows start shown (c.begin_plan.ensures.reads start shown s) in
+    let more = c.plan_more.ensures.shows start mid.0 mid.1 in
+    (slice_set more.0 0 (head_octets c.plan_more.new.plan.head), c.in-Ok.ensures.written start more.0 more.1)
+
+pub returns-clause-refused : goal.returns-clause-refused
+returns-clause-refused g c = c.of_pages.ensures.refused _ (λ e. absurd (subst (HeadRefusal _) e c.in-Err.ensures.refused))

@@ -1,0 +1,63 @@
+use Rattle.std.proofs.Common.{rules, ◌≡◌, ◌<◌, ◌≤◌, ◌∷◌, ℕ, List, length, min, true, false, refl, sym, ◌∙◌, ap, subst, arith}
+use Rattle.std.specs.List.{slice_get}
+use Rattle.archive_head.specs.Head.{Contents}
+use Rattle.archive_head.specs.declared.lane.Lane.{Lane}
+use Rattle.sequencer.specs.Lanes.{Waiting}
+use Rattle.sequencer.specs.Ahead.{behind}
+use Rattle.sequencer.specs.First.{IsNext}
+use Rattle.once_store.specs.Shelves.{next_of}
+use Rattle.disk_archive.specs.declared.planning_changes.Plan.{Plan}
+use Rattle.disk_archive.specs.inner.Applications.{IsPlan}
+use Rattle.disk_archive.proofs.Outcomes.{on_each_err}
+use Rattle.disk_archive.proofs.Reaching.{advances}
+use Rattle.disk_archive.proofs.planning_changes.plan_step.Goals as goal
+
+pub returns-clause-moves : goal.returns-clause-moves
+returns-clause-moves g c start h honest r =
+    let f = r.first c.requires.hand in
+    let hand = c.requires.fits.hand c.requires.hand in
+    advances _ c.args.settings _ _ (g.P.Pages.shows c.args.pages.now start) (g.P.Pages.shows c.plan_change.new.pages start) c.args.sequencer.now c.args.plan.now _ h r f
+    (let n = r.bears.number in let m = r.bears.lanes_number in let lt = hand.inside in omega (arith, n, m, lt)) refl
+    c.pass_whole.ensures.leaves (λ part. ap (λ (ns : List ℕ). behind ns c.args.sequencer.now) (c.pass_whole.ensures.stays part))
+    (c.in_ok-whole.ensures.moves start r.pages h f.later r.shown honest r.bears f.here f.below)
+
+pub returns-clause-fits : goal.returns-clause-fits
+returns-clause-fits g c =
+    let fits = c.requires.fits in
+    let hand = fits.hand c.requires.hand in
+    record {
+      pages = c.in_ok-whole.ensures.next;
+      blocks = c.in_ok-whole.ensures.block;
+      lanes = c.plan_change.ensures.lanes ∙ fits.lanes;
+      count = c.pass_whole.ensures.count;
+      hand = λ part. (
+          let same = c.in_ok-whole.ensures.stays part in
+          record {
+            next = subst (λ (ns : List ℕ). IsNext (behind ns c.args.sequencer.now) c.args.plan.now.front.collector) (sym (c.pass_whole.ensures.stays part)) hand.next;
+            inside = (let lt = hand.inside in let n = c.plan_change.ensures.lanes in omega (arith, lt, n));
+            fits = λ lane at. hand.fits lane (ap (λ (ls : List Lane). slice_get ls c.args.plan.now.front.collector) (sym same) ∙ at);
+          });
+    }
+
+pub returns-in_err-whole-clause-fits : goal.returns-in_err-whole-clause-fits
+returns-in_err-whole-clause-fits g c =
+    let P = g.P.Pages in
+    let fits = c.requires.fits in
+    let e = c.in_err-whole.ensures in
+    let k = c.plan_change.ensures in
+    let same : record c.args.plan.now { head = c.plan_change.new.head } ≡ c.args.plan.now = ap (λ (x : Contents). record c.args.plan.now { head = x }) e.as_before in
+    subst (λ (x : Plan). IsPlan c.args.settings (P.homes c.plan_change.new.pages) (P.next c.plan_change.new.pages) (next_of c.plan_change.new.shelf) c.args.sequencer.now x) (sym same) (record {
+      pages = e.as_next ∙ (fits.pages ∙ ap (λ (n : ℕ). min c.args.plan.now.head.fresh n) (sym k.homes));
+      blocks = (let low = fits.blocks in let on = k.shelf.forward in omega (arith, low, on));
+      lanes = fits.lanes;
+      count = fits.count;
+      hand = fits.hand;
+    })
+
+pub returns-in_err-whole-clause-as_before : goal.returns-in_err-whole-clause-as_before
+returns-in_err-whole-clause-as_before g c = on_each_err _ _ (ap (λ (x : Contents). record c.args.plan.now { head = x }) c.in_err-whole.ensures.as_before)
+
+pub returns-in_err-whole-clause-sound : goal.returns-in_err-whole-clause-sound
+returns-in_err-whole-clause-sound g c most start h honest r page bad =
+    let f = r.first c.requires.hand in
+    c.plan_change.ensures.sound most start r.pages h f.later r.shown honest r.bears f.here page (search (rules, bad))

@@ -1,0 +1,38 @@
+-- Questions in progress.
+use Rattle.std.specs.Prelude.{ℕ, List, Option}
+use Rattle.route_meaning.specs.History.{History, IsHistory, Begins, applied}
+use Rattle.interleaving_core.specs.declared.query.Query.{Query}
+use Rattle.interleaving_core.specs.declared.query.Query.TheVariants as queries
+use Rattle.route_history.specs.Fronts.{front_number}
+use Rattle.route_history.specs.Kept.{Kept}
+use Rattle.route_history.specs.Spans.{HasToldSo, IsSameTelling}
+use Rattle.route_history.specs.Walks.{Gathered, IsSame}
+use Rattle.version_model.specs.Versions.{Version}
+use Rattle.disk_archive.specs.declared.cursor.Cursor.{Cursor}
+use Rattle.disk_archive.specs.declared.cursor.Cursor.TheVariants.{Rows, Events}
+
+-- its question
+abbrev pub asks : Cursor → Query
+asks (Rows c) = queries.Rows c.question
+asks (Events c) = queries.Events c.question
+
+-- the key, or the stamp, that its walk has come to; none where the walk is over
+abbrev pub walked_to : Cursor → Option ℕ
+walked_to (Rows c) = front_number c.front
+walked_to (Events c) = c.at
+
+-- by these versions of what the history has applied, it has gathered just what the range has that its walk has passed, or its whole answer
+abbrev pub HasGathered : List Version → History → Cursor → Type 0
+HasGathered all h (Rows c) = Gathered all (applied h) c
+HasGathered all h (Events c) = HasToldSo all (applied h) c
+
+-- What it has gathered is so over this history, and over each right one that this begins, whatever versions stand for what is applied.
+abbrev pub IsGathered : Cursor → History → Type 0
+IsGathered c h = (g : History) → IsHistory g → Begins h g → (all : List Version) → Kept (applied g) all → HasGathered all g c
+
+-- both say the same
+abbrev pub SaysSame : Cursor → Cursor → Type 0
+SaysSame (Rows c) (Rows d) = IsSame c d
+SaysSame (Rows c) (Events d) = ⊥
+SaysSame (Events c) (Rows d) = ⊥
+SaysSame (Events c) (Events d) = IsSameTelling c d

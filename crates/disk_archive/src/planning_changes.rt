@@ -1,0 +1,342 @@
+//! What the application of many changes is to commit: pages that are shown in one transaction, and their head. The sequencer stays as it
+//! is meanwhile, and no page is written yet.
+
+ghost use Rattle.std.specs.Prelude.{◌≡◌, ◌<◌, ◌≤◌, ◌+◌, ◌*◌, ◌↔◌, ℕ, List, [], length, min, IfOk, OnOk, OnErr, IfErr, Err, IsTrue, true, false};
+ghost use Rattle.disk_models.specs.Once.{OnceState, settled_in};
+ghost use Rattle.once_store.specs.Shelves.{disk_of, next_of, pen_of};
+ghost use Rattle.page_tx.specs.Start.{Start};
+ghost use Rattle.route_meaning.specs.History.{History};
+ghost use Rattle.sequencer.specs.Ahead.{behind};
+ghost use Rattle.sequencer.specs.First.{IsNext};
+ghost use Rattle.sequencer.specs.Lanes.{Releases};
+ghost use Rattle.archive_pages.specs.Carried.{Bears};
+ghost use Rattle.disk_archive.specs.Mirrors.{Mirrors};
+ghost use Rattle.disk_archive.specs.Trees.{TreeLies};
+ghost use Rattle.disk_archive.specs.inner.Applications.{Advances, ApplyRefusal, IsPlan, KeepsBlocks, PlansMove, Reached, Reaches};
+
+use crate::apply_error::{ApplyError, of_pages};
+use crate::planning_application::{front_of, plan_change};
+use archive_head::Head;
+use archive_pages::{Settings, copy_head, put_head};
+use disk_models::OnceDisk;
+use once_store::Shelf;
+use page_tx::Pages;
+use route_model::Admission;
+use sequencer::{Ahead, Sequencer};
+use std::alloc::Global;
+use tsb_tree::open;
+use version_model::Stamp;
+
+// Of how many pages a transaction may hold images but for the head's.
+const MOST_IMAGES: usize = 30;
+
+// The highest level of a root.
+const HIGHEST_LEVEL: u8 = 7;
+
+// How many changes are applied at most behind the first one of a transaction.
+const MORE_CHANGES: u32 = 999;
+
+/// An admission that waits, and its collector.
+#[derive(Drop)]
+pub(crate) struct Front {
+    pub(crate) collector: u8,
+    pub(crate) admission: Admission,
+}
+
+/// What is planned so far: the head, the admissions that are wholly applied, as those that are passed over, and the admission at hand,
+/// which may be wholly applied too.
+#[derive(Drop)]
+pub(crate) struct Plan {
+    pub(crate) head: Head,
+    pub(crate) ahead: Ahead,
+    pub(crate) front: Front,
+    pub(crate) whole: bool,
+}
+
+/// What is to be committed: the head that is on its page, and the admissions that are wholly applied.
+#[derive(Drop)]
+pub(crate) struct Application {
+    pub(crate) head: Head,
+    pub(crate) ahead: Ahead,
+}
+
+// Takes the first admission of the collector that is next. No change of it is applied.
+fn begin_plan<P: Pages>(
+    alloc: Global,
+    pages: &mut P,
+    settings: Settings,
+    head: &Head,
+    sequencer: &Sequencer,
+    number: usize,
+) -> Result<Plan, ApplyError>
+    requires lanes { length head.now.lanes ≡ length sequencer.now }
+    requires few { length sequencer.now ≤ 16 }
+    requires first { IsNext sequencer.now number }
+    ensures reached { IfOk result (λ plan. (count : ℕ) (o : OnceState) (start : Start) (shown : List (List ℕ)) (h : History) → P.shows pages.old start shown → Bears (TreeLies count) settings (settled_in o) head.now shown h → Mirrors sequencer.now h
+        → Reached count settings (settled_in o) (P.shows pages.new start) sequencer.now plan h) }
+    ensures fits { IfOk result (λ plan. (block : ℕ) → P.next pages.old ≡ min head.now.fresh (P.homes pages.old) → head.now.block ≤ block → IsPlan settings (P.homes pages.old) (P.next pages.old) block sequencer.now plan) }
+    ensures hand { IfOk result (λ plan. plan.whole ≡ false) }
+    ensures sound { (count : ℕ) (o : OnceState) (start : Start) (shown : List (List ℕ)) (h : History) → P.shows pages.old start shown → Bears (TreeLies count) settings (settled_in o) head.now shown h → Mirrors sequencer.now h
+        → (page : ℕ) → result ≡ Err (ApplyError.BadNode page) → ⊥ }
+    ensures once { result ≡ Err ApplyError.OnceFull → ⊥ }
+    ensures refused { IfErr result (ApplyRefusal (P.down pages.old)) }
+    ensures reads { (start : Start) (shown : List (List ℕ)) → P.shows pages.old start shown → P.shows pages.new start shown }
+    ensures homes { P.homes pages.new ≡ P.homes pages.old }
+    ensures next { P.next pages.new ≡ P.next pages.old }
+    ensures named { P.named pages.new ≡ P.named pages.old }
+    ensures down { P.down pages.new ≡ P.down pages.old }
+    ensures honest { P.honest pages.old ↔ P.honest pages.new }
+{
+    let next = copy_head(alloc, head)?;
+    let ahead = sequencer.ahead(alloc)?;
+    let collector = number as u8;
+    let admission = front_of(alloc, pages, settings, &next, collector)?;
+    Ok(Plan {
+        head: next,
+        ahead,
+        front: Front {
+            collector,
+            admission,
+        },
+        whole: false,
+    })
+}
+
+// The first time of the collector is passed over, where its admission is wholly applied.
+fn pass_whole(sequencer: &Sequencer, ahead: &mut Ahead, collector: u8, whole: bool)
+    requires count { length ahead.old ≡ length sequencer.now }
+    requires next { IsNext (behind ahead.old sequencer.now) collector }
+    ensures count { length ahead.new ≡ length sequencer.now }
+    ensures leaves { whole ≡ true → Releases (behind ahead.old sequencer.now) collector (behind ahead.new sequencer.now) }
+    ensures stays { whole ≡ false → ahead.new ≡ ahead.old }
+{
+    if whole {
+        sequencer.pass(ahead, usize::from(collector));
+    }
+}
+
+// Applies the next change of the admission at hand, or passes over it where it has no other. After a refusal the plan is as it was.
+fn plan_step<P: Pages, O: OnceDisk + Drop>(
+    alloc: Global,
+    pages: &mut P,
+    shelf: &mut Shelf<O>,
+    settings: Settings,
+    sequencer: &Sequencer,
+    plan: &mut Plan,
+    most_level: u8,
+) -> Result<(), ApplyError>
+    requires fits { IsPlan settings (P.homes pages.old) (P.next pages.old) (next_of shelf.old) sequencer.now plan.old }
+    requires hand { plan.old.whole ≡ false }
+    requires few { length (P.named pages.old) + (2 * most_level + 3) ≤ 30 }
+    ensures moves { OnOk result ((start : Start) (h : History) → O.honest (disk_of shelf.old) (pen_of shelf.old)
+        → Reached (O.block_count (disk_of shelf.old)) settings (settled_in (O.model (pen_of shelf.old))) (P.shows pages.old start) sequencer.now plan.old h
+        → Advances (O.block_count (disk_of shelf.old)) settings (settled_in (O.model (pen_of shelf.new))) (P.shows pages.new start) sequencer.now plan.new h) }
+    ensures as_before { OnErr result (plan.new ≡ plan.old) }
+    ensures as_shown { OnErr result ((start : Start) (shown : List (List ℕ)) → P.shows pages.old start shown → P.shows pages.new start shown) }
+    ensures fits { IsPlan settings (P.homes pages.new) (P.next pages.new) (next_of shelf.new) sequencer.now plan.new }
+    ensures sound { 7 ≤ most_level → (start : Start) (h : History) → O.honest (disk_of shelf.old) (pen_of shelf.old)
+        → Reached (O.block_count (disk_of shelf.old)) settings (settled_in (O.model (pen_of shelf.old))) (P.shows pages.old start) sequencer.now plan.old h
+        → (page : ℕ) → result ≡ Err (ApplyError.BadNode page) → ⊥ }
+    ensures few { length (P.named pages.new) ≤ 30 }
+    ensures refused { IfErr result (ApplyRefusal (P.down pages.old)) }
+    ensures shows { (start : Start) (shown : List (List ℕ)) → P.shows pages.old start shown → (after : List (List ℕ)) × P.shows pages.new start after }
+    ensures shelf { KeepsBlocks O.OnceDisk 2 shelf.old shelf.new (result ≡ Err ApplyError.OnceFull) }
+    ensures homes { P.homes pages.new ≡ P.homes pages.old }
+    ensures down { P.down pages.new ≡ P.down pages.old }
+    ensures honest { P.honest pages.old ↔ P.honest pages.new }
+{
+    let collector = plan.front.collector;
+    let whole = plan_change(
+        alloc,
+        pages,
+        shelf,
+        settings,
+        &mut plan.head,
+        collector,
+        &plan.front.admission,
+        most_level,
+    )?;
+    pass_whole(sequencer, &mut plan.ahead, collector, whole);
+    plan.whole = whole;
+    Ok(())
+}
+
+// Sees to it that an admission is at hand that isn't wholly applied, where another one may be.
+fn find_front<P: Pages>(
+    alloc: Global,
+    pages: &mut P,
+    settings: Settings,
+    sequencer: &Sequencer,
+    plan: &mut Plan,
+) -> bool
+    requires few { length sequencer.now ≤ 16 }
+    requires lanes { length plan.old.head.lanes ≡ length sequencer.now }
+    requires count { length plan.old.ahead ≡ length sequencer.now }
+    ensures hand { IsTrue result → plan.new.whole ≡ false }
+    ensures reached { (count : ℕ) (o : OnceState) (start : Start) (h : History) → Reached count settings (settled_in o) (P.shows pages.old start) sequencer.now plan.old h → Reached count settings (settled_in o) (P.shows pages.new start) sequencer.now plan.new h }
+    ensures fits { (block : ℕ) → IsPlan settings (P.homes pages.old) (P.next pages.old) block sequencer.now plan.old → IsPlan settings (P.homes pages.new) (P.next pages.new) block sequencer.now plan.new }
+    ensures reads { (start : Start) (shown : List (List ℕ)) → P.shows pages.old start shown → P.shows pages.new start shown }
+    ensures homes { P.homes pages.new ≡ P.homes pages.old }
+    ensures next { P.next pages.new ≡ P.next pages.old }
+    ensures named { P.named pages.new ≡ P.named pages.old }
+    ensures down { P.down pages.new ≡ P.down pages.old }
+    ensures honest { P.honest pages.old ↔ P.honest pages.new }
+{
+    if !plan.whole {
+        return true;
+    }
+    let Some(number) = sequencer.next_behind(&plan.ahead) else {
+        return false;
+    };
+    let collector = number as u8;
+    let Ok(admission) = front_of(alloc, pages, settings, &plan.head, collector) else {
+        return false;
+    };
+    plan.front = Front {
+        collector,
+        admission,
+    };
+    plan.whole = false;
+    true
+}
+
+// The level of the tree's root, where it is one.
+fn level_of<P: Pages>(pages: &mut P, head: &Head) -> Option<u8>
+    ensures reads { (start : Start) (shown : List (List ℕ)) → P.shows pages.old start shown → P.shows pages.new start shown }
+    ensures homes { P.homes pages.new ≡ P.homes pages.old }
+    ensures next { P.next pages.new ≡ P.next pages.old }
+    ensures named { P.named pages.new ≡ P.named pages.old }
+    ensures down { P.down pages.new ≡ P.down pages.old }
+    ensures honest { P.honest pages.old ↔ P.honest pages.new }
+{
+    let least = Stamp::new(head.last.seconds(), head.applied);
+    match open(pages, head.root, least) {
+        Ok(place) => Some(place.level),
+        Err(_) => None,
+    }
+}
+
+// Whether images of two pages a level, a new root's and one more have room for a tree of this level.
+fn has_room(images: usize, level: u8) -> bool
+    requires few { images ≤ 30 }
+    ensures room { IsTrue result → images + (2 * level + 3) ≤ 30 }
+{
+    images + 2 * usize::from(level) + 3 <= MOST_IMAGES
+}
+
+// Applies one more change, where one may be, it isn't refused, and its images have room.
+fn plan_another<P: Pages, O: OnceDisk + Drop>(
+    alloc: Global,
+    pages: &mut P,
+    shelf: &mut Shelf<O>,
+    settings: Settings,
+    sequencer: &Sequencer,
+    plan: &mut Plan,
+) -> bool
+    requires lanes { length sequencer.now ≤ 16 }
+    requires fits { IsPlan settings (P.homes pages.old) (P.next pages.old) (next_of shelf.old) sequencer.now plan.old }
+    requires few { length (P.named pages.old) ≤ 30 }
+    ensures reaches { (start : Start) (h : History) → O.honest (disk_of shelf.old) (pen_of shelf.old)
+        → Reached (O.block_count (disk_of shelf.old)) settings (settled_in (O.model (pen_of shelf.old))) (P.shows pages.old start) sequencer.now plan.old h
+        → Reaches (O.block_count (disk_of shelf.old)) settings (settled_in (O.model (pen_of shelf.new))) (P.shows pages.new start) sequencer.now plan.new h }
+    ensures fits { IsPlan settings (P.homes pages.new) (P.next pages.new) (next_of shelf.new) sequencer.now plan.new }
+    ensures few { length (P.named pages.new) ≤ 30 }
+    ensures shows { (start : Start) (shown : List (List ℕ)) → P.shows pages.old start shown → (after : List (List ℕ)) × P.shows pages.new start after }
+    ensures shelf { KeepsBlocks O.OnceDisk 2 shelf.old shelf.new ⊥ }
+    ensures homes { P.homes pages.new ≡ P.homes pages.old }
+    ensures down { P.down pages.new ≡ P.down pages.old }
+    ensures honest { P.honest pages.old ↔ P.honest pages.new }
+{
+    let Some(level) = level_of(pages, &plan.head) else {
+        return false;
+    };
+    if !has_room(pages.images(), level) {
+        return false;
+    }
+    if !find_front(alloc, pages, settings, sequencer, plan) {
+        return false;
+    }
+    plan_step(alloc, pages, shelf, settings, sequencer, plan, level).is_ok()
+}
+
+// Applies further changes, up to the first that may not be, is refused, or whose images might have no room.
+fn plan_more<P: Pages, O: OnceDisk + Drop>(
+    alloc: Global,
+    pages: &mut P,
+    shelf: &mut Shelf<O>,
+    settings: Settings,
+    sequencer: &Sequencer,
+    plan: &mut Plan,
+)
+    requires lanes { length sequencer.now ≤ 16 }
+    requires fits { IsPlan settings (P.homes pages.old) (P.next pages.old) (next_of shelf.old) sequencer.now plan.old }
+    requires few { length (P.named pages.old) ≤ 30 }
+    ensures reaches { (start : Start) (h : History) → O.honest (disk_of shelf.old) (pen_of shelf.old)
+        → Reached (O.block_count (disk_of shelf.old)) settings (settled_in (O.model (pen_of shelf.old))) (P.shows pages.old start) sequencer.now plan.old h
+        → Reaches (O.block_count (disk_of shelf.old)) settings (settled_in (O.model (pen_of shelf.new))) (P.shows pages.new start) sequencer.now plan.new h }
+    ensures fits { IsPlan settings (P.homes pages.new) (P.next pages.new) (next_of shelf.new) sequencer.now plan.new }
+    ensures few { length (P.named pages.new) ≤ 30 }
+    ensures shows { (start : Start) (shown : List (List ℕ)) → P.shows pages.old start shown → (after : List (List ℕ)) × P.shows pages.new start after }
+    ensures shelf { KeepsBlocks O.OnceDisk 1998 shelf.old shelf.new ⊥ }
+    ensures homes { P.homes pages.new ≡ P.homes pages.old }
+    ensures down { P.down pages.new ≡ P.down pages.old }
+    ensures honest { P.honest pages.old ↔ P.honest pages.new }
+{
+    for _ in 0..MORE_CHANGES {
+        if !plan_another(alloc, pages, shelf, settings, sequencer, plan) {
+            return;
+        }
+    }
+}
+
+/// Shows the pages behind the next change and as many further ones as fit, and answers their head, and which admissions are wholly
+/// applied. A refusal of the first change is told; where a later one is refused, what was planned before it is answered.
+pub(crate) fn plan_changes<P: Pages, O: OnceDisk + Drop>(
+    alloc: Global,
+    pages: &mut P,
+    shelf: &mut Shelf<O>,
+    settings: Settings,
+    head: &Head,
+    sequencer: &Sequencer,
+    number: usize,
+) -> Result<Application, ApplyError>
+    requires lanes { length head.now.lanes ≡ length sequencer.now }
+    requires few { length sequencer.now ≤ 16 }
+    requires first { IsNext sequencer.now number }
+    requires some { 0 < P.homes pages.old }
+    requires next { P.next pages.old ≡ min head.now.fresh (P.homes pages.old) }
+    requires block { head.now.block ≤ next_of shelf.old }
+    requires none { P.named pages.old ≡ [] }
+    ensures planned { IfOk result (λ plan. (start : Start) (shown : List (List ℕ)) (h : History) → P.shows pages.old start shown → O.honest (disk_of shelf.old) (pen_of shelf.old)
+        → Bears (TreeLies (O.block_count (disk_of shelf.old))) settings (settled_in (O.model (pen_of shelf.old))) head.now shown h → Mirrors sequencer.now h
+        → PlansMove (O.block_count (disk_of shelf.old)) settings (settled_in (O.model (pen_of shelf.new))) (P.shows pages.new start) sequencer.now plan h) }
+    ensures sound { (start : Start) (shown : List (List ℕ)) (h : History) → P.shows pages.old start shown → O.honest (disk_of shelf.old) (pen_of shelf.old)
+        → Bears (TreeLies (O.block_count (disk_of shelf.old))) settings (settled_in (O.model (pen_of shelf.old))) head.now shown h → Mirrors sequencer.now h
+        → (page : ℕ) → result ≡ Err (ApplyError.BadNode page) → ⊥ }
+    ensures lanes { IfOk result (λ plan. length plan.head.lanes ≡ length sequencer.now) }
+    ensures count { IfOk result (λ plan. length plan.ahead ≡ length sequencer.now) }
+    ensures block { IfOk result (λ plan. plan.head.block ≤ next_of shelf.new) }
+    ensures refused { IfErr result (ApplyRefusal (P.down pages.old)) }
+    ensures shows { (start : Start) (shown : List (List ℕ)) → P.shows pages.old start shown → (after : List (List ℕ)) × P.shows pages.new start after }
+    ensures shelf { KeepsBlocks O.OnceDisk 2000 shelf.old shelf.new (result ≡ Err ApplyError.OnceFull) }
+    ensures homes { P.homes pages.new ≡ P.homes pages.old }
+    ensures down { P.down pages.new ≡ P.down pages.old }
+    ensures honest { P.honest pages.old ↔ P.honest pages.new }
+{
+    let mut plan = begin_plan(alloc, pages, settings, head, sequencer, number)?;
+    plan_step(
+        alloc,
+        pages,
+        shelf,
+        settings,
+        sequencer,
+        &mut plan,
+        HIGHEST_LEVEL,
+    )?;
+    plan_more(alloc, pages, shelf, settings, sequencer, &mut plan);
+    let Plan { head, ahead, .. } = plan;
+    match put_head(alloc, pages, &head) {
+        Ok(()) => Ok(Application { head, ahead }),
+        Err(refusal) => Err(of_pages(refusal)),
+    }
+}
