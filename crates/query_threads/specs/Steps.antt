@@ -7,7 +7,7 @@ use Rattle.route_meaning.specs.Merged.{part}
 use Rattle.route_meaning.specs.History.{Intake, History, waiting}
 use Rattle.interleaving_core.specs.declared.reply.BatchReply.{BatchReply}
 use Rattle.interleaving_core.specs.Does.{IsReply}
-use Rattle.interleaving_core.specs.Steps.{IsCollector, IsMarkAbove, given, marked, Applies, NothingToApply}
+use Rattle.interleaving_core.specs.Steps.{IsCollector, IsMarkAbove, given, marked, Applies, AppliesMore, NothingToApply}
 use Rattle.query_threads.specs.declared.refusal.Trouble.{Trouble}
 use Rattle.query_threads.specs.declared.refusal.AdmitError.{AdmitError}
 use Rattle.query_threads.specs.declared.refusal.AdmitError.TheVariants as admits
@@ -60,9 +60,16 @@ DoesMark c mark (Err marks.NoCollector) h g = (IsCollector h c → ⊥) × (g �
 DoesMark c mark (Err marks.MarkBack) h g = IsMarkAbove h c mark × (g ≡ h)
 DoesMark c mark (Err (marks.Trouble trouble)) h g = g ≡ h
 
--- the next change was applied; or nothing may be applied, or the call failed, and nothing changes
+-- the next change is applied, and perhaps some more
+pub record AppliesSome (h g : History) : Type 0 where
+  pub first : History
+  pub next : Applies h first
+  pub more : ℕ
+  pub others : AppliesMore more first g
+
+-- the next change was applied at least; or nothing may be applied, or the call failed, and nothing changes
 abbrev pub DoesApply : Result Step Trouble → History → History → Type 0
-DoesApply (Ok Applied) h g = Applies h g
+DoesApply (Ok Applied) h g = AppliesSome h g
 DoesApply (Ok Idle) h g = NothingToApply h × (g ≡ h)
 DoesApply (Err trouble) h g = g ≡ h
 

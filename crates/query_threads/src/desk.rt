@@ -138,7 +138,7 @@ impl<A: Store, N: Named + OnDisk<A::Disk>> Desk<A, N> {
         told
     }
 
-    /// Applies what is next. The pass then knows the history after it.
+    /// Applies the next change, and perhaps some more. The pass then knows the history after it.
     pub fn apply(&mut self, board: &Board<N>, pass: &mut Pass<N>) -> Result<Step, Trouble>
         ensures sees { Sees (DoesApply result) pass.old pass.new }
     {

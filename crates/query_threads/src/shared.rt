@@ -189,7 +189,7 @@ impl<A: Store, N: Named + OnDisk<A::Disk>, G: Gate + Drop> Shared<A, N, G> {
         self.desk.lock(rt).mark(&self.board, pass, collector, mark)
     }
 
-    /// Applies what is next, once the lock is got.
+    /// Applies the next change, and perhaps some more, once the lock is got.
     pub fn apply(&self, rt: &impl Wait, pass: &mut Pass<N>) -> Result<Step, Trouble>
         ensures sees { Sees (DoesApply result) pass.old pass.new }
     {

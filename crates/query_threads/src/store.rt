@@ -108,7 +108,7 @@ pub trait Store {
         ensures disk { disk_of self.new ≡ disk_of self.old }
         ensures pages { pages self.new ≡ pages self.old };
 
-    /// Applies what is next.
+    /// Applies the next change, and perhaps some more.
     fn apply_step(&mut self) -> Result<Step, Trouble>
         ensures done { (p : Past) → carries self.old p → (q : Past) × GoesOnAs p q × carries self.new q × DoesApply result p.history q.history }
         ensures disk { disk_of self.new ≡ disk_of self.old }
