@@ -102,12 +102,11 @@ pub(crate) const SCRIPTS: [Script; 7] = [
         ],
     },
     Script {
-        name: "an admission of two changes takes two steps",
+        name: "an admission of two changes takes one step",
         collectors: 1,
         acts: &[
             Act::Offer(0, Batch::TwoChanges, Ok((1, 0, 1))),
             Act::Mark(0, 9, Ok(())),
-            Act::Apply(Step::Applied),
             Act::Settled(7),
             Act::Apply(Step::Applied),
             Act::Settled(9),
@@ -124,8 +123,6 @@ pub(crate) const SCRIPTS: [Script; 7] = [
             Act::Offer(0, Batch::Times(&[5]), Ok((3, 2, 3))),
             Act::Apply(Step::Idle),
             Act::Mark(0, 6, Ok(())),
-            Act::Apply(Step::Applied),
-            Act::Apply(Step::Applied),
             Act::Apply(Step::Applied),
             Act::Apply(Step::Idle),
             Act::Flush(2),

@@ -124,10 +124,11 @@ const SETTINGS: Settings = Settings {
 fn five_applied(alloc: Global) -> Result<Both, Fail> {
     let mut archive = made(alloc, SETTINGS)?;
     let _reply = archive.admit(0, &large(alloc, 6)?)?;
-    archive.mark(0, mark_at(1_704_067_300))?;
+    archive.mark(0, mark_at(1_704_067_205))?;
     for _ in 0..5 {
         let _step = archive.apply_step()?;
     }
+    archive.mark(0, mark_at(1_704_067_300))?;
     Ok(given_up(opened(alloc, given_up(archive))?))
 }
 
