@@ -2,6 +2,7 @@
 #![tactic(auto)]
 
 mod admissions;
+mod asks;
 mod blocks;
 mod clock;
 mod codec;
@@ -24,6 +25,13 @@ use std::process::ExitCode;
 fn file<'a>(alloc: Global) -> Arg<'a> {
     Arg::new(alloc, "FILE")
         .help("An MRT file")
+        .required(true)
+        .action(ArgAction::Set)
+}
+
+fn folder<'a>(alloc: Global) -> Arg<'a> {
+    Arg::new(alloc, "DIR")
+        .help("The folder of an archive")
         .required(true)
         .action(ArgAction::Set)
 }
@@ -66,6 +74,10 @@ fn program<'a>(alloc: Global) -> Result<Command<'a>, AllocError> {
     let counts = Command::new(alloc, "counts")
         .about("Prints what the three words above count, of each file")
         .arg(file(alloc).num_args(1..))?;
+    let asks = Command::new(alloc, "asks")
+        .about("Asks an archive the request lines of a file, and times the answers")
+        .arg(folder(alloc))?
+        .arg(file(alloc).help("A file of request lines"))?;
     let mut program = Command::new(alloc, "bench")
         .about("Measures the crates of rha")
         .subcommand_required(true)
@@ -73,7 +85,8 @@ fn program<'a>(alloc: Global) -> Result<Command<'a>, AllocError> {
         .subcommand(framing)?
         .subcommand(messages)?
         .subcommand(admissions)?
-        .subcommand(counts)?;
+        .subcommand(counts)?
+        .subcommand(asks)?;
     for (word, about) in WORDS {
         program = program.subcommand(Command::new(alloc, word).about(about))?;
     }
@@ -134,6 +147,7 @@ fn measure(rt: &HostRuntime, word: &str, matches: &ArgMatches<'_>) -> Result<()>
         "blocks" => Ok(blocks::measure_all(rt)?),
         "nodes" => Ok(nodes::measure_all(rt)?),
         "pool" => Ok(pool::measure_all(rt)?),
+        "asks" => asks::print_asks(rt, matches.get_str("DIR").unwrap_or(""), path),
         "counts" => print_counts(rt, matches.get_strs("FILE").unwrap_or(&[])),
         _ => Ok(codec::measure_all(rt)?),
     }

@@ -6,7 +6,9 @@ use route_model::Key;
 use std::alloc::Global;
 use std::io;
 use std::rt::CpuClock;
-use tsb_node::{child_for, copy_side, find, key_node_of_page, leaf_of_page, push};
+use tsb_node::{
+    child_for, copy_side, find, key_node_of_page, leaf_of_page, push, read_key_node, read_leaf,
+};
 use version_model::{Entry, Stamp};
 
 /// How many entries the leaf has, each of another key.
@@ -203,6 +205,24 @@ fn find_children(pages: &Pages, rounds: u32) -> u64 {
     sum
 }
 
+/// Sees so often whether a page is a leaf.
+fn see_leaf(page: &Page, rounds: u32) -> u64 {
+    let mut seen = 0u64;
+    for _ in 0..rounds {
+        seen = seen.wrapping_add(u64::from(read_leaf(page).is_some()));
+    }
+    seen
+}
+
+/// Sees so often whether a page is a key node.
+fn see_key_node(page: &Page, rounds: u32) -> u64 {
+    let mut seen = 0u64;
+    for _ in 0..rounds {
+        seen = seen.wrapping_add(u64::from(read_key_node(page).is_some()));
+    }
+    seen
+}
+
 /// What is measured.
 #[derive(Clone, Copy)]
 enum What {
@@ -214,10 +234,13 @@ enum What {
     SplitTyped,
     ReadKeyNode,
     ChildFor,
+    SeeLeaf,
+    SeeEmptyLeaf,
+    SeeKeyNode,
 }
 
 /// What is measured, its name, and how often it is done.
-const MEASURES: [(What, &str, u32); 8] = [
+const MEASURES: [(What, &str, u32); 11] = [
     (What::Copy, "a copy of a page", 200_000),
     (What::Find, "find, in a leaf of 150 entries", 200_000),
     (
@@ -234,6 +257,9 @@ const MEASURES: [(What, &str, u32); 8] = [
     ),
     (What::ReadKeyNode, "key_node_of_page, 338 children", 20_000),
     (What::ChildFor, "child_for, each of 338 in turn", 200_000),
+    (What::SeeLeaf, "read_leaf, 150 entries", 50_000),
+    (What::SeeEmptyLeaf, "read_leaf, no entry", 50_000),
+    (What::SeeKeyNode, "read_key_node, 338 children", 50_000),
 ];
 
 /// Does it so often, and answers a count that depends on what was done.
@@ -247,6 +273,9 @@ fn run(alloc: Global, pages: &mut Pages, what: What, rounds: u32) -> u64 {
         What::SplitTyped => split_typed(alloc, pages, rounds),
         What::ReadKeyNode => read_key_nodes(alloc, pages, rounds),
         What::ChildFor => find_children(pages, rounds),
+        What::SeeLeaf => see_leaf(&pages.leaf, rounds),
+        What::SeeEmptyLeaf => see_leaf(&pages.empty, rounds),
+        What::SeeKeyNode => see_key_node(&pages.key_node, rounds),
     }
 }
 
