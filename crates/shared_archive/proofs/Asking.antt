@@ -1,0 +1,67 @@
+-- Questions over a past, and their errands.
+use Rattle.std.proofs.Common.{◌≡◌, ◌∙◌, ◌↔◌, ◌<◌, ◌≤◌, ℕ, Bool, true, false, List, Option, Some, Result, Err, refl, sym, ap, subst}
+use Rattle.disk_models.specs.declared.once.OnceDisk.{Ghosts}
+use Rattle.once_store.specs.declared.reader.ShelfReader.{ShelfReader}
+use Rattle.once_store.specs.Readers.{kept_blocks, reader_disk}
+use Rattle.route_meaning.specs.History.{History, settled}
+use Rattle.interleaving_core.specs.declared.query.Query.{Query}
+use Rattle.interleaving_core.specs.Does.{last_moment}
+use Rattle.tsb_walk.specs.Inside.{KeepsInside}
+use Rattle.tsb_walk.specs.Knowing.{ReadsWell}
+use Rattle.board.specs.Past.{Past, IsBlock}
+use Rattle.query_threads.specs.Looks.{AreSettled, AreTheSettled}
+use Rattle.query_threads.specs.Turns.{IsTold}
+use Rattle.disk_archive.specs.declared.ask_error.AskError.{AskError}
+use Rattle.disk_archive.specs.declared.ask_error.AskError.TheVariants as asks
+use Rattle.disk_archive.specs.declared.cursor.Cursor.{Cursor}
+use Rattle.disk_archive.specs.declared.errand.Errand.{Errand}
+use Rattle.disk_archive.specs.Descents.{IsErrandFor, Lies, LiesKnown}
+use Rattle.shared_archive.specs.Carried.{LiesInPast}
+use Rattle.shared_archive.specs.inner.StoreCalls.{of_ask}
+use Rattle.shared_archive.proofs.Blocks.{block_of, entry_of}
+
+-- why a question isn't answered
+pub not_answered : {R : Type 0} (down : Bool) (h : History) (query : Query) (e : AskError)
+    → ((mark : ℕ) → (◌≡◌ {A = Result R AskError} (Err e) (Err (asks.AboveWatermark mark))) ↔ ((down ≡ false) × (mark ≡ settled h) × (settled h ≤ last_moment query)))
+    → IsTold (of_ask e) h query
+not_answered down h query asks.NeedsRecovery above = tt
+not_answered down h query (asks.AboveWatermark mark) above = let told = (above mark).0 refl in (told.1, told.2)
+not_answered down h query (asks.BadNode page) above = tt
+not_answered down h query (asks.Damaged block) above = tt
+not_answered down h query asks.Fault above = tt
+not_answered down h query asks.OutOfMemory above = tt
+
+-- an errand that lies in settled blocks lies in those of the past, which are these
+pub lies_past : (count : ℕ) (known : ℕ → Option (List ℕ)) (errand : Errand) (c : Cursor) (p : Past) → AreTheSettled count known p.blocks → IsErrandFor c errand → Lies count known errand c p.history → LiesInPast count errand c p
+lies_past count known errand c p are fits l = record {
+  fits = fits;
+  lies = λ other same. record {
+    right = l.right;
+    below = l.below;
+    gathered = l.gathered;
+    versions = l.versions;
+    kept = l.kept;
+    says = l.says;
+    are = λ n node here. (let b = l.are n node here in record { inside = b.inside; octets = b.octets; here = ((same n b.octets).0 ((are n b.octets).1 (b.inside, b.here))).1; says = b.says });
+    stands = l.stands;
+  };
+}
+
+module _ {O Pen Seen : Type 0} (device : Ghosts O Pen Seen) (reader : ShelfReader O Pen Seen device) (seen : Seen) where
+  -- blocks that are settled are known, and lie on the disk
+  pub reads_well : AreSettled (device.block_count (reader_disk reader)) (device.known seen) (kept_blocks reader) → device.honest_seen (reader_disk reader) seen → ReadsWell device reader seen
+  reads_well are honest = record { honest = honest; kept = λ n block k. (are n block (block_of (kept_blocks reader) n block k)).1 }
+
+  pub keeps_inside : AreSettled (device.block_count (reader_disk reader)) (device.known seen) (kept_blocks reader) → KeepsInside device reader
+  keeps_inside are = λ n block k. (are n block (block_of (kept_blocks reader) n block k)).0
+
+  -- the errand lies in the blocks that the reader knows
+  pub lies_known : (errand : Errand) (c : Cursor) (p : Past) → AreSettled (device.block_count (reader_disk reader)) (device.known seen) (kept_blocks reader) → device.honest_seen (reader_disk reader) seen → LiesInPast (device.block_count (reader_disk reader)) errand c p
+      → AreTheSettled (device.block_count (reader_disk reader)) (device.known seen) p.blocks → LiesKnown device reader seen errand c p.history
+  lies_known errand c p are honest l past = record { well = reads_well are honest; lies = l.lies (device.known seen) past }
+
+  -- what a reader keeps afterwards is settled still
+  pub settled_still : (new : ShelfReader O Pen Seen device) (seen' : Seen) → ReadsWell device new seen' → KeepsInside device new → reader_disk new ≡ reader_disk reader → device.known seen' ≡ device.known seen → AreSettled (device.block_count (reader_disk reader)) (device.known seen) (kept_blocks new)
+  settled_still new seen' well inside disk known = λ n octets b.
+      let k = entry_of (kept_blocks new) n octets b in
+      (subst (λ (d : O). n < device.block_count d) disk (inside n octets k), ap (λ (f : ℕ → Option (List ℕ)). f n) (sym known) ∙ well.kept n octets k)

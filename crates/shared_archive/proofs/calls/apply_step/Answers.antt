@@ -1,0 +1,44 @@
+use Rattle.std.proofs.Common.{◌≡◌, ap, refl, Ok}
+use Rattle.disk_archive.specs.Archives.{once_of, once_state}
+use Rattle.route_meaning.proofs.api.Beginning.{Begins-refl}
+use Rattle.shared_archive.proofs.Blocks.{listed}
+use Rattle.shared_archive.proofs.Serving.{honest_of, more_blocks, moves_on, moves_some, on_more_blocks, right_of}
+use Rattle.shared_archive.proofs.calls.apply_step.Goals as goal
+
+pub returns-in-Ok-Applied-clause-done : goal.returns-in-Ok-Applied-clause-done
+returns-in-Ok-Applied-clause-done g c = λ p k.
+    let a = c.args.archive.now in
+    let z = c.apply_step.new.self in
+    let h = p.history in
+    let honest = honest_of a p k in
+    let m = c.in-Ok-Applied.ensures.applied c.in-Ok-Applied.field-0-is honest h (λ _. k.goes_on) in (
+      record { history = m.0; blocks = listed (g.O.OnceDisk.block_count (once_of z)) (once_state z).settled },
+      on_more_blocks a p k z m.0 c.apply_step.ensures.disk (c.apply_step.ensures.grows honest) (moves_on h m.0 (right_of a p k) m.1),
+      more_blocks a p k z m.0 (m.2 (c.apply_step.ensures.honest.0 honest)),
+      moves_some h m.0 m.1,
+    )
+
+pub returns-in-Ok-Idle-clause-done : goal.returns-in-Ok-Idle-clause-done
+returns-in-Ok-Idle-clause-done g c = λ p k.
+    let a = c.args.archive.now in
+    let z = c.apply_step.new.self in
+    let h = p.history in
+    let honest = honest_of a p k in
+    let e = c.in-Ok-Idle.ensures in (
+      record { history = h; blocks = listed (g.O.OnceDisk.block_count (once_of z)) (once_state z).settled },
+      on_more_blocks a p k z h c.apply_step.ensures.disk (c.apply_step.ensures.grows honest) (Begins-refl h),
+      more_blocks a p k z h (e.idle_same (ap Ok c.in-Ok-Idle.field-0-is) h (λ _. k.goes_on) (c.apply_step.ensures.honest.0 honest)),
+      ((e.idle honest h (λ _. k.goes_on)).0 c.in-Ok-Idle.field-0-is, refl),
+    )
+
+pub returns-in-Err-clause-done : goal.returns-in-Err-clause-done
+returns-in-Err-clause-done g c = λ p k.
+    let a = c.args.archive.now in
+    let z = c.apply_step.new.self in
+    let h = p.history in
+    let honest = honest_of a p k in (
+      record { history = h; blocks = listed (g.O.OnceDisk.block_count (once_of z)) (once_state z).settled },
+      on_more_blocks a p k z h c.apply_step.ensures.disk (c.apply_step.ensures.grows honest) (Begins-refl h),
+      more_blocks a p k z h (c.in-Err.ensures.err h (λ _. k.goes_on) (c.apply_step.ensures.honest.0 honest)),
+      refl,
+    )

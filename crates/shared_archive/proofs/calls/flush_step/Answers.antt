@@ -1,0 +1,34 @@
+use Rattle.std.proofs.Common.{refl}
+use Rattle.route_meaning.proofs.api.Beginning.{Begins-refl}
+use Rattle.shared_archive.proofs.Serving.{honest_of, on_same_blocks, same_blocks}
+use Rattle.shared_archive.proofs.calls.flush_step.Goals as goal
+
+pub returns-in-Ok-Flushed-clause-done : goal.returns-in-Ok-Flushed-clause-done
+returns-in-Ok-Flushed-clause-done g c = λ p k.
+    let a = c.args.archive.now in
+    let z = c.flush_step.new.self in (
+      record { history = p.history; blocks = p.blocks },
+      on_same_blocks a p k p.history (Begins-refl p.history),
+      same_blocks a p k z p.history c.flush_step.ensures.disk c.flush_step.ensures.blocks (c.flush_step.ensures.holds p.history (λ _. k.goes_on) (c.flush_step.ensures.honest.0 (honest_of a p k))),
+      refl,
+    )
+
+pub returns-in-Ok-Clean-clause-done : goal.returns-in-Ok-Clean-clause-done
+returns-in-Ok-Clean-clause-done g c = λ p k.
+    let a = c.args.archive.now in
+    let z = c.flush_step.new.self in (
+      record { history = p.history; blocks = p.blocks },
+      on_same_blocks a p k p.history (Begins-refl p.history),
+      same_blocks a p k z p.history c.flush_step.ensures.disk c.flush_step.ensures.blocks (c.flush_step.ensures.holds p.history (λ _. k.goes_on) (c.flush_step.ensures.honest.0 (honest_of a p k))),
+      refl,
+    )
+
+pub returns-in-Err-clause-done : goal.returns-in-Err-clause-done
+returns-in-Err-clause-done g c = λ p k.
+    let a = c.args.archive.now in
+    let z = c.flush_step.new.self in (
+      record { history = p.history; blocks = p.blocks },
+      on_same_blocks a p k p.history (Begins-refl p.history),
+      same_blocks a p k z p.history c.flush_step.ensures.disk c.flush_step.ensures.blocks (c.flush_step.ensures.holds p.history (λ _. k.goes_on) (c.flush_step.ensures.honest.0 (honest_of a p k))),
+      refl,
+    )

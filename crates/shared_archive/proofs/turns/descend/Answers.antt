@@ -1,0 +1,53 @@
+use Rattle.std.proofs.Common.{Err, subst, sym}
+use Rattle.query_threads.specs.Turns.{IsTold}
+use Rattle.query_threads.specs.declared.refusal.AskError.{AskError as AskRefusal}
+use Rattle.disk_archive.specs.Archives.{is_down, once_of, once_state}
+use Rattle.disk_archive.specs.Cursors.{asks}
+use Rattle.disk_archive.specs.Descents.{Descends, GoesFurther}
+use Rattle.disk_archive.specs.declared.descending.Descent.{Descent}
+use Rattle.shared_archive.proofs.Asking.{lies_past, not_answered}
+use Rattle.shared_archive.proofs.Serving.{honest_of, same_blocks}
+use Rattle.shared_archive.proofs.turns.descend.Goals as goal
+
+pub returns-in-Ok-Done-clause-carries : goal.returns-in-Ok-Done-clause-carries
+returns-in-Ok-Done-clause-carries g c = λ p k. same_blocks c.args.archive.now p k c.descend.new.self p.history c.descend.ensures.disk c.descend.ensures.blocks (c.descend.ensures.holds p.history (λ _. k.goes_on) (c.descend.ensures.honest.0 (honest_of c.args.archive.now p k)))
+
+pub returns-in-Ok-Again-clause-carries : goal.returns-in-Ok-Again-clause-carries
+returns-in-Ok-Again-clause-carries g c = λ p k. same_blocks c.args.archive.now p k c.descend.new.self p.history c.descend.ensures.disk c.descend.ensures.blocks (c.descend.ensures.holds p.history (λ _. k.goes_on) (c.descend.ensures.honest.0 (honest_of c.args.archive.now p k)))
+
+pub returns-in-Ok-Historical-clause-carries : goal.returns-in-Ok-Historical-clause-carries
+returns-in-Ok-Historical-clause-carries g c = λ p k. same_blocks c.args.archive.now p k c.descend.new.self p.history c.descend.ensures.disk c.descend.ensures.blocks (c.descend.ensures.holds p.history (λ _. k.goes_on) (c.descend.ensures.honest.0 (honest_of c.args.archive.now p k)))
+
+pub returns-in-Err-clause-carries : goal.returns-in-Err-clause-carries
+returns-in-Err-clause-carries g c = λ p k. same_blocks c.args.archive.now p k c.descend.new.self p.history c.descend.ensures.disk c.descend.ensures.blocks (c.descend.ensures.holds p.history (λ _. k.goes_on) (c.descend.ensures.honest.0 (honest_of c.args.archive.now p k)))
+
+pub returns-in-Ok-Done-clause-settled : goal.returns-in-Ok-Done-clause-settled
+returns-in-Ok-Done-clause-settled g c = λ p k. c.in-Ok-Done.ensures.below (honest_of c.args.archive.now p k) p.history (λ _. k.goes_on)
+
+pub returns-in-Ok-Again-clause-settled : goal.returns-in-Ok-Again-clause-settled
+returns-in-Ok-Again-clause-settled g c = λ p k. c.in-Ok-Again.ensures.below (honest_of c.args.archive.now p k) p.history (λ _. k.goes_on)
+
+pub returns-in-Ok-Historical-clause-settled : goal.returns-in-Ok-Historical-clause-settled
+returns-in-Ok-Historical-clause-settled g c = λ p k. c.in-Ok-Historical.ensures.below (honest_of c.args.archive.now p k) p.history (λ _. k.goes_on)
+
+pub returns-in-Ok-Done-clause-gives : goal.returns-in-Ok-Done-clause-gives
+returns-in-Ok-Done-clause-gives g c = λ p k gathered.
+    let a = c.args.archive.now in
+    subst (λ (x : Descent). Descends (g.O.OnceDisk.block_count (once_of a)) (once_state a).settled p.history c.args.cursor.now c.descend.new.cursor x) c.in-Ok-Done.field-0-is (c.in-Ok-Done.ensures.descends (honest_of a p k) p.history (λ _. k.goes_on) gathered)
+
+pub returns-in-Ok-Again-clause-gives : goal.returns-in-Ok-Again-clause-gives
+returns-in-Ok-Again-clause-gives g c = λ p k gathered. c.descend.ensures.gathered (honest_of c.args.archive.now p k) p.history (λ _. k.goes_on) gathered
+
+pub returns-in-Ok-Historical-clause-gives : goal.returns-in-Ok-Historical-clause-gives
+returns-in-Ok-Historical-clause-gives g c = λ p k gathered.
+    let a = c.args.archive.now in
+    let count = g.O.OnceDisk.block_count (once_of a) in
+    let further = subst (λ (x : Descent). GoesFurther c.args.cursor.now c.descend.new.cursor x) c.in-Ok-Historical.field-0-is c.in-Ok-Historical.ensures.further in
+    let lies = subst (λ (x : Descent). Descends count (once_state a).settled p.history c.args.cursor.now c.descend.new.cursor x) c.in-Ok-Historical.field-0-is (c.in-Ok-Historical.ensures.descends (honest_of a p k) p.history (λ _. k.goes_on) gathered) in
+    lies_past count (once_state a).settled c.in-Ok-Historical.errand c.descend.new.cursor p k.blocks further.1 lies
+
+pub returns-in-Err-clause-told : goal.returns-in-Err-clause-told
+returns-in-Err-clause-told g c = λ p k.
+    let a = c.args.archive.now in
+    subst (λ (r : AskRefusal). IsTold r p.history (asks c.args.cursor.now)) (sym c.ask_refusal.ensures.why)
+    (not_answered (is_down a) p.history (asks c.args.cursor.now) c.in-Err.refusal (c.in-Err.ensures.above (honest_of a p k) p.history (λ _. k.goes_on)))

@@ -1,0 +1,119 @@
+//! The archive in files, as threads share it.
+
+ghost use Rattle.disk_archive.specs.Archives.{once_of};
+ghost use Rattle.disk_archive.specs.Cursors.{IsGathered, asks};
+ghost use Rattle.once_store.specs.Readers.{kept_blocks, reader_disk};
+ghost use Rattle.shared_archive.specs.Carried.{CarriesPast, LiesInPast, gathered_on, right_going, ring_pages};
+
+use crate::{calls, turns};
+use disk_archive::{Archive, Cursor, Errand};
+use disk_files::{FileErase, FileOnce, FileSeen};
+use disk_models::OnceDisk;
+use interleaving_core::{BatchReply, Query};
+use once_store::ShelfReader;
+use query_threads::{AdmitError, AskError, Flush, MarkError, Step, Store, Trouble, Turn};
+use route_model::{Admission, Mark};
+use std::alloc::Global;
+
+/// An archive on disks over files. Threads share it.
+#[derive(Drop)]
+pub struct FileStore {
+    /// The archive.
+    pub archive: Archive<FileErase, FileOnce>,
+}
+
+impl Store for FileStore {
+    type Disk = FileOnce;
+
+    type Reader = ShelfReader<FileOnce>;
+
+    type Seen = FileSeen;
+
+    type Errand = Errand;
+
+    type Cursor = Cursor;
+
+    ghost carries = { λ store p. CarriesPast store.archive p };
+
+    ghost pages = { λ store. ring_pages store.archive };
+
+    ghost disk_of = { λ store. once_of store.archive };
+
+    ghost block_count = { λ disk. ⟦<FileOnce as OnceDisk>⟧.block_count disk };
+
+    ghost reads = { λ reader. reader_disk reader };
+
+    ghost kept = { λ reader. kept_blocks reader };
+
+    ghost honest = { λ disk seen. ⟦<FileOnce as OnceDisk>⟧.honest_seen disk seen };
+
+    ghost known = { λ seen. ⟦<FileOnce as OnceDisk>⟧.known seen };
+
+    ghost asks = { λ cursor. asks cursor };
+
+    ghost gathered = { λ cursor h. IsGathered cursor h };
+
+    ghost lies = { λ errand cursor disk p. LiesInPast (⟦<FileOnce as OnceDisk>⟧.block_count disk) errand cursor p };
+
+    ghost right = { λ store p carried. right_going store.archive p.history carried.goes_on };
+
+    ghost stays = { λ cursor h g right begins below gathered. gathered_on cursor h g begins gathered };
+
+    fn collectors(&self) -> u8 {
+        self.archive.collectors()
+    }
+
+    fn ring(&self) -> u16 {
+        self.archive.ring()
+    }
+
+    fn settled(&self) -> Mark {
+        self.archive.settled()
+    }
+
+    fn admitted(&self, collector: u8) -> u64 {
+        turns::admitted(&self.archive, collector)
+    }
+
+    fn admit(&mut self, collector: u8, batch: &[Admission]) -> Result<BatchReply, AdmitError> {
+        calls::admit(&mut self.archive, collector, batch)
+    }
+
+    fn mark(&mut self, collector: u8, mark: Mark) -> Result<(), MarkError> {
+        calls::mark(&mut self.archive, collector, mark)
+    }
+
+    fn apply_step(&mut self) -> Result<Step, Trouble> {
+        calls::apply_step(&mut self.archive)
+    }
+
+    fn flush_step(&mut self) -> Result<Flush, Trouble> {
+        calls::flush_step(&mut self.archive)
+    }
+
+    fn start(alloc: Global, query: &Query) -> Cursor {
+        Cursor::start(alloc, *query)
+    }
+
+    fn descend(&mut self, cursor: &mut Cursor) -> Result<Turn<Errand>, AskError> {
+        turns::descend(&mut self.archive, cursor)
+    }
+
+    fn seen(&mut self) -> Result<FileSeen, Trouble> {
+        turns::seen(&mut self.archive)
+    }
+
+    fn reader(&self, _alloc: Global, capacity: usize) -> Result<ShelfReader<FileOnce>, Trouble> {
+        turns::reader(&self.archive, capacity)
+    }
+
+    fn finish(
+        reader: &mut ShelfReader<FileOnce>,
+        seen: &mut FileSeen,
+        alloc: Global,
+        errand: Errand,
+        cursor: &mut Cursor,
+    ) -> Result<(), Trouble> {
+        turns::finish(reader, seen, alloc, errand, cursor)
+    }
+}

@@ -1,0 +1,108 @@
+//! Turns of questions, their errands, and what an archive tells, by its past.
+
+ghost use Rattle.std.specs.Prelude.{◌≡◌, ◌<◌, ◌≤◌, ℕ, List, [], IfErr, IfOk, OnOk};
+ghost use Rattle.route_meaning.specs.History.{applied, settled};
+ghost use Rattle.interleaving_core.specs.Does.{last_moment};
+ghost use Rattle.interleaving_core.specs.Headline.{IsAnswered};
+ghost use Rattle.board.specs.Past.{Past, count_of};
+ghost use Rattle.query_threads.specs.Looks.{AreSettled, AreTheSettled};
+ghost use Rattle.query_threads.specs.Turns.{TurnGives, IsTold};
+ghost use Rattle.once_store.specs.Readers.{kept_blocks, reader_disk};
+ghost use Rattle.disk_archive.specs.Archives.{once_of};
+ghost use Rattle.disk_archive.specs.Cursors.{IsGathered, asks};
+ghost use Rattle.shared_archive.specs.Carried.{CarriesPast, LiesInPast, ring_pages};
+
+use crate::refusals::{ask_refusal, block_trouble};
+use disk_archive::{Archive, Cursor, Descent, Errand};
+use disk_models::{EraseDisk, OnceDisk};
+use once_store::ShelfReader;
+use query_threads::{AskError, Trouble, Turn};
+use std::alloc::Global;
+
+/// How many admissions of a collector there are, 0 of one that there isn't.
+pub(crate) fn admitted<E: EraseDisk + Drop, O: OnceDisk + Drop>(
+    archive: &Archive<E, O>,
+    collector: u8,
+) -> u64
+    ensures count { (p : Past) → CarriesPast archive.now p → result ≡ count_of p.history collector }
+{
+    if collector >= archive.collectors() {
+        return 0;
+    }
+    archive.resume(collector).admitted
+}
+
+/// A turn of a question.
+pub(crate) fn descend<E: EraseDisk + Drop, O: OnceDisk + Drop>(
+    archive: &mut Archive<E, O>,
+    cursor: &mut Cursor,
+) -> Result<Turn<Errand>, AskError>
+    ensures carries { (p : Past) → CarriesPast archive.old p → CarriesPast archive.new p }
+    ensures asks { asks cursor.new ≡ asks cursor.old }
+    ensures settled { (p : Past) → CarriesPast archive.old p → OnOk result (last_moment (asks cursor.old) < settled p.history) }
+    ensures gives { (p : Past) → CarriesPast archive.old p → IsGathered cursor.old p.history → IfOk result (λ turn. TurnGives (λ errand. LiesInPast (O.block_count (once_of archive.old)) errand cursor.new p) (IsGathered cursor.new p.history) (λ answer. IsAnswered (applied p.history) (asks cursor.old) answer) turn) }
+    ensures told { (p : Past) → CarriesPast archive.old p → IfErr result (λ e. IsTold e p.history (asks cursor.old)) }
+    ensures disk { once_of archive.new ≡ once_of archive.old }
+    ensures pages { ring_pages archive.new ≡ ring_pages archive.old }
+{
+    match archive.descend(cursor) {
+        Ok(Descent::Done(answer)) => Ok(Turn::Done(answer)),
+        Ok(Descent::Again) => Ok(Turn::Again),
+        Ok(Descent::Historical(errand)) => Ok(Turn::Historical(errand)),
+        Err(refusal) => Err(ask_refusal(refusal)),
+    }
+}
+
+/// A look at which blocks are settled.
+pub(crate) fn seen<E: EraseDisk + Drop, O: OnceDisk + Drop>(
+    archive: &mut Archive<E, O>,
+) -> Result<O::Seen, Trouble>
+    ensures carries { (p : Past) → CarriesPast archive.old p → CarriesPast archive.new p }
+    ensures honest { (p : Past) → CarriesPast archive.old p → IfOk result (λ s. O.honest_seen (once_of archive.old) s) }
+    ensures known { (p : Past) → CarriesPast archive.old p → IfOk result (λ s. AreTheSettled (O.block_count (once_of archive.old)) (O.known s) p.blocks) }
+    ensures disk { once_of archive.new ≡ once_of archive.old }
+    ensures pages { ring_pages archive.new ≡ ring_pages archive.old }
+{
+    match archive.seen() {
+        Ok(seen) => Ok(seen),
+        Err(_) => Err(Trouble::Fault),
+    }
+}
+
+/// A reader that keeps up to so many blocks, and none yet.
+pub(crate) fn reader<E: EraseDisk + Drop, O: OnceDisk + Drop>(
+    archive: &Archive<E, O>,
+    capacity: usize,
+) -> Result<ShelfReader<O>, Trouble>
+    requires some { 1 ≤ capacity }
+    requires few { capacity ≤ 1024 }
+    ensures disk { IfOk result (λ r. reader_disk r ≡ once_of archive.now) }
+    ensures empty { IfOk result (λ r. kept_blocks r ≡ []) }
+{
+    match archive.reader(capacity) {
+        Ok(reader) => Ok(reader),
+        Err(_) => Err(Trouble::OutOfMemory),
+    }
+}
+
+/// Reads the blocks of an errand without the archive.
+pub(crate) fn finish<O: OnceDisk + Drop>(
+    reader: &mut ShelfReader<O>,
+    seen: &mut O::Seen,
+    alloc: Global,
+    errand: Errand,
+    cursor: &mut Cursor,
+) -> Result<(), Trouble>
+    requires kept { AreSettled (O.block_count (reader_disk reader.old)) (O.known seen.old) (kept_blocks reader.old) }
+    requires honest { O.honest_seen (reader_disk reader.old) seen.old }
+    requires stands { (p : Past) × LiesInPast (O.block_count (reader_disk reader.old)) errand cursor.old p × AreTheSettled (O.block_count (reader_disk reader.old)) (O.known seen.old) p.blocks }
+    ensures kept { AreSettled (O.block_count (reader_disk reader.old)) (O.known seen.old) (kept_blocks reader.new) }
+    ensures disk { reader_disk reader.new ≡ reader_disk reader.old }
+    ensures asks { asks cursor.new ≡ asks cursor.old }
+    ensures gathered { OnOk result ((p : Past) → LiesInPast (O.block_count (reader_disk reader.old)) errand cursor.old p → AreTheSettled (O.block_count (reader_disk reader.old)) (O.known seen.old) p.blocks → IsGathered cursor.new p.history) }
+{
+    match errand.finish(alloc, reader, seen, cursor) {
+        Ok(()) => Ok(()),
+        Err(refusal) => Err(block_trouble(refusal)),
+    }
+}
