@@ -1,12 +1,12 @@
 //! The archive, and what it tells.
 
-ghost use Rattle.std.specs.Prelude.{◌≡◌, ◌↔◌, ◌<◌, ◌≤◌, ℕ, List, length, map, Some, IfOk, slice_get};
+ghost use Rattle.std.specs.Prelude.{◌≡◌, ◌↔◌, ◌<◌, ◌≤◌, ℕ, List, length, map, sum_by, Some, IfOk, slice_get};
 ghost use Rattle.page_journal.specs.Journal.{home_pages};
 ghost use Rattle.buffer_pool.specs.Pool.{journal_of};
 ghost use Rattle.once_store.specs.Shelves.{next_of};
 ghost use Rattle.page_tx.specs.Tx.{pool_of};
 ghost use Rattle.disk_models.specs.Erase.{Counts};
-ghost use Rattle.route_meaning.specs.History.{History, settled};
+ghost use Rattle.route_meaning.specs.History.{History, applied, settled};
 ghost use Rattle.interleaving_core.specs.World.{resume_of};
 
 use archive_head::Head;
@@ -42,6 +42,7 @@ pub struct Archive<E: EraseDisk + Drop, O: OnceDisk + Drop> {
 
 impl<E: EraseDisk + Drop, O: OnceDisk + Drop> Archive<E, O> {
     ghost use Rattle.disk_archive.specs.Archives.{Holds, IsHonest, erase_of, once_of, once_state, pen_in, settings_of};
+    ghost use Rattle.disk_archive.specs.Checks.{applied_in};
 
     /// How many collectors there are, 1 to 16. Their numbers begin with 0.
     pub fn collectors(&self) -> u8
@@ -79,6 +80,15 @@ impl<E: EraseDisk + Drop, O: OnceDisk + Drop> Archive<E, O> {
             admitted: lane.admitted,
             mark: lane.mark,
         }
+    }
+
+    /// How many changes are applied, as the head tells it. An archive that must be opened again tells that of before the call that
+    /// failed.
+    pub fn applied(&self) -> u64
+        ensures head { result ≡ applied_in self.now }
+        ensures counted { IsHonest self.now → (h : History) → Holds self.now h → result ≡ sum_by (λ p. length p.item.changes) (applied h) }
+    {
+        self.head.applied
     }
 
     /// What a reader of blocks may know from now on: those that are settled.

@@ -1,6 +1,6 @@
 //! The archive in the files of a folder.
 
-ghost use Rattle.std.specs.Prelude.{◌≡◌, ◌≤◌, ◌↔◌, ◌*◌, min, max};
+ghost use Rattle.std.specs.Prelude.{◌≡◌, ◌≤◌, ◌↔◌, ◌*◌, length, min, max, sum_by};
 
 use crate::refusals::{
     admit_refusal, apply_trouble, ask_refusal, check_trouble, flush_trouble, mark_refusal,
@@ -32,7 +32,7 @@ pub struct FileArchive {
 }
 
 impl FileArchive {
-    ghost use Rattle.route_meaning.specs.History.{History};
+    ghost use Rattle.route_meaning.specs.History.{History, applied};
     ghost use Rattle.disk_archive.specs.Archives.{GoesOn, settings_of, site_of};
     ghost use Rattle.file_archive.specs.FileArchives.{GoesOnWith, limit_for, limit_of, site_in};
 
@@ -45,6 +45,14 @@ impl FileArchive {
         let ring = usize::from(archive.ring()) * PAGE;
         let limit = MAX_BATCH_LEN.min(ring).max(ONE_ADMISSION);
         FileArchive { archive, limit }
+    }
+
+    /// How many changes are applied: as many as [`RouteArchive::check`] counts. After a failed write or sync, as many as before the call
+    /// that failed.
+    pub fn applied(&self) -> u64
+        ensures counted { (h : History) → GoesOnWith self.now h → result ≡ sum_by (λ p. length p.item.changes) (applied h) }
+    {
+        self.archive.applied()
     }
 }
 
