@@ -7,3 +7,5 @@ mod created;
 mod folders;
 #[cfg(test)]
 mod opened;
+#[cfg(test)]
+mod session;

@@ -9,12 +9,13 @@ use crate::opening::open;
 use crate::refusals::{tell_no_file, tell_unmade, tell_unopened};
 use archive_pages::Settings;
 use file_archive::{FileArchive, FileDisks};
+use load_progress::{ClearedWriter, Meter, WatchedArchive, WatchedReader};
 use service::{
     Checking, Creation, Input, Loading, Output, Question, ask_line, check_archive, load_file,
     tell_created, tell_failures, tell_out_of_memory, tell_outside, tell_unwritten,
 };
 use std::fs::File;
-use std::io::{BufWriter, Write};
+use std::io::{BufWriter, IsTerminal, Write};
 
 /// Makes a folder with a new archive. The order of refusals: too few pages, the folder, its files.
 pub(crate) fn create<E: Write>(rt: &HostRuntime, asked: &Creation<'_>, err: &mut Output<E>) -> u8
@@ -52,26 +53,32 @@ pub(crate) fn load<E: Write>(rt: &HostRuntime, asked: &Loading<'_>, err: &mut Ou
         Err(why) => return tell_outside(alloc, err, asked.file, &why),
     };
     match FileArchive::on(alloc, disks) {
-        Ok(mut archive) => load_into(rt, &mut archive, asked, file, err),
+        Ok(archive) => load_into(rt, archive, asked, file, err),
         Err(why) => tell_unopened(why, err),
     }
 }
 
-/// Loads a file into an archive that is open.
+/// Loads a file into an archive that is open. Where standard error is a terminal, one line there says how far it has come, and is gone
+/// before anything else is told.
 fn load_into<E: Write>(
     rt: &HostRuntime,
-    archive: &mut FileArchive,
+    archive: FileArchive,
     asked: &Loading<'_>,
     file: File,
     err: &mut Output<E>,
 ) -> u8 {
     let alloc = rt.alloc();
-    let Ok(buffer) = BufWriter::new(alloc, rt.stdout()) else {
+    let terminal = rt.stderr().is_terminal().then_some(rt);
+    let meter = Meter::new(terminal);
+    let Ok(buffer) = BufWriter::new(alloc, ClearedWriter::new(rt.stdout(), &meter)) else {
         return tell_out_of_memory(err);
     };
-    let mut file = Input::new(file);
+    let mut archive = WatchedArchive::new(archive, &meter);
+    let mut file = Input::new(WatchedReader::new(file, &meter));
     let mut out = Output::new(buffer);
-    let code = load_file(alloc, archive, asked, &mut file, &mut out, err);
+    let mut told = Output::new(ClearedWriter::new(rt.stderr(), &meter));
+    let code = load_file(alloc, &mut archive, asked, &mut file, &mut out, &mut told);
+    meter.clear();
     tell_failures(alloc, asked.file, &file, &out, err);
     code
 }

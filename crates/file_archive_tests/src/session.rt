@@ -1,0 +1,168 @@
+//! A session of two collectors, each command of which opens the archive anew. The files are those of data/README.md, by hand, and so are
+//! the lines.
+
+use crate::folders::new_name;
+use archive_calls::RouteArchive;
+use archive_pages::Settings;
+use file_archive::FileArchive;
+use load_progress::{Counts, Meter, WatchedArchive};
+use route_model::Mark;
+use service::{Input, LoadSettings, Output, Status, ask, check, load};
+use std::alloc::Global;
+use std::fs;
+use std::test::Fail;
+use test_octets::octets;
+
+/// Two peers and 203.0.113.0/24: two announcements, another origin, a withdrawal, and two announcements again.
+pub(crate) const AMSTERDAM: &str =
+    "65920080 0010 0004 0000004b 0000fbf0 0000fbef 0000 0001 c0000201 c00002fe
+ffffffffffffffffffffffffffffffff 0037 02 0000 001c 40010100 40020e02030000fbf00000fbf40000fbfe 400304c0000201 18cb0071
+6592008a 0010 0004 00000047 0000fbf1 0000fbef 0000 0001 c0000202 c00002fe
+ffffffffffffffffffffffffffffffff 0033 02 0000 0018 40010100 40020a02020000fbf10000fbfe 400304c0000202 18cb0071
+659201ac 0010 0004 00000047 0000fbf0 0000fbef 0000 0001 c0000201 c00002fe
+ffffffffffffffffffffffffffffffff 0033 02 0000 0018 40010100 40020a02020000fbf00000fbff 400304c0000201 18cb0071
+659201e8 0010 0004 0000002f 0000fbf1 0000fbef 0000 0001 c0000202 c00002fe
+ffffffffffffffffffffffffffffffff 001b 02 0004 18cb0071 0000
+6592027e 0010 0004 00000047 0000fbf1 0000fbef 0000 0001 c0000202 c00002fe
+ffffffffffffffffffffffffffffffff 0033 02 0000 0018 40010100 40020a02020000fbf10000fbfe 400304c0000202 18cb0071
+6592029c 0010 0004 0000004b 0000fbf0 0000fbef 0000 0001 c0000201 c00002fe
+ffffffffffffffffffffffffffffffff 0037 02 0000 001c 40010100 40020e02030000fbf00000fbf40000fbfe 400304c0000201 18cb0071";
+
+/// An IPv6 peer: 203.0.113.0/24, 2001:db8:100::/40, the end of its session, and 203.0.113.0/24 again.
+const TOKYO: &str = "65920094 0010 0004 00000063 0000fbf2 0000fbef 0000 0002
+20010db8000000000000000000000001 20010db8000000000000000000000000
+ffffffffffffffffffffffffffffffff 0037 02 0000 001c 40010100 40020e02030000fbf20000fbf40000fbfe 400304c6336401 18cb0071
+65920099 0010 0004 00000076 0000fbf2 0000fbef 0000 0002
+20010db8000000000000000000000001 20010db8000000000000000000000000
+ffffffffffffffffffffffffffffffff 004a 02 0000 0033 40010100 40020e02030000fbf20000fbf40000fbfe
+800e1b 00020110 20010db8000000000000000000000001 00 2820010db801
+659202d8 0010 0005 00000030 0000fbf2 0000fbef 0000 0002
+20010db8000000000000000000000001 20010db8000000000000000000000000 0006 0001
+6592033c 0010 0004 0000005f 0000fbf2 0000fbef 0000 0002
+20010db8000000000000000000000001 20010db8000000000000000000000000
+ffffffffffffffffffffffffffffffff 0033 02 0000 0018 40010100 40020a02020000fbf20000fbfe 400304c6336401 18cb0071";
+
+/// A command, and the lines that it writes.
+pub(crate) enum Command {
+    /// A feed of a collector, with the mark 00:15:00.
+    Load(u8, &'static str),
+    Ask(&'static str),
+    Check,
+}
+
+const SESSION: [(Command, &str); 8] = [
+    (Command::Load(0, AMSTERDAM), "B|0|6|6\nF|6|6|0|0|0\nS|0\n"),
+    (Command::Ask("durable 0"), "N|6\n"),
+    (Command::Ask("durable 1"), "N|0\n"),
+    (
+        Command::Load(1, TOKYO),
+        "B|0|4|4\nF|4|4|0|0|0\nS|1704068100\n",
+    ),
+    (Command::Ask("durable 1"), "N|4\n"),
+    (
+        Command::Ask("at 2024-01-01T00:07:00Z prefix 203.0.113.0/24"),
+        "R|0|192.0.2.1|64496|203.0.113.0/24|64496 64511|IGP|192.0.2.1|||NAG||
+R|1|2001:db8::1|64498|203.0.113.0/24|64498 64500 64510|IGP|198.51.100.1|||NAG||
+E|2\n",
+    ),
+    (
+        Command::Ask(
+            "history 2024-01-01T00:00:00Z 2024-01-01T00:14:59Z 0 192.0.2.1 64496 203.0.113.0/24",
+        ),
+        "A|1704067200|64496 64500 64510|IGP|192.0.2.1|||NAG||
+A|1704067500|64496 64511|IGP|192.0.2.1|||NAG||
+A|1704067740|64496 64500 64510|IGP|192.0.2.1|||NAG||
+E|3\n",
+    ),
+    (Command::Check, "ok|10|1704068100\n"),
+];
+
+/// Runs a command over an archive, whose lines go to `out`. What goes to standard error is left out.
+pub(crate) fn run<A: RouteArchive>(
+    alloc: Global,
+    archive: &mut A,
+    command: &Command,
+    out: &mut Vec<u8>,
+) -> Result<Status, Fail> {
+    let mut err = Vec::new(alloc);
+    let mut lines = Output::new(out);
+    let mut refusals = Output::new(&mut err);
+    Ok(match command {
+        Command::Load(collector, feed) => {
+            let how = LoadSettings {
+                collector: *collector,
+                limit: 1000,
+                mark: Mark::new(1_704_068_100),
+                resume: false,
+            };
+            let feed = octets(alloc, feed)?;
+            let mut file = Input::new(feed.as_slice());
+            load(alloc, archive, how, &mut file, &mut lines, &mut refusals)
+        }
+        Command::Ask(line) => ask(alloc, archive, line, &mut lines, &mut refusals),
+        Command::Check => check(archive, &mut lines, &mut refusals),
+    })
+}
+
+/// Whether a command over the archive of a folder is well and writes just these lines.
+fn goes_well(rt: &HostRuntime, folder: &str, command: &Command, lines: &str) -> Result<bool, Fail> {
+    let mut archive = FileArchive::open(rt.alloc(), rt, folder)?;
+    let mut out = Vec::new(rt.alloc());
+    let status = run(rt.alloc(), &mut archive, command, &mut out)?;
+    Ok(status == Status::Done && out.as_slice() == lines.as_bytes())
+}
+
+/// The folder of a new archive of two collectors.
+fn made(rt: &HostRuntime, name: &str) -> Result<String, Fail> {
+    let folder = new_name(rt, name)?;
+    let settings = Settings {
+        collectors: 2,
+        ring: 16,
+    };
+    FileArchive::create(rt.alloc(), rt, folder.as_str(), settings, 64, 64)?;
+    Ok(folder)
+}
+
+#[test]
+fn a_session_of_two_collectors_goes_on_over_openings(rt: HostRuntime) -> Result<(), Fail> {
+    let folder = made(&rt, "session")?;
+    for (command, lines) in &SESSION {
+        assert!(rt; goes_well(&rt, folder.as_str(), command, lines)?, "{lines}");
+    }
+    assert!(rt; applied(&rt, folder.as_str())? == 10);
+    fs::remove_dir_all(&rt, folder.as_str())?;
+    Ok(())
+}
+
+/// How many changes are applied of the archive of a folder.
+fn applied(rt: &HostRuntime, folder: &str) -> Result<u64, Fail> {
+    let archive = FileArchive::open(rt.alloc(), rt, folder)?;
+    Ok(archive.applied())
+}
+
+/// Loads both files into the archive of a folder, one after another, and tells what was counted until now behind each.
+fn watched(rt: &HostRuntime, folder: &str) -> Result<[Counts; 2], Fail> {
+    let none: Option<&HostRuntime> = None;
+    let meter = Meter::new(none);
+    let mut archive = WatchedArchive::new(FileArchive::open(rt.alloc(), rt, folder)?, &meter);
+    let mut out = Vec::new(rt.alloc());
+    run(
+        rt.alloc(),
+        &mut archive,
+        &Command::Load(0, AMSTERDAM),
+        &mut out,
+    )?;
+    let first = meter.counts();
+    run(rt.alloc(), &mut archive, &Command::Load(1, TOKYO), &mut out)?;
+    Ok([first, meter.counts()])
+}
+
+#[test]
+fn what_is_offered_and_applied_of_a_load_is_counted(rt: HostRuntime) -> Result<(), Fail> {
+    let folder = made(&rt, "watched")?;
+    let [first, both] = watched(&rt, folder.as_str())?;
+    assert!(rt; (first.records, first.applied) == (6, 0));
+    assert!(rt; (both.records, both.applied) == (10, 10));
+    fs::remove_dir_all(&rt, folder.as_str())?;
+    Ok(())
+}

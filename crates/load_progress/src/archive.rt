@@ -1,0 +1,94 @@
+//! An archive in files whose calls are counted.
+
+ghost use Rattle.file_archive.specs.FileArchives.{GoesOnWith, limit_of, right_of};
+ghost use Rattle.load_progress.specs.Watched.{watched};
+
+use crate::meter::Meter;
+use archive_calls::{AdmitError, AskError, Flush, MarkError, RouteArchive, Step, Trouble};
+use file_archive::FileArchive;
+use interleaving_core::{Answer, BatchReply, Query, Resume};
+use route_model::{Admission, Mark};
+use std::io::Eprint;
+use std::time::Clock;
+
+/// Does as the archive in it, and counts the records that it is offered and the changes that it applies.
+#[derive(Drop)]
+pub struct WatchedArchive<'a, T> {
+    archive: FileArchive,
+    before: u64,
+    meter: &'a Meter<'a, T>,
+}
+
+impl<'a, T: Eprint + Clock> WatchedArchive<'a, T> {
+    ghost use Rattle.std.specs.Prelude.{◌≡◌};
+
+    /// Watches an archive.
+    pub fn new(archive: FileArchive, meter: &'a Meter<'a, T>) -> WatchedArchive<'a, T>
+        ensures same { watched result ≡ archive }
+    {
+        let before = archive.applied();
+        WatchedArchive {
+            archive,
+            before,
+            meter,
+        }
+    }
+
+    fn count_applied(&self) {
+        let applied = self.archive.applied();
+        self.meter
+            .count_applied(applied.saturating_sub(self.before));
+    }
+}
+
+impl<'a, T: Eprint + Clock> RouteArchive for WatchedArchive<'a, T> {
+    ghost carries = { λ it h. GoesOnWith (watched it) h };
+
+    ghost most = { λ it. limit_of (watched it) };
+
+    ghost right = { λ it h goes_on. right_of (watched it) h goes_on };
+
+    fn collectors(&self) -> u8 {
+        self.archive.collectors()
+    }
+
+    fn batch_limit(&self) -> usize {
+        self.archive.batch_limit()
+    }
+
+    fn settled(&self) -> Mark {
+        self.archive.settled()
+    }
+
+    fn resume(&self, collector: u8) -> Option<Resume> {
+        self.archive.resume(collector)
+    }
+
+    fn admit(&mut self, collector: u8, batch: &[Admission]) -> Result<BatchReply, AdmitError> {
+        let reply = self.archive.admit(collector, batch)?;
+        self.meter.count_records(batch.len());
+        Ok(reply)
+    }
+
+    fn mark(&mut self, collector: u8, mark: Mark) -> Result<(), MarkError> {
+        self.archive.mark(collector, mark)
+    }
+
+    fn apply_step(&mut self) -> Result<Step, Trouble> {
+        let step = self.archive.apply_step()?;
+        self.count_applied();
+        Ok(step)
+    }
+
+    fn flush_step(&mut self) -> Result<Flush, Trouble> {
+        self.archive.flush_step()
+    }
+
+    fn answer(&mut self, query: Query) -> Result<Answer, AskError> {
+        self.archive.answer(query)
+    }
+
+    fn check(&mut self) -> Result<u64, Trouble> {
+        self.archive.check()
+    }
+}
