@@ -73,7 +73,7 @@ pub fn number(octets: &[u8]) -> u32
 }
 
 impl Ring {
-    ghost use Rattle.std.specs.Prelude.{◌≡◌, ◌<◌, ◌≤◌, ◌+◌, ◌/◌, ℕ, List, length, slice_get, IfOk, IfErr, IfSome, IfNone, Err};
+    ghost use Rattle.std.specs.Prelude.{◌≡◌, ◌<◌, ◌≤◌, ◌+◌, ◌/◌, ℕ, List, length, slice_get, IfOk, IfErr, IfSome, IfNone, Ok, Err, None};
     ghost use Rattle.page_tx.specs.Start.{Start};
     ghost use Rattle.route_model.specs.Admission.{Admitted};
     ghost use Rattle.intake.specs.Ring.{entry, IsRing, Holds};
@@ -82,7 +82,8 @@ impl Ring {
     ghost use Rattle.page_tx.specs.declared.error.PageError.TheVariants as pages_refusals;
 
     /// The first admission that waits, none where nothing waits. Where no admission stands first, the page is told on
-    /// which it would begin.
+    /// which it would begin. Where no octet is used, or too few for a length, no page is read for it. Else a failed read
+    /// and want of memory may refuse it before damage is found.
     pub fn front<P: Pages>(
         &self,
         alloc: Global,
@@ -91,6 +92,8 @@ impl Ring {
         requires ring { IsRing (P.homes pages.old) self.now }
         ensures front { IfOk result (λ front. (start : Start) (shown : List (List ℕ)) (waits : List Admitted) → P.shows pages.old start shown → Holds shown self.now waits → front ≡ slice_get waits 0) }
         ensures none { IfOk result (λ front. IfNone front (self.now.used ≡ 0)) }
+        ensures empty { self.now.used ≡ 0 → (result ≡ Ok None) × (pages.new ≡ pages.old) }
+        ensures short { 0 < self.now.used → self.now.used < 4 → (result ≡ Err (ReadError.BadNode (self.now.low + self.now.first / 16384))) × (pages.new ≡ pages.old) }
         ensures first { IfOk result (λ front. IfSome front (λ a. (start : Start) (shown : List (List ℕ)) → P.shows pages.old start shown → StandsFirst shown self.now a)) }
         ensures no_first { (page : ℕ) → result ≡ Err (ReadError.BadNode page) → (start : Start) (shown : List (List ℕ)) (a : Admitted) → P.shows pages.old start shown → StandsFirst shown self.now a → ⊥ }
         ensures some { (page : ℕ) → result ≡ Err (ReadError.BadNode page) → 0 < self.now.used }

@@ -73,6 +73,7 @@ fn time_at<P: Pages>(
     ensures breaks { (page : ℕ) → result ≡ Err (ReadError.BadNode page) → (start : Start) (shown : List (List ℕ)) (times : List ℕ) → P.shows pages.old start shown → TellsTimes shown ring at times → BreaksAt shown ring at }
     ensures page { (page : ℕ) → result ≡ Err (ReadError.BadNode page) → page ≡ page_of ring at }
     ensures inner { (page : ℕ) → result ≡ Err (ReadError.BadNode page) → (ring.low ≤ page) × (page < ring.low + ring.count) }
+    ensures short { ring.used < at + 12 → (result ≡ Err (ReadError.BadNode (page_of ring at))) × (pages.new ≡ pages.old) }
     ensures refused { IfErr result (ReadRefusal (P.down pages.old)) }
     ensures same { OnlyReads P.Pages pages.old pages.new (result ≡ Err (ReadError.Pages pages_refusals.Fault)) }
 {
@@ -95,7 +96,8 @@ fn time_at<P: Pages>(
 }
 
 impl Ring {
-    ghost use Rattle.std.specs.Prelude.{◌≡◌, ◌<◌, ◌≤◌, ◌+◌, ℕ, List, map, IfOk, IfErr, Err};
+    ghost use Rattle.std.specs.Prelude.{◌≡◌, ◌<◌, ◌≤◌, ◌+◌, ℕ, [], List, map, IfOk, IfErr, Err};
+    ghost use Rattle.std.specs.Result.{IsOkAnd};
     ghost use Rattle.page_tx.specs.Start.{Start};
     ghost use Rattle.page_tx.specs.declared.error.PageError.TheVariants as pages_refusals;
     ghost use Rattle.route_model.specs.Admission.{Admitted};
@@ -104,7 +106,9 @@ impl Ring {
     ghost use Rattle.intake.specs.Calls.{OnlyReads, ReadRefusal};
 
     /// The times of all that waits, in its order. Of each admission no more is read than its length and its time. Where no
-    /// length with a time behind it stands, the page is told on which it would begin. Changes aren't looked at.
+    /// length with a time behind it stands, the page is told on which it would begin. Changes aren't looked at. Where no
+    /// octet is used, or too few for a length and a time, no page is read. Else a failed read and want of memory may refuse
+    /// it before damage is found.
     pub fn waiting_times<P: Pages>(
         &self,
         alloc: Global,
@@ -117,6 +121,8 @@ impl Ring {
         ensures times { IfOk result (λ times. (start : Start) (shown : List (List ℕ)) (waits : List Admitted) → P.shows pages.old start shown → Holds shown self.now waits → times.items ≡ map time_of waits) }
         ensures damaged { (page : ℕ) → result ≡ Err (ReadError.BadNode page) → (start : Start) (shown : List (List ℕ)) (waits : List Admitted) → P.shows pages.old start shown → Holds shown self.now waits → ⊥ }
         ensures page { (page : ℕ) → result ≡ Err (ReadError.BadNode page) → (self.now.low ≤ page) × (page < self.now.low + self.now.count) }
+        ensures empty { self.now.used ≡ 0 → IsOkAnd result (λ times. times.items ≡ []) × (pages.new ≡ pages.old) }
+        ensures short { 0 < self.now.used → self.now.used < 12 → (result ≡ Err (ReadError.BadNode (page_of self.now 0))) × (pages.new ≡ pages.old) }
         ensures refused { IfErr result (ReadRefusal (P.down pages.old)) }
         ensures same { OnlyReads P.Pages pages.old pages.new (result ≡ Err (ReadError.Pages pages_refusals.Fault)) }
     {
