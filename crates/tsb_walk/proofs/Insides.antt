@@ -1,6 +1,5 @@
 -- Readers that keep blocks of their disk alone.
-use Rattle.std.proofs.Common.{◌≡◌, ◌∙◌, ◌∷◌, ◌-◌, ◌⊎◌, inl, inr, ℕ, ◌<◌, ◌≤◌, List, [], Bool, true, false, nat_eq, Contains, take, refl, sym, subst, ap, ⊎_elim}
-use Rattle.std.specs.Map.{remove_entry}
+use Rattle.std.proofs.Common.{◌≡◌, ◌∙◌, ◌∷◌, ◌-◌, ◌⊎◌, inl, inr, ℕ, ◌<◌, ◌≤◌, List, [], true, false, nat_eq, Contains, take, refl, sym, subst, ap}
 use Rattle.std.proofs.lemmas.Bool.{cases_lt, eqb-true, eq-eqb, false≢true}
 use Rattle.lru.proofs.Splits.{Contains-head, Contains-tail, Contains-cons, Contains-nil}
 use Rattle.lru.proofs.CallerLemmas.{Contains-take}

@@ -14,3 +14,4 @@ pub mod PageWalking
 pub mod PageStanding
 pub mod PageWaysMeet
 pub mod Insides
+mod Keeping

@@ -194,6 +194,26 @@ module _ (shown : List (List ℕ)) (key : ℕ) where
     ]
   ]
 
+  -- a page that is a bad key node is the last of each way that passes it
+  no_further : (last next : PagePlace) → IsNoKeyNode shown last → IsLower shown key last next → ⊥
+  no_further last next bad lower = bad lower.children lower.says
+
+  -- of two ways that each end at a page that is no key node, the ends are one
+  pub bad_nodes_one : (root a b : PagePlace) → PageWay shown key root a → IsNoKeyNode shown a → PageWay shown key root b → IsNoKeyNode shown b → a.page ≡ b.page
+  bad_nodes_one root a b way bad other bad' = elim (meet root a b way other) [
+    | inl on ↦ elim (head a on.end on.way) [
+      | inl e ↦ ap (λ (p : PagePlace). p.page) e ∙ sym on.same.page
+      | inr s ↦ absurd (no_further a s.next bad s.lower)
+    ]
+    | inr on ↦ elim (head b on.end on.way) [
+      | inl e ↦ on.same.page ∙ sym (ap (λ (p : PagePlace). p.page) e)
+      | inr s ↦ absurd (no_further b s.next bad' s.lower)
+    ]
+  ]
+
+  pub columns_page : (root a b : PagePlace) → PageWay shown key root a → a.level ≡ 1 → PageWay shown key root b → b.level ≡ 1 → a.page ≡ b.page
+  columns_page root a b way low other low' = (columns_one root a b way low other low').page
+
   column_same : (a b : PagePlace) (parts : List Part) (start current : ℕ) → IsSame a b → Says shown a.page (ColumnNode (keys_at a) parts start current) → Says shown b.page (ColumnNode (keys_at b) parts start current)
   column_same a b parts start current same says =
       subst (λ (p : ℕ). Says shown p (ColumnNode (keys_at b) parts start current)) same.page (subst (λ (k : Keys). Says shown a.page (ColumnNode k parts start current)) same.keys says)
@@ -242,3 +262,19 @@ past_excludes shown root key stamp place _ is (bad_leaf other parts start curren
 -- a way to level 1 excludes a bad key node
 pub way_excludes : (shown : List (List ℕ)) (root column : PagePlace) (key page : ℕ) → PageWay shown key root column → column.level ≡ 1 → IsBadKeyNode shown root key page → ⊥
 way_excludes shown root column key page way low is = no_bad_way shown key root column is.last way low is.way is.above is.bad
+
+-- of a look one page alone is bad
+pub bad_one : (shown : List (List ℕ)) (root : PagePlace) (key stamp page other : ℕ) → IsBadLook shown root key stamp page → IsBadLook shown root key stamp other → page ≡ other
+bad_one shown root key stamp _ _ (bad_key_node last way above bad) (bad_key_node last' way' above' bad') = bad_nodes_one shown key root last last' way bad way' bad'
+bad_one shown root key stamp _ _ (bad_key_node last way above bad) (bad_column last' way' low' bad') = absurd (no_bad_way shown key root last' last way' low' way above bad)
+bad_one shown root key stamp _ _ (bad_key_node last way above bad) (bad_leaf column parts start current comes from amiss) = absurd (no_bad_way shown key root column last comes.way comes.lowest way above bad)
+bad_one shown root key stamp _ _ (bad_column last way low bad) (bad_key_node last' way' above' bad') = absurd (no_bad_way shown key root last last' way low way' above' bad')
+bad_one shown root key stamp _ _ (bad_column last way low bad) (bad_column last' way' low' bad') = columns_page shown key root last last' way low way' low'
+bad_one shown root key stamp _ _ (bad_column last way low bad) (bad_leaf column parts start current comes from amiss) = absurd (no_bad_column shown key root column last parts start current comes way low bad)
+bad_one shown root key stamp _ _ (bad_leaf column parts start current comes from amiss) (bad_key_node last' way' above' bad') = absurd (no_bad_way shown key root column last' comes.way comes.lowest way' above' bad')
+bad_one shown root key stamp _ _ (bad_leaf column parts start current comes from amiss) (bad_column last' way' low' bad') = absurd (no_bad_column shown key root column last' parts start current comes way' low' bad')
+bad_one shown root key stamp _ _ (bad_leaf column parts start current comes from amiss) (bad_leaf column' parts' start' current' comes' from' amiss') = (one_column shown key root column column' parts parts' start start' current current' comes comes').current_is
+
+-- and of a way to a column one key node
+pub bad_node_one : (shown : List (List ℕ)) (root : PagePlace) (key page other : ℕ) → IsBadKeyNode shown root key page → IsBadKeyNode shown root key other → page ≡ other
+bad_node_one shown root key page other is is' = sym is.is ∙ bad_nodes_one shown key root is.last is'.last is.way is.bad is'.way is'.bad ∙ is'.is

@@ -146,5 +146,24 @@ module _ (known : ℕ → Option (List ℕ)) (count key stamp : ℕ) where
         ]
       ]
 
+  -- one block alone is damaged
+  pub damage_one : (first : Place) (block other : ℕ) → AreKnownOnWay known count key stamp first → ComesToDamage known count key stamp first block → ComesToDamage known count key stamp first other → block ≡ other
+  damage_one first block other all one two =
+      let o = all one.last one.way in
+      let p = all two.last two.way in
+      let d = one.is o.0 o.1 in
+      let e = two.is p.0 p.1 in
+      let at : IsSame one.last two.last → block ≡ other = λ same. sym d.0 ∙ ap (λ (x : Part). x.block) same.part ∙ e.0 in
+      elim (meet first one.last two.last one.way two.way) [
+        | inl on ↦ elim (head one.last on.end on.way) [
+          | inl is ↦ at (subst (λ (x : Place). IsSame x two.last) (sym is) (turned two.last on.end on.same))
+          | inr s ↦ absurd (d.1 (inr (s.next, subst (λ (x : List ℕ). LeadsTo one.last x key stamp s.next) (known_one one.last.part.block s.octets o.0 s.is o.1) s.leads)))
+        ]
+        | inr on ↦ elim (head two.last on.end on.way) [
+          | inl is ↦ at (subst (IsSame one.last) (sym is) on.same)
+          | inr s ↦ absurd (e.1 (inr (s.next, subst (λ (x : List ℕ). LeadsTo two.last x key stamp s.next) (known_one two.last.part.block s.octets p.0 s.is p.1) s.leads)))
+        ]
+      ]
+
   pub telling_leaf : (first : Place) (Tells : Place → List Version → Type 0) → ComesToTelling known count key stamp first Tells → ComesToLeaf known count key stamp first
   telling_leaf first Tells comes = record { last = comes.last; way = comes.way; is = λ octets is. (let h = comes.is octets is in (h.0, h.1)) }

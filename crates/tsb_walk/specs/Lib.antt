@@ -11,3 +11,4 @@ pub mod Refusals
 pub mod Shown
 pub mod Ways
 pub mod inner
+pub mod Keeping

@@ -9,9 +9,10 @@ ghost use Rattle.once_store.specs.Readers.{capacity_of, reader_disk};
 ghost use Rattle.tsb_walk.specs.Answers.{found_as, reached_as};
 ghost use Rattle.tsb_walk.specs.HistLooks.{TellsNext, TellsPart, TellsFound, ComesToTelling};
 ghost use Rattle.tsb_walk.specs.Inside.{KeepsInside};
+ghost use Rattle.tsb_walk.specs.Keeping.{KeepsWay};
 ghost use Rattle.tsb_walk.specs.Knowing.{ReadsWell, StandsKnown};
 ghost use Rattle.tsb_walk.specs.Looked.{GoesOnFrom, TellsFrom};
-ghost use Rattle.tsb_walk.specs.Ways.{ComesToDamage, ComesToUnknown};
+ghost use Rattle.tsb_walk.specs.Ways.{ComesToLeaf, ComesToDamage, ComesToUnknown};
 
 use crate::looks::{Found, KeyVersions, Reached, found_in, part_in, reached_in};
 use crate::walk::leaf_place;
@@ -37,7 +38,8 @@ fn fault_of(fault: ReadFault, block: u64) -> BlockError
 /// The next key from `from` on, itself included, that has a value as of the stamp, among the keys of a place in the past.
 ///
 /// It takes no lock, and waits for nothing but the disk. Where the block that it comes to isn't what its place asks, that
-/// block is called damaged.
+/// block is called damaged. A failure of the disk and want of memory refuse it too; where the reader keeps each block of the
+/// way the disk isn't asked, and want of memory is told only of a way that comes to a leaf.
 pub fn hist_next<O: OnceDisk + Drop>(
     reader: &mut ShelfReader<O>,
     seen: &mut O::Seen,
@@ -54,6 +56,9 @@ pub fn hist_next<O: OnceDisk + Drop>(
     ensures checked { ReadsWell O.OnceDisk reader.old seen.old → IfOk result (λ reached. ComesToTelling (O.known seen.old) (O.block_count (reader_disk reader.old)) from stamp place.now (TellsNext from stamp reached)) }
     ensures damaged { ReadsWell O.OnceDisk reader.old seen.old → (block : ℕ) → result ≡ Err (BlockError.Damaged block) → ComesToDamage (O.known seen.old) (O.block_count (reader_disk reader.old)) from stamp place.now block }
     ensures onward { IfOk result (GoesOnFrom from) }
+    ensures memory { KeepsWay O.OnceDisk reader.old seen.old from stamp place.now → result ≡ Err BlockError.OutOfMemory → ComesToLeaf (O.known seen.old) (O.block_count (reader_disk reader.old)) from stamp place.now }
+    ensures unread { KeepsWay O.OnceDisk reader.old seen.old from stamp place.now → seen.new ≡ seen.old }
+    ensures no_fault { KeepsWay O.OnceDisk reader.old seen.old from stamp place.now → result ≡ Err BlockError.Fault → ⊥ }
     ensures inside { KeepsInside O.OnceDisk reader.old → KeepsInside O.OnceDisk reader.new }
     ensures same { O.honest_seen (reader_disk reader.old) seen.old → O.known seen.new ≡ O.known seen.old }
     ensures disk { reader_disk reader.new ≡ reader_disk reader.old }
@@ -75,7 +80,7 @@ pub fn hist_next<O: OnceDisk + Drop>(
 
 /// The versions of the key from the stamp on, ends included, of a place in the past: all before the end that is told.
 ///
-/// It waits for nothing, and calls blocks damaged, as `hist_next` does.
+/// It waits for nothing but the disk, and is refused as `hist_next` is.
 pub fn hist_part<O: OnceDisk + Drop>(
     reader: &mut ShelfReader<O>,
     seen: &mut O::Seen,
@@ -92,6 +97,9 @@ pub fn hist_part<O: OnceDisk + Drop>(
     ensures checked { ReadsWell O.OnceDisk reader.old seen.old → IfOk result (λ part. ComesToTelling (O.known seen.old) (O.block_count (reader_disk reader.old)) key from place.now (TellsPart key from part)) }
     ensures damaged { ReadsWell O.OnceDisk reader.old seen.old → (block : ℕ) → result ≡ Err (BlockError.Damaged block) → ComesToDamage (O.known seen.old) (O.block_count (reader_disk reader.old)) key from place.now block }
     ensures told { IfOk result (TellsFrom from) }
+    ensures memory { KeepsWay O.OnceDisk reader.old seen.old key from place.now → result ≡ Err BlockError.OutOfMemory → ComesToLeaf (O.known seen.old) (O.block_count (reader_disk reader.old)) key from place.now }
+    ensures unread { KeepsWay O.OnceDisk reader.old seen.old key from place.now → seen.new ≡ seen.old }
+    ensures no_fault { KeepsWay O.OnceDisk reader.old seen.old key from place.now → result ≡ Err BlockError.Fault → ⊥ }
     ensures inside { KeepsInside O.OnceDisk reader.old → KeepsInside O.OnceDisk reader.new }
     ensures same { O.honest_seen (reader_disk reader.old) seen.old → O.known seen.new ≡ O.known seen.old }
     ensures disk { reader_disk reader.new ≡ reader_disk reader.old }
@@ -113,7 +121,7 @@ pub fn hist_part<O: OnceDisk + Drop>(
 
 /// What the key has as of the stamp, by a place in the past: its value, or none where it has none or has ended.
 ///
-/// It waits for nothing, and calls blocks damaged, as `hist_next` does.
+/// It waits for nothing but the disk, and is refused as `hist_next` is.
 pub fn hist_find<O: OnceDisk + Drop>(
     reader: &mut ShelfReader<O>,
     seen: &mut O::Seen,
@@ -129,6 +137,9 @@ pub fn hist_find<O: OnceDisk + Drop>(
     ensures reads_on { ReadsWell O.OnceDisk reader.old seen.old → ReadsWell O.OnceDisk reader.new seen.new ⊎ ComesToUnknown (O.known seen.old) (O.block_count (reader_disk reader.old)) key stamp place.now }
     ensures checked { ReadsWell O.OnceDisk reader.old seen.old → IfOk result (λ found. ComesToTelling (O.known seen.old) (O.block_count (reader_disk reader.old)) key stamp place.now (TellsFound key stamp found)) }
     ensures damaged { ReadsWell O.OnceDisk reader.old seen.old → (block : ℕ) → result ≡ Err (BlockError.Damaged block) → ComesToDamage (O.known seen.old) (O.block_count (reader_disk reader.old)) key stamp place.now block }
+    ensures memory { KeepsWay O.OnceDisk reader.old seen.old key stamp place.now → result ≡ Err BlockError.OutOfMemory → ComesToLeaf (O.known seen.old) (O.block_count (reader_disk reader.old)) key stamp place.now }
+    ensures unread { KeepsWay O.OnceDisk reader.old seen.old key stamp place.now → seen.new ≡ seen.old }
+    ensures no_fault { KeepsWay O.OnceDisk reader.old seen.old key stamp place.now → result ≡ Err BlockError.Fault → ⊥ }
     ensures inside { KeepsInside O.OnceDisk reader.old → KeepsInside O.OnceDisk reader.new }
     ensures same { O.honest_seen (reader_disk reader.old) seen.old → O.known seen.new ≡ O.known seen.old }
     ensures disk { reader_disk reader.new ≡ reader_disk reader.old }

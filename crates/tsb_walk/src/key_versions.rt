@@ -8,6 +8,7 @@ ghost use Rattle.version_model.specs.Looks.{IsPart};
 ghost use Rattle.version_model.specs.Entries.{versions_of};
 ghost use Rattle.version_model.specs.Pages.{Store};
 ghost use Rattle.tsb_walk.specs.AllVersions.{VersionsRefusal, IsPartOfTree, AreAllTold, MeetsUnknown, MeetsDamage};
+ghost use Rattle.tsb_walk.specs.Inside.{KeepsInside};
 ghost use Rattle.tsb_walk.specs.Knowing.{ReadsWell, AreKnown};
 ghost use Rattle.tsb_walk.specs.Looked.{TellsFrom};
 ghost use Rattle.tsb_walk.specs.PageLooks.{IsBadLook};
@@ -53,6 +54,7 @@ fn next_part<P: Pages, O: OnceDisk + Drop>(
     ensures checked { (start : Start) (shown : List (List ℕ)) → P.shows pages.old start shown → ReadsWell O.OnceDisk reader.old seen.old → IfOk result (IsPartOfTree shown (O.known seen.old) (O.block_count (reader_disk reader.old)) root.now key from) }
     ensures damaged { (start : Start) (shown : List (List ℕ)) → P.shows pages.old start shown → ReadsWell O.OnceDisk reader.old seen.old → (block : ℕ) → result ≡ Err (NodeError.Damaged block) → MeetsDamage shown (O.known seen.old) (O.block_count (reader_disk reader.old)) root.now key block }
     ensures bad { (start : Start) (shown : List (List ℕ)) → P.shows pages.old start shown → (page : ℕ) → result ≡ Err (NodeError.BadNode page) → IsBadLook shown root.now key from page }
+    ensures inside { KeepsInside O.OnceDisk reader.old → KeepsInside O.OnceDisk reader.new }
     ensures told { IfOk result (TellsFrom from) }
     ensures refused { IfErr result (VersionsRefusal (P.down pages.old)) }
     ensures same { OnlyReads P.Pages pages.old pages.new (result ≡ Err NodeError.Fault) }
@@ -76,8 +78,8 @@ fn next_part<P: Pages, O: OnceDisk + Drop>(
 /// All versions of the key, ends included, in the order of their stamps: those of the past part after part, then those of the
 /// current leaf.
 ///
-/// Pages are called bad, and left, as `next` does, and blocks are called damaged as `hist_next` does. Each part is told from where
-/// the one before it ended, so the look ends.
+/// It is refused, and leaves the pages, as `next` does, and as `hist_next` is. Each part is told from where the one before it
+/// ended, so the look ends.
 pub fn versions<P: Pages, O: OnceDisk + Drop>(
     pages: &mut P,
     reader: &mut ShelfReader<O>,
@@ -98,6 +100,8 @@ pub fn versions<P: Pages, O: OnceDisk + Drop>(
     ensures never { (start : Start) (shown : List (List ℕ)) → P.shows pages.old start shown → (s : Store) (all : List Version) → StandsShown shown s all root.now
         → ReadsWell O.OnceDisk reader.old seen.old → AreKnown (O.known seen.old) (O.block_count (reader_disk reader.old)) s.blocks
         → (block : ℕ) → result ≡ Err (NodeError.Damaged block) → ⊥ }
+    ensures reads_on { (start : Start) (shown : List (List ℕ)) → P.shows pages.old start shown → ReadsWell O.OnceDisk reader.old seen.old → ReadsWell O.OnceDisk reader.new seen.new ⊎ MeetsUnknown shown (O.known seen.old) (O.block_count (reader_disk reader.old)) root.now key }
+    ensures inside { KeepsInside O.OnceDisk reader.old → KeepsInside O.OnceDisk reader.new }
     ensures checked { (start : Start) (shown : List (List ℕ)) → P.shows pages.old start shown → ReadsWell O.OnceDisk reader.old seen.old
         → IfOk result (λ entries. AreAllTold shown (O.known seen.old) (O.block_count (reader_disk reader.old)) root.now key (versions_of entries.items) ⊎ MeetsUnknown shown (O.known seen.old) (O.block_count (reader_disk reader.old)) root.now key) }
     ensures damaged { (start : Start) (shown : List (List ℕ)) → P.shows pages.old start shown → ReadsWell O.OnceDisk reader.old seen.old → (block : ℕ) → result ≡ Err (NodeError.Damaged block) → MeetsDamage shown (O.known seen.old) (O.block_count (reader_disk reader.old)) root.now key block ⊎ MeetsUnknown shown (O.known seen.old) (O.block_count (reader_disk reader.old)) root.now key }

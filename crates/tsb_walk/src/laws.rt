@@ -33,7 +33,7 @@ pub fn looks_are_true_where_the_root_stands()
 {}
 
 /// Whatever the pages say, an answer and a bad page exclude each other: a way that comes to a column comes to no page that isn't what
-/// it is to be.
+/// it is to be. And of a look one page alone is bad.
 pub fn answers_and_bad_pages_exclude_each_other()
     ensures locate { (shown : List (List ℕ)) (root column : PagePlaceValue) (key page : ℕ) → PageWay shown key root column → column.level ≡ 1 → IsBadKeyNode shown root key page → ⊥ }
     ensures next { (shown : List (List ℕ)) (root : PagePlaceValue) (key stamp page : ℕ) (answer : LookedValue) → IsLookOf shown root key stamp answer
@@ -42,10 +42,13 @@ pub fn answers_and_bad_pages_exclude_each_other()
         → IsBadLook shown root key stamp page → ⊥ }
     ensures descended { (shown : List (List ℕ)) (root : PagePlaceValue) (key stamp page : ℕ) (answer : DescendedValue) → IsFoundLookOf shown root key stamp answer
         → IsBadLook shown root key stamp page → ⊥ }
+    ensures one_page { (shown : List (List ℕ)) (root : PagePlaceValue) (key stamp page other : ℕ) → IsBadLook shown root key stamp page
+        → IsBadLook shown root key stamp other → page ≡ other }
+    ensures one_key_node { (shown : List (List ℕ)) (root : PagePlaceValue) (key page other : ℕ) → IsBadKeyNode shown root key page → IsBadKeyNode shown root key other → page ≡ other }
 {}
 
 /// Where each block to which a way comes is known, an answer and a damaged block exclude each other: a way that comes to a leaf
-/// comes to no block that isn't what its place asks.
+/// comes to no block that isn't what its place asks. And one block alone is damaged.
 pub fn answers_and_damage_exclude_each_other()
     ensures leaf { (known : ℕ → Option (List ℕ)) (count key stamp block : ℕ) (first : PlaceValue) → AreKnownOnWay known count key stamp first
         → ComesToLeaf known count key stamp first → ComesToDamage known count key stamp first block → ⊥ }
@@ -55,4 +58,6 @@ pub fn answers_and_damage_exclude_each_other()
         → ComesToTelling known count key stamp first (TellsPart key stamp part) → ComesToDamage known count key stamp first block → ⊥ }
     ensures found { (known : ℕ → Option (List ℕ)) (count key stamp block : ℕ) (first : PlaceValue) (found : Option FoundValue) → AreKnownOnWay known count key stamp first
         → ComesToTelling known count key stamp first (TellsFound key stamp found) → ComesToDamage known count key stamp first block → ⊥ }
+    ensures one_block { (known : ℕ → Option (List ℕ)) (count key stamp block other : ℕ) (first : PlaceValue) → AreKnownOnWay known count key stamp first
+        → ComesToDamage known count key stamp first block → ComesToDamage known count key stamp first other → block ≡ other }
 {}

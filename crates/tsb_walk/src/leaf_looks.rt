@@ -34,6 +34,7 @@ pub fn reached_on(
     ensures reached { IfOk result (λ reached. (versions : List Version) × PageSays page.now (CurrentLeaf (keys_at column.now) start versions) × IsReached versions stamp from (reached_as reached)) }
     ensures border { IfOk result (ReachesTo (high_or column.now.high)) }
     ensures none { result ≡ Err ReadFault.NotANode → (versions : List Version) → PageSays page.now (CurrentLeaf (keys_at column.now) start versions) → ⊥ }
+    ensures memory { result ≡ Err ReadFault.Memory → (versions : List Version) × PageSays page.now (CurrentLeaf (keys_at column.now) start versions) }
 {
     stamp_fits(stamp);
     if !is_current_leaf(page, column, start) {
@@ -55,6 +56,7 @@ pub fn part_on(
     ensures part { IfOk result (λ part. (versions : List Version) × PageSays page.now (CurrentLeaf (keys_at column.now) start versions) × (versions_of part.entries.items ≡ filter (is_of key from stamp_end) versions)) }
     ensures told { IfOk result (λ part. part.told ≡ None) }
     ensures none { result ≡ Err ReadFault.NotANode → (versions : List Version) → PageSays page.now (CurrentLeaf (keys_at column.now) start versions) → ⊥ }
+    ensures memory { result ≡ Err ReadFault.Memory → (versions : List Version) × PageSays page.now (CurrentLeaf (keys_at column.now) start versions) }
 {
     key_fits(key);
     stamp_fits(from);
@@ -76,6 +78,7 @@ pub fn found_on(
 ) -> Result<Option<Found>, ReadFault>
     ensures found { IfOk result (λ found. (versions : List Version) × PageSays page.now (CurrentLeaf (keys_at column.now) start versions) × Answers versions key stamp (found_as found)) }
     ensures none { result ≡ Err ReadFault.NotANode → (versions : List Version) → PageSays page.now (CurrentLeaf (keys_at column.now) start versions) → ⊥ }
+    ensures memory { result ≡ Err ReadFault.Memory → (versions : List Version) × PageSays page.now (CurrentLeaf (keys_at column.now) start versions) }
 {
     if !is_current_leaf(page, column, start) {
         return Err(ReadFault::NotANode);

@@ -1,7 +1,9 @@
 //! Looks that begin at current pages. Those into the past answer the place in settled blocks where they go on.
 
-ghost use Rattle.std.specs.Prelude.{◌≡◌, ◌≤◌, ℕ, Bool, List, None, IfOk, IfErr, Err, filter};
+ghost use Rattle.std.specs.Prelude.{◌≡◌, ◌<◌, ◌≤◌, ℕ, Bool, List, None, IfOk, IfErr, Err, filter};
+ghost use Rattle.page_journal.specs.Recovers.{IsListed};
 ghost use Rattle.page_tx.specs.Start.{Start};
+ghost use Rattle.tsb_walk.specs.declared.page_place.PagePlace.{PagePlace as PagePlaceValue};
 ghost use Rattle.version_model.specs.Versions.{Version, Answers, IsRising};
 ghost use Rattle.version_model.specs.Ranges.{high_or, stamp_end};
 ghost use Rattle.version_model.specs.Looks.{IsReached, is_of};
@@ -12,8 +14,8 @@ ghost use Rattle.tsb_walk.specs.Borders.{ReachesTo};
 ghost use Rattle.tsb_walk.specs.Looked.{IsLooked, IsParted, IsDescended, GoesOnFrom, LooksOn, LooksAt, PartsAt, DescendsAt, TellsAll};
 ghost use Rattle.tsb_walk.specs.Shown.{Says, StandsShown, keys_at, HasKey};
 ghost use Rattle.tsb_walk.specs.PageWays.{IsNoColumn, IsNoLeaf};
-ghost use Rattle.tsb_walk.specs.PageLooks.{IsLookOf, IsPartLookOf, IsFoundLookOf, IsBadLook};
-ghost use Rattle.tsb_walk.specs.Refusals.{OnlyReads, WalkRefusal, LookRefusal};
+ghost use Rattle.tsb_walk.specs.PageLooks.{InCurrentLeaf, IsLookOf, IsPartLookOf, IsFoundLookOf, IsBadLook};
+ghost use Rattle.tsb_walk.specs.Refusals.{OnlyReads, WalkRefusal, LookRefusal, IsDamage};
 ghost use Rattle.tsb_walk.specs.inner.ColumnSpots.{IsSpotAt, IsThere, HasPoint};
 
 use crate::error::NodeError;
@@ -46,6 +48,7 @@ fn spot_at<P: Pages>(
     ensures spot { (start : Start) (shown : List (List ℕ)) → P.shows pages.old start shown → IfOk result (IsSpotAt shown column.now key stamp) }
     ensures point { IfOk result (HasPoint key stamp) }
     ensures bad { (start : Start) (shown : List (List ℕ)) → P.shows pages.old start shown → (page : ℕ) → result ≡ Err (NodeError.BadNode page) → (column.now.page ≡ page) × IsNoColumn shown column.now }
+    ensures held { (column.now.page < P.homes pages.old → IsListed column.now.page (P.named pages.old)) → IfErr result IsDamage }
     ensures refused { IfErr result (WalkRefusal (P.down pages.old)) }
     ensures same { OnlyReads P.Pages pages.old pages.new (result ≡ Err NodeError.Fault) }
 {
@@ -72,6 +75,7 @@ fn column_at<P: Pages>(
     ensures has { IfOk result (λ at. HasKey at.column key) }
     ensures point { IfOk result (λ at. HasPoint key stamp at.spot) }
     ensures bad { (start : Start) (shown : List (List ℕ)) → P.shows pages.old start shown → (page : ℕ) → result ≡ Err (NodeError.BadNode page) → IsBadLook shown root.now key stamp page }
+    ensures held { ((n : ℕ) → n < P.homes pages.old → IsListed n (P.named pages.old)) → IfErr result IsDamage }
     ensures refused { IfErr result (WalkRefusal (P.down pages.old)) }
     ensures same { OnlyReads P.Pages pages.old pages.new (result ≡ Err NodeError.Fault) }
 {
@@ -107,6 +111,8 @@ fn next_here<P: Pages>(
     ensures border { IfOk result (ReachesTo (high_or column.now.high)) }
     ensures onward { IfOk result (GoesOnFrom from) }
     ensures bad { (start : Start) (shown : List (List ℕ)) → P.shows pages.old start shown → (page : ℕ) → result ≡ Err (NodeError.BadNode page) → (current.now.page ≡ page) × IsNoLeaf shown column.now current.now.start page }
+    ensures memory { (start : Start) (shown : List (List ℕ)) → P.shows pages.old start shown → (current.now.page < P.homes pages.old → IsListed current.now.page (P.named pages.old)) → result ≡ Err NodeError.OutOfMemory
+        → (versions : List Version) × Says shown current.now.page (CurrentLeaf (keys_at column.now) current.now.start versions) }
     ensures refused { IfErr result (LookRefusal (P.down pages.old)) }
     ensures same { OnlyReads P.Pages pages.old pages.new (result ≡ Err NodeError.Fault) }
 {
@@ -133,6 +139,8 @@ fn part_here<P: Pages>(
     ensures part { (start : Start) (shown : List (List ℕ)) → P.shows pages.old start shown → IfOk result (λ part. (versions : List Version) × Says shown current.now.page (CurrentLeaf (keys_at column.now) current.now.start versions) × (versions_of part.entries.items ≡ filter (is_of key from stamp_end) versions)) }
     ensures told { IfOk result (λ part. part.told ≡ None) }
     ensures bad { (start : Start) (shown : List (List ℕ)) → P.shows pages.old start shown → (page : ℕ) → result ≡ Err (NodeError.BadNode page) → (current.now.page ≡ page) × IsNoLeaf shown column.now current.now.start page }
+    ensures memory { (start : Start) (shown : List (List ℕ)) → P.shows pages.old start shown → (current.now.page < P.homes pages.old → IsListed current.now.page (P.named pages.old)) → result ≡ Err NodeError.OutOfMemory
+        → (versions : List Version) × Says shown current.now.page (CurrentLeaf (keys_at column.now) current.now.start versions) }
     ensures refused { IfErr result (LookRefusal (P.down pages.old)) }
     ensures same { OnlyReads P.Pages pages.old pages.new (result ≡ Err NodeError.Fault) }
 {
@@ -158,6 +166,8 @@ fn found_here<P: Pages>(
     requires has { HasKey column.now key }
     ensures found { (start : Start) (shown : List (List ℕ)) → P.shows pages.old start shown → IfOk result (λ found. (versions : List Version) × Says shown current.now.page (CurrentLeaf (keys_at column.now) current.now.start versions) × Answers versions key stamp (found_as found)) }
     ensures bad { (start : Start) (shown : List (List ℕ)) → P.shows pages.old start shown → (page : ℕ) → result ≡ Err (NodeError.BadNode page) → (current.now.page ≡ page) × IsNoLeaf shown column.now current.now.start page }
+    ensures memory { (start : Start) (shown : List (List ℕ)) → P.shows pages.old start shown → (current.now.page < P.homes pages.old → IsListed current.now.page (P.named pages.old)) → result ≡ Err NodeError.OutOfMemory
+        → (versions : List Version) × Says shown current.now.page (CurrentLeaf (keys_at column.now) current.now.start versions) }
     ensures refused { IfErr result (LookRefusal (P.down pages.old)) }
     ensures same { OnlyReads P.Pages pages.old pages.new (result ≡ Err NodeError.Fault) }
 {
@@ -175,7 +185,8 @@ fn found_here<P: Pages>(
 /// or the place in the past where it is looked for.
 ///
 /// The first page on the way that isn't what it is to be is called bad: a key node, the column, or its current leaf where the
-/// stamp lies in it. Pages are only read, whatever is answered.
+/// stamp lies in it. A failure of the disk, the need of opening and want of memory refuse it too; where images of the pages are
+/// held, want of memory is told only where the current leaf is what it is to be. Pages are only read, whatever is answered.
 pub fn next<P: Pages>(
     pages: &mut P,
     alloc: Global,
@@ -191,6 +202,8 @@ pub fn next<P: Pages>(
     ensures blames { (start : Start) (shown : List (List ℕ)) → P.shows pages.old start shown → (s : Store) (all : List Version) → StandsShown shown s all root.now → (page : ℕ) → result ≡ Err (NodeError.BadNode page) → ⊥ }
     ensures point { IfOk result (LooksAt from stamp) }
     ensures onward { IfOk result (LooksOn from) }
+    ensures memory { (start : Start) (shown : List (List ℕ)) → P.shows pages.old start shown → ((n : ℕ) → n < P.homes pages.old → IsListed n (P.named pages.old)) → result ≡ Err NodeError.OutOfMemory
+        → (column : PagePlaceValue) × (versions : List Version) × InCurrentLeaf shown root.now from stamp column versions }
     ensures refused { IfErr result (LookRefusal (P.down pages.old)) }
     ensures same { OnlyReads P.Pages pages.old pages.new (result ≡ Err NodeError.Fault) }
 {
@@ -208,7 +221,7 @@ pub fn next<P: Pages>(
 /// The versions of the key from the stamp on, ends included: all that there are, where the current leaf has them; or the place in
 /// the past where the first of them are looked for.
 ///
-/// Pages are called bad, and left, as `next` does.
+/// It is refused, and leaves the pages, as `next` does.
 pub fn part<P: Pages>(
     pages: &mut P,
     alloc: Global,
@@ -224,6 +237,8 @@ pub fn part<P: Pages>(
     ensures blames { (start : Start) (shown : List (List ℕ)) → P.shows pages.old start shown → (s : Store) (all : List Version) → StandsShown shown s all root.now → (page : ℕ) → result ≡ Err (NodeError.BadNode page) → ⊥ }
     ensures point { IfOk result (PartsAt key from) }
     ensures told { IfOk result TellsAll }
+    ensures memory { (start : Start) (shown : List (List ℕ)) → P.shows pages.old start shown → ((n : ℕ) → n < P.homes pages.old → IsListed n (P.named pages.old)) → result ≡ Err NodeError.OutOfMemory
+        → (column : PagePlaceValue) × (versions : List Version) × InCurrentLeaf shown root.now key from column versions }
     ensures refused { IfErr result (LookRefusal (P.down pages.old)) }
     ensures same { OnlyReads P.Pages pages.old pages.new (result ≡ Err NodeError.Fault) }
 {
@@ -240,7 +255,7 @@ pub fn part<P: Pages>(
 
 /// What the key has as of the stamp, none where it has no value then or has ended; or the place in the past where it is looked for.
 ///
-/// Pages are called bad, and left, as `next` does.
+/// It is refused, and leaves the pages, as `next` does.
 pub fn descend<P: Pages>(
     pages: &mut P,
     alloc: Global,
@@ -255,6 +270,8 @@ pub fn descend<P: Pages>(
     ensures bad { (start : Start) (shown : List (List ℕ)) → P.shows pages.old start shown → (page : ℕ) → result ≡ Err (NodeError.BadNode page) → IsBadLook shown root.now key stamp page }
     ensures blames { (start : Start) (shown : List (List ℕ)) → P.shows pages.old start shown → (s : Store) (all : List Version) → StandsShown shown s all root.now → (page : ℕ) → result ≡ Err (NodeError.BadNode page) → ⊥ }
     ensures point { IfOk result (DescendsAt key stamp) }
+    ensures memory { (start : Start) (shown : List (List ℕ)) → P.shows pages.old start shown → ((n : ℕ) → n < P.homes pages.old → IsListed n (P.named pages.old)) → result ≡ Err NodeError.OutOfMemory
+        → (column : PagePlaceValue) × (versions : List Version) × InCurrentLeaf shown root.now key stamp column versions }
     ensures refused { IfErr result (LookRefusal (P.down pages.old)) }
     ensures same { OnlyReads P.Pages pages.old pages.new (result ≡ Err NodeError.Fault) }
 {

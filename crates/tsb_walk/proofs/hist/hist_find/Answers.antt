@@ -1,10 +1,11 @@
 use Rattle.std.proofs.Common.{rules, ◌≡◌, ◌∙◌, ap, Err}
-use Rattle.once_store.specs.declared.error.BlockError.TheVariants.{Damaged}
+use Rattle.once_store.specs.declared.error.BlockError.TheVariants.{Damaged, Fault, OutOfMemory}
 use Rattle.version_model.specs.Ranges.{range_of}
 use Rattle.tsb_walk.specs.HistLooks.{TellsFound}
 use Rattle.once_store.specs.Readers.{reader_disk}
 use Rattle.version_model.proofs.api.Shown.{answers_shown}
 use Rattle.tsb_walk.specs.Answers.{found_as}
+use Rattle.tsb_walk.proofs.Keeping.{arrived_leaf, never_other}
 use Rattle.tsb_walk.proofs.Arriving.{leaf_kept, tied, no_damage}
 use Rattle.tsb_walk.proofs.hist.hist_find.Goals as goal
 
@@ -54,3 +55,33 @@ returns-in-Ok-clause-inside g c = c.leaf_place.ensures.inside
 
 pub returns-in-Err-clause-inside : goal.returns-in-Err-clause-inside
 returns-in-Err-clause-inside g c = c.leaf_place.ensures.inside
+
+pub returns-in_err-last-clause-memory : goal.returns-in_err-last-clause-memory
+returns-in_err-last-clause-memory g c = λ keeps e.
+    let d : c.leaf_place.result ≡ Err OutOfMemory = search rules in
+    absurd (never_other c.leaf_place.result OutOfMemory d (λ m. λ same. absurd (cc)) (c.leaf_place.ensures.kept_on_way keeps))
+
+pub returns-in_err-last-clause-no_fault : goal.returns-in_err-last-clause-no_fault
+returns-in_err-last-clause-no_fault g c = λ keeps e.
+    let d : c.leaf_place.result ≡ Err Fault = search rules in
+    never_other c.leaf_place.result Fault d (λ m. λ same. absurd (cc)) (c.leaf_place.ensures.kept_on_way keeps)
+
+pub returns-in-Err-clause-memory : goal.returns-in-Err-clause-memory
+returns-in-Err-clause-memory g c = λ keeps e. arrived_leaf g.O.OnceDisk c.leaf_place.new.reader (g.O.OnceDisk.known c.args.seen.now) (g.O.OnceDisk.block_count (reader_disk c.args.reader.now)) c.args.key c.args.stamp c.args.place.now c.in_ok-last.last (c.in_ok-last.ensures.arrives keeps.well)
+
+pub returns-in_err-last-clause-unread : goal.returns-in_err-last-clause-unread
+returns-in_err-last-clause-unread g c = c.leaf_place.ensures.unread
+
+pub returns-in_default-clause-unread : goal.returns-in_default-clause-unread
+returns-in_default-clause-unread g c = c.leaf_place.ensures.unread
+
+pub returns-in-Ok-clause-unread : goal.returns-in-Ok-clause-unread
+returns-in-Ok-clause-unread g c = c.leaf_place.ensures.unread
+
+pub returns-in-Err-clause-unread : goal.returns-in-Err-clause-unread
+returns-in-Err-clause-unread g c = c.leaf_place.ensures.unread
+
+pub returns-in-Err-clause-no_fault : goal.returns-in-Err-clause-no_fault
+returns-in-Err-clause-no_fault g c = λ keeps e.
+    let d : c.fault_of.result ≡ Fault = search rules in
+    c.fault_of.ensures.never d

@@ -57,3 +57,15 @@ returns-in_ok-part-in-InBlock-clause-reads_on g c = λ start shown shows well.
       | inl on ↦ inl on
       | inr lost ↦ inr (record { from = c.args.from; place = c.in-InBlock.place; past = past; unknown = lost })
     ]
+
+pub returns-in_err-part-clause-inside : goal.returns-in_err-part-clause-inside
+returns-in_err-part-clause-inside g c = λ k. k
+
+pub returns-in-Here-clause-inside : goal.returns-in-Here-clause-inside
+returns-in-Here-clause-inside g c = λ k. k
+
+pub returns-in_err-part-in-InBlock-clause-inside : goal.returns-in_err-part-in-InBlock-clause-inside
+returns-in_err-part-in-InBlock-clause-inside g c = c.hist_part.ensures.inside
+
+pub returns-in_ok-part-in-InBlock-clause-inside : goal.returns-in_ok-part-in-InBlock-clause-inside
+returns-in_ok-part-in-InBlock-clause-inside g c = c.hist_part.ensures.inside

@@ -17,6 +17,7 @@ loop-all-init g c = record {
   told = λ start shown shows s all rising st well known. none_gathered c.args.key c.new-from.result all c.new-all.result.items c.new-all.ensures.items c.new-from.ensures.number;
   reads = λ start shown shows s all st well known. well;
   made = λ start shown shows well. inl (none_yet shown (g.O.OnceDisk.known c.args.seen.now) (g.O.OnceDisk.block_count (reader_disk c.args.reader.now)) c.args.root.now c.args.key c.new-from.result c.new-all.result.items c.new-all.ensures.items c.new-from.ensures.number, well);
+  inside = λ k. k;
   known = λ h. refl;
   disk = refl;
   capacity = refl;
@@ -76,6 +77,7 @@ loop-all-preserved g c =
             ]
             | inr lost ↦ inr lost
           ];
+      inside = λ k. c.in_ok-part.ensures.inside (i.inside k);
       known = λ h. c.in_ok-part.ensures.known (subst (λ d. H d c.loop-all.seen) (sym i.disk) (i.honest.0 h)) ∙ i.known h;
       disk = c.in_ok-part.ensures.disk ∙ i.disk;
       capacity = c.in_ok-part.ensures.capacity ∙ i.capacity;
@@ -114,3 +116,66 @@ returns-in_err-part-clause-damaged g c = λ start shown shows well block e.
       | inl there ↦ inl (by_same K' K N' N (λ f n. MeetsDamage shown f n c.args.root.now c.args.key block) same counts (c.next_part.ensures.damaged start shown shows' there.1 block d))
       | inr lost ↦ inr lost
     ]
+
+pub returns-in_err-part-clause-reads_on : goal.returns-in_err-part-clause-reads_on
+returns-in_err-part-clause-reads_on g c = λ start shown shows well.
+    let i = c.loop-all.invariant in
+    let shows' = i.pages.shown start shown shows in
+    let K = g.O.OnceDisk.known c.args.seen.now in
+    let N = g.O.OnceDisk.block_count (reader_disk c.args.reader.now) in
+    let K' = g.O.OnceDisk.known c.loop-all.seen in
+    let N' = g.O.OnceDisk.block_count (reader_disk c.loop-all.reader) in
+    let same = i.known well.honest in
+    let counts : N' ≡ N = ap g.O.OnceDisk.block_count i.disk in
+    elim (i.made start shown shows well) [
+      | inl there ↦ elim (c.next_part.ensures.reads_on start shown shows' there.1) [
+        | inl on ↦ inl on
+        | inr lost ↦ inr (by_same K' K N' N (λ f n. MeetsUnknown shown f n c.args.root.now c.args.key) same counts lost)
+      ]
+      | inr lost ↦ inr lost
+    ]
+
+pub returns-in_err-part-clause-inside : goal.returns-in_err-part-clause-inside
+returns-in_err-part-clause-inside g c = λ k. c.next_part.ensures.inside (c.loop-all.invariant.inside k)
+
+pub returns-in_err-append-clause-reads_on : goal.returns-in_err-append-clause-reads_on
+returns-in_err-append-clause-reads_on g c = λ start shown shows well.
+    let i = c.loop-all.invariant in
+    let shows' = i.pages.shown start shown shows in
+    let K = g.O.OnceDisk.known c.args.seen.now in
+    let N = g.O.OnceDisk.block_count (reader_disk c.args.reader.now) in
+    let K' = g.O.OnceDisk.known c.loop-all.seen in
+    let N' = g.O.OnceDisk.block_count (reader_disk c.loop-all.reader) in
+    let same = i.known well.honest in
+    let counts : N' ≡ N = ap g.O.OnceDisk.block_count i.disk in
+    elim (i.made start shown shows well) [
+      | inl there ↦ elim (c.next_part.ensures.reads_on start shown shows' there.1) [
+        | inl on ↦ inl on
+        | inr lost ↦ inr (by_same K' K N' N (λ f n. MeetsUnknown shown f n c.args.root.now c.args.key) same counts lost)
+      ]
+      | inr lost ↦ inr lost
+    ]
+
+pub returns-in_err-append-clause-inside : goal.returns-in_err-append-clause-inside
+returns-in_err-append-clause-inside g c = λ k. c.next_part.ensures.inside (c.loop-all.invariant.inside k)
+
+pub returns-in-None-clause-reads_on : goal.returns-in-None-clause-reads_on
+returns-in-None-clause-reads_on g c = λ start shown shows well.
+    let i = c.loop-all.invariant in
+    let shows' = i.pages.shown start shown shows in
+    let K = g.O.OnceDisk.known c.args.seen.now in
+    let N = g.O.OnceDisk.block_count (reader_disk c.args.reader.now) in
+    let K' = g.O.OnceDisk.known c.loop-all.seen in
+    let N' = g.O.OnceDisk.block_count (reader_disk c.loop-all.reader) in
+    let same = i.known well.honest in
+    let counts : N' ≡ N = ap g.O.OnceDisk.block_count i.disk in
+    elim (i.made start shown shows well) [
+      | inl there ↦ elim (c.next_part.ensures.reads_on start shown shows' there.1) [
+        | inl on ↦ inl on
+        | inr lost ↦ inr (by_same K' K N' N (λ f n. MeetsUnknown shown f n c.args.root.now c.args.key) same counts lost)
+      ]
+      | inr lost ↦ inr lost
+    ]
+
+pub returns-in-None-clause-inside : goal.returns-in-None-clause-inside
+returns-in-None-clause-inside g c = λ k. c.next_part.ensures.inside (c.loop-all.invariant.inside k)

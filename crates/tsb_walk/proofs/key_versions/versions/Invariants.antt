@@ -7,6 +7,7 @@ use Rattle.version_model.specs.Looks.{is_of}
 use Rattle.version_model.specs.Entries.{versions_of}
 use Rattle.version_model.specs.Pages.{Store}
 use Rattle.tsb_walk.specs.AllVersions.{AreTold, MeetsUnknown}
+use Rattle.tsb_walk.specs.Inside.{KeepsInside}
 use Rattle.tsb_walk.specs.Knowing.{ReadsWell, AreKnown}
 use Rattle.tsb_walk.specs.Refusals.{OnlyReads}
 use Rattle.tsb_walk.specs.Shown.{StandsShown}
@@ -24,6 +25,7 @@ invariant-loop-all g l = record {
   made : (start : Start) (shown : List (List ℕ)) → g.P.Pages.shows l.initial.pages start shown → ReadsWell g.O.OnceDisk l.initial.reader l.initial.seen
       → (AreTold shown (g.O.OnceDisk.known l.initial.seen) (g.O.OnceDisk.block_count (reader_disk l.initial.reader)) l.root l.key l.from (versions_of l.all.items) × ReadsWell g.O.OnceDisk l.reader l.seen)
       ⊎ MeetsUnknown shown (g.O.OnceDisk.known l.initial.seen) (g.O.OnceDisk.block_count (reader_disk l.initial.reader)) l.root l.key;
+  inside : KeepsInside g.O.OnceDisk l.initial.reader → KeepsInside g.O.OnceDisk l.reader;
   known : g.O.OnceDisk.honest_seen (reader_disk l.initial.reader) l.initial.seen → g.O.OnceDisk.known l.seen ≡ g.O.OnceDisk.known l.initial.seen;
   disk : reader_disk l.reader ≡ reader_disk l.initial.reader;
   capacity : capacity_of l.reader ≡ capacity_of l.initial.reader;

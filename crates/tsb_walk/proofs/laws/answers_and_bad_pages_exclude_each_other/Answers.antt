@@ -7,7 +7,7 @@ use Rattle.tsb_walk.specs.declared.looks.Parted.{Parted}
 use Rattle.tsb_walk.specs.declared.looks.Parted.TheVariants as parted
 use Rattle.tsb_walk.specs.declared.page_place.PagePlace.{PagePlace}
 use Rattle.tsb_walk.specs.PageLooks.{IsLookOf, IsPartLookOf, IsFoundLookOf, IsBadLook}
-use Rattle.tsb_walk.proofs.PageWaysMeet.{way_excludes, leaf_excludes, past_excludes}
+use Rattle.tsb_walk.proofs.PageWaysMeet.{way_excludes, leaf_excludes, past_excludes, bad_one, bad_node_one}
 use Rattle.tsb_walk.proofs.laws.answers_and_bad_pages_exclude_each_other.Goals as goal
 
 pub returns-clause-locate : goal.returns-clause-locate
@@ -33,3 +33,9 @@ returns-clause-part c = λ shown root key stamp page answer is bad. part_exclude
 
 pub returns-clause-descended : goal.returns-clause-descended
 returns-clause-descended c = λ shown root key stamp page answer is bad. found_excludes shown root key stamp page answer is bad
+
+pub returns-clause-one_page : goal.returns-clause-one_page
+returns-clause-one_page c = λ shown root key stamp page other is also. bad_one shown root key stamp page other is also
+
+pub returns-clause-one_key_node : goal.returns-clause-one_key_node
+returns-clause-one_key_node c = λ shown root key page other is also. bad_node_one shown root key page other is also

@@ -23,3 +23,6 @@ pub returns-clause-none : goal.returns-clause-none
 returns-clause-none c = λ e versions says.
     let leaf = begun_leaf c.args.page.now _ says (keys_at c.args.column.now) c.args.start versions refl in
     c.found_in.ensures.leaf leaf.leaf (subst (BeginsAsLeaf leaf.leaf) (sym c.octets.ensures.value) leaf.begins) e
+
+pub returns-clause-memory : goal.returns-clause-memory
+returns-clause-memory c = λ e. c.is_current_leaf.ensures.0 (cc c.if-not-is_current_leaf.false)

@@ -1,6 +1,10 @@
-use Rattle.std.proofs.Common.{rules, ◌≡◌, ◌<◌, Err, arith}
+use Rattle.std.proofs.Common.{rules, ◌≡◌, ◌<◌, Err, arith, subst, sym, Result, IfErr}
+use Rattle.page_journal.specs.Recovers.{IsListed}
 use Rattle.version_model.specs.Ranges.{stamp_end}
-use Rattle.tsb_walk.specs.declared.error.NodeError.TheVariants.{BadNode}
+use Rattle.tsb_walk.specs.Refusals.{IsDamage}
+use Rattle.tsb_walk.specs.declared.error.NodeError.{NodeError}
+use Rattle.tsb_walk.specs.declared.page_looks.ColumnAt.{ColumnAt}
+use Rattle.tsb_walk.specs.declared.error.NodeError.TheVariants.{BadNode, OutOfMemory}
 use Rattle.tsb_walk.specs.declared.looks.Descended.TheVariants as descended
 use Rattle.tsb_walk.proofs.PageWalking.{in_leaf, in_past, bad_here}
 use Rattle.tsb_walk.proofs.PageStanding.{descended_stands, none_bad}
@@ -37,3 +41,16 @@ returns-in-InPast-clause-descended g c = λ start shown shows s all st.
     let fits : c.args.stamp < stamp_end = omega (arith, c.stamp_fits.ensures.fits) in
     let past = in_past shown c.args.root.now c.args.key c.args.stamp c.in_ok-at.at (c.in_ok-at.ensures.there start shown shows) c.in-InPast.place c.in-InPast.is in
     descended_stands shown s all c.args.root.now c.args.key c.args.stamp (descended.InBlock c.in-InPast.place) fits past st
+
+pub returns-in_err-at-clause-memory : goal.returns-in_err-at-clause-memory
+returns-in_err-at-clause-memory g c = λ start shown shows listed e.
+    let d : c.column_at.result ≡ Err OutOfMemory = search rules in
+    absurd (subst (λ (r : Result ColumnAt NodeError). IfErr r IsDamage) d (c.column_at.ensures.held listed))
+
+pub returns-in_err-answer-in-InLeaf-clause-memory : goal.returns-in_err-answer-in-InLeaf-clause-memory
+returns-in_err-answer-in-InLeaf-clause-memory g c = λ start shown shows listed e.
+    let d : c.found_here.result ≡ Err OutOfMemory = search rules in
+    let same = c.column_at.ensures.same in
+    let page = c.in-InLeaf.current.page in
+    let m = c.found_here.ensures.memory start shown (same.shown start shown shows) (λ inside. subst (IsListed page) (sym same.named) (listed page (omega (arith, inside, same.homes)))) d in
+    (c.in_ok-at.at.column, m.0, in_leaf shown c.args.root.now c.args.key c.args.stamp c.in_ok-at.at (c.in_ok-at.ensures.there start shown shows) c.in-InLeaf.current c.in-InLeaf.is m.0 m.1)

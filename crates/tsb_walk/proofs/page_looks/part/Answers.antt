@@ -1,6 +1,10 @@
-use Rattle.std.proofs.Common.{rules, ◌≡◌, ◌<◌, Err, arith}
+use Rattle.std.proofs.Common.{rules, ◌≡◌, ◌<◌, Err, arith, subst, sym, Result, IfErr}
+use Rattle.page_journal.specs.Recovers.{IsListed}
 use Rattle.version_model.specs.Ranges.{stamp_end}
-use Rattle.tsb_walk.specs.declared.error.NodeError.TheVariants.{BadNode}
+use Rattle.tsb_walk.specs.Refusals.{IsDamage}
+use Rattle.tsb_walk.specs.declared.error.NodeError.{NodeError}
+use Rattle.tsb_walk.specs.declared.page_looks.ColumnAt.{ColumnAt}
+use Rattle.tsb_walk.specs.declared.error.NodeError.TheVariants.{BadNode, OutOfMemory}
 use Rattle.tsb_walk.specs.declared.looks.Parted.TheVariants as parted
 use Rattle.tsb_walk.proofs.PageWalking.{in_leaf, in_past, bad_here}
 use Rattle.tsb_walk.proofs.PageStanding.{parted_stands, none_bad}
@@ -37,3 +41,16 @@ returns-in-InPast-clause-part g c = λ start shown shows s all rising st.
     let fits : c.args.from < stamp_end = omega (arith, c.stamp_fits.ensures.fits) in
     let past = in_past shown c.args.root.now c.args.key c.args.from c.in_ok-at.at (c.in_ok-at.ensures.there start shown shows) c.in-InPast.place c.in-InPast.is in
     parted_stands shown s all c.args.root.now c.args.key c.args.from (parted.InBlock c.in-InPast.place) fits rising past st
+
+pub returns-in_err-at-clause-memory : goal.returns-in_err-at-clause-memory
+returns-in_err-at-clause-memory g c = λ start shown shows listed e.
+    let d : c.column_at.result ≡ Err OutOfMemory = search rules in
+    absurd (subst (λ (r : Result ColumnAt NodeError). IfErr r IsDamage) d (c.column_at.ensures.held listed))
+
+pub returns-in_err-answer-in-InLeaf-clause-memory : goal.returns-in_err-answer-in-InLeaf-clause-memory
+returns-in_err-answer-in-InLeaf-clause-memory g c = λ start shown shows listed e.
+    let d : c.part_here.result ≡ Err OutOfMemory = search rules in
+    let same = c.column_at.ensures.same in
+    let page = c.in-InLeaf.current.page in
+    let m = c.part_here.ensures.memory start shown (same.shown start shown shows) (λ inside. subst (IsListed page) (sym same.named) (listed page (omega (arith, inside, same.homes)))) d in
+    (c.in_ok-at.at.column, m.0, in_leaf shown c.args.root.now c.args.key c.args.from c.in_ok-at.at (c.in_ok-at.ensures.there start shown shows) c.in-InLeaf.current c.in-InLeaf.is m.0 m.1)

@@ -1,9 +1,13 @@
-use Rattle.std.proofs.Common.{rules, ◌≡◌, ◌∙◌, ℕ, List, Err, refl, sym, subst}
+use Rattle.std.proofs.Common.{rules, ◌≡◌, ◌∙◌, ℕ, List, Result, Err, IfErr, refl, sym, subst}
+use Rattle.once_store.specs.declared.error.BlockError.{BlockError}
 use Rattle.once_store.specs.declared.error.BlockError.TheVariants.{Damaged}
 use Rattle.once_store.specs.Readers.{IsKept, reader_disk}
 use Rattle.version_model.specs.Versions.{Version}
+use Rattle.version_model.specs.declared.part.Place.{Place}
+use Rattle.tsb_walk.specs.declared.block.Step.{Step}
 use Rattle.tsb_walk.specs.Ways.{IsFit, IsLeafFor}
 use Rattle.tsb_walk.specs.inner.Steps.{IsStep, GoesDown}
+use Rattle.tsb_walk.proofs.Keeping.{way_kept}
 use Rattle.tsb_walk.proofs.Walking.{only_kept, place_block, place_fit, stands_on, has_leaf, walk_starts, walk_on, comes, reads_or, honest_on}
 use Rattle.tsb_walk.proofs.walk.leaf_place.Goals as goal
 
@@ -13,6 +17,7 @@ loop-at-init g c = record {
   walked = walk_starts g.O.OnceDisk c.args.key c.args.stamp c.args.place.now c.args.reader.now c.args.seen.now;
   stands = λ all stands. stands;
   inside = λ k. k;
+  stays = λ keeps. (refl, λ m other k. k);
   same = λ h. refl;
   disk = refl;
   capacity = refl;
@@ -81,6 +86,12 @@ loop-at-preserved g c =
           (λ octets is. subst (IsStep c.loop-at.at octets c.args.key c.args.stamp) c.in-Further.is (c.in_ok-take_step.ensures.step now.well octets is))
           (λ octets is. c.take_step.ensures.reads now.well octets is);
       inside = λ k. c.take_step.ensures.inside (i.inside k);
+      stays = λ keeps.
+          let i = c.loop-at.invariant in
+          let was = i.stays keeps in
+          let k = way_kept g.O.OnceDisk c.args.key c.args.stamp c.args.place.now c.args.reader.now c.loop-at.reader c.args.seen.now c.loop-at.seen c.loop-at.at i.walked keeps in
+          let here = was.1 c.loop-at.at.part.block k.0 k.1 in
+          (c.take_step.ensures.unread k.0 here ∙ was.0, λ m other o. c.take_step.ensures.all k.0 here m other (was.1 m other o));
       same = λ h. c.take_step.ensures.same (subst (λ d. H d c.loop-at.seen) (sym i.disk) (i.honest.0 h)) ∙ i.same h;
       disk = c.take_step.ensures.disk ∙ i.disk;
       capacity = c.take_step.ensures.capacity ∙ i.capacity;
@@ -105,3 +116,27 @@ returns-in_err-take_step-clause-inside g c = λ k. c.take_step.ensures.inside (c
 
 pub returns-in-InLeaf-clause-inside : goal.returns-in-InLeaf-clause-inside
 returns-in-InLeaf-clause-inside g c = λ k. c.take_step.ensures.inside (c.loop-at.invariant.inside k)
+
+pub returns-in_err-take_step-clause-unread : goal.returns-in_err-take_step-clause-unread
+returns-in_err-take_step-clause-unread g c = λ keeps.
+    let i = c.loop-at.invariant in
+    let was = i.stays keeps in
+    let k = way_kept g.O.OnceDisk c.args.key c.args.stamp c.args.place.now c.args.reader.now c.loop-at.reader c.args.seen.now c.loop-at.seen c.loop-at.at i.walked keeps in
+    c.take_step.ensures.unread k.0 (was.1 c.loop-at.at.part.block k.0 k.1) ∙ was.0
+
+pub returns-in-InLeaf-clause-unread : goal.returns-in-InLeaf-clause-unread
+returns-in-InLeaf-clause-unread g c = λ keeps.
+    let i = c.loop-at.invariant in
+    let was = i.stays keeps in
+    let k = way_kept g.O.OnceDisk c.args.key c.args.stamp c.args.place.now c.args.reader.now c.loop-at.reader c.args.seen.now c.loop-at.seen c.loop-at.at i.walked keeps in
+    c.take_step.ensures.unread k.0 (was.1 c.loop-at.at.part.block k.0 k.1) ∙ was.0
+
+pub returns-in_err-take_step-clause-kept_on_way : goal.returns-in_err-take_step-clause-kept_on_way
+returns-in_err-take_step-clause-kept_on_way g c = λ keeps.
+    let i = c.loop-at.invariant in
+    let was = i.stays keeps in
+    let k = way_kept g.O.OnceDisk c.args.key c.args.stamp c.args.place.now c.args.reader.now c.loop-at.reader c.args.seen.now c.loop-at.seen c.loop-at.at i.walked keeps in
+    let hit = c.take_step.ensures.hit k.0 (was.1 c.loop-at.at.part.block k.0 k.1) in
+    let e : c.in_err-take_step.field-0.0 ≡ Damaged c.loop-at.at.part.block = subst (λ (r : Result Step BlockError). IfErr r (λ e. e ≡ Damaged c.loop-at.at.part.block)) c.in_err-take_step.was hit in
+    let d : c.from_residual.result ≡ Err c.in_err-take_step.field-0.0 = search rules in
+    subst (λ (r : Result Place BlockError). IfErr r (λ e. (m : ℕ) × (e ≡ Damaged m))) (sym d) (c.loop-at.at.part.block, e)
