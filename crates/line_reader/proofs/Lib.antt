@@ -1,0 +1,3 @@
+pub mod Windows
+pub mod Filling
+pub mod OneLine
