@@ -2,3 +2,5 @@ pub mod Catching
 pub mod Seen
 pub mod Answering
 pub mod Looking
+mod Everything
+pub mod Standing

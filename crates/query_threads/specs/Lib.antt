@@ -4,3 +4,4 @@ pub mod Looks
 pub mod Seeing
 pub mod Sharing
 pub mod Asking
+pub mod inner

@@ -1,5 +1,5 @@
 //! What lies under the lock: the archive, and the writing seat, which knows its past.
-ghost use Rattle.std.specs.Prelude.{◌≡◌, ℕ, ◌+◌, ◌<◌, ◌≤◌, List, [], length, Some, OnOk, IfOk, IfErr, IfSome};
+ghost use Rattle.std.specs.Prelude.{◌≡◌, ℕ, ◌+◌, ◌<◌, ◌≤◌, List, [], length, Some, OnOk, IfOk, IfErr, IfSome, IsSome, IsNone, ⊤};
 ghost use Rattle.std.specs.List.{AllByRecursion};
 ghost use Rattle.route_meaning.specs.History.{IsHistory, applied, settled};
 ghost use Rattle.interleaving_core.specs.Does.{last_moment};
@@ -10,6 +10,7 @@ ghost use Rattle.query_threads.specs.Steps.{DoesAdmit, DoesMark, DoesApply, Does
 ghost use Rattle.query_threads.specs.Looks.{IsErrandOn};
 ghost use Rattle.query_threads.specs.Turns.{TurnGives, IsTold};
 ghost use Rattle.query_threads.specs.Seeing.{Sees};
+ghost use Rattle.query_threads.specs.inner.Unpromised.{ReachesAll};
 
 use crate::refusal::{AdmitError, AskError, Flush, MarkError, Step, Trouble, Turn};
 use crate::store::{OnDisk, Store};
@@ -26,22 +27,28 @@ pub struct Desk<A: Store, N: Named + OnDisk<A::Disk>> {
 }
 
 impl<A: Store, N: Named + OnDisk<A::Disk>> Model for Desk<A, N> {
-    ghost use Rattle.std.specs.Prelude.{◌≡◌, ◌+◌, length, Some};
+    ghost use Rattle.std.specs.Prelude.{◌≡◌, ◌+◌, length, Some, IsSome, IsNone};
     ghost use Rattle.board.specs.Views.{View, IsCaughtUp};
+    ghost use Rattle.query_threads.specs.inner.Unpromised.{ReachesAll};
 
     ghost Value = { View };
 
     ghost view = { λ d. d.writer };
 
-    ghost invariant = { λ d. A.carries d.archive d.writer.past × (N.table.words ≡ length d.writer.past.history.intakes + 1) × IsCaughtUp d.writer × (N.disk ≡ Some (A.disk_of d.archive)) };
+    ghost invariant = { λ d. (N.table.words ≡ length d.writer.past.history.intakes + 1) × (IsSome N.disk → A.carries d.archive d.writer.past × IsCaughtUp d.writer × (N.disk ≡ Some (A.disk_of d.archive))) × (IsNone N.disk → ReachesAll d.writer.past.history) };
 }
 
-// Raises each word to what the past of the writing seat reaches, which the archive carries.
-pub(crate) fn catch_up<A: Store, N: Named>(board: &Board<N>, writer: &mut Writer<N>, archive: &A)
-    requires carried { A.carries archive.now writer.old.past }
+// Raises each word to what the archive tells, which the past of the writing seat reaches.
+pub(crate) fn catch_up<A: Store, N: Named + OnDisk<A::Disk>>(
+    board: &Board<N>,
+    writer: &mut Writer<N>,
+    archive: &A,
+)
+    requires carried { IsSome N.disk → A.carries archive.now writer.old.past }
+    requires all { IsNone N.disk → ReachesAll writer.old.past.history }
     requires words { N.table.words ≡ length writer.old.past.history.intakes + 1 }
     ensures past { writer.new.past ≡ writer.old.past }
-    ensures caught_up { IsCaughtUp writer.new }
+    ensures caught_up { IsSome N.disk → IsCaughtUp writer.new }
     ensures rises { Within writer.old.numbers writer.new.numbers }
 {
     board.raise(writer, Word::Watermark, archive.settled().seconds());
@@ -51,20 +58,22 @@ pub(crate) fn catch_up<A: Store, N: Named>(board: &Board<N>, writer: &mut Writer
 }
 
 // The writing seat goes on to a past that fits, which the archive carries, and all words are raised to it. What it is
-// about is for the caller's choice of `X`.
-fn follow<X: Target, A: Store, N: Named, T>(
+// about is for the caller's choice of `X`. Where nothing is promised of the archive, it stays at one that reaches all.
+fn follow<X: Target, A: Store, N: Named + OnDisk<A::Disk>, T>(
     board: &Board<N>,
     writer: &mut Writer<N>,
     archive: &A,
     _about: &T,
 )
-    requires past { (q : Past) × GoesOnAs writer.old.past q × A.carries archive.now q × X.fits q }
+    requires past { IsSome N.disk → (q : Past) × GoesOnAs writer.old.past q × A.carries archive.now q × X.fits q }
+    requires all { IsNone N.disk → ReachesAll writer.old.past.history }
     requires words { N.table.words ≡ length writer.old.past.history.intakes + 1 }
-    ensures fits { X.fits writer.new.past }
+    ensures fits { IsSome N.disk → X.fits writer.new.past }
     ensures goes_on { GoesOnAs writer.old.past writer.new.past }
-    ensures carried { A.carries archive.now writer.new.past }
+    ensures carried { IsSome N.disk → A.carries archive.now writer.new.past }
+    ensures all { IsNone N.disk → ReachesAll writer.new.past.history }
     ensures words { N.table.words ≡ length writer.new.past.history.intakes + 1 }
-    ensures caught_up { IsCaughtUp writer.new }
+    ensures caught_up { IsSome N.disk → IsCaughtUp writer.new }
     ensures rises { Within writer.old.numbers writer.new.numbers }
 {
     board.advance::<Brand, A>(writer, archive);
@@ -74,10 +83,9 @@ fn follow<X: Target, A: Store, N: Named, T>(
 impl<A: Store, N: Named + OnDisk<A::Disk>> Desk<A, N> {
     /// An archive with its writing seat, which knows its past and has raised all words.
     pub(crate) fn new(archive: A, writer: Writer<N>) -> Desk<A, N>
-        requires carried { A.carries archive writer.past }
         requires words { N.table.words ≡ length writer.past.history.intakes + 1 }
-        requires caught_up { IsCaughtUp writer }
-        requires disk { N.disk ≡ Some (A.disk_of archive) }
+        requires carried { IsSome N.disk → A.carries archive writer.past × IsCaughtUp writer × (N.disk ≡ Some (A.disk_of archive)) }
+        requires all { IsNone N.disk → ReachesAll writer.past.history }
         ensures { result ≡ writer }
     {
         Desk { archive, writer }
@@ -89,7 +97,7 @@ impl<A: Store, N: Named + OnDisk<A::Disk>> Desk<A, N> {
         ensures past { pass.new.past ≡ self.old.past }
         ensures front { IsFrontOf self.old.past pass.old }
         ensures begins { BeginsView pass.old pass.new }
-        ensures caught_up { IsCaughtUp pass.new }
+        ensures caught_up { IsSome N.disk → IsCaughtUp pass.new }
     {
         board.meet(&mut self.writer, pass);
     }
@@ -102,7 +110,8 @@ impl<A: Store, N: Named + OnDisk<A::Disk>> Desk<A, N> {
         collector: u8,
         batch: &[Admission],
     ) -> Result<BatchReply, AdmitError>
-        ensures sees { Sees (DoesAdmit collector batch.now result) pass.old pass.new }
+        ensures begins { BeginsView pass.old pass.new }
+        ensures sees { IsSome N.disk → Sees (DoesAdmit collector batch.now result) pass.old pass.new }
     {
         self.greet(board, pass);
         let told = self.archive.admit(collector, batch);
@@ -124,7 +133,8 @@ impl<A: Store, N: Named + OnDisk<A::Disk>> Desk<A, N> {
         collector: u8,
         mark: Mark,
     ) -> Result<(), MarkError>
-        ensures sees { Sees (DoesMark collector mark result) pass.old pass.new }
+        ensures begins { BeginsView pass.old pass.new }
+        ensures sees { IsSome N.disk → Sees (DoesMark collector mark result) pass.old pass.new }
     {
         self.greet(board, pass);
         let told = self.archive.mark(collector, mark);
@@ -140,7 +150,8 @@ impl<A: Store, N: Named + OnDisk<A::Disk>> Desk<A, N> {
 
     /// Applies the next change, and perhaps some more. The pass then knows the history after it.
     pub fn apply(&mut self, board: &Board<N>, pass: &mut Pass<N>) -> Result<Step, Trouble>
-        ensures sees { Sees (DoesApply result) pass.old pass.new }
+        ensures begins { BeginsView pass.old pass.new }
+        ensures sees { IsSome N.disk → Sees (DoesApply result) pass.old pass.new }
     {
         self.greet(board, pass);
         let told = self.archive.apply_step();
@@ -151,7 +162,8 @@ impl<A: Store, N: Named + OnDisk<A::Disk>> Desk<A, N> {
 
     /// Writes a page home that waits. The pass then knows the history.
     pub fn flush(&mut self, board: &Board<N>, pass: &mut Pass<N>) -> Result<Flush, Trouble>
-        ensures sees { Sees (DoesFlush result) pass.old pass.new }
+        ensures begins { BeginsView pass.old pass.new }
+        ensures sees { IsSome N.disk → Sees (DoesFlush result) pass.old pass.new }
     {
         self.greet(board, pass);
         let told = self.archive.flush_step();
@@ -173,13 +185,14 @@ impl<A: Store, N: Named + OnDisk<A::Disk>> Desk<A, N> {
         cursor: &mut A::Cursor,
     ) -> Result<Turn<(A::Errand, A::Seen)>, AskError>
         ensures begins { BeginsView pass.old pass.new }
-        ensures caught_up { IsCaughtUp pass.new }
         ensures reached { Reached pass.old.numbers pass.new.past.history }
-        ensures right { IsHistory pass.new.past.history }
         ensures asks { A.asks cursor.new ≡ A.asks cursor.old }
-        ensures settled { OnOk result (last_moment (A.asks cursor.old) < settled pass.new.past.history) }
-        ensures gives { A.gathered cursor.old pass.new.past.history → IfOk result (λ turn. TurnGives (λ e. IfSome N.disk (IsErrandOn (λ errand. A.lies errand cursor.new) A.honest A.block_count A.known pass.new.past e.0 e.1)) (A.gathered cursor.new pass.new.past.history) (λ answer. IsAnswered (applied pass.new.past.history) (A.asks cursor.old) answer) turn) }
-        ensures told { IfErr result (λ e. IsTold e pass.new.past.history (A.asks cursor.old)) }
+        ensures fits { IfOk result (λ turn. TurnGives (λ e. A.fits e.0 cursor.new) ⊤ (λ _. ⊤) turn) }
+        ensures caught_up { IsSome N.disk → IsCaughtUp pass.new }
+        ensures right { IsSome N.disk → IsHistory pass.new.past.history }
+        ensures settled { IsSome N.disk → OnOk result (last_moment (A.asks cursor.old) < settled pass.new.past.history) }
+        ensures gives { IsSome N.disk → A.gathered cursor.old pass.new.past.history → IfOk result (λ turn. TurnGives (λ e. IfSome N.disk (IsErrandOn (λ errand. A.lies errand cursor.new) A.honest A.block_count A.known pass.new.past e.0 e.1)) (A.gathered cursor.new pass.new.past.history) (λ answer. IsAnswered (applied pass.new.past.history) (A.asks cursor.old) answer) turn) }
+        ensures told { IsSome N.disk → IfErr result (λ e. IsTold e pass.new.past.history (A.asks cursor.old)) }
     {
         self.greet(board, pass);
         match self.archive.descend(cursor)? {
@@ -196,7 +209,7 @@ impl<A: Store, N: Named + OnDisk<A::Disk>> Desk<A, N> {
     pub fn reader(&self, alloc: Global, capacity: usize) -> Result<A::Reader, Trouble>
         requires some { 1 ≤ capacity }
         requires few { capacity ≤ 1024 }
-        ensures disk { IfOk result (λ r. N.disk ≡ Some (A.reads r)) }
+        ensures disk { IsSome N.disk → IfOk result (λ r. N.disk ≡ Some (A.reads r)) }
         ensures empty { IfOk result (λ r. A.kept r ≡ []) }
     {
         self.archive.reader(alloc, capacity)
@@ -204,7 +217,7 @@ impl<A: Store, N: Named + OnDisk<A::Disk>> Desk<A, N> {
 
     /// The archive, once the threads are done. What each of these passes knew begins its past.
     pub fn close(mut self, board: &Board<N>, mut passes: Vec<Pass<N>>) -> A
-        ensures { (p : Past) × A.carries result p × AllByRecursion (IsFrontOf p) passes.items }
+        ensures { IsSome N.disk → (p : Past) × A.carries result p × AllByRecursion (IsFrontOf p) passes.items }
     {
         while let Some(mut pass) = passes.pop() {
             self.greet(board, &mut pass);

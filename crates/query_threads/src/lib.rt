@@ -12,4 +12,4 @@ mod store;
 pub use gate::{Gate, NoGate};
 pub use refusal::{AdmitError, AskError, Flush, MarkError, Step, Trouble, Turn};
 pub use shared::{Reader, Shared};
-pub use store::{OnDisk, Store};
+pub use store::{OnDisk, Store, Unpromised};

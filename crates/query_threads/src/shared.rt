@@ -1,5 +1,5 @@
 //! An archive that threads share, behind one lock, with its board beside it.
-ghost use Rattle.std.specs.Prelude.{◌≡◌, ◌<◌, ◌≤◌, ℕ, suc, List, [], length, Some, OnOk, IfOk, IfErr, IfSome};
+ghost use Rattle.std.specs.Prelude.{◌≡◌, ◌<◌, ◌≤◌, ℕ, suc, List, [], length, Some, OnOk, IfOk, IfErr, IfSome, IsSome, ⊤};
 ghost use Rattle.std.specs.List.{AllByRecursion};
 ghost use Rattle.route_meaning.specs.History.{IsHistory, applied, settled};
 ghost use Rattle.interleaving_core.specs.Does.{last_moment};
@@ -49,13 +49,13 @@ pub struct Reader<A: Store, N: OnDisk<A::Disk>> {
 }
 
 impl<A: Store, N: OnDisk<A::Disk>> Model for Reader<A, N> {
-    ghost use Rattle.std.specs.Prelude.{◌≡◌, ℕ, List, Some};
+    ghost use Rattle.std.specs.Prelude.{◌≡◌, ℕ, List, Some, IsSome};
 
     ghost Value = { List (ℕ × List ℕ) };
 
     ghost view = { λ r. A.kept r.blocks };
 
-    ghost invariant = { λ r. N.disk ≡ Some (A.reads r.blocks) };
+    ghost invariant = { λ r. IsSome N.disk → N.disk ≡ Some (A.reads r.blocks) };
 }
 
 impl<A: Store, N: Named + OnDisk<A::Disk>> Reader<A, N> {
@@ -85,23 +85,25 @@ impl<A: Store, N: Named + OnDisk<A::Disk>> Reader<A, N> {
         errand: A::Errand,
         cursor: &mut A::Cursor,
     ) -> Result<(), Trouble>
-        requires stands { (p : Past) × IfSome N.disk (IsErrandOn (λ e. A.lies e cursor.old) A.honest A.block_count A.known p errand seen.old) × Among self.old p.blocks }
-        ensures kept { (p : Past) → IfSome N.disk (IsErrandOn (λ e. A.lies e cursor.old) A.honest A.block_count A.known p errand seen.old) → Among self.old p.blocks → Among self.new p.blocks }
+        requires fits { A.fits errand cursor.old }
+        ensures kept { IsSome N.disk → (p : Past) → IfSome N.disk (IsErrandOn (λ e. A.lies e cursor.old) A.honest A.block_count A.known p errand seen.old) → Among self.old p.blocks → Among self.new p.blocks }
         ensures asks { A.asks cursor.new ≡ A.asks cursor.old }
-        ensures gathered { OnOk result ((p : Past) → IfSome N.disk (IsErrandOn (λ e. A.lies e cursor.old) A.honest A.block_count A.known p errand seen.old) → A.gathered cursor.new p.history) }
+        ensures gathered { IsSome N.disk → OnOk result ((p : Past) → IfSome N.disk (IsErrandOn (λ e. A.lies e cursor.old) A.honest A.block_count A.known p errand seen.old) → Among self.old p.blocks → A.gathered cursor.new p.history) }
     {
         A::finish(&mut self.blocks, seen, self.alloc, errand, cursor)
     }
 }
 
 impl<A: Store, N: Named + OnDisk<A::Disk>, G: Gate + Drop> Shared<A, N, G> {
-    /// Shares an archive, where this is the board named `N`, and its disk the one named so. The pass knows its past.
+    /// Shares an archive, where this is the board named `N`. Where `N` names a disk, it is the archive's, and the pass knows
+    /// the archive's past.
     pub fn new(opened: Opened, archive: A, gate: G) -> (Shared<A, N, G>, Pass<N>)
         requires named { name_of opened ≡ N.table }
-        requires disk { N.disk ≡ Some (A.disk_of archive) }
-        requires carried { (p : Past) × A.carries archive p × (length p.history.intakes ≡ opened.collectors) }
-        ensures carried { A.carries archive result.1.past }
-        ensures caught_up { IsCaughtUp result.1 }
+        requires some { 1 ≤ opened.collectors }
+        requires disk { IsSome N.disk → N.disk ≡ Some (A.disk_of archive) }
+        requires carried { IsSome N.disk → (p : Past) × A.carries archive p × (length p.history.intakes ≡ opened.collectors) }
+        ensures carried { IsSome N.disk → A.carries archive result.1.past }
+        ensures caught_up { IsSome N.disk → IsCaughtUp result.1 }
         ensures collectors { result.0.collectors ≡ opened.collectors }
         ensures ring { result.0.ring ≡ A.pages archive }
     {
@@ -169,7 +171,8 @@ impl<A: Store, N: Named + OnDisk<A::Disk>, G: Gate + Drop> Shared<A, N, G> {
         collector: u8,
         batch: &[Admission],
     ) -> Result<BatchReply, AdmitError>
-        ensures sees { Sees (DoesAdmit collector batch.now result) pass.old pass.new }
+        ensures begins { BeginsView pass.old pass.new }
+        ensures sees { IsSome N.disk → Sees (DoesAdmit collector batch.now result) pass.old pass.new }
     {
         self.desk
             .lock(rt)
@@ -184,21 +187,24 @@ impl<A: Store, N: Named + OnDisk<A::Disk>, G: Gate + Drop> Shared<A, N, G> {
         collector: u8,
         mark: Mark,
     ) -> Result<(), MarkError>
-        ensures sees { Sees (DoesMark collector mark result) pass.old pass.new }
+        ensures begins { BeginsView pass.old pass.new }
+        ensures sees { IsSome N.disk → Sees (DoesMark collector mark result) pass.old pass.new }
     {
         self.desk.lock(rt).mark(&self.board, pass, collector, mark)
     }
 
     /// Applies the next change, and perhaps some more, once the lock is got.
     pub fn apply(&self, rt: &impl Wait, pass: &mut Pass<N>) -> Result<Step, Trouble>
-        ensures sees { Sees (DoesApply result) pass.old pass.new }
+        ensures begins { BeginsView pass.old pass.new }
+        ensures sees { IsSome N.disk → Sees (DoesApply result) pass.old pass.new }
     {
         self.desk.lock(rt).apply(&self.board, pass)
     }
 
     /// Writes a page home that waits, once the lock is got.
     pub fn flush(&self, rt: &impl Wait, pass: &mut Pass<N>) -> Result<Flush, Trouble>
-        ensures sees { Sees (DoesFlush result) pass.old pass.new }
+        ensures begins { BeginsView pass.old pass.new }
+        ensures sees { IsSome N.disk → Sees (DoesFlush result) pass.old pass.new }
     {
         self.desk.lock(rt).flush(&self.board, pass)
     }
@@ -221,12 +227,13 @@ impl<A: Store, N: Named + OnDisk<A::Disk>, G: Gate + Drop> Shared<A, N, G> {
     ) -> Result<Turn<(A::Errand, A::Seen)>, AskError>
         requires asks { A.asks cursor.old ≡ query.now }
         ensures begins { BeginsView pass.old pass.new }
-        ensures right { IsHistory pass.new.past.history }
         ensures asks { A.asks cursor.new ≡ query.now }
-        ensures settled { OnOk result (last_moment query.now < settled pass.new.past.history) }
-        ensures gives { A.gathered cursor.old pass.new.past.history → IfOk result (λ turn. TurnGives (λ e. IfSome N.disk (IsErrandOn (λ errand. A.lies errand cursor.new) A.honest A.block_count A.known pass.new.past e.0 e.1)) (A.gathered cursor.new pass.new.past.history) (λ answer. IsAnswered (applied pass.new.past.history) query.now answer) turn) }
-        ensures told { IfErr result (λ e. IsTold e pass.new.past.history query.now) }
-        ensures not_refused { IfErr result (λ e. IsAbove e → watermark_of pass.old ≤ last_moment query.now) }
+        ensures fits { IfOk result (λ turn. TurnGives (λ e. A.fits e.0 cursor.new) ⊤ (λ _. ⊤) turn) }
+        ensures right { IsSome N.disk → IsHistory pass.new.past.history }
+        ensures settled { IsSome N.disk → OnOk result (last_moment query.now < settled pass.new.past.history) }
+        ensures gives { IsSome N.disk → A.gathered cursor.old pass.new.past.history → IfOk result (λ turn. TurnGives (λ e. IfSome N.disk (IsErrandOn (λ errand. A.lies errand cursor.new) A.honest A.block_count A.known pass.new.past e.0 e.1)) (A.gathered cursor.new pass.new.past.history) (λ answer. IsAnswered (applied pass.new.past.history) query.now answer) turn) }
+        ensures told { IsSome N.disk → IfErr result (λ e. IsTold e pass.new.past.history query.now) }
+        ensures not_refused { IsSome N.disk → IfErr result (λ e. IsAbove e → watermark_of pass.old ≤ last_moment query.now) }
     {
         let told = self.desk.lock(rt).turn(&self.board, pass, cursor);
         self.descended(untold);
@@ -242,13 +249,13 @@ impl<A: Store, N: Named + OnDisk<A::Disk>, G: Gate + Drop> Shared<A, N, G> {
         request: u64,
         query: Query,
     ) -> Result<Answer, AskError>
-        requires reader { Among reader.old pass.old.past.blocks }
-        ensures reader { Among reader.new pass.new.past.blocks }
+        requires reader { IsSome N.disk → Among reader.old pass.old.past.blocks }
         ensures begins { BeginsView pass.old pass.new }
-        ensures answer { IfOk result (λ answer. IsAnswered (applied pass.new.past.history) query answer) }
-        ensures settled { OnOk result (last_moment query < settled pass.new.past.history) }
-        ensures told { IfErr result (λ e. IsTold e pass.new.past.history query) }
-        ensures not_refused { IfErr result (λ e. IsAbove e → watermark_of pass.old ≤ last_moment query) }
+        ensures reader { IsSome N.disk → Among reader.new pass.new.past.blocks }
+        ensures answer { IsSome N.disk → IfOk result (λ answer. IsAnswered (applied pass.new.past.history) query answer) }
+        ensures settled { IsSome N.disk → OnOk result (last_moment query < settled pass.new.past.history) }
+        ensures told { IsSome N.disk → IfErr result (λ e. IsTold e pass.new.past.history query) }
+        ensures not_refused { IsSome N.disk → IfErr result (λ e. IsAbove e → watermark_of pass.old ≤ last_moment query) }
     {
         let mut cursor = A::start(reader.alloc, &query);
         let mut untold = Some(request);
@@ -278,13 +285,13 @@ impl<A: Store, N: Named + OnDisk<A::Disk>, G: Gate + Drop> Shared<A, N, G> {
         request: u64,
         query: Query,
     ) -> Result<Answer, AskError>
-        requires reader { Among reader.old pass.old.past.blocks }
-        ensures reader { Among reader.new pass.new.past.blocks }
+        requires reader { IsSome N.disk → Among reader.old pass.old.past.blocks }
         ensures begins { BeginsView pass.old pass.new }
-        ensures answer { IfOk result (λ answer. IsAnswered (applied pass.new.past.history) query answer) }
-        ensures settled { OnOk result (last_moment query < settled pass.new.past.history) }
-        ensures told { IfErr result (λ e. IsTold e pass.new.past.history query) }
-        ensures not_refused { IfErr result (λ e. IsAbove e → watermark_of pass.old ≤ last_moment query) }
+        ensures reader { IsSome N.disk → Among reader.new pass.new.past.blocks }
+        ensures answer { IsSome N.disk → IfOk result (λ answer. IsAnswered (applied pass.new.past.history) query answer) }
+        ensures settled { IsSome N.disk → OnOk result (last_moment query < settled pass.new.past.history) }
+        ensures told { IsSome N.disk → IfErr result (λ e. IsTold e pass.new.past.history query) }
+        ensures not_refused { IsSome N.disk → IfErr result (λ e. IsAbove e → watermark_of pass.old ≤ last_moment query) }
     {
         let told = self.answer_of(rt, pass, reader, request, query);
         self.gate.answered(request);
@@ -293,7 +300,7 @@ impl<A: Store, N: Named + OnDisk<A::Disk>, G: Gate + Drop> Shared<A, N, G> {
 
     /// The archive, once the threads are done. What each of these passes knew begins its past.
     pub fn close(self, passes: Vec<Pass<N>>) -> A
-        ensures { (p : Past) × A.carries result p × AllByRecursion (IsFrontOf p) passes.items }
+        ensures { IsSome N.disk → (p : Past) × A.carries result p × AllByRecursion (IsFrontOf p) passes.items }
     {
         let Shared {
             desk,

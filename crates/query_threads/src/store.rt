@@ -1,5 +1,5 @@
 //! What threads ask of an archive.
-ghost use Rattle.std.specs.Prelude.{◌≡◌, ◌<◌, ◌≤◌, ℕ, List, [], length, Option, OnOk, IfOk, IfErr, Err};
+ghost use Rattle.std.specs.Prelude.{◌≡◌, ◌<◌, ◌≤◌, ℕ, List, [], length, Option, OnOk, IfOk, IfErr, Err, ⊤};
 ghost use Rattle.route_model.specs.Admission.{Admitted};
 ghost use Rattle.route_meaning.specs.History.{History, IsHistory, Begins, applied, settled};
 ghost use Rattle.interleaving_core.specs.declared.query.Query.{Query};
@@ -9,20 +9,37 @@ ghost use Rattle.interleaving_core.specs.Steps.{IsCollector};
 ghost use Rattle.board.specs.Past.{Past, GoesOnAs, count_of};
 ghost use Rattle.query_threads.specs.Steps.{IsCrowded, DoesAdmit, DoesMark, DoesApply, DoesFlush};
 ghost use Rattle.query_threads.specs.Turns.{TurnGives, IsTold};
-ghost use Rattle.query_threads.specs.Looks.{AreSettled, AreTheSettled};
+ghost use Rattle.query_threads.specs.Looks.{AreSettled, AreTheSettled, IsErrandOn};
 
 use crate::refusal::{AdmitError, AskError, Flush, MarkError, Step, Trouble, Turn};
+use board::Named;
 use interleaving_core::{BatchReply, Query};
 use route_model::{Admission, Mark};
 use std::alloc::Global;
-use std::marker::Brand;
+use std::marker::{Brand, PhantomData};
 
-/// Which disk the blocks of a shared archive are on. Each call of a program picks it.
+/// What is promised of a shared archive: that it carries a past, with its blocks on this disk. With no disk nothing is
+/// promised of it, as where its devices aren't known to follow their models. Each call of a program picks it.
 pub trait OnDisk<D> {
     ghost disk: { Option D };
 }
 
 impl<D> OnDisk<D> for Brand {
+    ghost use Rattle.std.specs.Prelude.{None};
+
+    ghost disk = { None };
+}
+
+/// The name of a board, by `B`, whose archive nothing is promised of.
+pub struct Unpromised<B> {
+    of: PhantomData<B>,
+}
+
+impl<B: Named> Named for Unpromised<B> {
+    ghost table = { B.table };
+}
+
+impl<B, D> OnDisk<D> for Unpromised<B> {
     ghost use Rattle.std.specs.Prelude.{None};
 
     ghost disk = { None };
@@ -75,6 +92,9 @@ pub trait Store {
 
     /// What the question has gathered is so over this history.
     ghost gathered: { Self.Cursor → History → Type 0 };
+
+    /// The errand is one of the question's.
+    ghost fits: { Self.Errand → Self.Cursor → Type 0 };
 
     /// With the blocks of this past, on this disk, finishing the errand gathers what comes next.
     ghost lies: { Self.Errand → Self.Cursor → Self.Disk → Past → Type 0 };
@@ -129,6 +149,7 @@ pub trait Store {
     fn descend(&mut self, cursor: &mut Self::Cursor) -> Result<Turn<Self::Errand>, AskError>
         ensures carries { (p : Past) → carries self.old p → carries self.new p }
         ensures asks { asks cursor.new ≡ asks cursor.old }
+        ensures fits { IfOk result (λ turn. TurnGives (λ errand. fits errand cursor.new) ⊤ (λ _. ⊤) turn) }
         ensures settled { (p : Past) → carries self.old p → OnOk result (last_moment (asks cursor.old) < settled p.history) }
         ensures gives { (p : Past) → carries self.old p → gathered cursor.old p.history → IfOk result (λ turn. TurnGives (λ errand. lies errand cursor.new (disk_of self.old) p) (gathered cursor.new p.history) (λ answer. IsAnswered (applied p.history) (asks cursor.old) answer) turn) }
         ensures told { (p : Past) → carries self.old p → IfErr result (λ e. IsTold e p.history (asks cursor.old)) }
@@ -158,13 +179,11 @@ pub trait Store {
         errand: Self::Errand,
         cursor: &mut Self::Cursor,
     ) -> Result<(), Trouble>
-        requires kept { AreSettled (block_count (reads reader.old)) (known seen.old) (kept reader.old) }
-        requires honest { honest (reads reader.old) seen.old }
-        requires stands { (p : Past) × lies errand cursor.old (reads reader.old) p × AreTheSettled (block_count (reads reader.old)) (known seen.old) p.blocks }
-        ensures kept { AreSettled (block_count (reads reader.old)) (known seen.old) (kept reader.new) }
+        requires fits { fits errand cursor.old }
+        ensures kept { (p : Past) → IsErrandOn (λ e. lies e cursor.old) honest block_count known p errand seen.old (reads reader.old) → AreSettled (block_count (reads reader.old)) (known seen.old) (kept reader.old) → AreSettled (block_count (reads reader.old)) (known seen.old) (kept reader.new) }
         ensures disk { reads reader.new ≡ reads reader.old }
         ensures asks { asks cursor.new ≡ asks cursor.old }
-        ensures gathered { OnOk result ((p : Past) → lies errand cursor.old (reads reader.old) p → AreTheSettled (block_count (reads reader.old)) (known seen.old) p.blocks → gathered cursor.new p.history) };
+        ensures gathered { OnOk result ((p : Past) → IsErrandOn (λ e. lies e cursor.old) honest block_count known p errand seen.old (reads reader.old) → AreSettled (block_count (reads reader.old)) (known seen.old) (kept reader.old) → gathered cursor.new p.history) };
 
     /// A past that is stored is right.
     ghost right: { (store : Self) (p : Past) → carries store p → IsHistory p.history };

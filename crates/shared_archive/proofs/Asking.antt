@@ -15,7 +15,7 @@ use Rattle.disk_archive.specs.declared.ask_error.AskError.{AskError}
 use Rattle.disk_archive.specs.declared.ask_error.AskError.TheVariants as asks
 use Rattle.disk_archive.specs.declared.cursor.Cursor.{Cursor}
 use Rattle.disk_archive.specs.declared.errand.Errand.{Errand}
-use Rattle.disk_archive.specs.Descents.{IsErrandFor, Lies, LiesKnown}
+use Rattle.disk_archive.specs.Descents.{Lies, LiesKnown}
 use Rattle.shared_archive.specs.Carried.{LiesInPast}
 use Rattle.shared_archive.specs.inner.StoreCalls.{of_ask}
 use Rattle.shared_archive.proofs.Blocks.{block_of, entry_of}
@@ -32,19 +32,16 @@ not_answered down h query asks.Fault above = tt
 not_answered down h query asks.OutOfMemory above = tt
 
 -- an errand that lies in settled blocks lies in those of the past, which are these
-pub lies_past : (count : ℕ) (known : ℕ → Option (List ℕ)) (errand : Errand) (c : Cursor) (p : Past) → AreTheSettled count known p.blocks → IsErrandFor c errand → Lies count known errand c p.history → LiesInPast count errand c p
-lies_past count known errand c p are fits l = record {
-  fits = fits;
-  lies = λ other same. record {
-    right = l.right;
-    below = l.below;
-    gathered = l.gathered;
-    versions = l.versions;
-    kept = l.kept;
-    says = l.says;
-    are = λ n node here. (let b = l.are n node here in record { inside = b.inside; octets = b.octets; here = ((same n b.octets).0 ((are n b.octets).1 (b.inside, b.here))).1; says = b.says });
-    stands = l.stands;
-  };
+pub lies_past : (count : ℕ) (known : ℕ → Option (List ℕ)) (errand : Errand) (c : Cursor) (p : Past) → AreTheSettled count known p.blocks → Lies count known errand c p.history → LiesInPast count errand c p
+lies_past count known errand c p are l other same = record {
+  right = l.right;
+  below = l.below;
+  gathered = l.gathered;
+  versions = l.versions;
+  kept = l.kept;
+  says = l.says;
+  are = λ n node here. (let b = l.are n node here in record { inside = b.inside; octets = b.octets; here = ((same n b.octets).0 ((are n b.octets).1 (b.inside, b.here))).1; says = b.says });
+  stands = l.stands;
 }
 
 module _ {O Pen Seen : Type 0} (device : Ghosts O Pen Seen) (reader : ShelfReader O Pen Seen device) (seen : Seen) where
@@ -58,7 +55,7 @@ module _ {O Pen Seen : Type 0} (device : Ghosts O Pen Seen) (reader : ShelfReade
   -- the errand lies in the blocks that the reader knows
   pub lies_known : (errand : Errand) (c : Cursor) (p : Past) → AreSettled (device.block_count (reader_disk reader)) (device.known seen) (kept_blocks reader) → device.honest_seen (reader_disk reader) seen → LiesInPast (device.block_count (reader_disk reader)) errand c p
       → AreTheSettled (device.block_count (reader_disk reader)) (device.known seen) p.blocks → LiesKnown device reader seen errand c p.history
-  lies_known errand c p are honest l past = record { well = reads_well are honest; lies = l.lies (device.known seen) past }
+  lies_known errand c p are honest l past = record { well = reads_well are honest; lies = l (device.known seen) past }
 
   -- what a reader keeps afterwards is settled still
   pub settled_still : (new : ShelfReader O Pen Seen device) (seen' : Seen) → ReadsWell device new seen' → KeepsInside device new → reader_disk new ≡ reader_disk reader → device.known seen' ≡ device.known seen → AreSettled (device.block_count (reader_disk reader)) (device.known seen) (kept_blocks new)

@@ -12,7 +12,7 @@ use Rattle.disk_archive.specs.declared.cursor.Cursor.{Cursor}
 use Rattle.disk_archive.specs.declared.errand.Errand.{Errand}
 use Rattle.disk_archive.specs.Archives.{GoesOn, once_of, once_state, settings_of}
 use Rattle.disk_archive.specs.Cursors.{IsGathered}
-use Rattle.disk_archive.specs.Descents.{IsErrandFor, Lies}
+use Rattle.disk_archive.specs.Descents.{Lies}
 
 -- The archive goes on with the past's history, or waits to be opened again with it; and just the past's blocks are settled on its disk.
 pub record CarriesPast {E O Pen Seen : Type 0} {erase : EraseGhosts E} {once : OnceGhosts O Pen Seen} (a : Archive E O Pen Seen erase once) (p : Past) : Type 0 where
@@ -23,10 +23,9 @@ pub record CarriesPast {E O Pen Seen : Type 0} {erase : EraseGhosts E} {once : O
 abbrev pub ring_pages : {E O Pen Seen : Type 0} {erase : EraseGhosts E} {once : OnceGhosts O Pen Seen} → Archive E O Pen Seen erase once → ℕ
 ring_pages a = (settings_of a).ring
 
--- The errand is one of the cursor, and lies in the past's blocks, on a disk with so many, for the past's history.
-pub record LiesInPast (count : ℕ) (errand : Errand) (c : Cursor) (p : Past) : Type 0 where
-  pub fits : IsErrandFor c errand
-  pub lies : (known : ℕ → Option (List ℕ)) → AreTheSettled count known p.blocks → Lies count known errand c p.history
+-- the errand lies in the past's blocks, on a disk with so many, for the past's history
+abbrev pub LiesInPast : (count : ℕ) (errand : Errand) (c : Cursor) (p : Past) → Type 0
+LiesInPast count errand c p = (known : ℕ → Option (List ℕ)) → AreTheSettled count known p.blocks → Lies count known errand c p.history
 
 -- a history with which an archive goes on is right
 abbrev pub right_going : {E O Pen Seen : Type 0} {erase : EraseGhosts E} {once : OnceGhosts O Pen Seen} (a : Archive E O Pen Seen erase once) (h : History) → GoesOn a h → IsHistory h

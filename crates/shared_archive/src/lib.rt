@@ -3,6 +3,7 @@
 
 mod calls;
 mod files;
+pub mod laws;
 mod memory;
 mod refusals;
 mod turns;

@@ -2,6 +2,7 @@
 
 ghost use Rattle.disk_archive.specs.Archives.{once_of};
 ghost use Rattle.disk_archive.specs.Cursors.{IsGathered, asks};
+ghost use Rattle.disk_archive.specs.Descents.{IsErrandFor};
 ghost use Rattle.once_store.specs.Readers.{kept_blocks, reader_disk};
 ghost use Rattle.shared_archive.specs.Carried.{CarriesPast, LiesInPast, gathered_on, right_going, ring_pages};
 
@@ -52,6 +53,8 @@ impl Store for MemStore {
     ghost asks = { λ cursor. asks cursor };
 
     ghost gathered = { λ cursor h. IsGathered cursor h };
+
+    ghost fits = { λ errand cursor. IsErrandFor cursor errand };
 
     ghost lies = { λ errand cursor disk p. LiesInPast (⟦<MemOnce as OnceDisk>⟧.block_count disk) errand cursor p };
 

@@ -1,15 +1,16 @@
 //! Turns of questions, their errands, and what an archive tells, by its past.
 
-ghost use Rattle.std.specs.Prelude.{◌≡◌, ◌<◌, ◌≤◌, ℕ, List, [], IfErr, IfOk, OnOk};
+ghost use Rattle.std.specs.Prelude.{◌≡◌, ◌<◌, ◌≤◌, ℕ, List, [], IfErr, IfOk, OnOk, ⊤};
 ghost use Rattle.route_meaning.specs.History.{applied, settled};
 ghost use Rattle.interleaving_core.specs.Does.{last_moment};
 ghost use Rattle.interleaving_core.specs.Headline.{IsAnswered};
 ghost use Rattle.board.specs.Past.{Past, count_of};
-ghost use Rattle.query_threads.specs.Looks.{AreSettled, AreTheSettled};
+ghost use Rattle.query_threads.specs.Looks.{AreSettled, AreTheSettled, IsErrandOn};
 ghost use Rattle.query_threads.specs.Turns.{TurnGives, IsTold};
 ghost use Rattle.once_store.specs.Readers.{kept_blocks, reader_disk};
 ghost use Rattle.disk_archive.specs.Archives.{once_of};
 ghost use Rattle.disk_archive.specs.Cursors.{IsGathered, asks};
+ghost use Rattle.disk_archive.specs.Descents.{IsErrandFor};
 ghost use Rattle.shared_archive.specs.Carried.{CarriesPast, LiesInPast, ring_pages};
 
 use crate::refusals::{ask_refusal, block_trouble};
@@ -39,6 +40,7 @@ pub(crate) fn descend<E: EraseDisk + Drop, O: OnceDisk + Drop>(
 ) -> Result<Turn<Errand>, AskError>
     ensures carries { (p : Past) → CarriesPast archive.old p → CarriesPast archive.new p }
     ensures asks { asks cursor.new ≡ asks cursor.old }
+    ensures fits { IfOk result (λ turn. TurnGives (λ errand. IsErrandFor cursor.new errand) ⊤ (λ _. ⊤) turn) }
     ensures settled { (p : Past) → CarriesPast archive.old p → OnOk result (last_moment (asks cursor.old) < settled p.history) }
     ensures gives { (p : Past) → CarriesPast archive.old p → IsGathered cursor.old p.history → IfOk result (λ turn. TurnGives (λ errand. LiesInPast (O.block_count (once_of archive.old)) errand cursor.new p) (IsGathered cursor.new p.history) (λ answer. IsAnswered (applied p.history) (asks cursor.old) answer) turn) }
     ensures told { (p : Past) → CarriesPast archive.old p → IfErr result (λ e. IsTold e p.history (asks cursor.old)) }
@@ -93,13 +95,11 @@ pub(crate) fn finish<O: OnceDisk + Drop>(
     errand: Errand,
     cursor: &mut Cursor,
 ) -> Result<(), Trouble>
-    requires kept { AreSettled (O.block_count (reader_disk reader.old)) (O.known seen.old) (kept_blocks reader.old) }
-    requires honest { O.honest_seen (reader_disk reader.old) seen.old }
-    requires stands { (p : Past) × LiesInPast (O.block_count (reader_disk reader.old)) errand cursor.old p × AreTheSettled (O.block_count (reader_disk reader.old)) (O.known seen.old) p.blocks }
-    ensures kept { AreSettled (O.block_count (reader_disk reader.old)) (O.known seen.old) (kept_blocks reader.new) }
+    requires fits { IsErrandFor cursor.old errand }
+    ensures kept { (p : Past) → IsErrandOn (λ e disk past. LiesInPast (O.block_count disk) e cursor.old past) O.honest_seen O.block_count O.known p errand seen.old (reader_disk reader.old) → AreSettled (O.block_count (reader_disk reader.old)) (O.known seen.old) (kept_blocks reader.old) → AreSettled (O.block_count (reader_disk reader.old)) (O.known seen.old) (kept_blocks reader.new) }
     ensures disk { reader_disk reader.new ≡ reader_disk reader.old }
     ensures asks { asks cursor.new ≡ asks cursor.old }
-    ensures gathered { OnOk result ((p : Past) → LiesInPast (O.block_count (reader_disk reader.old)) errand cursor.old p → AreTheSettled (O.block_count (reader_disk reader.old)) (O.known seen.old) p.blocks → IsGathered cursor.new p.history) }
+    ensures gathered { OnOk result ((p : Past) → IsErrandOn (λ e disk past. LiesInPast (O.block_count disk) e cursor.old past) O.honest_seen O.block_count O.known p errand seen.old (reader_disk reader.old) → AreSettled (O.block_count (reader_disk reader.old)) (O.known seen.old) (kept_blocks reader.old) → IsGathered cursor.new p.history) }
 {
     match errand.finish(alloc, reader, seen, cursor) {
         Ok(()) => Ok(()),

@@ -1,5 +1,5 @@
 use Rattle.std.proofs.Common.{◌≡◌, ℕ, ◌≤◌}
-use Rattle.std.specs.Prelude.{slice_index}
+use Rattle.std.specs.Prelude.{slice_index, IsSome}
 use Rattle.board.specs.Past.{reach}
 use Rattle.board.specs.Views.{Within}
 use Rattle.query_threads.proofs.desk.catch_up.Given as goal
@@ -7,6 +7,6 @@ use Rattle.query_threads.proofs.desk.catch_up.Given as goal
 abbrev pub invariant-loop-c : goal.invariant-loop-c
 invariant-loop-c g l = record {
   past : l.writer.past ≡ l.fn.writer.past;
-  raised : (i : ℕ) → i ≤ l.c → reach l.writer.past.history i ≤ slice_index l.writer.numbers i;
+  raised : IsSome g.N.OnDisk.disk → (i : ℕ) → i ≤ l.c → reach l.writer.past.history i ≤ slice_index l.writer.numbers i;
   rises : Within l.fn.writer.numbers l.writer.numbers;
 }

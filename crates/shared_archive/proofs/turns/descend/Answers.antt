@@ -21,6 +21,9 @@ returns-in-Ok-Historical-clause-carries g c = λ p k. same_blocks c.args.archive
 pub returns-in-Err-clause-carries : goal.returns-in-Err-clause-carries
 returns-in-Err-clause-carries g c = λ p k. same_blocks c.args.archive.now p k c.descend.new.self p.history c.descend.ensures.disk c.descend.ensures.blocks (c.descend.ensures.holds p.history (λ _. k.goes_on) (c.descend.ensures.honest.0 (honest_of c.args.archive.now p k)))
 
+pub returns-in-Ok-Historical-clause-fits : goal.returns-in-Ok-Historical-clause-fits
+returns-in-Ok-Historical-clause-fits g c = (subst (λ (x : Descent). GoesFurther c.args.cursor.now c.descend.new.cursor x) c.in-Ok-Historical.field-0-is c.in-Ok-Historical.ensures.further).1
+
 pub returns-in-Ok-Done-clause-settled : goal.returns-in-Ok-Done-clause-settled
 returns-in-Ok-Done-clause-settled g c = λ p k. c.in-Ok-Done.ensures.below (honest_of c.args.archive.now p k) p.history (λ _. k.goes_on)
 
@@ -42,9 +45,8 @@ pub returns-in-Ok-Historical-clause-gives : goal.returns-in-Ok-Historical-clause
 returns-in-Ok-Historical-clause-gives g c = λ p k gathered.
     let a = c.args.archive.now in
     let count = g.O.OnceDisk.block_count (once_of a) in
-    let further = subst (λ (x : Descent). GoesFurther c.args.cursor.now c.descend.new.cursor x) c.in-Ok-Historical.field-0-is c.in-Ok-Historical.ensures.further in
     let lies = subst (λ (x : Descent). Descends count (once_state a).settled p.history c.args.cursor.now c.descend.new.cursor x) c.in-Ok-Historical.field-0-is (c.in-Ok-Historical.ensures.descends (honest_of a p k) p.history (λ _. k.goes_on) gathered) in
-    lies_past count (once_state a).settled c.in-Ok-Historical.errand c.descend.new.cursor p k.blocks further.1 lies
+    lies_past count (once_state a).settled c.in-Ok-Historical.errand c.descend.new.cursor p k.blocks lies
 
 pub returns-in-Err-clause-told : goal.returns-in-Err-clause-told
 returns-in-Err-clause-told g c = λ p k.

@@ -1,30 +1,32 @@
-use Rattle.std.proofs.Common.{◌<◌, IfSome, inr, sym, ◌∙◌, subst}
+use Rattle.std.proofs.Common.{◌<◌, ℕ, List, IfSome, inr, sym, ◌∙◌, subst}
+use Rattle.std.specs.Prelude.{IsSome, ⊤}
 use Rattle.route_meaning.specs.History.{applied, settled}
 use Rattle.interleaving_core.specs.Does.{last_moment}
 use Rattle.interleaving_core.specs.Headline.{IsAnswered}
+use Rattle.board.specs.Past.{IsBlock}
 use Rattle.query_threads.specs.Turns.{TurnGives}
 use Rattle.query_threads.specs.Looks.{IsErrandOn}
 use Rattle.query_threads.proofs.Seen.{since_then}
 use Rattle.query_threads.proofs.shared.Shared.answer_of.Goals as goal
 
 pub returns-in_err-turn-clause-reader : goal.returns-in_err-turn-clause-reader
-returns-in_err-turn-clause-reader g c n octets is = c.turn.ensures.begins.past.blocks n octets (c.loop.invariant.reader n octets is)
+returns-in_err-turn-clause-reader g c named n octets is = c.turn.ensures.begins.past.blocks n octets (c.loop.invariant.reader named n octets is)
 
 pub returns-in_err-turn-clause-begins : goal.returns-in_err-turn-clause-begins
 returns-in_err-turn-clause-begins g c = since_then c.args.pass.now c.loop.pass c.turn.new.pass c.loop.invariant.since c.turn.ensures.begins
 
 pub returns-in-Done-clause-reader : goal.returns-in-Done-clause-reader
-returns-in-Done-clause-reader g c n octets is = c.turn.ensures.begins.past.blocks n octets (c.loop.invariant.reader n octets is)
+returns-in-Done-clause-reader g c named n octets is = c.turn.ensures.begins.past.blocks n octets (c.loop.invariant.reader named n octets is)
 
 pub returns-in-Done-clause-begins : goal.returns-in-Done-clause-begins
 returns-in-Done-clause-begins g c = since_then c.args.pass.now c.loop.pass c.turn.new.pass c.loop.invariant.since c.turn.ensures.begins
 
 pub returns-in-Done-clause-answer : goal.returns-in-Done-clause-answer
-returns-in-Done-clause-answer g c =
+returns-in-Done-clause-answer g c named =
     let p = c.turn.new.pass.past in
-    let gathered = c.loop.invariant.gathered p.history c.turn.ensures.begins.past.begins in
+    let gathered = c.loop.invariant.gathered named p.history c.turn.ensures.begins.past.begins in
     subst (λ t. TurnGives (λ e. IfSome g.N.OnDisk.disk (IsErrandOn (λ errand. g.A.Store.lies errand c.turn.new.cursor) g.A.Store.honest g.A.Store.block_count g.A.Store.known p e.0 e.1)) (g.A.Store.gathered c.turn.new.cursor p.history) (λ answer. IsAnswered (applied p.history) c.args.query answer) t)
-    c.in-Done.is (c.in_ok-turn.ensures.gives gathered)
+    c.in-Done.is (c.in_ok-turn.ensures.gives named gathered)
 
 pub loop-preserved-in-Again : goal.loop-preserved-in-Again
 loop-preserved-in-Again g c =
@@ -32,36 +34,30 @@ loop-preserved-in-Again g c =
     let p = c.turn.new.pass.past in
     let e = c.in_ok-turn.ensures in
     let begins = c.turn.ensures.begins in
-    let gathered = i.gathered p.history begins.past.begins in
-    let here = subst (λ t. TurnGives (λ e. IfSome g.N.OnDisk.disk (IsErrandOn (λ errand. g.A.Store.lies errand c.turn.new.cursor) g.A.Store.honest g.A.Store.block_count g.A.Store.known p e.0 e.1)) (g.A.Store.gathered c.turn.new.cursor p.history) (λ answer. IsAnswered (applied p.history) c.args.query answer) t)
-    c.in-Again.is (e.gives gathered) in
-    let low = subst (λ q. last_moment q < settled p.history) (sym c.turn.ensures.asks) e.settled in
     record {
       next = tt;
       finite = tt;
       since = inr (since_then c.args.pass.now c.loop.pass c.turn.new.pass i.since begins);
-      reader = λ n octets is. begins.past.blocks n octets (i.reader n octets is);
+      reader = λ named n octets is. begins.past.blocks n octets (i.reader named n octets is);
       asks = c.turn.ensures.asks;
-      gathered = λ h later. g.met.A.Store.stays c.turn.new.cursor p.history h c.turn.ensures.right later low here;
+      gathered = λ named h later.
+          let here = subst (λ t. TurnGives (λ e. IfSome g.N.OnDisk.disk (IsErrandOn (λ errand. g.A.Store.lies errand c.turn.new.cursor) g.A.Store.honest g.A.Store.block_count g.A.Store.known p e.0 e.1)) (g.A.Store.gathered c.turn.new.cursor p.history) (λ answer. IsAnswered (applied p.history) c.args.query answer) t)
+          c.in-Again.is (e.gives named (i.gathered named p.history begins.past.begins)) in
+          let low = subst (λ q. last_moment q < settled p.history) (sym c.turn.ensures.asks) (e.settled named) in
+          g.met.A.Store.stays c.turn.new.cursor p.history h (c.turn.ensures.right named) later low here;
     }
 
-pub finish-requires-clause-stands : goal.finish-requires-clause-stands
-finish-requires-clause-stands g c =
-    let i = c.loop.invariant in
-    let p = c.turn.new.pass.past in
-    let begins = c.turn.ensures.begins in
-    let told = subst (λ t. TurnGives (λ e. IfSome g.N.OnDisk.disk (IsErrandOn (λ errand. g.A.Store.lies errand c.turn.new.cursor) g.A.Store.honest g.A.Store.block_count g.A.Store.known p e.0 e.1)) (g.A.Store.gathered c.turn.new.cursor p.history) (λ answer. IsAnswered (applied p.history) c.args.query answer) t)
-    c.in-Historical.is (c.in_ok-turn.ensures.gives (i.gathered p.history begins.past.begins)) in
-    λ _ _. (p, told, λ n octets is. begins.past.blocks n octets (i.reader n octets is))
+pub finish-requires-clause-fits : goal.finish-requires-clause-fits
+finish-requires-clause-fits g c = λ _ _. subst (λ t. TurnGives (λ e. g.A.Store.fits e.0 c.turn.new.cursor) ⊤ (λ _. ⊤) t) c.in-Historical.is c.in_ok-turn.ensures.fits
 
 pub returns-in_err-finish-in-Historical-clause-reader : goal.returns-in_err-finish-in-Historical-clause-reader
-returns-in_err-finish-in-Historical-clause-reader g c =
+returns-in_err-finish-in-Historical-clause-reader g c named =
     let i = c.loop.invariant in
     let p = c.turn.new.pass.past in
     let begins = c.turn.ensures.begins in
     let told = subst (λ t. TurnGives (λ e. IfSome g.N.OnDisk.disk (IsErrandOn (λ errand. g.A.Store.lies errand c.turn.new.cursor) g.A.Store.honest g.A.Store.block_count g.A.Store.known p e.0 e.1)) (g.A.Store.gathered c.turn.new.cursor p.history) (λ answer. IsAnswered (applied p.history) c.args.query answer) t)
-    c.in-Historical.is (c.in_ok-turn.ensures.gives (i.gathered p.history begins.past.begins)) in
-    c.finish.ensures.kept p told (λ n octets is. begins.past.blocks n octets (i.reader n octets is))
+    c.in-Historical.is (c.in_ok-turn.ensures.gives named (i.gathered named p.history begins.past.begins)) in
+    c.finish.ensures.kept named p told (λ n octets is. begins.past.blocks n octets (i.reader named n octets is))
 
 pub returns-in_err-finish-in-Historical-clause-begins : goal.returns-in_err-finish-in-Historical-clause-begins
 returns-in_err-finish-in-Historical-clause-begins g c = since_then c.args.pass.now c.loop.pass c.turn.new.pass c.loop.invariant.since c.turn.ensures.begins
@@ -71,16 +67,18 @@ loop-preserved g c =
     let i = c.loop.invariant in
     let p = c.turn.new.pass.past in
     let begins = c.turn.ensures.begins in
-    let told = subst (λ t. TurnGives (λ e. IfSome g.N.OnDisk.disk (IsErrandOn (λ errand. g.A.Store.lies errand c.turn.new.cursor) g.A.Store.honest g.A.Store.block_count g.A.Store.known p e.0 e.1)) (g.A.Store.gathered c.turn.new.cursor p.history) (λ answer. IsAnswered (applied p.history) c.args.query answer) t)
-    c.in-Historical.is (c.in_ok-turn.ensures.gives (i.gathered p.history begins.past.begins)) in
     let f = c.in_ok-finish-in-Historical.ensures in
     let asks = f.asks ∙ c.turn.ensures.asks in
-    let low = subst (λ q. last_moment q < settled p.history) (sym asks) c.in_ok-turn.ensures.settled in
+    let told = λ (named : IsSome g.N.OnDisk.disk). subst (λ t. TurnGives (λ e. IfSome g.N.OnDisk.disk (IsErrandOn (λ errand. g.A.Store.lies errand c.turn.new.cursor) g.A.Store.honest g.A.Store.block_count g.A.Store.known p e.0 e.1)) (g.A.Store.gathered c.turn.new.cursor p.history) (λ answer. IsAnswered (applied p.history) c.args.query answer) t)
+    c.in-Historical.is (c.in_ok-turn.ensures.gives named (i.gathered named p.history begins.past.begins)) in
+    let kept = λ (named : IsSome g.N.OnDisk.disk) (n : ℕ) (octets : List ℕ) (is : IsBlock n octets c.loop.reader). begins.past.blocks n octets (i.reader named n octets is) in
     record {
       next = tt;
       finite = tt;
       since = inr (since_then c.args.pass.now c.loop.pass c.turn.new.pass i.since begins);
-      reader = f.kept p told (λ n octets is. begins.past.blocks n octets (i.reader n octets is));
+      reader = λ named. f.kept named p (told named) (kept named);
       asks = asks;
-      gathered = λ h later. g.met.A.Store.stays _ p.history h c.turn.ensures.right later low (f.gathered p told);
+      gathered = λ named h later.
+          let low = subst (λ q. last_moment q < settled p.history) (sym asks) (c.in_ok-turn.ensures.settled named) in
+          g.met.A.Store.stays _ p.history h (c.turn.ensures.right named) later low (f.gathered named p (told named) (kept named));
     }

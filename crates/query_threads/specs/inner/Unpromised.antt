@@ -1,0 +1,11 @@
+-- What stands for the past of an archive of which nothing is promised.
+use Rattle.std.specs.Prelude.{◌<◌, ◌≤◌, ℕ, length}
+use Rattle.route_meaning.specs.History.{History, IsHistory, settled}
+use Rattle.board.specs.Past.{count_of}
+
+-- A right history that reaches whatever a word may be: its settled watermark is no less than the last mark, and each of its collectors
+-- has as many admissions as a count can tell.
+pub record ReachesAll (h : History) : Type 0 where
+  pub right : IsHistory h
+  pub watermark : 4294967296 ≤ settled h
+  pub counts : (c : ℕ) → c < length h.intakes → 18446744073709551615 ≤ count_of h c
