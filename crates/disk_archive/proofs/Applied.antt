@@ -1,5 +1,5 @@
 -- What a step of applying answers, over an archive that holds a history.
-use Rattle.std.proofs.Common.{◌≡◌, ◌⊎◌, ◌↔◌, inl, inr, ⊎_elim, Bool, true, false, refl, sym, ◌∙◌, ap, subst, Result, Ok, Err, true≢false, ℕ}
+use Rattle.std.proofs.Common.{◌≡◌, ◌⊎◌, ◌↔◌, inl, inr, ⊎_elim, Bool, true, false, refl, sym, ◌∙◌, subst, Result, Ok, Err, true≢false, ℕ}
 use Rattle.std.specs.Prelude.{OnOk, OnErr, IfOk, IfErr}
 use Rattle.std.specs.List.{AllByRecursion}
 use Rattle.std.proofs.lemmas.Bool.{cases_Bool}

@@ -1,10 +1,9 @@
 -- What a call that burnt blocks, and then committed or ended, left of an archive.
-use Rattle.std.proofs.Common.{◌≡◌, ◌⊎◌, inl, inr, ⊎_elim, ◌≤◌, ℕ, List, Bool, true, false, refl, sym, ◌∙◌, ap, subst, arith}
+use Rattle.std.proofs.Common.{◌≡◌, ◌⊎◌, inl, inr, ⊎_elim, ℕ, List, true, sym, ◌∙◌, ap, subst}
 use Rattle.disk_models.specs.declared.erase.EraseDisk.{Ghosts as EraseGhosts}
 use Rattle.disk_models.specs.declared.once.OnceDisk.{Ghosts as OnceGhosts}
-use Rattle.disk_models.specs.Erase.{DiskState, Leaves, IsSound}
-use Rattle.disk_models.specs.Once.{OnceState, Grows, settled_in}
-use Rattle.disk_models.specs.Left.{Left}
+use Rattle.disk_models.specs.Erase.{Leaves}
+use Rattle.disk_models.specs.Once.{Grows, settled_in}
 use Rattle.disk_models.proofs.api.Pairs.{after_call}
 use Rattle.page_journal.specs.Journal.{disk_of as erase_disk, home_pages, note_of}
 use Rattle.page_journal.specs.Recovers.{RecoversEither}
@@ -21,7 +20,7 @@ use Rattle.disk_archive.specs.Trees.{TreeLies}
 use Rattle.disk_archive.specs.declared.archive.Archive.{Archive}
 use Rattle.disk_archive.specs.Mirrors.{Mirrors}
 use Rattle.disk_archive.specs.Sites.{Site, IsNoted, LeftEither, LeftFrom}
-use Rattle.disk_archive.specs.Archives.{BearsOn, Carries, Waits, GoesOn, IsHonest, is_down, erase_state, once_of, once_state, site_of}
+use Rattle.disk_archive.specs.Archives.{BearsOn, Carries, GoesOn, IsHonest, is_down, erase_state, once_of, once_state, site_of}
 use Rattle.disk_archive.specs.inner.Planning.{Headed}
 use Rattle.disk_archive.proofs.api.Trees.{tree_grows}
 use Rattle.disk_archive.proofs.Crossing.{now_carries, leaves_either}

@@ -1,12 +1,12 @@
 -- What a call that committed, or ended before, left of an archive.
-use Rattle.std.proofs.Common.{◌≡◌, ◌⊎◌, inl, inr, ⊎_elim, ◌≤◌, ℕ, List, Bool, true, false, refl, sym, ◌∙◌, ap, subst, arith}
+use Rattle.std.proofs.Common.{◌≡◌, ◌⊎◌, inl, inr, ⊎_elim, ℕ, List, true, sym, ◌∙◌, subst}
 use Rattle.disk_models.specs.declared.erase.EraseDisk.{Ghosts as EraseGhosts}
 use Rattle.disk_models.specs.declared.once.OnceDisk.{Ghosts as OnceGhosts}
-use Rattle.disk_models.specs.Erase.{DiskState, MayLeave, Leaves, IsSound}
+use Rattle.disk_models.specs.Erase.{MayLeave, Leaves, IsSound}
 use Rattle.disk_models.specs.Once.{OnceState, Grows, settled_in}
-use Rattle.disk_models.specs.Left.{Left, HasSettled, LeftNow, WithSettled, CrashPair}
+use Rattle.disk_models.specs.Left.{LeftNow}
 use Rattle.disk_models.proofs.api.Pairs.{after_call}
-use Rattle.page_journal.specs.Journal.{disk_of as erase_disk, home_pages, needs_recovery, note_of}
+use Rattle.page_journal.specs.Journal.{disk_of as erase_disk, home_pages, note_of}
 use Rattle.page_journal.specs.Recovers.{Recovers, RecoversEither}
 use Rattle.page_journal.proofs.api.Kept.{kept_recovers}
 use Rattle.buffer_pool.specs.Pool.{Maps, journal_of}
@@ -15,11 +15,11 @@ use Rattle.page_tx.specs.Tx.{Shows, pool_of}
 use Rattle.page_tx.specs.declared.tx.Tx.{Tx}
 use Rattle.route_meaning.specs.History.{History, Begins}
 use Rattle.route_meaning.proofs.api.Beginning.{Begins-refl}
-use Rattle.archive_head.specs.Head.{Contents, IsHead}
+use Rattle.archive_head.specs.Head.{Contents}
 use Rattle.disk_archive.specs.declared.archive.Archive.{Archive}
 use Rattle.disk_archive.specs.Mirrors.{Mirrors}
-use Rattle.disk_archive.specs.Sites.{Site, IsNoted, LeftCarries, LeftEither, LeftFrom}
-use Rattle.disk_archive.specs.Archives.{Carries, Waits, GoesOn, IsHonest, erase_state, once_state, once_of, settings_of, site_of, is_down, BearsOn}
+use Rattle.disk_archive.specs.Sites.{Site, IsNoted, LeftEither, LeftFrom}
+use Rattle.disk_archive.specs.Archives.{Carries, GoesOn, IsHonest, erase_state, once_state, once_of, site_of, is_down}
 use Rattle.disk_archive.specs.Crashes.{Crashes}
 use Rattle.disk_archive.specs.inner.Planning.{Headed}
 use Rattle.archive_pages.specs.declared.settings.Settings.{Settings}

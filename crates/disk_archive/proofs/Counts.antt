@@ -1,5 +1,5 @@
 -- What a check counts, and what it finds.
-use Rattle.std.proofs.Common.{◌≡◌, ◌⊎◌, ⊎_elim, true≢false, ℕ, suc, ◌+◌, ◌<◌, ◌^◌, List, [], ◌∷◌, ◌++◌, length, map, sum_by, min, Bool, true, false, Option, refl, sym, ◌∙◌, ap, subst, arith, length-append, Result, Ok, Err, IfOk, IfErr, OnOk}
+use Rattle.std.proofs.Common.{◌≡◌, ⊎_elim, true≢false, ℕ, suc, ◌+◌, ◌<◌, ◌^◌, List, [], ◌∷◌, length, map, sum_by, Bool, false, Option, refl, sym, ◌∙◌, ap, subst, arith, length-append, Result, Ok, Err, IfOk, IfErr, OnOk}
 use Rattle.std.proofs.lemmas.List.{length-map}
 use Rattle.std.proofs.lemmas.List.Sums.{sum_by-cons}
 use Rattle.disk_models.specs.declared.erase.EraseDisk.{Ghosts as EraseGhosts}
@@ -11,22 +11,20 @@ use Rattle.route_model.specs.Admission.{Admitted}
 use Rattle.route_meaning.specs.Holds.{time_of}
 use Rattle.route_meaning.specs.Merged.{Placed}
 use Rattle.route_meaning.specs.History.{History, applied}
-use Rattle.route_history.specs.Kept.{Timed, at_time, timed, Kept, AreVersions}
+use Rattle.route_history.specs.Kept.{Timed, at_time, timed, AreVersions}
 use Rattle.tsb_tree.specs.declared.error.TreeError.{TreeError}
 use Rattle.tsb_tree.specs.declared.error.TreeError.TheVariants as trees
 use Rattle.tsb_tree.specs.Refusals.{BlamesNone as TreeBlamesNone}
 use Rattle.tsb_walk.specs.AllVersions.{VersionsRefusal}
 use Rattle.tsb_walk.specs.declared.error.NodeError.{NodeError}
 use Rattle.tsb_walk.specs.declared.error.NodeError.TheVariants as nodes
-use Rattle.tsb_walk.specs.declared.page_place.PagePlace.{PagePlace}
 use Rattle.tsb_walk.specs.Knowing.{AreKnown}
-use Rattle.version_model.specs.Pages.{TreeStands}
 use Rattle.version_model.specs.Versions.{Version}
 use Rattle.tsb_check.specs.Counted.{told}
 use Rattle.disk_archive.specs.declared.archive.Archive.{Archive}
 use Rattle.disk_archive.specs.declared.check_error.CheckError.{CheckError}
 use Rattle.disk_archive.specs.declared.check_error.CheckError.TheVariants as checks
-use Rattle.disk_archive.specs.Archives.{Carries, Holds, IsHonest, is_down}
+use Rattle.disk_archive.specs.Archives.{Holds, IsHonest, is_down}
 use Rattle.disk_archive.specs.inner.Asking.{HasTree}
 use Rattle.disk_archive.specs.inner.Checking.{check_of_node, CountRefusal, FindsNone}
 

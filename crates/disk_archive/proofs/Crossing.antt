@@ -1,8 +1,8 @@
 -- What a crash leaves of both disks carries a history, over a call that reads, or burns, and then commits.
-use Rattle.std.proofs.Common.{◌≡◌, ◌⊎◌, inl, inr, ⊎_elim, ◌≤◌, ℕ, List, refl, sym, ◌∙◌, subst, arith}
+use Rattle.std.proofs.Common.{◌≡◌, inl, inr, ⊎_elim, ℕ, List, refl, sym, subst, arith}
 use Rattle.disk_models.specs.Erase.{DiskState, MayLeave, Leaves, IsSound}
 use Rattle.disk_models.specs.Once.{OnceState, Grows, settled_in}
-use Rattle.disk_models.specs.Left.{Left, HasSettled, LeftNow, WithSettled, CrashPair}
+use Rattle.disk_models.specs.Left.{Left, HasSettled, WithSettled, CrashPair}
 use Rattle.disk_models.proofs.api.Moments.{leaves_weaker}
 use Rattle.page_journal.specs.Recovers.{Recovers, RecoversEither}
 use Rattle.route_meaning.specs.History.{History}

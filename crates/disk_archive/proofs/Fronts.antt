@@ -1,11 +1,11 @@
 -- The collector that is next by what is kept in memory gave the first admission that waits, and its time leaves when it is wholly applied.
-use Rattle.std.proofs.Common.{◌≡◌, ◌≢◌, ◌<◌, ◌≤◌, ◌↔◌, ℕ, zero, suc, ◌+◌, List, [], ◌∷◌, ◌++◌, length, drop, map, Bool, true, false, leb, eqb, refl, sym, ◌∙◌, ap, subst, inl, inr, arith, Some}
+use Rattle.std.proofs.Common.{◌≡◌, ◌<◌, ◌≤◌, ℕ, zero, suc, ◌+◌, List, [], ◌∷◌, ◌++◌, length, drop, map, Bool, true, false, leb, eqb, refl, sym, ◌∙◌, ap, subst, inl, inr, arith, Some}
 use Rattle.std.specs.List.{AllByRecursion, slice_get, slice_set}
 use Rattle.std.proofs.lemmas.Bool.{cases_Bool, eq-eqb, ne_eqb}
 use Rattle.std.proofs.lemmas.List.{map-append}
 use Rattle.route_model.specs.Admission.{Admitted}
 use Rattle.route_meaning.specs.Holds.{admitted_time, time_of}
-use Rattle.route_meaning.specs.Merged.{Placed, placed, insert_by, by_time, all_placed, merged, part, parts, IsBefore, IsInOrder, IsRising}
+use Rattle.route_meaning.specs.Merged.{Placed, placed, insert_by, by_time, all_placed, merged, part, parts, IsInOrder, IsRising}
 use Rattle.route_meaning.specs.History.{Intake, History, IsBelowMarks, all_of, waiting}
 use Rattle.route_meaning.proofs.api.Sorting.{all_weaker, all_by_time}
 use Rattle.route_meaning.proofs.api.OneOrder.{merged-parts, merged-first, IsInOrder-merged}

@@ -1,14 +1,14 @@
 -- What a call leaves of the shelf of an archive.
-use Rattle.std.proofs.Common.{◌≡◌, ◌↔◌, ◌≤◌, ◌+◌, ◌++◌, ◌∙◌, inl, inr, ℕ, suc, List, [], ◌∷◌, length, Bool, true, false, cond, not, refl, sym, subst, arith, length-append}
+use Rattle.std.proofs.Common.{◌≤◌, ◌+◌, ◌++◌, ◌∙◌, inl, inr, ℕ, suc, List, [], ◌∷◌, length, Bool, true, false, cond, not, refl, sym, subst, arith, length-append}
 use Rattle.std.specs.List.{filter}
 use Rattle.page_journal.specs.Bookkeeping.{is_among, without}
 use Rattle.page_journal.specs.Recovers.{IsListed}
 use Rattle.page_tx.specs.Images.{joined}
 use Rattle.disk_models.specs.declared.once.OnceDisk.{Ghosts as OnceGhosts}
-use Rattle.disk_models.specs.Once.{OnceState, Grows}
+use Rattle.disk_models.specs.Once.{OnceState}
 use Rattle.disk_models.proofs.api.Growing.{grows_then}
 use Rattle.once_store.specs.declared.shelf.Shelf.{Shelf}
-use Rattle.once_store.specs.Shelves.{AllTried, disk_of, next_of, pen_of}
+use Rattle.once_store.specs.Shelves.{AllTried, next_of, pen_of}
 use Rattle.tsb_tree.specs.Shelves.{LeavesShelf, SpendsAtMost}
 use Rattle.disk_archive.specs.inner.Applications.{KeepsBlocks}
 

@@ -1,21 +1,18 @@
 -- What is held after a call, and what lasts.
-use Rattle.std.proofs.Common.{◌≡◌, ◌⊎◌, inl, inr, ⊎_elim, ◌≤◌, ℕ, List, Bool, true, false, refl, sym, ◌∙◌, ap, subst, arith, true≢false}
+use Rattle.std.proofs.Common.{◌≡◌, ◌⊎◌, inl, inr, ⊎_elim, true, false, sym, ◌∙◌, ap, subst, true≢false}
 use Rattle.disk_models.specs.declared.erase.EraseDisk.{Ghosts as EraseGhosts}
 use Rattle.disk_models.specs.declared.once.OnceDisk.{Ghosts as OnceGhosts}
-use Rattle.disk_models.specs.Erase.{DiskState, IsSound}
+use Rattle.disk_models.specs.Erase.{DiskState}
 use Rattle.disk_models.specs.Once.{OnceState, Grows}
-use Rattle.disk_models.specs.Left.{Left, LeftNow, TriedWithin}
+use Rattle.disk_models.specs.Left.{TriedWithin}
 use Rattle.page_journal.specs.Journal.{disk_of as erase_disk}
-use Rattle.buffer_pool.specs.Pool.{journal_of}
-use Rattle.page_tx.specs.Tx.{pool_of}
 use Rattle.route_meaning.specs.History.{History, Begins}
 use Rattle.route_meaning.proofs.api.Beginning.{Begins-refl, Begins-trans}
 use Rattle.disk_archive.specs.declared.archive.Archive.{Archive}
-use Rattle.disk_archive.specs.Sites.{LeftEither, LeftFrom}
-use Rattle.disk_archive.specs.Archives.{Carries, Waits, GoesOn, Holds, Stands, IsHonest, erase_state, once_of, once_state, site_of, is_down}
+use Rattle.disk_archive.specs.Sites.{LeftEither}
+use Rattle.disk_archive.specs.Archives.{Carries, GoesOn, Holds, Stands, IsHonest, erase_state, once_state, site_of, is_down}
 use Rattle.disk_archive.specs.Crashes.{Crashes, Lasts}
 use Rattle.disk_archive.specs.inner.Idle.{IsAsBefore}
-use Rattle.disk_archive.proofs.Crossing.{no_write}
 use Rattle.disk_archive.proofs.Calling.{AllSound, grows_none}
 use Rattle.disk_archive.proofs.Telling.{waits_same}
 

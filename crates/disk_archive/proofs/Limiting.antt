@@ -1,5 +1,5 @@
 -- Where a batch is too much for an archive, and where it isn't.
-use Rattle.std.proofs.Common.{◌≡◌, ◌⊎◌, ◌<◌, ◌≤◌, ◌↔◌, ◌+◌, ◌*◌, ◌^◌, ℕ, Bool, true, false, List, [], length, refl, sym, ◌∙◌, ap, subst, arith, Some, inl, inr, ⊎_elim, Result, Ok, Err, true≢false}
+use Rattle.std.proofs.Common.{◌≡◌, ◌<◌, ◌≤◌, ◌↔◌, ◌+◌, ◌*◌, ℕ, Bool, false, List, [], length, sym, ◌∙◌, ap, subst, arith, Some, inl, inr, Result, Ok, Err, true≢false}
 use Rattle.std.specs.Prelude.{IsErrAnd}
 use Rattle.std.specs.List.{slice_get}
 use Rattle.std.proofs.lemmas.Bool.{cases_lt}

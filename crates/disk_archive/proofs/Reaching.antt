@@ -1,10 +1,9 @@
 -- What was planned reaches further histories, change by change.
-use Rattle.std.proofs.Common.{◌≡◌, ◌≢◌, ◌⊎◌, ◌<◌, ◌≤◌, ℕ, List, [], ◌∷◌, length, set, Bool, true, false, refl, sym, ◌∙◌, ap, subst, inl, inr, ⊎_elim, arith, Some, Result, Ok, Err, length-set, get_or-set_same, get_or-set_other}
+use Rattle.std.proofs.Common.{◌≡◌, ◌≢◌, ◌⊎◌, ◌<◌, ℕ, List, [], ◌∷◌, length, set, true, false, refl, sym, ◌∙◌, subst, inl, inr, ⊎_elim, arith, Some, Result, Ok, Err, length-set, get_or-set_same, get_or-set_other}
 use Rattle.std.specs.List.{slice_get, slice_set}
 use Rattle.std.specs.Prelude.{OnOk, OnErr}
 use Rattle.route_model.specs.Admission.{Admitted}
-use Rattle.route_meaning.specs.Merged.{Placed, placed}
-use Rattle.route_meaning.specs.History.{History, IsBelowMarks, waiting}
+use Rattle.route_meaning.specs.History.{History, IsBelowMarks}
 use Rattle.interleaving_core.specs.Steps.{moved}
 use Rattle.sequencer.specs.Lanes.{Waiting, Releases}
 use Rattle.sequencer.specs.First.{IsNext}

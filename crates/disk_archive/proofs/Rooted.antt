@@ -1,11 +1,11 @@
 -- A tree that stands has its root among its own pages, and among those that were used.
-use Rattle.std.proofs.Common.{◌≡◌, ◌<◌, ◌≤◌, ℕ, suc, List, length, Some, inl, inr, sym, ◌∙◌, subst, arith}
+use Rattle.std.proofs.Common.{◌≡◌, ◌<◌, ℕ, suc, List, length, Some, inl, inr, sym, ◌∙◌, arith}
 use Rattle.std.proofs.lemmas.Bool.{cases_lt}
 use Rattle.std.proofs.lemmas.Option.{slice_get_within}
 use Rattle.disk_models.specs.Once.{OnceState, settled_in}
 use Rattle.route_meaning.specs.History.{History}
 use Rattle.version_model.specs.Versions.{Version}
-use Rattle.version_model.specs.Pages.{PageNode, Keys, Store, StandsIn, all_keys, CurrentLeaf, ColumnNode, KeyNode, column, key_node}
+use Rattle.version_model.specs.Pages.{PageNode, Keys, Store, StandsIn, all_keys, ColumnNode, KeyNode, column, key_node}
 use Rattle.archive_head.specs.Head.{Contents}
 use Rattle.archive_pages.specs.declared.settings.Settings.{Settings}
 use Rattle.archive_pages.specs.Carried.{Bears}

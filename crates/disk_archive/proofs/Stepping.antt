@@ -1,14 +1,13 @@
 -- Pages that are shown behind an applied change carry the history of then.
-use Rattle.std.proofs.Common.{◌≡◌, ◌≢◌, ◌<◌, ◌≤◌, ◌↔◌, ℕ, zero, suc, ◌+◌, List, [], ◌∷◌, ◌++◌, length, take, drop, map, set, Bool, true, false, refl, sym, ◌∙◌, ap, subst, inl, inr, true≢false, arith, Some, append-nil, length-set, get_or-set_same, get_or-set_other}
-use Rattle.std.specs.List.{AllByRecursion, slice_get, slice_set}
+use Rattle.std.proofs.Common.{◌≡◌, ◌<◌, ◌≤◌, ◌↔◌, ℕ, zero, suc, ◌+◌, List, [], ◌∷◌, ◌++◌, length, take, drop, map, Bool, true, refl, sym, ◌∙◌, ap, subst, inl, inr, true≢false, arith, Some, append-nil, length-set}
+use Rattle.std.specs.List.{AllByRecursion, slice_get}
 use Rattle.std.proofs.lemmas.Bool.{cases_lt, eq-eqb}
-use Rattle.disk_models.specs.Once.{OnceState, settled_in}
 use Rattle.route_model.specs.declared.change.Change.{Change}
 use Rattle.route_model.specs.Admission.{Admitted}
 use Rattle.route_meaning.specs.Merged.{Placed, placed, part, all_placed, IsRising}
 use Rattle.route_meaning.specs.Holds.{time_of}
 use Rattle.route_meaning.specs.History.{Intake, History, IsBelowMarks, all_of, waiting, begun, applied}
-use Rattle.route_meaning.proofs.api.Sorting.{all_weaker, all_append, rises_by_time}
+use Rattle.route_meaning.proofs.api.Sorting.{all_append, rises_by_time}
 use Rattle.route_meaning.proofs.api.Settling.{all_drop}
 use Rattle.interleaving_core.specs.Steps.{Applies, AppliesMore}
 use Rattle.version_model.specs.Versions.{Version}
@@ -19,7 +18,7 @@ use Rattle.archive_head.specs.declared.lane.Lane.{Lane}
 use Rattle.intake.specs.Ring.{IsRing, Holds}
 use Rattle.disk_archive.proofs.Mirroring.{intake_at}
 use Rattle.disk_archive.proofs.Plans.{lane_at}
-use Rattle.archive_head.specs.Head.{Contents, IsHead, head_octets}
+use Rattle.archive_head.specs.Head.{Contents}
 use Rattle.archive_pages.specs.declared.settings.Settings.{Settings}
 use Rattle.archive_pages.specs.Carried.{Bears, last_time}
 use Rattle.archive_pages.specs.Changes.{Takes, next_change}

@@ -1,12 +1,12 @@
 -- Calls that carry a history on, whatever step they take.
-use Rattle.std.proofs.Common.{◌≡◌, ◌⊎◌, inl, inr, ⊎_elim, true, sym, ap, subst}
+use Rattle.std.proofs.Common.{◌≡◌, inr, ⊎_elim, true, sym, ap, subst}
 use Rattle.disk_models.specs.declared.erase.EraseDisk.{Ghosts as EraseGhosts}
 use Rattle.disk_models.specs.declared.once.OnceDisk.{Ghosts as OnceGhosts}
 use Rattle.disk_models.specs.Erase.{DiskState}
 use Rattle.disk_models.specs.Once.{OnceState, Grows}
 use Rattle.disk_models.specs.Left.{Left, TriedWithin}
 use Rattle.page_journal.specs.Journal.{disk_of as erase_disk}
-use Rattle.route_meaning.specs.History.{History, Begins}
+use Rattle.route_meaning.specs.History.{History}
 use Rattle.route_meaning.proofs.api.Beginning.{Begins-trans}
 use Rattle.disk_archive.specs.declared.archive.Archive.{Archive}
 use Rattle.disk_archive.specs.Sites.{LeftFrom}

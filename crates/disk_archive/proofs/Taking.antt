@@ -1,5 +1,5 @@
 -- The tree of an archive takes the version of a change.
-use Rattle.std.proofs.Common.{◌≡◌, ◌≢◌, ◌⊎◌, ◌<◌, ◌≤◌, ℕ, zero, suc, ◌+◌, ◌*◌, ◌^◌, List, [], ◌∷◌, ◌++◌, length, min, inl, inr, refl, sym, ◌∙◌, ap, subst, arith, Some, None, append-nil}
+use Rattle.std.proofs.Common.{◌≡◌, ◌<◌, ◌≤◌, ℕ, zero, suc, List, [], ◌∷◌, length, min, inl, inr, refl, sym, ◌∙◌, ap, subst, arith, Some, None}
 use Rattle.std.specs.Prelude.{Option}
 use Rattle.std.specs.List.{slice_get}
 use Rattle.std.proofs.lemmas.Bool.{cases_lt}
@@ -11,15 +11,14 @@ use Rattle.once_store.specs.Shelves.{disk_of, next_of, pen_of}
 use Rattle.page_tx.specs.declared.pages.Pages.{Ghosts}
 use Rattle.page_tx.specs.Start.{Start}
 use Rattle.version_model.specs.Versions.{Version}
-use Rattle.version_model.specs.Blocks.{BlockNode, AreParts}
-use Rattle.version_model.specs.Pages.{Keys, PageNode, Store, PastStands, ColumnStands, Stands, column, key_node, TreeStands, all_keys, past_range}
+use Rattle.version_model.specs.Blocks.{BlockNode}
+use Rattle.version_model.specs.Pages.{Keys, PageNode, Store, PastStands, Stands, column, key_node, all_keys}
 use Rattle.tsb_walk.specs.Shown.{AreShown}
 use Rattle.tsb_tree.specs.Trees.{TreeHas, TreeShown}
 use Rattle.tsb_tree.specs.Inserted.{TakenIn}
 use Rattle.tsb_tree.specs.declared.tree.TreePlace.{TreePlace}
 use Rattle.intake.specs.Ring.{page_at}
-use Rattle.archive_pages.specs.Places.{ChangesFrom}
-use Rattle.disk_archive.specs.Trees.{IsBlock, TreeLies}
+use Rattle.disk_archive.specs.Trees.{TreeLies}
 use Rattle.disk_archive.specs.inner.Applications.{TreeTakes}
 
 -- ---- up to where pages and blocks are in use

@@ -1,15 +1,13 @@
 -- What an archive tells, and what it tells where its disks are as they were.
-use Rattle.std.proofs.Common.{◌≡◌, ◌⊎◌, inl, inr, ⊎_elim, ◌<◌, ℕ, List, length, map, refl, sym, ◌∙◌, ap, subst, arith, true, Some}
+use Rattle.std.proofs.Common.{◌≡◌, inl, inr, ⊎_elim, ℕ, List, length, map, sym, ◌∙◌, ap, subst, arith, Some}
 use Rattle.std.specs.List.{slice_get}
 use Rattle.std.proofs.lemmas.Option.{slice_get_within}
 use Rattle.disk_models.specs.declared.erase.EraseDisk.{Ghosts as EraseGhosts}
 use Rattle.disk_models.specs.declared.once.OnceDisk.{Ghosts as OnceGhosts}
-use Rattle.disk_models.specs.Erase.{DiskState}
 use Rattle.disk_models.specs.Once.{OnceState, settled_in}
 use Rattle.page_journal.specs.Journal.{disk_of as erase_disk, home_pages, note_of, needs_recovery}
 use Rattle.buffer_pool.specs.Pool.{Maps, journal_of}
 use Rattle.page_tx.specs.Tx.{pool_of}
-use Rattle.page_tx.specs.declared.tx.Tx.{Tx}
 use Rattle.route_meaning.specs.History.{Intake, History}
 use Rattle.interleaving_core.specs.World.{resume_of}
 use Rattle.archive_head.specs.declared.lane.Lane.{Lane}
@@ -20,7 +18,7 @@ use Rattle.disk_archive.specs.Trees.{TreeLies}
 use Rattle.disk_archive.specs.Sites.{Site, IsNoted, Rests}
 use Rattle.disk_archive.specs.Mirrors.{Mirrors}
 use Rattle.disk_archive.specs.declared.archive.Archive.{Archive}
-use Rattle.disk_archive.specs.Archives.{BearsOn, Carries, Waits, GoesOn, IsHonest, is_down, erase_state, once_of, once_state, settings_of, site_of}
+use Rattle.disk_archive.specs.Archives.{BearsOn, Carries, Waits, GoesOn, IsHonest, erase_state, once_of, once_state, site_of}
 use Rattle.disk_archive.proofs.Mirroring.{intake_at, map_get}
 
 pub mirrors_of : {E O Pen Seen : Type 0} {erase : EraseGhosts E} {once : OnceGhosts O Pen Seen} (a : Archive E O Pen Seen erase once) (h : History) → GoesOn a h → Mirrors a.sequencer h

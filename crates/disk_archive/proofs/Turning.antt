@@ -1,5 +1,5 @@
 -- Turns of questions over an archive, and their errands.
-use Rattle.std.proofs.Common.{◌≡◌, ⊎_elim, true, ℕ, ◌<◌, List, Bool, Option, Some, Result, Ok, Err, OnOk, OnErr, refl, sym, ap, subst}
+use Rattle.std.proofs.Common.{◌≡◌, ⊎_elim, true, ℕ, ◌<◌, List, Bool, Option, Some, Result, Ok, Err, OnOk, OnErr, sym, ap, subst}
 use Rattle.disk_models.specs.declared.erase.EraseDisk.{Ghosts as EraseGhosts}
 use Rattle.disk_models.specs.declared.once.OnceDisk.{Ghosts as OnceGhosts}
 use Rattle.once_store.specs.declared.reader.ShelfReader.{ShelfReader}
@@ -56,7 +56,6 @@ use Rattle.disk_archive.specs.declared.cursor.Cursor.{Cursor}
 use Rattle.disk_archive.specs.declared.cursor.Cursor.TheVariants.{Rows, Events}
 use Rattle.disk_archive.specs.declared.errand.Errand.{Errand}
 use Rattle.disk_archive.specs.declared.errand.Errand.TheVariants as errands
-use Rattle.disk_archive.specs.declared.descending.Descent.{Descent}
 use Rattle.disk_archive.specs.Cursors.{IsGathered, SaysSame}
 use Rattle.disk_archive.specs.Descents.{Descends, GoesFurther, Lies, LiesKnown}
 use Rattle.disk_archive.specs.inner.Descending.{HasPages, of_rows, of_events}

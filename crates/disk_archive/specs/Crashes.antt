@@ -1,5 +1,4 @@
 -- What a crash inside a call of an archive leaves.
-use Rattle.std.specs.Prelude.{ℕ}
 use Rattle.disk_models.specs.declared.erase.EraseDisk.{Ghosts as EraseGhosts}
 use Rattle.disk_models.specs.declared.once.OnceDisk.{Ghosts as OnceGhosts}
 use Rattle.disk_models.specs.Once.{OnceState, Grows}

@@ -1,5 +1,5 @@
 -- What an archive keeps in memory of the history that its disks carry.
-use Rattle.std.specs.Prelude.{◌≡◌, ℕ, List, map, length}
+use Rattle.std.specs.Prelude.{◌≡◌, List, map, length}
 use Rattle.route_meaning.specs.Merged.{parts}
 use Rattle.route_meaning.specs.Holds.{admitted_time}
 use Rattle.route_meaning.specs.History.{History, waiting}

@@ -1,13 +1,10 @@
 -- An archive's tree stands wherever its own pages are the same, and wherever more blocks are settled.
-use Rattle.std.proofs.Common.{◌≡◌, ◌<◌, ◌≤◌, ℕ, zero, suc, List, [], ◌∷◌, length, inl, inr, refl, sym, ◌∙◌, ap, arith, Some, None}
+use Rattle.std.proofs.Common.{◌≡◌, ℕ, zero, suc, List, [], ◌∷◌, length, inl, inr, sym, ◌∙◌, ap, arith, Some, None}
 use Rattle.std.specs.List.{slice_get}
 use Rattle.std.proofs.lemmas.Bool.{cases_lt}
-use Rattle.version_model.specs.Versions.{Version}
-use Rattle.version_model.specs.Pages.{PageNode}
-use Rattle.tsb_walk.specs.Shown.{Says}
 use Rattle.intake.specs.Ring.{page_at}
 use Rattle.archive_pages.specs.Carried.{IsFramed, IsGrowing}
-use Rattle.disk_archive.specs.Trees.{IsBlock, TreeLies}
+use Rattle.disk_archive.specs.Trees.{TreeLies}
 
 same_page : (old new : List (List ℕ)) (n : ℕ) (octets : List ℕ) → length new ≡ length old → page_at new n ≡ page_at old n → slice_get old n ≡ Some octets → slice_get new n ≡ Some octets
 same_page [] new n octets len e at = cc

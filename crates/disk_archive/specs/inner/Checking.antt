@@ -1,5 +1,5 @@
 -- How a count of a tree is refused. Contracts of private functions alone cite this file.
-use Rattle.std.specs.Prelude.{◌≡◌, ⊤, ℕ, Bool, true}
+use Rattle.std.specs.Prelude.{◌≡◌, ⊤, Bool, true}
 use Rattle.tsb_walk.specs.declared.error.NodeError.{NodeError}
 use Rattle.tsb_walk.specs.declared.error.NodeError.TheVariants as nodes
 use Rattle.disk_archive.specs.declared.check_error.CheckError.{CheckError}

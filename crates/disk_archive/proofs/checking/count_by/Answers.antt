@@ -1,14 +1,13 @@
-use Rattle.std.proofs.Common.{rules, ◌≡◌, ◌<◌, ◌^◌, ℕ, Bool, refl, sym, ◌∙◌, ap, subst, Err, IfErr, length}
+use Rattle.std.proofs.Common.{rules, ◌≡◌, ◌<◌, ◌^◌, ℕ, refl, sym, ◌∙◌, ap, subst, IfErr, length}
 use Rattle.once_store.specs.Readers.{reader_disk}
 use Rattle.archive_head.specs.Head.{Contents}
 use Rattle.route_history.specs.Kept.{timed}
-use Rattle.tsb_walk.specs.AllVersions.{VersionsRefusal}
 use Rattle.version_model.specs.Pages.{TreeStands}
 use Rattle.tsb_tree.specs.Opened.{ShowsRoot}
 use Rattle.disk_archive.specs.Checks.{IsBadPage, IsRootPlace, no_root, bad_under, other_number}
-use Rattle.disk_archive.specs.inner.Checking.{check_of_node, CountRefusal, FindsNone}
-use Rattle.disk_archive.proofs.Asking.{at_root, if_err}
-use Rattle.disk_archive.proofs.Counts.{as_many, count_refused, finds_none, known_of, passed, passed_node, told_is}
+use Rattle.disk_archive.specs.inner.Checking.{check_of_node}
+use Rattle.disk_archive.proofs.Asking.{at_root}
+use Rattle.disk_archive.proofs.Counts.{as_many, finds_none, known_of, passed, passed_node, told_is}
 use Rattle.disk_archive.proofs.checking.count_by.Goals as goal
 
 pub returns-in_err-root-clause-finds : goal.returns-in_err-root-clause-finds

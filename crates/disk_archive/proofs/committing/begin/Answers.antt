@@ -1,5 +1,4 @@
-use Rattle.std.proofs.Common.{◌≡◌, ◌∙◌, sym, ap, subst, length, ℕ, List}
-use Rattle.page_journal.specs.declared.journal.Journal.{Journal}
+use Rattle.std.proofs.Common.{◌≡◌, ◌∙◌, sym, ap, subst, length}
 use Rattle.page_journal.specs.Journal.{disk_of, note_of}
 use Rattle.buffer_pool.specs.Pool.{journal_of}
 use Rattle.page_tx.specs.Start.{Start}

@@ -1,9 +1,8 @@
-use Rattle.std.proofs.Common.{rules, ◌≡◌, ◌<◌, ℕ, Bool, Err, IfErr, sym, subst}
+use Rattle.std.proofs.Common.{rules, ◌<◌, Bool, IfErr, sym, subst}
 use Rattle.interleaving_core.specs.Does.{last_moment}
 use Rattle.route_meaning.specs.History.{settled}
 use Rattle.route_history.specs.Blame.{BlamesNone as NodeBlamesNone}
 use Rattle.tsb_walk.specs.Refusals.{LookRefusal as PageRefusal}
-use Rattle.tsb_walk.specs.declared.error.NodeError.{NodeError}
 use Rattle.disk_archive.specs.Cursors.{IsGathered, asks}
 use Rattle.disk_archive.specs.Descents.{Descends, GoesFurther}
 use Rattle.disk_archive.specs.declared.cursor.Cursor.{Cursor}
@@ -11,7 +10,7 @@ use Rattle.disk_archive.specs.declared.cursor.Cursor.TheVariants.{Rows, Events}
 use Rattle.disk_archive.specs.declared.descending.Descent.{Descent}
 use Rattle.disk_archive.specs.inner.Asking.{ask_of_node, BlamesNone, LookRefusal}
 use Rattle.disk_archive.proofs.Asking.{ask_blames, if_err}
-use Rattle.disk_archive.proofs.Turning.{rows_descends, rows_gathered, rows_further, events_descends, events_gathered, events_further, shows_tree, turn_refused, turn_undamaged}
+use Rattle.disk_archive.proofs.Turning.{rows_descends, rows_gathered, rows_further, events_descends, events_gathered, events_further, shows_tree, turn_refused}
 use Rattle.disk_archive.proofs.descending.descend_by.Goals as goal
 
 pub returns-in_err-root-clause-blames : goal.returns-in_err-root-clause-blames

@@ -1,5 +1,5 @@
-use Rattle.std.proofs.Common.{◌≡◌, ◌∙◌, refl, sym, ap, subst, ℕ, List}
-use Rattle.disk_models.specs.Erase.{DiskState, Leaves}
+use Rattle.std.proofs.Common.{refl, subst}
+use Rattle.disk_models.specs.Erase.{Leaves}
 use Rattle.disk_models.proofs.api.Moments.{leaves_then}
 use Rattle.page_journal.specs.Journal.{disk_of, home_pages}
 use Rattle.page_journal.specs.Recovers.{Recovers}

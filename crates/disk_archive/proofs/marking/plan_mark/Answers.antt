@@ -1,4 +1,4 @@
-use Rattle.std.proofs.Common.{◌≡◌, ◌<◌, ◌≤◌, ◌∙◌, ℕ, List, length, sym, ap, subst, arith, length-set}
+use Rattle.std.proofs.Common.{◌≡◌, ◌<◌, ◌≤◌, ◌∙◌, length, sym, ap, subst, arith, length-set}
 use Rattle.archive_head.specs.Head.{Contents}
 use Rattle.archive_pages.specs.Batches.{HasLane}
 use Rattle.archive_pages.specs.Changes.{with_lane}

@@ -1,4 +1,4 @@
-use Rattle.std.proofs.Common.{rules, ◌≡◌, ◌<◌, ◌≤◌, ℕ, subst, refl, sym, arith, Some, slice_get}
+use Rattle.std.proofs.Common.{rules, ◌≡◌, subst, refl, sym, arith, Some, slice_get}
 use Rattle.std.specs.Prelude.{IsErr}
 use Rattle.sequencer.specs.Lanes.{marks}
 use Rattle.sequencer.proofs.api.Setting.{marks_at}

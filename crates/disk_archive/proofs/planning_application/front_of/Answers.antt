@@ -2,7 +2,6 @@ use Rattle.std.proofs.Common.{rules, ◌≡◌, ◌∷◌, sym, ◌∙◌, ap, s
 use Rattle.archive_head.specs.declared.lane.Lane.{Lane}
 use Rattle.intake.specs.declared.ring.Ring.{Ring}
 use Rattle.intake.specs.Ring.{Holds}
-use Rattle.intake.specs.Calls.{ReadRefusal}
 use Rattle.archive_pages.specs.Places.{ring_of}
 use Rattle.sequencer.proofs.api.Setting.{one_there}
 use Rattle.disk_archive.proofs.planning_application.front_of.Goals as goal

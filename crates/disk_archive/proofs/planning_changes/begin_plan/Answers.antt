@@ -1,7 +1,6 @@
 use Rattle.std.proofs.Common.{rules, ◌≡◌, ◌<◌, ◌≤◌, ◌∷◌, ℕ, List, length, sym, ◌∙◌, ap, subst, arith, min}
 use Rattle.disk_models.specs.Once.{settled_in}
 use Rattle.archive_head.specs.Head.{Contents}
-use Rattle.archive_head.specs.declared.lane.Lane.{Lane}
 use Rattle.archive_pages.specs.Carried.{Bears}
 use Rattle.sequencer.proofs.api.Calls.{first_in}
 use Rattle.sequencer.specs.Lanes.{Waiting}

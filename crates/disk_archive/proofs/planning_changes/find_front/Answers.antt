@@ -1,6 +1,5 @@
-use Rattle.std.proofs.Common.{rules, ◌≡◌, ◌<◌, ◌≤◌, ◌∷◌, ℕ, List, length, min, true, false, refl, sym, ◌∙◌, ap, subst, arith}
+use Rattle.std.proofs.Common.{◌<◌, ℕ, length, min, sym, ◌∙◌, ap, arith}
 use Rattle.disk_models.specs.Once.{settled_in}
-use Rattle.sequencer.proofs.api.Calls.{first_in}
 use Rattle.sequencer.proofs.api.Behind.{next_in}
 use Rattle.disk_archive.proofs.Reaching.{first_found}
 use Rattle.disk_archive.proofs.planning_changes.find_front.Goals as goal

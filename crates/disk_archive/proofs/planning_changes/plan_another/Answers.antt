@@ -1,10 +1,10 @@
-use Rattle.std.proofs.Common.{rules, ◌≡◌, ◌<◌, ◌≤◌, ◌∷◌, ℕ, List, length, true, false, refl, sym, ◌∙◌, ap, subst, arith, Err}
+use Rattle.std.proofs.Common.{rules, ℕ, sym, subst}
 use Rattle.disk_models.specs.Once.{settled_in}
 use Rattle.once_store.specs.Shelves.{disk_of, next_of, pen_of}
 use Rattle.disk_archive.specs.inner.Applications.{IsPlan, Reached}
-use Rattle.disk_archive.proofs.Keeping.{keeps_none, keeps_told}
+use Rattle.disk_archive.proofs.Keeping.{keeps_told}
 use Rattle.disk_archive.proofs.Outcomes.{ok_then, err_then}
-use Rattle.disk_archive.proofs.Reaching.{reaches_same, step_reaches}
+use Rattle.disk_archive.proofs.Reaching.{step_reaches}
 use Rattle.disk_archive.proofs.planning_changes.plan_another.Goals as goal
 
 pub plan_step-requires-clause-fits : goal.plan_step-requires-clause-fits

@@ -1,8 +1,7 @@
-use Rattle.std.proofs.Common.{rules, ◌≡◌, ◌*◌, ◌+◌, ◌<◌, ◌≤◌, ◌↔◌, ℕ, List, length, refl, sym, ◌∙◌, ap, subst, arith}
+use Rattle.std.proofs.Common.{◌*◌, ◌+◌, ℕ, refl, sym, ◌∙◌, ap, subst, arith}
 use Rattle.disk_models.specs.Once.{settled_in}
-use Rattle.once_store.specs.Shelves.{disk_of, next_of, pen_of}
-use Rattle.route_meaning.specs.History.{History}
-use Rattle.disk_archive.specs.inner.Applications.{KeepsBlocks, Reached, Reaches}
+use Rattle.once_store.specs.Shelves.{pen_of}
+use Rattle.disk_archive.specs.inner.Applications.{Reached, Reaches}
 use Rattle.disk_archive.proofs.Keeping.{keeps_none, keeps_then, keeps_fewer}
 use Rattle.disk_archive.proofs.Reaching.{reaches_same, reaches_then}
 use Rattle.disk_archive.proofs.planning_changes.plan_more.Goals as goal

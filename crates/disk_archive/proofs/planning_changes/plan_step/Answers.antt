@@ -2,7 +2,6 @@ use Rattle.std.proofs.Common.{rules, ◌≡◌, ◌<◌, ◌≤◌, ◌∷◌, �
 use Rattle.std.specs.List.{slice_get}
 use Rattle.archive_head.specs.Head.{Contents}
 use Rattle.archive_head.specs.declared.lane.Lane.{Lane}
-use Rattle.sequencer.specs.Lanes.{Waiting}
 use Rattle.sequencer.specs.Ahead.{behind}
 use Rattle.sequencer.specs.First.{IsNext}
 use Rattle.once_store.specs.Shelves.{next_of}

@@ -1,6 +1,5 @@
 use Rattle.std.proofs.Common.{refl, sym, subst}
 use Rattle.once_store.specs.Shelves.{pen_of}
-use Rattle.disk_archive.specs.Archives.{pen_in}
 use Rattle.disk_archive.proofs.Telling.{goes_on_same}
 use Rattle.disk_archive.proofs.archive.Archive.seen.Goals as goal
 

@@ -1,6 +1,5 @@
 use Rattle.std.proofs.Common.{rules, ◌≡◌, ◌<◌, ◌≤◌, inl, inr, ℕ, List, [], length, map, refl, sym, ◌∙◌, ap, subst, arith, slice_get, Err}
 use Rattle.std.specs.Prelude.{sum_by}
-use Rattle.disk_models.specs.Once.{OnceState}
 use Rattle.page_journal.specs.Journal.{home_pages, needs_recovery}
 use Rattle.page_tx.specs.Start.{Start}
 use Rattle.route_model.specs.Admission.{Admitted}

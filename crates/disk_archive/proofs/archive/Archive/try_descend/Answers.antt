@@ -1,4 +1,4 @@
-use Rattle.std.proofs.Common.{rules, ◌≡◌, ◌<◌, ◌≤◌, ℕ, refl, sym, ◌∙◌, ap, subst, arith, true≢false, Err}
+use Rattle.std.proofs.Common.{rules, ◌≡◌, ◌<◌, ℕ, refl, sym, ◌∙◌, ap, arith, true≢false, Err}
 use Rattle.page_journal.specs.Journal.{home_pages}
 use Rattle.page_tx.specs.Start.{Start}
 use Rattle.route_meaning.specs.History.{settled}

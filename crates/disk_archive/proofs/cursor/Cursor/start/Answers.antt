@@ -1,4 +1,3 @@
-use Rattle.std.proofs.Common.{sym, subst}
 use Rattle.disk_archive.proofs.Asking.{rises_applied}
 use Rattle.route_meaning.specs.History.{applied}
 use Rattle.disk_archive.proofs.cursor.Cursor.start.Goals as goal

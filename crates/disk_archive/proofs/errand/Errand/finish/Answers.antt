@@ -1,4 +1,4 @@
-use Rattle.std.proofs.Common.{◌≡◌, ◌∙◌, Result, Ok, Err, OnOk, OnErr, sym, subst}
+use Rattle.std.proofs.Common.{◌∙◌, Result, Ok, Err, OnOk, OnErr, sym, subst}
 use Rattle.once_store.specs.declared.error.BlockError.{BlockError}
 use Rattle.route_history.specs.Fronts.{front_number}
 use Rattle.route_history.specs.Walks.{Rose}
