@@ -29,4 +29,5 @@ mod Empties
 mod Asking
 mod Counts
 mod Turning
+mod Staying
 pub mod api

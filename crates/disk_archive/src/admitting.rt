@@ -1,6 +1,6 @@
 //! A batch is admitted.
 
-ghost use Rattle.std.specs.Prelude.{◌≡◌, ◌≢◌, ◌<◌, ◌≤◌, ◌+◌, ◌⊎◌, ◌↔◌, ℕ, List, length, sum_by, Some, IfOk, OnOk, OnErr, IfErr, Err, slice_get, true, false};
+ghost use Rattle.std.specs.Prelude.{◌≡◌, ◌≢◌, ◌<◌, ◌≤◌, ◌+◌, ◌⊎◌, ◌↔◌, ℕ, List, length, min, sum_by, Some, IfOk, OnOk, OnErr, IfErr, Err, slice_get, true, false};
 ghost use Rattle.std.specs.List.{AllByRecursion};
 ghost use Rattle.route_model.specs.Admission.{IsAdmission};
 ghost use Rattle.route_meaning.specs.History.{History, Intake};
@@ -61,6 +61,8 @@ impl<E: EraseDisk + Drop, O: OnceDisk + Drop> Archive<E, O> {
     // Admits a batch where the archive carries a history.
     fn try_admit(&mut self, collector: u8, batch: &[Admission]) -> Result<BatchReply, AdmitError>
         ensures usable { OnOk result (is_down self.old ≡ false) }
+        ensures still_usable { OnOk result (is_down self.new ≡ false) }
+        ensures falls { is_down self.old ≡ false → is_down self.new ≡ true → result ≡ Err AdmitError.Fault }
         ensures recovery { is_down self.old ≡ true → IsAsBefore self.old self.new }
         ensures told { (result ≡ Err AdmitError.NeedsRecovery) ↔ (is_down self.old ≡ true) }
         ensures no_collector { (result ≡ Err AdmitError.NoCollector) ↔ ((is_down self.old ≡ false) × ((settings_of self.old).collectors ≤ collector)) }
@@ -117,6 +119,8 @@ impl<E: EraseDisk + Drop, O: OnceDisk + Drop> Archive<E, O> {
         ensures crash { (h : History) → Carries self.old h → Crashes self.old self.new (LeftEither (site_of self.old) h (given h collector batch.now)) }
         ensures lasts { (h : History) → Stands self.old h → Lasts self.old self.new h }
         ensures usable { OnOk result (is_down self.old ≡ false) }
+        ensures still_usable { OnOk result (is_down self.new ≡ false) }
+        ensures falls { is_down self.old ≡ false → is_down self.new ≡ true → result ≡ Err AdmitError.Fault }
         ensures recovery { (result ≡ Err AdmitError.NeedsRecovery) ↔ (is_down self.old ≡ true) }
         ensures no_collector { (result ≡ Err AdmitError.NoCollector) ↔ ((is_down self.old ≡ false) × ((settings_of self.old).collectors ≤ collector)) }
         ensures too_large { (result ≡ Err AdmitError.BatchTooLarge) ↔ ((is_down self.old ≡ false) × (collector < (settings_of self.old).collectors) × (262144 < sum_by entry_octets batch.now)) }

@@ -1,7 +1,7 @@
 //! The next changes are applied.
 
-ghost use Rattle.std.specs.Prelude.{◌≡◌, ◌⊎◌, ◌↔◌, ℕ, List, [], min, IfOk, OnOk, OnErr, IfErr, Ok, Err, true, false};
-ghost use Rattle.route_meaning.specs.History.{History};
+ghost use Rattle.std.specs.Prelude.{◌≡◌, ◌⊎◌, ◌↔◌, ◌<◌, ℕ, List, [], length, min, sum_by, IfOk, OnOk, OnErr, IfErr, Ok, Err, true, false};
+ghost use Rattle.route_meaning.specs.History.{History, applied};
 ghost use Rattle.interleaving_core.specs.Steps.{NothingToApply};
 ghost use Rattle.page_journal.specs.Journal.{disk_of, home_pages, needs_recovery, note_of};
 ghost use Rattle.buffer_pool.specs.Pool.{Maps, journal_of};
@@ -57,6 +57,8 @@ impl<E: EraseDisk + Drop, O: OnceDisk + Drop> Archive<E, O> {
     // Applies the next changes where the archive carries a history.
     fn try_apply(&mut self) -> Result<Step, ApplyError>
         ensures usable { OnOk result (is_down self.old ≡ false) }
+        ensures still_usable { OnOk result (is_down self.new ≡ false) }
+        ensures falls { is_down self.old ≡ false → is_down self.new ≡ true → result ≡ Err ApplyError.Fault }
         ensures recovery { is_down self.old ≡ true → IsAsBefore self.old self.new }
         ensures told { is_down self.old ≡ true → result ≡ Err ApplyError.NeedsRecovery }
         ensures refused { IfErr result (ApplyRefusal (is_down self.old)) }
@@ -106,6 +108,8 @@ impl<E: EraseDisk + Drop, O: OnceDisk + Drop> Archive<E, O> {
         ensures crash { (h : History) → Carries self.old h → (g : History) × ((g ≡ h) ⊎ Moves h g) × Crashes self.old self.new (LeftEither (site_of self.old) h g) }
         ensures lasts { (h : History) → Stands self.old h → Lasts self.old self.new h }
         ensures usable { OnOk result (is_down self.old ≡ false) }
+        ensures still_usable { OnOk result (is_down self.new ≡ false) }
+        ensures falls { is_down self.old ≡ false → is_down self.new ≡ true → result ≡ Err ApplyError.Fault }
         ensures recovery { (result ≡ Err ApplyError.NeedsRecovery) ↔ (is_down self.old ≡ true) }
         ensures full { IsHonest self.old → result ≡ Err ApplyError.OnceFull → NoneBlank self.new }
         ensures spends { IsHonest self.old → SpendsAtMost 2000 (once_state self.old) (once_state self.new) }

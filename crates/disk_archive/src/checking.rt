@@ -91,6 +91,7 @@ impl<E: EraseDisk + Drop, O: OnceDisk + Drop> Archive<E, O> {
     // Checks the archive where it needn't be opened again.
     fn try_check(&mut self) -> Result<u64, CheckError>
         ensures usable { OnOk result (is_down self.old ≡ false) }
+        ensures down { is_down self.new ≡ is_down self.old }
         ensures idle { is_down self.old ≡ true → IsAsBefore self.old self.new }
         ensures told { is_down self.old ≡ true → result ≡ Err CheckError.NeedsRecovery }
         ensures recovery { result ≡ Err CheckError.NeedsRecovery → is_down self.old ≡ true }
@@ -131,6 +132,7 @@ impl<E: EraseDisk + Drop, O: OnceDisk + Drop> Archive<E, O> {
         ensures crash { (h : History) → Carries self.old h → Crashes self.old self.new (LeftCarries (site_of self.old) h) }
         ensures lasts { (h : History) → Stands self.old h → Lasts self.old self.new h }
         ensures usable { OnOk result (is_down self.old ≡ false) }
+        ensures down { is_down self.new ≡ is_down self.old }
         ensures recovery { (result ≡ Err CheckError.NeedsRecovery) ↔ (is_down self.old ≡ true) }
         ensures honest { IsHonest self.old ↔ IsHonest self.new }
         ensures settings { settings_of self.new ≡ settings_of self.old }

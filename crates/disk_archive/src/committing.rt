@@ -62,6 +62,8 @@ pub(crate) fn commit<E: EraseDisk + Drop>(tx: &mut Tx<E>) -> Result<(), CommitEr
     ensures ok { (start : Start) (shown : List (List ℕ)) → Shows E.EraseDisk tx.old start shown → OnOk result (Maps E.EraseDisk (pool_of tx.new) shown) }
     ensures err { (start : Start) (shown : List (List ℕ)) → Shows E.EraseDisk tx.old start shown → OnErr result ((needs_recovery (journal_of (pool_of tx.new)) ≡ true) ⊎ Maps E.EraseDisk (pool_of tx.new) start.pages) }
     ensures refused { IfErr result (CommitRefusal (needs_recovery (journal_of (pool_of tx.old)))) }
+    ensures usable { OnOk result (needs_recovery (journal_of (pool_of tx.new)) ≡ false) }
+    ensures falls { needs_recovery (journal_of (pool_of tx.old)) ≡ false → needs_recovery (journal_of (pool_of tx.new)) ≡ true → result ≡ Err CommitError.Fault }
     ensures journal { SameJournal E.EraseDisk (journal_of (pool_of tx.old)) (journal_of (pool_of tx.new)) (IsErrOf result CommitError.Fault) }
 {
     make_room(tx)?;

@@ -110,6 +110,7 @@ impl<E: EraseDisk + Drop, O: OnceDisk + Drop> Archive<E, O> {
     // A turn of a question where the archive carries a history.
     fn try_descend(&mut self, cursor: &mut Cursor) -> Result<Descent, AskError>
         ensures usable { OnOk result (is_down self.old ≡ false) }
+        ensures down { is_down self.new ≡ is_down self.old }
         ensures idle { is_down self.old ≡ true → IsAsBefore self.old self.new }
         ensures unmoved { is_down self.old ≡ true → cursor.new ≡ cursor.old }
         ensures told { is_down self.old ≡ true → result ≡ Err AskError.NeedsRecovery }
@@ -154,6 +155,7 @@ impl<E: EraseDisk + Drop, O: OnceDisk + Drop> Archive<E, O> {
         ensures crash { (h : History) → Carries self.old h → Crashes self.old self.new (LeftCarries (site_of self.old) h) }
         ensures lasts { (h : History) → Stands self.old h → Lasts self.old self.new h }
         ensures usable { OnOk result (is_down self.old ≡ false) }
+        ensures down { is_down self.new ≡ is_down self.old }
         ensures recovery { (result ≡ Err AskError.NeedsRecovery) ↔ (is_down self.old ≡ true) }
         ensures sound { IsHonest self.old → (h : History) → Holds self.old h → (page : ℕ) → result ≡ Err (AskError.BadNode page) → ⊥ }
         ensures undamaged { (block : ℕ) → result ≡ Err (AskError.Damaged block) → ⊥ }

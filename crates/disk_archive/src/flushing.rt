@@ -1,6 +1,6 @@
 //! What was committed goes home.
 
-ghost use Rattle.std.specs.Prelude.{◌≡◌, ◌↔◌, ◌==◌, ℕ, List, [], ◌∷◌, filter, length, not, OnOk, OnErr, IfOk, IfErr, IsErrOf, Err, true, false};
+ghost use Rattle.std.specs.Prelude.{◌≡◌, ◌≢◌, ◌+◌, ◌↔◌, ◌==◌, ℕ, List, [], ◌∷◌, filter, length, min, not, OnOk, OnErr, IfOk, IfErr, IsErrOf, Err, true, false};
 ghost use Rattle.disk_models.specs.Erase.{Leaves};
 ghost use Rattle.page_journal.specs.Calls.{IsIdle, SameJournal};
 ghost use Rattle.page_journal.specs.Journal.{disk_of, home_pages, needs_recovery, unhomed_pages};

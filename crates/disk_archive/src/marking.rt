@@ -1,6 +1,6 @@
 //! A collector's mark is raised.
 
-ghost use Rattle.std.specs.Prelude.{◌≡◌, ◌<◌, ◌≤◌, ◌⊎◌, ◌↔◌, ℕ, List, [], length, Some, IfOk, OnOk, OnErr, IfErr, IsOk, Err, slice_get, slice_set, true, false};
+ghost use Rattle.std.specs.Prelude.{◌≡◌, ◌≢◌, ◌<◌, ◌≤◌, ◌+◌, ◌⊎◌, ◌↔◌, ℕ, List, [], length, min, Some, IfOk, OnOk, OnErr, IfErr, IsOk, Err, slice_get, slice_set, true, false};
 ghost use Rattle.disk_models.specs.Once.{OnceState, settled_in};
 ghost use Rattle.page_tx.specs.Start.{Start};
 ghost use Rattle.route_meaning.specs.History.{History, Intake};
@@ -116,6 +116,8 @@ impl<E: EraseDisk + Drop, O: OnceDisk + Drop> Archive<E, O> {
     // Raises a mark where the archive carries a history.
     fn try_mark(&mut self, collector: u8, mark: Mark) -> Result<(), MarkError>
         ensures usable { OnOk result (is_down self.old ≡ false) }
+        ensures still_usable { OnOk result (is_down self.new ≡ false) }
+        ensures falls { is_down self.old ≡ false → is_down self.new ≡ true → result ≡ Err MarkError.Fault }
         ensures idle { is_down self.old ≡ true → IsAsBefore self.old self.new }
         ensures recovery { (result ≡ Err MarkError.NeedsRecovery) ↔ (is_down self.old ≡ true) }
         ensures no_collector { (result ≡ Err MarkError.NoCollector) ↔ ((is_down self.old ≡ false) × ((settings_of self.old).collectors ≤ collector)) }
@@ -153,6 +155,8 @@ impl<E: EraseDisk + Drop, O: OnceDisk + Drop> Archive<E, O> {
         ensures crash { (h : History) → Carries self.old h → Crashes self.old self.new (LeftEither (site_of self.old) h (marked h collector mark)) }
         ensures lasts { (h : History) → Stands self.old h → Lasts self.old self.new h }
         ensures usable { OnOk result (is_down self.old ≡ false) }
+        ensures still_usable { OnOk result (is_down self.new ≡ false) }
+        ensures falls { is_down self.old ≡ false → is_down self.new ≡ true → result ≡ Err MarkError.Fault }
         ensures recovery { (result ≡ Err MarkError.NeedsRecovery) ↔ (is_down self.old ≡ true) }
         ensures no_collector { (result ≡ Err MarkError.NoCollector) ↔ ((is_down self.old ≡ false) × ((settings_of self.old).collectors ≤ collector)) }
         ensures mark_back { IsHonest self.old → (h : History) → Holds self.old h → (result ≡ Err MarkError.MarkBack) ↔ ((is_down self.old ≡ false) × IsMarkAbove h collector mark) }

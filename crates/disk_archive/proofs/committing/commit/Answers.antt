@@ -1,14 +1,15 @@
-use Rattle.std.proofs.Common.{◌≡◌, ◌≢◌, ◌⊎◌, inl, inr, ◌∙◌, sym, ap, subst, ℕ, List, true, false}
-use Rattle.disk_models.specs.Erase.{DiskState, Leaves}
+use Rattle.std.proofs.Common.{inl, ◌∙◌, sym, ap, subst, true≢false}
+use Rattle.disk_models.specs.Erase.{Leaves}
 use Rattle.disk_models.proofs.api.Moments.{leaves_then, leaves_weaker}
-use Rattle.page_journal.specs.Journal.{closed_slots, disk_of, home_pages, needs_recovery}
+use Rattle.page_journal.specs.Journal.{disk_of, home_pages, needs_recovery}
 use Rattle.page_journal.specs.Recovers.{Recovers, RecoversEither}
 use Rattle.buffer_pool.specs.Pool.{Maps, journal_of}
 use Rattle.page_tx.specs.Start.{Start}
-use Rattle.page_tx.specs.Tx.{Shows, named_pages, pool_of}
+use Rattle.page_tx.specs.Tx.{pool_of}
 use Rattle.disk_archive.specs.inner.Committing.{CommitRefusal}
-use Rattle.std.specs.Prelude.{length, Err}
+use Rattle.std.specs.Prelude.{Err}
 use Rattle.disk_archive.proofs.Outcomes.{on_each_err, down_or, fault_or, commit_refused}
+use Rattle.disk_archive.proofs.Staying.{usable_after, fell_by}
 use Rattle.disk_archive.proofs.committing.commit.Goals as goal
 
 pub returns-in_err-make_room-clause-crash : goal.returns-in_err-make_room-clause-crash
@@ -60,3 +61,15 @@ pub returns-in-Err-clause-refused : goal.returns-in-Err-clause-refused
 returns-in-Err-clause-refused g c =
     subst (λ b. CommitRefusal b c.refusal.result) c.in_ok-make_room.ensures.down
     (commit_refused _ _ _ c.in-Err.error c.refusal.result c.in-Err.ensures.refused c.refusal.ensures.fault c.refusal.ensures.recovery c.refusal.ensures.memory)
+
+-- ---- what stays usable
+
+pub returns-in-Ok-clause-usable : goal.returns-in-Ok-clause-usable
+returns-in-Ok-clause-usable g c = usable_after _ _ _ _ c.in-Ok.ensures.accepted (λ none. ap needs_recovery (c.commit.ensures.empty none)) c.in-Ok.ensures.usable
+
+pub returns-in-Ok-clause-falls : goal.returns-in-Ok-clause-falls
+returns-in-Ok-clause-falls g c up down = absurd (true≢false (sym down ∙ usable_after _ _ _ _ c.in-Ok.ensures.accepted (λ none. ap needs_recovery (c.commit.ensures.empty none)) c.in-Ok.ensures.usable))
+
+pub returns-in-Err-clause-falls : goal.returns-in-Err-clause-falls
+returns-in-Err-clause-falls g c up down = ap (λ x. Err x) (fell_by _ _ c.in-Err.error c.refusal.result (c.in_ok-make_room.ensures.down ∙ up) down
+    (λ other. ap (λ p. needs_recovery (journal_of p)) (c.in-Err.ensures.unchanged other)) c.refusal.ensures.recovery c.refusal.ensures.memory)

@@ -1,4 +1,4 @@
-use Rattle.std.proofs.Common.{◌≡◌, ◌<◌, ◌≤◌, ◌∙◌, ℕ, List, length, sym, ap, subst, arith, length-set, slice_get}
+use Rattle.std.proofs.Common.{rules, Err, ◌≡◌, ◌<◌, ◌∙◌, ℕ, length, sym, ap, subst, arith, length-set, slice_get}
 use Rattle.archive_head.specs.Head.{Contents}
 use Rattle.intake.specs.Calls.{AppendRefusal}
 use Rattle.archive_pages.specs.Batches.{CanTake, HasLane, lane_with}

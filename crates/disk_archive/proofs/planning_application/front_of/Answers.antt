@@ -1,4 +1,4 @@
-use Rattle.std.proofs.Common.{rules, ◌≡◌, ◌∷◌, sym, ◌∙◌, ap, subst, List, slice_get}
+use Rattle.std.proofs.Common.{rules, ◌∷◌, sym, ◌∙◌, ap, subst, slice_get}
 use Rattle.archive_head.specs.declared.lane.Lane.{Lane}
 use Rattle.intake.specs.declared.ring.Ring.{Ring}
 use Rattle.intake.specs.Ring.{Holds}

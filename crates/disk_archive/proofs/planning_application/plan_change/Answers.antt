@@ -1,4 +1,4 @@
-use Rattle.std.proofs.Common.{rules, ◌≡◌, ◌<◌, ◌≤◌, ◌∷◌, inl, inr, ℕ, suc, List, length, min, sym, ◌∙◌, ap, subst, arith, true, false, true≢false}
+use Rattle.std.proofs.Common.{rules, inl, inr, ℕ, suc, length, min, sym, ◌∙◌, ap, arith, true≢false}
 use Rattle.std.proofs.lemmas.Bool.{cases_lt}
 use Rattle.route_meaning.specs.Merged.{placed}
 use Rattle.disk_models.specs.Once.{settled_in}
@@ -7,7 +7,7 @@ use Rattle.archive_head.specs.Head.{Contents}
 use Rattle.archive_pages.proofs.api.Passing.{Passes}
 use Rattle.disk_archive.proofs.Outcomes.{is_less}
 use Rattle.disk_archive.proofs.Plans.{lane_at}
-use Rattle.disk_archive.proofs.Stepping.{moves_on, kept_passed, last_no_later, Kept}
+use Rattle.disk_archive.proofs.Stepping.{moves_on, kept_passed, last_no_later}
 use Rattle.disk_archive.proofs.planning_application.plan_change.Goals as goal
 
 pub returns-in_err-place-clause-sound : goal.returns-in_err-place-clause-sound

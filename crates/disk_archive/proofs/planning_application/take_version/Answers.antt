@@ -1,4 +1,4 @@
-use Rattle.std.proofs.Common.{◌≡◌, ◌≤◌, ◌+◌, ◌∷◌, ◌++◌, [], ℕ, List, length, min, sym, ◌∙◌, ap, subst, arith}
+use Rattle.std.proofs.Common.{◌≡◌, ◌+◌, ◌∷◌, ◌++◌, [], ℕ, length, min, sym, ◌∙◌, ap, subst, arith}
 use Rattle.disk_models.specs.Once.{settled_in}
 use Rattle.once_store.specs.Shelves.{disk_of, next_of, pen_of}
 use Rattle.archive_head.specs.Head.{Contents}

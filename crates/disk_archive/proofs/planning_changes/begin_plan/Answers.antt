@@ -1,4 +1,4 @@
-use Rattle.std.proofs.Common.{rules, ◌≡◌, ◌<◌, ◌≤◌, ◌∷◌, ℕ, List, length, sym, ◌∙◌, ap, subst, arith, min}
+use Rattle.std.proofs.Common.{rules, ◌<◌, List, length, sym, ◌∙◌, ap, subst, arith, min}
 use Rattle.disk_models.specs.Once.{settled_in}
 use Rattle.archive_head.specs.Head.{Contents}
 use Rattle.archive_pages.specs.Carried.{Bears}

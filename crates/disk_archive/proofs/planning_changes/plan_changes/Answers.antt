@@ -1,11 +1,11 @@
-use Rattle.std.proofs.Common.{rules, ◌≡◌, ◌*◌, ◌+◌, ◌<◌, ◌≤◌, ◌↔◌, [], ◌∷◌, ℕ, List, length, refl, sym, ◌∙◌, ap, subst, arith}
+use Rattle.std.proofs.Common.{rules, [], ◌∷◌, ℕ, List, length, refl, sym, ◌∙◌, ap, subst, arith}
 use Rattle.std.specs.List.{slice_set}
 use Rattle.disk_models.specs.Once.{settled_in}
 use Rattle.once_store.specs.Shelves.{disk_of, next_of, pen_of}
 use Rattle.page_tx.specs.Images.{joined}
 use Rattle.archive_head.specs.Head.{head_octets}
 use Rattle.archive_pages.specs.Refusals.{HeadRefusal}
-use Rattle.disk_archive.specs.inner.Applications.{Advances, IsPlan, KeepsBlocks, Reached, Reaches}
+use Rattle.disk_archive.specs.inner.Applications.{Advances, IsPlan, Reached, Reaches}
 use Rattle.disk_archive.proofs.Keeping.{joined_few, keeps_none, keeps_then, keeps_fewer, keeps_told}
 use Rattle.disk_archive.proofs.Reaching.{advances_then, plans_move}
 use Rattle.disk_archive.proofs.planning_changes.plan_changes.Goals as goal

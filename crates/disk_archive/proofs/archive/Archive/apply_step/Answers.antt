@@ -1,8 +1,11 @@
-use Rattle.std.proofs.Common.{ap}
+use Rattle.std.proofs.Common.{ap, sym, ◌∙◌, arith}
 use Rattle.page_journal.specs.Journal.{disk_of}
 use Rattle.disk_archive.proofs.Outcomes.{err_then}
 use Rattle.disk_archive.proofs.Lasting.{held_err, lasts_by}
 use Rattle.disk_archive.proofs.Applied.{applied_of, idle_of, idle_same, goes_of, never_bad, needs_recovery_of, none_blank, same_or_moved, both_same}
+use Rattle.route_meaning.specs.History.{applied}
+use Rattle.disk_archive.proofs.Counts.{changes_are}
+use Rattle.disk_archive.proofs.Telling.{borne_of}
 use Rattle.disk_archive.proofs.archive.Archive.apply_step.Goals as goal
 
 pub returns-clause-applied : goal.returns-clause-applied

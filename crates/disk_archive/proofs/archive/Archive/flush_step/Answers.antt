@@ -1,4 +1,4 @@
-use Rattle.std.proofs.Common.{◌⊎◌, ⊎_elim}
+use Rattle.std.proofs.Common.{⊎_elim}
 use Rattle.route_meaning.proofs.api.Beginning.{Begins-refl}
 use Rattle.disk_archive.specs.Archives.{site_of}
 use Rattle.disk_archive.specs.Sites.{LeftCarries, LeftEither, LeftFrom}

@@ -1,11 +1,11 @@
-use Rattle.std.proofs.Common.{◌≡◌, ◌⊎◌, inl, inr, ⊎_elim, ap, sym, ◌∙◌, true≢false}
+use Rattle.std.proofs.Common.{inl, inr, ⊎_elim, ap, sym, ◌∙◌, true≢false}
 use Rattle.page_journal.specs.Journal.{disk_of}
 use Rattle.route_meaning.proofs.api.Beginning.{Begins-refl}
 use Rattle.route_meaning.specs.History.{History}
 use Rattle.interleaving_core.specs.Steps.{marked, IsMarkAbove}
 use Rattle.interleaving_core.proofs.api.GoingOn.{begins_marked}
 use Rattle.disk_archive.specs.Archives.{Carries, GoesOn, Stands, site_of}
-use Rattle.disk_archive.specs.Sites.{LeftCarries, LeftEither, LeftFrom}
+use Rattle.disk_archive.specs.Sites.{LeftEither, LeftFrom}
 use Rattle.disk_archive.specs.inner.Marked.{LeftMarked}
 use Rattle.disk_archive.proofs.Outcomes.{err_then, from_result, ok_both}
 use Rattle.disk_archive.proofs.Lasting.{held_ok, held_err}

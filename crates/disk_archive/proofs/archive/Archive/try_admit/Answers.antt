@@ -1,9 +1,9 @@
-use Rattle.std.proofs.Common.{rules, ◌≡◌, ◌<◌, ◌≤◌, inl, inr, ℕ, List, [], length, map, refl, sym, ◌∙◌, ap, subst, arith, slice_get, Err}
+use Rattle.std.proofs.Common.{rules, ◌≡◌, ◌<◌, ◌≤◌, inl, List, [], length, refl, sym, ◌∙◌, ap, subst, arith, slice_get, Err}
 use Rattle.std.specs.Prelude.{sum_by}
 use Rattle.page_journal.specs.Journal.{home_pages, needs_recovery}
 use Rattle.page_tx.specs.Start.{Start}
 use Rattle.route_model.specs.Admission.{Admitted}
-use Rattle.route_meaning.specs.History.{Intake, History}
+use Rattle.route_meaning.specs.History.{Intake}
 use Rattle.sequencer.specs.Taking.{TakesIn}
 use Rattle.interleaving_core.specs.Steps.{given}
 use Rattle.interleaving_core.proofs.api.Right.{begins_given, right_given}
@@ -18,6 +18,10 @@ use Rattle.disk_archive.proofs.Plans.{lane_at}
 use Rattle.disk_archive.proofs.Limiting.{ring_full, ring_room, not_full, no_counter, counter_told, plan_later, commit_later, memory_later, as_told, told_err}
 use Rattle.disk_archive.proofs.Replies.{reply_is}
 use Rattle.disk_archive.proofs.Calling.{Ready, start_of, grows_none, unwritten, written, kept, refused, done}
+use Rattle.disk_archive.specs.inner.Committing.{admit_of_commit}
+use Rattle.buffer_pool.specs.Pool.{journal_of}
+use Rattle.page_tx.specs.Tx.{pool_of}
+use Rattle.disk_archive.proofs.Staying.{told_fault}
 use Rattle.disk_archive.proofs.archive.Archive.try_admit.Goals as goal
 
 pub plan_batch-requires-clause-octets : goal.plan_batch-requires-clause-octets
@@ -282,3 +286,11 @@ returns-clause-room g c h k full =
 
 pub invariant_of-self-2-clause-lanes : goal.invariant_of-self-2-clause-lanes
 invariant_of-self-2-clause-lanes g c = c.in_ok-next.ensures.lanes ∙ c.args.self.now.lanes
+
+-- ---- what must be opened again
+
+pub returns-in_err-commit-clause-falls : goal.returns-in_err-commit-clause-falls
+returns-in_err-commit-clause-falls g c up down =
+    let was = c.plan_batch.ensures.down ∙ (ap needs_recovery c.begin.ensures.same ∙ up) in
+    let fell = c.in_err-commit.ensures.falls was down in
+    told_fault c.from_residual-in_err-commit.result admit_of_commit c.in_err-commit.field-0.0 c.from_residual-in_err-commit.ensures.1 (cc fell)

@@ -1,14 +1,15 @@
-use Rattle.std.proofs.Common.{rules, ◌≡◌, ◌<◌, ◌≤◌, inl, inr, ℕ, List, [], length, refl, sym, ◌∙◌, ap, subst, arith, true, false, true≢false, Err}
+use Rattle.std.proofs.Common.{rules, inl, inr, refl, ◌∙◌, ap, arith}
 use Rattle.page_journal.specs.Journal.{home_pages, needs_recovery}
 use Rattle.page_tx.specs.Start.{Start}
-use Rattle.disk_archive.specs.Archives.{once_state, site_of}
+use Rattle.disk_archive.specs.Archives.{once_state}
 use Rattle.disk_archive.specs.Mirrors.{Mirrors}
-use Rattle.disk_archive.specs.inner.Applications.{ApplyRefusal}
+use Rattle.disk_archive.specs.inner.Applications.{apply_of_commit}
 use Rattle.disk_archive.proofs.Fronts.{nothing_is}
 use Rattle.disk_archive.proofs.Outcomes.{on_each_err}
 use Rattle.disk_archive.proofs.Calling.{Ready, start_of, grows_none, unwritten, written, kept}
 use Rattle.disk_archive.proofs.Burning.{carries_more, refused_more, done_more}
 use Rattle.disk_archive.proofs.Applied.{begins_moved, commit_not_bad, commit_told, both_same}
+use Rattle.disk_archive.proofs.Staying.{told_fault}
 use Rattle.disk_archive.proofs.archive.Archive.try_apply.Goals as goal
 
 pub plan_changes-requires-clause-lanes : goal.plan_changes-requires-clause-lanes
@@ -138,3 +139,11 @@ returns-clause-ok g c h k =
     let taken = c.take_passed.ensures.taken in
     let mirrors : Mirrors c.take_passed.new.self plan.after = record { marks = taken.marks ∙ plan.mirrors.marks; times = taken.times ∙ plan.mirrors.times } in
     (plan.after, plan.moves, done_more a _ plan.after p.pages kb.disk refl k.noted (c.commit.ensures.journal.homes ∙ r.homes) (c.commit.ensures.journal.note ∙ r.shows.noted) (c.commit.ensures.journal.serves.honest.0 p.shown.honest, kb.honest.0 k.honest.1) (c.in_ok-commit.ensures.ok start p.pages p.shown) mirrors p.headed)
+
+-- ---- what must be opened again
+
+pub returns-in_err-commit-clause-falls : goal.returns-in_err-commit-clause-falls
+returns-in_err-commit-clause-falls g c up down =
+    let was = c.plan_changes.ensures.down ∙ (ap needs_recovery c.begin_from.ensures.same ∙ up) in
+    let fell = c.in_err-commit.ensures.falls was down in
+    told_fault c.from_residual-in_err-commit.result apply_of_commit c.in_err-commit.field-0.0 c.from_residual-in_err-commit.ensures.1 (cc fell)

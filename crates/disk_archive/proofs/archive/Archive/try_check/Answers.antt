@@ -1,4 +1,4 @@
-use Rattle.std.proofs.Common.{rules, ◌≡◌, ℕ, List, Option, refl, sym, ◌∙◌, ap, subst, true≢false, IfOk, Err}
+use Rattle.std.proofs.Common.{ℕ, List, Option, refl, sym, ◌∙◌, ap, subst, true≢false, IfOk}
 use Rattle.disk_models.specs.Once.{OnceState, Grows}
 use Rattle.once_store.specs.Shelves.{pen_of}
 use Rattle.page_journal.specs.Journal.{home_pages, note_of}

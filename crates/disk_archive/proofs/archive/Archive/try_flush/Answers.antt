@@ -1,16 +1,18 @@
-use Rattle.std.proofs.Common.{◌≡◌, inl, inr, ◌∙◌, ap, subst, refl}
-use Rattle.disk_models.specs.Erase.{Leaves}
+use Rattle.std.proofs.Common.{rules, Err, ◌≡◌, inl, ◌∙◌, ap, refl}
 use Rattle.disk_models.proofs.api.Moments.{leaves_weaker}
-use Rattle.page_journal.specs.Journal.{disk_of, home_pages, needs_recovery, note_of}
+use Rattle.page_journal.specs.Journal.{home_pages, needs_recovery, note_of}
 use Rattle.page_journal.specs.Recovers.{Recovers, RecoversEither}
 use Rattle.buffer_pool.specs.Pool.{journal_of}
 use Rattle.page_tx.specs.Start.{Start}
 use Rattle.page_tx.specs.Tx.{pool_of}
 use Rattle.route_meaning.proofs.api.Beginning.{Begins-refl}
-use Rattle.disk_archive.specs.Archives.{once_state, site_of}
+use Rattle.disk_archive.specs.Archives.{once_state}
 use Rattle.disk_archive.proofs.Calling.{Ready, start_of, headed_of, grows_none, written, refused}
 use Rattle.disk_archive.proofs.Outcomes.{down_or}
 use Rattle.disk_archive.proofs.Telling.{carries_same}
+use Rattle.disk_archive.specs.declared.flush_error.FlushError.TheVariants as flushes
+use Rattle.page_journal.specs.declared.error.UseError.TheVariants as uses
+use Rattle.disk_archive.specs.inner.Flushed.{flush_of_use}
 use Rattle.disk_archive.proofs.archive.Archive.try_flush.Goals as goal
 
 pub returns-clause-goes_on : goal.returns-clause-goes_on

@@ -1,20 +1,20 @@
-use Rattle.std.proofs.Common.{rules, ◌≡◌, ◌<◌, ◌≤◌, inl, inr, ℕ, List, true, false, length, refl, sym, ◌∙◌, ap, subst, arith, slice_get, Some, Err, true≢false}
+use Rattle.std.proofs.Common.{rules, ◌≡◌, ◌<◌, inl, length, refl, sym, ◌∙◌, ap, arith, Err, true≢false}
 use Rattle.page_journal.specs.Journal.{home_pages, needs_recovery}
 use Rattle.page_tx.specs.Start.{Start}
-use Rattle.route_meaning.specs.History.{Intake, History}
-use Rattle.sequencer.specs.Lanes.{Raises, marks}
-use Rattle.interleaving_core.specs.Steps.{marked, IsMarkAbove}
+use Rattle.interleaving_core.specs.Steps.{marked}
 use Rattle.interleaving_core.proofs.api.GoingOn.{begins_marked}
-use Rattle.disk_models.specs.Left.{Left}
-use Rattle.disk_archive.specs.Archives.{Carries, once_state, site_of}
-use Rattle.disk_archive.specs.Sites.{LeftCarries, LeftEither}
-use Rattle.disk_archive.specs.inner.Marked.{LeftMarked}
+use Rattle.disk_archive.specs.Archives.{once_state, site_of}
+use Rattle.disk_archive.specs.Sites.{LeftEither}
+use Rattle.disk_archive.specs.inner.Marked.{LeftMarked, mark_of_commit}
 use Rattle.disk_archive.proofs.Mirroring.{intake_at, mark_there, mirror_marked}
 use Rattle.disk_archive.proofs.Outcomes.{on_each_err}
 use Rattle.disk_archive.proofs.Calling.{Ready, start_of, grows_none, unwritten, written, kept, refused, done}
 use Rattle.disk_archive.proofs.Marks.{not_above_there, carries_present, at_present, left_before, left_marked, from_commit, told_err, not_told, back_told, present_not_back, not_present}
 use Rattle.disk_archive.specs.declared.mark_error.MarkError.TheVariants as refusals
 use Rattle.disk_archive.proofs.Steps.{crashes_weaker}
+use Rattle.buffer_pool.specs.Pool.{journal_of}
+use Rattle.page_tx.specs.Tx.{pool_of}
+use Rattle.disk_archive.proofs.Staying.{told_fault}
 use Rattle.disk_archive.proofs.archive.Archive.try_mark.Goals as goal
 
 -- ---- the collector is none, or the mark is below its mark
@@ -220,3 +220,11 @@ returns-clause-forward g c h k = not_above_there c.args.self.now.sequencer h c.a
 
 pub returns-clause-present : goal.returns-clause-present
 returns-clause-present g c h k i here same = absurd (not_present c.args.self.now.sequencer h c.args.collector c.args.mark i c.in_ok-raised.raised (cc c.if-not-raised.false) c.in_ok-raised.ensures.above k.mirrors here same)
+
+-- ---- what must be opened again
+
+pub returns-in_err-commit-clause-falls : goal.returns-in_err-commit-clause-falls
+returns-in_err-commit-clause-falls g c up down =
+    let was = c.plan_mark.ensures.down ∙ (ap needs_recovery c.begin.ensures.same ∙ up) in
+    let fell = c.in_err-commit.ensures.falls was down in
+    told_fault c.from_residual-in_err-commit.result mark_of_commit c.in_err-commit.field-0.0 c.from_residual-in_err-commit.ensures.1 (cc fell)
