@@ -121,6 +121,8 @@ impl<E: EraseDisk + Drop, O: OnceDisk + Drop> Archive<E, O> {
         ensures blames { (h : History) → Carries self.old h → IfErr result BlamesNone }
         ensures crash { (h : History) → Carries self.old h → Crashes self.old self.new (LeftEither (site_of self.old) h h) }
         ensures settings { settings_of self.new ≡ settings_of self.old }
+        ensures disk { once_of self.new ≡ once_of self.old }
+        ensures blocks { IsHonest self.old → once_state self.new ≡ once_state self.old }
     {
         begin(&mut self.tx)?;
         check_settled(&self.sequencer, &query)?;
@@ -157,6 +159,8 @@ impl<E: EraseDisk + Drop, O: OnceDisk + Drop> Archive<E, O> {
         ensures undamaged { IsHonest self.old → (h : History) → Holds self.old h → (block : ℕ) → result ≡ Err (AskError.Damaged block) → ⊥ }
         ensures honest { IsHonest self.old ↔ IsHonest self.new }
         ensures settings { settings_of self.new ≡ settings_of self.old }
+        ensures disk { once_of self.new ≡ once_of self.old }
+        ensures blocks { IsHonest self.old → once_state self.new ≡ once_state self.old }
     {
         self.try_answer(query)
     }

@@ -106,6 +106,8 @@ impl<E: EraseDisk + Drop, O: OnceDisk + Drop> Archive<E, O> {
         ensures carries { (h : History) → Carries self.old h → Carries self.new h }
         ensures crash { (h : History) → Carries self.old h → Crashes self.old self.new (LeftEither (site_of self.old) h h) }
         ensures settings { settings_of self.new ≡ settings_of self.old }
+        ensures disk { once_of self.new ≡ once_of self.old }
+        ensures blocks { IsHonest self.old → once_state self.new ≡ once_state self.old }
     {
         begin(&mut self.tx)?;
         let mut reader = self.shelf.reader(self.alloc, KEPT_BLOCKS)?;
@@ -136,6 +138,8 @@ impl<E: EraseDisk + Drop, O: OnceDisk + Drop> Archive<E, O> {
         ensures recovery { (result ≡ Err CheckError.NeedsRecovery) ↔ (is_down self.old ≡ true) }
         ensures honest { IsHonest self.old ↔ IsHonest self.new }
         ensures settings { settings_of self.new ≡ settings_of self.old }
+        ensures disk { once_of self.new ≡ once_of self.old }
+        ensures blocks { IsHonest self.old → once_state self.new ≡ once_state self.old }
     {
         self.try_check()
     }

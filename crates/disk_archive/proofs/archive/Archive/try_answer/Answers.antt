@@ -212,3 +212,14 @@ returns-clause-watermark g c h k above =
     let e = mirror_settled c.args.self.now.sequencer h k.mirrors in
     let lt = c.in_ok-check_settled.ensures.below in
     absurd (omega (arith, lt, e, above))
+
+-- ---- nothing is burnt
+
+pub returns-in_err-seen-clause-blocks : goal.returns-in_err-seen-clause-blocks
+returns-in_err-seen-clause-blocks g c honest = c.seen.ensures.same honest.1
+
+pub returns-in_err-answer-clause-blocks : goal.returns-in_err-answer-clause-blocks
+returns-in_err-answer-clause-blocks g c honest = c.seen.ensures.same honest.1
+
+pub returns-clause-blocks : goal.returns-clause-blocks
+returns-clause-blocks g c honest = c.seen.ensures.same honest.1

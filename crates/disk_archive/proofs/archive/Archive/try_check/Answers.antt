@@ -129,3 +129,11 @@ returns-clause-damaged g c honest pages maps block e =
     let well = reads_well g.O.OnceDisk c.in_ok-reader.reader c.in_ok-seen.seen (once_of a) c.in_ok-reader.ensures.disk (c.in_ok-seen.ensures.seen honest.1) c.in_ok-reader.ensures.none in
     at_disk g.O.OnceDisk c.in_ok-reader.reader c.in_ok-seen.seen (once_of a) (once_state a).settled (λ (f : ℕ → Option (List ℕ)) (n : ℕ). IsBadBlock pages f n a.head.root block)
     c.in_ok-reader.ensures.disk (c.in_ok-seen.ensures.known honest.1) (c.count_by.ensures.damaged start pages s0 well block e)
+
+-- ---- nothing is burnt
+
+pub returns-in_err-seen-clause-blocks : goal.returns-in_err-seen-clause-blocks
+returns-in_err-seen-clause-blocks g c honest = c.seen.ensures.same honest.1
+
+pub returns-clause-blocks : goal.returns-clause-blocks
+returns-clause-blocks g c honest = c.seen.ensures.same honest.1
