@@ -30,4 +30,5 @@ mod Asking
 mod Counts
 mod Turning
 mod Staying
+mod Limited
 pub mod api

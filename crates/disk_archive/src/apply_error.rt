@@ -1,10 +1,10 @@
 //! Why a change isn't applied.
 
-ghost use Rattle.std.specs.Prelude.{◌≡◌, ◌≢◌, ℕ, Bool, true};
+ghost use Rattle.std.specs.Prelude.{◌≡◌, ◌≢◌, ◌<◌, ◌+◌, ℕ, Bool, true};
 ghost use Rattle.once_store.specs.declared.error.AppendError.TheVariants as appends;
 ghost use Rattle.page_tx.specs.declared.error.PageError.TheVariants as pages;
 ghost use Rattle.disk_archive.specs.declared.apply_error.ApplyError.TheVariants as applies;
-ghost use Rattle.disk_archive.specs.inner.Applications.{ApplyRefusal};
+ghost use Rattle.disk_archive.specs.inner.Applications.{ApplyRefusal, LimitRefusal};
 
 use crate::error::{CommitError, NeedsRecovery};
 use once_store::AppendError;
@@ -77,6 +77,8 @@ pub(crate) fn of_pages(refusal: PageError) -> ApplyError
     requires few { refusal ≢ PageError.TooManyImages }
     ensures bad { (page : ℕ) → result ≢ ApplyError.BadNode page }
     ensures once { result ≢ ApplyError.OnceFull }
+    ensures high { result ≢ ApplyError.TooHigh }
+    ensures limits { (homes next count : ℕ) → (refusal ≡ PageError.PagesFull → homes < next + 9) → LimitRefusal homes next count result }
     ensures refused { (down : Bool) → (refusal ≡ PageError.NeedsRecovery → down ≡ true) → ApplyRefusal down result }
 {
     match refusal {
@@ -95,6 +97,8 @@ pub(crate) fn of_tree(refusal: TreeError) -> ApplyError
     requires few { refusal ≢ TreeError.Pages pages.TooManyImages }
     ensures bad { (page : ℕ) → result ≡ ApplyError.BadNode page → refusal ≡ TreeError.BadNode page }
     ensures once { result ≡ ApplyError.OnceFull → refusal ≡ TreeError.Once appends.OnceFull }
+    ensures high { result ≡ ApplyError.TooHigh → refusal ≡ TreeError.TooHigh }
+    ensures limits { (homes next count : ℕ) → (refusal ≡ TreeError.Pages pages.PagesFull → homes < next + 9) → LimitRefusal homes next count result }
     ensures refused { (down : Bool) → (refusal ≡ TreeError.Pages pages.NeedsRecovery → down ≡ true) → ApplyRefusal down result }
 {
     match refusal {

@@ -46,11 +46,13 @@ fn begin_from<E: EraseDisk + Drop>(tx: &mut Tx<E>, head: &Head) -> Result<(), Ne
 impl<E: EraseDisk + Drop, O: OnceDisk + Drop> Archive<E, O> {
     ghost use Rattle.disk_models.specs.Once.{Grows};
     ghost use Rattle.disk_archive.specs.Archives.{Carries, GoesOn, Holds, Stands, IsHonest, erase_of, is_down, once_of, once_state, settings_of, site_of};
-    ghost use Rattle.disk_archive.specs.Blanks.{NoneBlank};
+    ghost use Rattle.disk_archive.specs.Blanks.{NoneBlank, unused_pages};
+    ghost use Rattle.disk_archive.specs.Checks.{HasPages, root_in};
+    ghost use Rattle.tsb_tree.specs.Opened.{ShowsRoot};
     ghost use Rattle.tsb_tree.specs.Shelves.{SpendsAtMost};
     ghost use Rattle.disk_archive.specs.Sites.{LeftEither};
     ghost use Rattle.disk_archive.specs.Crashes.{Crashes, Lasts};
-    ghost use Rattle.disk_archive.specs.inner.Applications.{ApplyRefusal, KeepsBlocks};
+    ghost use Rattle.disk_archive.specs.inner.Applications.{ApplyRefusal, KeepsBlocks, LimitRefusal};
     ghost use Rattle.disk_archive.specs.inner.Idle.{IsAsBefore};
     ghost use Rattle.disk_archive.specs.inner.Outcomes.{StepIs, CrashesOnStep};
 
@@ -62,6 +64,8 @@ impl<E: EraseDisk + Drop, O: OnceDisk + Drop> Archive<E, O> {
         ensures recovery { is_down self.old ≡ true → IsAsBefore self.old self.new }
         ensures told { is_down self.old ≡ true → result ≡ Err ApplyError.NeedsRecovery }
         ensures refused { IfErr result (ApplyRefusal (is_down self.old)) }
+        ensures limits { IfErr result (LimitRefusal (home_pages (journal_of (pool_of self.old.tx))) self.old.head.fresh self.old.head.applied) }
+        ensures high { IsHonest self.old → (pages : List (List ℕ)) → HasPages self.old pages → result ≡ Err ApplyError.TooHigh → ShowsRoot pages (root_in self.old) 7 }
         ensures erase { E.honest (erase_of self.old) ↔ E.honest (erase_of self.new) }
         ensures settings { settings_of self.new ≡ settings_of self.old }
         ensures shelf { KeepsBlocks O.OnceDisk 2000 self.old.shelf self.new.shelf (result ≡ Err ApplyError.OnceFull) }
@@ -111,6 +115,9 @@ impl<E: EraseDisk + Drop, O: OnceDisk + Drop> Archive<E, O> {
         ensures still_usable { OnOk result (is_down self.new ≡ false) }
         ensures falls { is_down self.old ≡ false → is_down self.new ≡ true → result ≡ Err ApplyError.Fault }
         ensures recovery { (result ≡ Err ApplyError.NeedsRecovery) ↔ (is_down self.old ≡ true) }
+        ensures counter_full { IsHonest self.old → (h : History) → Holds self.old h → result ≡ Err ApplyError.CounterFull → sum_by (λ p. length p.item.changes) (applied h) ≡ 18446744073709551615 }
+        ensures pages_full { result ≡ Err ApplyError.PagesFull → unused_pages self.old < 9 }
+        ensures too_high { IsHonest self.old → (pages : List (List ℕ)) → HasPages self.old pages → result ≡ Err ApplyError.TooHigh → ShowsRoot pages (root_in self.old) 7 }
         ensures full { IsHonest self.old → result ≡ Err ApplyError.OnceFull → NoneBlank self.new }
         ensures spends { IsHonest self.old → SpendsAtMost 2000 (once_state self.old) (once_state self.new) }
         ensures sound { IsHonest self.old → (h : History) → Holds self.old h → (page : ℕ) → result ≡ Err (ApplyError.BadNode page) → ⊥ }

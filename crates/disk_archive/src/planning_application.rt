@@ -15,6 +15,7 @@ ghost use Rattle.version_model.specs.Sizes.{entry_octets};
 ghost use Rattle.version_model.specs.Versions.{Version};
 ghost use Rattle.route_history.specs.Kept.{AreVersions};
 ghost use Rattle.route_history.specs.Stamps.{stamp_of};
+ghost use Rattle.tsb_tree.specs.Opened.{ShowsRoot};
 ghost use Rattle.tsb_tree.specs.Refusals.{IsHonest};
 ghost use Rattle.archive_head.specs.declared.lane.Lane.{Lane};
 ghost use Rattle.intake.specs.Ring.{IsRing, Holds};
@@ -24,7 +25,7 @@ ghost use Rattle.archive_pages.specs.Carried.{Bears};
 ghost use Rattle.archive_pages.specs.Changes.{next_change};
 ghost use Rattle.archive_pages.specs.Places.{ring_of, tree_low};
 ghost use Rattle.disk_archive.specs.Trees.{TreeLies};
-ghost use Rattle.disk_archive.specs.inner.Applications.{ApplyRefusal, KeepsBlocks, MovesOn, TakesNext, TreeTakes};
+ghost use Rattle.disk_archive.specs.inner.Applications.{ApplyRefusal, KeepsBlocks, LimitRefusal, MovesOn, TakesNext, TreeTakes};
 
 use crate::apply_error::{ApplyError, of_pages, of_tree};
 use archive_head::Head;
@@ -54,6 +55,8 @@ pub(crate) fn front_of<P: Pages>(
         → Holds shown (ring_of settings collector lane) (first ∷ rest) → (page : ℕ) → result ≡ Err (ApplyError.BadNode page) → ⊥ }
     ensures once { result ≢ Err ApplyError.OnceFull }
     ensures refused { IfErr result (ApplyRefusal (P.down pages.old)) }
+    ensures high { result ≢ Err ApplyError.TooHigh }
+    ensures limits { (count : ℕ) → IfErr result (LimitRefusal (P.homes pages.old) (P.next pages.old) count) }
     ensures reads { (start : Start) (shown : List (List ℕ)) → P.shows pages.old start shown → P.shows pages.new start shown }
     ensures homes { P.homes pages.new ≡ P.homes pages.old }
     ensures next { P.next pages.new ≡ P.next pages.old }
@@ -125,6 +128,8 @@ fn take_version<P: Pages, O: OnceDisk + Drop>(
     ensures as_named { OnErr result (P.named pages.new ≡ P.named pages.old) }
     ensures as_next { OnErr result (P.next pages.new ≡ P.next pages.old) }
     ensures refused { IfErr result (ApplyRefusal (P.down pages.old)) }
+    ensures high { (start : Start) (shown : List (List ℕ)) → P.shows pages.old start shown → result ≡ Err ApplyError.TooHigh → ShowsRoot shown head.now.root 7 }
+    ensures limits { IfErr result (LimitRefusal (P.homes pages.old) (P.next pages.old) head.now.applied) }
     ensures shows { (start : Start) (shown : List (List ℕ)) → P.shows pages.old start shown → (after : List (List ℕ)) × P.shows pages.new start after }
     ensures shelf { KeepsBlocks O.OnceDisk 2 shelf.old shelf.new (result ≡ Err ApplyError.OnceFull) }
     ensures homes { P.homes pages.new ≡ P.homes pages.old }
@@ -176,6 +181,8 @@ fn take_next<P: Pages, O: OnceDisk + Drop>(
     ensures as_named { OnErr result (P.named pages.new ≡ P.named pages.old) }
     ensures as_next { OnErr result (P.next pages.new ≡ P.next pages.old) }
     ensures refused { IfErr result (ApplyRefusal (P.down pages.old)) }
+    ensures high { (start : Start) (shown : List (List ℕ)) → P.shows pages.old start shown → result ≡ Err ApplyError.TooHigh → ShowsRoot shown head.now.root 7 }
+    ensures limits { IfErr result (LimitRefusal (P.homes pages.old) (P.next pages.old) head.now.applied) }
     ensures shows { (start : Start) (shown : List (List ℕ)) → P.shows pages.old start shown → (after : List (List ℕ)) × P.shows pages.new start after }
     ensures shelf { KeepsBlocks O.OnceDisk 2 shelf.old shelf.new (result ≡ Err ApplyError.OnceFull) }
     ensures homes { P.homes pages.new ≡ P.homes pages.old }
@@ -227,6 +234,8 @@ pub(crate) fn plan_change<P: Pages, O: OnceDisk + Drop>(
     ensures as_named { OnErr result (P.named pages.new ≡ P.named pages.old) }
     ensures as_next { OnErr result (P.next pages.new ≡ P.next pages.old) }
     ensures refused { IfErr result (ApplyRefusal (P.down pages.old)) }
+    ensures high { (start : Start) (shown : List (List ℕ)) → P.shows pages.old start shown → result ≡ Err ApplyError.TooHigh → ShowsRoot shown head.old.root 7 }
+    ensures limits { IfErr result (LimitRefusal (P.homes pages.old) (P.next pages.old) head.old.applied) }
     ensures shows { (start : Start) (shown : List (List ℕ)) → P.shows pages.old start shown → (after : List (List ℕ)) × P.shows pages.new start after }
     ensures shelf { KeepsBlocks O.OnceDisk 2 shelf.old shelf.new (result ≡ Err ApplyError.OnceFull) }
     ensures homes { P.homes pages.new ≡ P.homes pages.old }

@@ -1,7 +1,7 @@
 //! What the application of many changes is to commit: pages that are shown in one transaction, and their head. The sequencer stays as it
 //! is meanwhile, and no page is written yet.
 
-ghost use Rattle.std.specs.Prelude.{◌≡◌, ◌<◌, ◌≤◌, ◌+◌, ◌*◌, ◌↔◌, ℕ, List, [], length, min, IfOk, OnOk, OnErr, IfErr, Err, IsTrue, true, false};
+ghost use Rattle.std.specs.Prelude.{◌≡◌, ◌≢◌, ◌<◌, ◌≤◌, ◌+◌, ◌*◌, ◌↔◌, ℕ, List, [], length, min, IfOk, OnOk, OnErr, IfErr, Err, IsTrue, true, false};
 ghost use Rattle.disk_models.specs.Once.{OnceState, settled_in};
 ghost use Rattle.once_store.specs.Shelves.{disk_of, next_of, pen_of};
 ghost use Rattle.page_tx.specs.Start.{Start};
@@ -10,9 +10,10 @@ ghost use Rattle.sequencer.specs.Ahead.{behind};
 ghost use Rattle.sequencer.specs.First.{IsNext};
 ghost use Rattle.sequencer.specs.Lanes.{Releases};
 ghost use Rattle.archive_pages.specs.Carried.{Bears};
+ghost use Rattle.tsb_tree.specs.Opened.{ShowsRoot};
 ghost use Rattle.disk_archive.specs.Mirrors.{Mirrors};
 ghost use Rattle.disk_archive.specs.Trees.{TreeLies};
-ghost use Rattle.disk_archive.specs.inner.Applications.{Advances, ApplyRefusal, IsPlan, KeepsBlocks, PlansMove, Reached, Reaches};
+ghost use Rattle.disk_archive.specs.inner.Applications.{Advances, ApplyRefusal, IsPlan, KeepsBlocks, LimitRefusal, PlansMove, Reached, Reaches};
 
 use crate::apply_error::{ApplyError, of_pages};
 use crate::planning_application::{front_of, plan_change};
@@ -80,6 +81,9 @@ fn begin_plan<P: Pages>(
         → (page : ℕ) → result ≡ Err (ApplyError.BadNode page) → ⊥ }
     ensures once { result ≡ Err ApplyError.OnceFull → ⊥ }
     ensures refused { IfErr result (ApplyRefusal (P.down pages.old)) }
+    ensures high { result ≢ Err ApplyError.TooHigh }
+    ensures limits { IfErr result (LimitRefusal (P.homes pages.old) (P.next pages.old) head.now.applied) }
+    ensures head { IfOk result (λ plan. plan.head ≡ head.now) }
     ensures reads { (start : Start) (shown : List (List ℕ)) → P.shows pages.old start shown → P.shows pages.new start shown }
     ensures homes { P.homes pages.new ≡ P.homes pages.old }
     ensures next { P.next pages.new ≡ P.next pages.old }
@@ -139,6 +143,8 @@ fn plan_step<P: Pages, O: OnceDisk + Drop>(
         → (page : ℕ) → result ≡ Err (ApplyError.BadNode page) → ⊥ }
     ensures few { length (P.named pages.new) ≤ 30 }
     ensures refused { IfErr result (ApplyRefusal (P.down pages.old)) }
+    ensures high { (start : Start) (shown : List (List ℕ)) → P.shows pages.old start shown → result ≡ Err ApplyError.TooHigh → ShowsRoot shown plan.old.head.root 7 }
+    ensures limits { IfErr result (LimitRefusal (P.homes pages.old) (P.next pages.old) plan.old.head.applied) }
     ensures shows { (start : Start) (shown : List (List ℕ)) → P.shows pages.old start shown → (after : List (List ℕ)) × P.shows pages.new start after }
     ensures shelf { KeepsBlocks O.OnceDisk 2 shelf.old shelf.new (result ≡ Err ApplyError.OnceFull) }
     ensures homes { P.homes pages.new ≡ P.homes pages.old }
@@ -317,6 +323,8 @@ pub(crate) fn plan_changes<P: Pages, O: OnceDisk + Drop>(
     ensures count { IfOk result (λ plan. length plan.ahead ≡ length sequencer.now) }
     ensures block { IfOk result (λ plan. plan.head.block ≤ next_of shelf.new) }
     ensures refused { IfErr result (ApplyRefusal (P.down pages.old)) }
+    ensures high { (start : Start) (shown : List (List ℕ)) → P.shows pages.old start shown → result ≡ Err ApplyError.TooHigh → ShowsRoot shown head.now.root 7 }
+    ensures limits { IfErr result (LimitRefusal (P.homes pages.old) (P.next pages.old) head.now.applied) }
     ensures shows { (start : Start) (shown : List (List ℕ)) → P.shows pages.old start shown → (after : List (List ℕ)) × P.shows pages.new start after }
     ensures shelf { KeepsBlocks O.OnceDisk 2000 shelf.old shelf.new (result ≡ Err ApplyError.OnceFull) }
     ensures homes { P.homes pages.new ≡ P.homes pages.old }

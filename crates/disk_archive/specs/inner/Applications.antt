@@ -1,7 +1,7 @@
 -- What is to be committed when a change is applied, and why it isn't.
 use Rattle.std.specs.Prelude.{◌≡◌, ◌↔◌, ◌⊎◌, ◌<◌, ◌≤◌, ◌+◌, ◌++◌, ◌∷◌, ⊤, ℕ, suc, List, length, min, Bool, true, false}
 use Rattle.disk_models.specs.declared.once.OnceDisk.{Ghosts as OnceGhosts}
-use Rattle.disk_models.specs.Once.{OnceState, Grows}
+use Rattle.disk_models.specs.Once.{Grows}
 use Rattle.once_store.specs.declared.shelf.Shelf.{Shelf}
 use Rattle.once_store.specs.Shelves.{AllTried, disk_of, pen_of, next_of}
 use Rattle.route_model.specs.Admission.{Admitted}
@@ -50,6 +50,18 @@ ApplyRefusal down applies.OnceFull = ⊤
 ApplyRefusal down (applies.BadNode page) = ⊤
 ApplyRefusal down applies.Fault = ⊤
 ApplyRefusal down applies.OutOfMemory = ⊤
+
+-- A count or the pages are called full only where they are: so many changes are the most that can be counted, and fewer pages were never
+-- used than a tree of the highest level may want for a version, where of so many home pages this one is the first of them.
+abbrev pub LimitRefusal : ℕ → ℕ → ℕ → ApplyError → Type 0
+LimitRefusal homes next count applies.NeedsRecovery = ⊤
+LimitRefusal homes next count applies.CounterFull = count ≡ 18446744073709551615
+LimitRefusal homes next count applies.TooHigh = ⊤
+LimitRefusal homes next count applies.PagesFull = homes < next + 9
+LimitRefusal homes next count applies.OnceFull = ⊤
+LimitRefusal homes next count (applies.BadNode page) = ⊤
+LimitRefusal homes next count applies.Fault = ⊤
+LimitRefusal homes next count applies.OutOfMemory = ⊤
 
 -- The shelf has its disk still, which follows its model as before; what is tried or settled stays so, at most so many blocks are spent, and
 -- the next number doesn't fall. Where the disk is told to be full, no blank block is left.

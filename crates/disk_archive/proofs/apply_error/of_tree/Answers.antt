@@ -4,3 +4,6 @@ use Rattle.disk_archive.proofs.apply_error.of_tree.Goals as goal
 
 pub returns-in-Pages-clause-refused : goal.returns-in-Pages-clause-refused
 returns-in-Pages-clause-refused c down f = c.of_pages.ensures.refused down (λ e. f (c.in-Pages.is ∙ ap (λ x. trees.Pages x) e))
+
+pub returns-in-Pages-clause-limits : goal.returns-in-Pages-clause-limits
+returns-in-Pages-clause-limits c homes next count f = c.of_pages.ensures.limits homes next count (λ e. f (c.in-Pages.is ∙ ap (λ x. trees.Pages x) e))

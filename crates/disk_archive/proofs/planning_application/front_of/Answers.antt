@@ -21,3 +21,6 @@ returns-in-Err-BadNode-clause-sound g c start shown lane first rest shows at pla
 
 pub returns-in-Err-Pages-clause-refused : goal.returns-in-Err-Pages-clause-refused
 returns-in-Err-Pages-clause-refused g c = c.of_pages.ensures.refused _ (λ e. let r = c.in-Err-Pages.ensures.refused in search (rules, e, r))
+
+pub returns-in-Err-Pages-clause-limits : goal.returns-in-Err-Pages-clause-limits
+returns-in-Err-Pages-clause-limits g c count = c.of_pages.ensures.limits _ _ count (λ e. let r = c.in-Err-Pages.ensures.refused in absurd (search (rules, e, r)))

@@ -64,3 +64,6 @@ returns-clause-stays g c part =
       | inl lt ↦ ap (λ (x : Contents). x.lanes) (c.pass_change.ensures.stays lt)
       | inr ge ↦ absurd (true≢false (sym (c.pass_change.ensures.whole.1 ge) ∙ part))
     ]
+
+pub returns-in_err-place-clause-high : goal.returns-in_err-place-clause-high
+returns-in_err-place-clause-high g c start shown shows told = c.take_next.ensures.high start shown shows (search (rules, told))

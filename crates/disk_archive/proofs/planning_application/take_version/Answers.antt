@@ -6,6 +6,7 @@ use Rattle.route_history.specs.Stamps.{stamp_of}
 use Rattle.version_model.specs.Pages.{TreeStands}
 use Rattle.disk_archive.specs.declared.apply_error.ApplyError.TheVariants as applies
 use Rattle.version_model.specs.Entries.{version_of}
+use Rattle.tsb_tree.specs.Opened.{ShowsRoot}
 use Rattle.tsb_tree.specs.Refusals.{BlamesNone, InsertRefusal, ReadRefusal}
 use Rattle.disk_archive.specs.inner.Applications.{TreeTakes}
 use Rattle.disk_archive.proofs.Keeping.{joined_few}
@@ -70,3 +71,26 @@ returns-in-Err-insert-clause-sound g c most start shown low versions shows hones
     c.in-Ok.place.root c.in-Ok.place.level c.in-Ok.place.least (c.in-Ok.ensures.root ∙ root) level (c.in-Ok.ensures.least ∙ least) in
     let told : c.of_tree-in-Err-insert.result ≡ applies.BadNode page = cc in
     subst BlamesNone (c.of_tree-in-Err-insert.ensures.bad page told) (c.in-Err-insert.ensures.honest start shown versions tree)
+
+-- ---- what is too much
+
+pub returns-in-Err-clause-limits : goal.returns-in-Err-clause-limits
+returns-in-Err-clause-limits g c = c.of_tree.ensures.limits _ _ _ (λ e. absurd (subst (ReadRefusal _) e c.in-Err.ensures.refused))
+
+pub returns-in-Err-insert-clause-limits : goal.returns-in-Err-insert-clause-limits
+returns-in-Err-insert-clause-limits g c = c.of_tree-in-Err-insert.ensures.limits _ _ _ (λ e.
+    let full = subst (InsertRefusal _ _ _ _ _ _ _) e c.in-Err-insert.ensures.refused in
+    let level = c.in-Ok.ensures.few in
+    let homes = c.open.ensures.reads.homes in
+    let next = c.open.ensures.reads.next in
+    omega (arith, full, level, homes, next))
+
+pub returns-in-Err-clause-high : goal.returns-in-Err-clause-high
+returns-in-Err-clause-high g c start shown shows told = absurd (subst (ReadRefusal _) (c.of_tree.ensures.high (cc told)) c.in-Err.ensures.refused)
+
+pub returns-in-Err-insert-clause-high : goal.returns-in-Err-insert-clause-high
+returns-in-Err-insert-clause-high g c start shown shows told =
+    let h = c.args.head.now in
+    let level : c.in-Ok.place.level ≡ 7 = subst (InsertRefusal _ _ _ _ _ _ _) (c.of_tree-in-Err-insert.ensures.high (cc told)) c.in-Err-insert.ensures.refused in
+    let root = ap (λ (x : Contents). x.root) c.head.view_is in
+    subst (λ (n : ℕ). ShowsRoot shown h.root n) level (subst (λ (r : ℕ). ShowsRoot shown r c.in-Ok.place.level) root (c.in-Ok.ensures.level start shown shows))

@@ -3,11 +3,13 @@ use Rattle.std.specs.List.{slice_set}
 use Rattle.disk_models.specs.Once.{settled_in}
 use Rattle.once_store.specs.Shelves.{disk_of, next_of, pen_of}
 use Rattle.page_tx.specs.Images.{joined}
-use Rattle.archive_head.specs.Head.{head_octets}
+use Rattle.archive_head.specs.Head.{Contents, head_octets}
+use Rattle.tsb_tree.specs.Opened.{ShowsRoot}
 use Rattle.archive_pages.specs.Refusals.{HeadRefusal}
 use Rattle.disk_archive.specs.inner.Applications.{Advances, IsPlan, Reached, Reaches}
 use Rattle.disk_archive.proofs.Keeping.{joined_few, keeps_none, keeps_then, keeps_fewer, keeps_told}
 use Rattle.disk_archive.proofs.Reaching.{advances_then, plans_move}
+use Rattle.disk_archive.proofs.Limited.{limits_as, on_told}
 use Rattle.disk_archive.proofs.planning_changes.plan_changes.Goals as goal
 
 pub plan_step-requires-clause-fits : goal.plan_step-requires-clause-fits
@@ -95,3 +97,24 @@ returns-in-Ok-clause-shows g c start shown s =
 
 pub returns-clause-refused : goal.returns-clause-refused
 returns-clause-refused g c = c.of_pages.ensures.refused _ (λ e. absurd (subst (HeadRefusal _) e c.in-Err.ensures.refused))
+
+-- ---- what is too much
+
+pub returns-in_err-plan-clause-high : goal.returns-in_err-plan-clause-high
+returns-in_err-plan-clause-high g c start shown shows told = absurd (c.begin_plan.ensures.high (search (rules, told)))
+
+pub returns-in_err-plan_step-clause-high : goal.returns-in_err-plan_step-clause-high
+returns-in_err-plan_step-clause-high g c start shown shows told =
+    subst (λ (x : Contents). ShowsRoot shown x.root 7) c.in_ok-plan.ensures.head (c.plan_step.ensures.high start shown (c.begin_plan.ensures.reads start shown shows) (search (rules, told)))
+
+pub returns-clause-high : goal.returns-clause-high
+returns-clause-high g c start shown shows told = absurd (c.of_pages.ensures.high (cc told))
+
+pub returns-in_err-plan_step-clause-limits : goal.returns-in_err-plan_step-clause-limits
+returns-in_err-plan_step-clause-limits g c =
+    let e = c.in_err-plan_step.field-0.0 in
+    on_told c.from_residual-in_err-plan_step.result e _ c.from_residual-in_err-plan_step.ensures.1
+    (limits_as _ _ _ _ _ _ e c.begin_plan.ensures.homes c.begin_plan.ensures.next (ap (λ (x : Contents). x.applied) c.in_ok-plan.ensures.head) c.in_err-plan_step.ensures.limits)
+
+pub returns-clause-limits : goal.returns-clause-limits
+returns-clause-limits g c = c.of_pages.ensures.limits _ _ _ (λ e. absurd (subst (HeadRefusal _) e c.in-Err.ensures.refused))

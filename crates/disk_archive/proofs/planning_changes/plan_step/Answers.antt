@@ -60,3 +60,6 @@ pub returns-in_err-whole-clause-sound : goal.returns-in_err-whole-clause-sound
 returns-in_err-whole-clause-sound g c most start h honest r page bad =
     let f = r.first c.requires.hand in
     c.plan_change.ensures.sound most start r.pages h f.later r.shown honest r.bears f.here page (search (rules, bad))
+
+pub returns-in_err-whole-clause-high : goal.returns-in_err-whole-clause-high
+returns-in_err-whole-clause-high g c start shown shows told = c.plan_change.ensures.high start shown shows (search (rules, told))

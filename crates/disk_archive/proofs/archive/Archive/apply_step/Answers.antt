@@ -5,6 +5,7 @@ use Rattle.disk_archive.proofs.Lasting.{held_err, lasts_by}
 use Rattle.disk_archive.proofs.Applied.{applied_of, idle_of, idle_same, goes_of, never_bad, needs_recovery_of, none_blank, same_or_moved, both_same}
 use Rattle.route_meaning.specs.History.{applied}
 use Rattle.disk_archive.proofs.Counts.{changes_are}
+use Rattle.disk_archive.proofs.Limited.{counter_of, pages_of}
 use Rattle.disk_archive.proofs.Telling.{borne_of}
 use Rattle.disk_archive.proofs.archive.Archive.apply_step.Goals as goal
 
@@ -59,3 +60,9 @@ returns-clause-disk g c = c.try_apply.ensures.shelf.disk
 
 pub returns-clause-grows : goal.returns-clause-grows
 returns-clause-grows g c honest = c.try_apply.ensures.shelf.grows honest.1
+
+pub returns-clause-counter_full : goal.returns-clause-counter_full
+returns-clause-counter_full g c honest h held told = sym ((borne_of c.args.self.now h (held honest)).1.numbered ∙ changes_are (applied h)) ∙ counter_of _ _ _ c.try_apply.result c.try_apply.ensures.limits told
+
+pub returns-clause-pages_full : goal.returns-clause-pages_full
+returns-clause-pages_full g c told = let few = pages_of _ _ _ c.try_apply.result c.try_apply.ensures.limits told in omega (arith, few)

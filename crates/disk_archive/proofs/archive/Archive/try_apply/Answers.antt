@@ -8,8 +8,9 @@ use Rattle.disk_archive.proofs.Fronts.{nothing_is}
 use Rattle.disk_archive.proofs.Outcomes.{on_each_err}
 use Rattle.disk_archive.proofs.Calling.{Ready, start_of, grows_none, unwritten, written, kept}
 use Rattle.disk_archive.proofs.Burning.{carries_more, refused_more, done_more}
-use Rattle.disk_archive.proofs.Applied.{begins_moved, commit_not_bad, commit_told, both_same}
+use Rattle.disk_archive.proofs.Applied.{begins_moved}
 use Rattle.disk_archive.proofs.Staying.{told_fault}
+use Rattle.disk_archive.proofs.Limited.{limits_as, limits_commit, limits_fresh, on_told}
 use Rattle.disk_archive.proofs.archive.Archive.try_apply.Goals as goal
 
 pub plan_changes-requires-clause-lanes : goal.plan_changes-requires-clause-lanes
@@ -147,3 +148,18 @@ returns-in_err-commit-clause-falls g c up down =
     let was = c.plan_changes.ensures.down ∙ (ap needs_recovery c.begin_from.ensures.same ∙ up) in
     let fell = c.in_err-commit.ensures.falls was down in
     told_fault c.from_residual-in_err-commit.result apply_of_commit c.in_err-commit.field-0.0 c.from_residual-in_err-commit.ensures.1 (cc fell)
+
+-- ---- what is too much
+
+pub returns-in_err-head-clause-limits : goal.returns-in_err-head-clause-limits
+returns-in_err-head-clause-limits g c =
+    let a = c.args.self.now in
+    let e = c.in_err-head.field-0.0 in
+    on_told c.from_residual-in_err-head.result e _ c.from_residual-in_err-head.ensures.1
+    (limits_fresh _ a.head.fresh a.head.applied e (limits_as _ _ _ _ _ _ e (ap home_pages c.begin_from.ensures.same) c.in_ok-begin_from.ensures.next refl c.in_err-head.ensures.limits))
+
+pub returns-in_err-commit-clause-limits : goal.returns-in_err-commit-clause-limits
+returns-in_err-commit-clause-limits g c = on_told c.from_residual-in_err-commit.result _ _ c.from_residual-in_err-commit.ensures.1 (limits_commit _ _ _ c.in_err-commit.field-0.0)
+
+pub returns-in_err-head-clause-high : goal.returns-in_err-head-clause-high
+returns-in_err-head-clause-high g c honest pages maps told = c.plan_changes.ensures.high _ pages (c.in_ok-begin_from.ensures.shown honest.0 pages maps) (search (rules, told))
