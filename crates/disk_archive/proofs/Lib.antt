@@ -31,4 +31,5 @@ mod Counts
 mod Turning
 mod Staying
 mod Limited
+mod Faults
 pub mod api

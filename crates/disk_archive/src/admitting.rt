@@ -2,6 +2,7 @@
 
 ghost use Rattle.std.specs.Prelude.{◌≡◌, ◌≢◌, ◌<◌, ◌≤◌, ◌+◌, ◌⊎◌, ◌↔◌, ℕ, List, length, min, sum_by, Some, IfOk, OnOk, OnErr, IfErr, Err, slice_get, true, false};
 ghost use Rattle.std.specs.List.{AllByRecursion};
+ghost use Rattle.page_tx.specs.Device.{KeepsDevice};
 ghost use Rattle.route_model.specs.Admission.{IsAdmission};
 ghost use Rattle.route_meaning.specs.History.{History, Intake};
 ghost use Rattle.interleaving_core.specs.Steps.{given};
@@ -52,7 +53,7 @@ fn may_take(
 }
 
 impl<E: EraseDisk + Drop, O: OnceDisk + Drop> Archive<E, O> {
-    ghost use Rattle.disk_archive.specs.Archives.{Carries, GoesOn, Holds, Stands, IsHonest, is_down, once_of, once_state, settings_of, site_of};
+    ghost use Rattle.disk_archive.specs.Archives.{Carries, GoesOn, Holds, Stands, IsHonest, erase_of, is_down, once_of, once_state, pen_in, settings_of, site_of};
     ghost use Rattle.disk_archive.specs.Sites.{LeftEither};
     ghost use Rattle.disk_archive.specs.Crashes.{Crashes, Lasts};
     ghost use Rattle.disk_archive.specs.Limits.{IsCounterFull, IsRingFull};
@@ -63,6 +64,8 @@ impl<E: EraseDisk + Drop, O: OnceDisk + Drop> Archive<E, O> {
         ensures usable { OnOk result (is_down self.old ≡ false) }
         ensures still_usable { OnOk result (is_down self.new ≡ false) }
         ensures falls { is_down self.old ≡ false → is_down self.new ≡ true → result ≡ Err AdmitError.Fault }
+        ensures device { KeepsDevice (E.honest (erase_of self.old)) (E.honest (erase_of self.new)) (E.fault_count (erase_of self.old)) (E.fault_count (erase_of self.new)) (result ≡ Err AdmitError.Fault) }
+        ensures pen { pen_in self.new ≡ pen_in self.old }
         ensures recovery { is_down self.old ≡ true → IsAsBefore self.old self.new }
         ensures told { (result ≡ Err AdmitError.NeedsRecovery) ↔ (is_down self.old ≡ true) }
         ensures no_collector { (result ≡ Err AdmitError.NoCollector) ↔ ((is_down self.old ≡ false) × ((settings_of self.old).collectors ≤ collector)) }
@@ -121,6 +124,9 @@ impl<E: EraseDisk + Drop, O: OnceDisk + Drop> Archive<E, O> {
         ensures usable { OnOk result (is_down self.old ≡ false) }
         ensures still_usable { OnOk result (is_down self.new ≡ false) }
         ensures falls { is_down self.old ≡ false → is_down self.new ≡ true → result ≡ Err AdmitError.Fault }
+        ensures quiet { result ≢ Err AdmitError.Fault → E.fault_count (erase_of self.new) ≡ E.fault_count (erase_of self.old) }
+        ensures counted { result ≡ Err AdmitError.Fault → E.fault_count (erase_of self.new) ≡ min (E.fault_count (erase_of self.old) + 1) 18446744073709551615 }
+        ensures pen { pen_in self.new ≡ pen_in self.old }
         ensures recovery { (result ≡ Err AdmitError.NeedsRecovery) ↔ (is_down self.old ≡ true) }
         ensures no_collector { (result ≡ Err AdmitError.NoCollector) ↔ ((is_down self.old ≡ false) × ((settings_of self.old).collectors ≤ collector)) }
         ensures too_large { (result ≡ Err AdmitError.BatchTooLarge) ↔ ((is_down self.old ≡ false) × (collector < (settings_of self.old).collectors) × (262144 < sum_by entry_octets batch.now)) }

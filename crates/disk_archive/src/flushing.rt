@@ -7,6 +7,7 @@ ghost use Rattle.page_journal.specs.Journal.{disk_of, home_pages, needs_recovery
 ghost use Rattle.page_journal.specs.Recovers.{Recovers};
 ghost use Rattle.page_journal.specs.Refusals.{UseRefusal};
 ghost use Rattle.buffer_pool.specs.Pool.{journal_of};
+ghost use Rattle.page_tx.specs.Device.{KeepsDevice};
 ghost use Rattle.page_tx.specs.Start.{Start};
 ghost use Rattle.page_tx.specs.Tx.{Shows, pool_of};
 ghost use Rattle.route_meaning.specs.History.{History};
@@ -50,7 +51,7 @@ fn write_home<E: EraseDisk + Drop>(tx: &mut Tx<E>) -> Result<Flush, UseError>
 }
 
 impl<E: EraseDisk + Drop, O: OnceDisk + Drop> Archive<E, O> {
-    ghost use Rattle.disk_archive.specs.Archives.{Carries, GoesOn, Holds, Stands, IsHonest, is_down, once_of, once_state, settings_of, site_of};
+    ghost use Rattle.disk_archive.specs.Archives.{Carries, GoesOn, Holds, Stands, IsHonest, erase_of, is_down, once_of, once_state, pen_in, settings_of, site_of};
     ghost use Rattle.disk_archive.specs.Sites.{LeftCarries, LeftEither};
     ghost use Rattle.disk_archive.specs.Crashes.{Crashes, Lasts};
     ghost use Rattle.disk_archive.specs.Homes.{closed_in, dirty_pages};
@@ -61,6 +62,8 @@ impl<E: EraseDisk + Drop, O: OnceDisk + Drop> Archive<E, O> {
         ensures usable { OnOk result ((is_down self.old ≡ false) × (is_down self.new ≡ false)) }
         ensures idle { is_down self.old ≡ true → IsAsBefore self.old self.new }
         ensures recovery { (result ≡ Err FlushError.NeedsRecovery) ↔ (is_down self.old ≡ true) }
+        ensures device { KeepsDevice (E.honest (erase_of self.old)) (E.honest (erase_of self.new)) (E.fault_count (erase_of self.old)) (E.fault_count (erase_of self.new)) (result ≡ Err FlushError.Fault) }
+        ensures pen { pen_in self.new ≡ pen_in self.old }
         ensures honest { IsHonest self.old ↔ IsHonest self.new }
         ensures settings { settings_of self.new ≡ settings_of self.old }
         ensures disk { once_of self.new ≡ once_of self.old }
@@ -86,6 +89,9 @@ impl<E: EraseDisk + Drop, O: OnceDisk + Drop> Archive<E, O> {
         ensures lasts { (h : History) → Stands self.old h → Lasts self.old self.new h }
         ensures usable { OnOk result ((is_down self.old ≡ false) × (is_down self.new ≡ false)) }
         ensures recovery { (result ≡ Err FlushError.NeedsRecovery) ↔ (is_down self.old ≡ true) }
+        ensures quiet { result ≢ Err FlushError.Fault → E.fault_count (erase_of self.new) ≡ E.fault_count (erase_of self.old) }
+        ensures counted { result ≡ Err FlushError.Fault → E.fault_count (erase_of self.new) ≡ min (E.fault_count (erase_of self.old) + 1) 18446744073709551615 }
+        ensures pen { pen_in self.new ≡ pen_in self.old }
         ensures flushed { IfOk result (λ step. step ≡ Flush.Flushed → IsHomed (dirty_pages self.old) (dirty_pages self.new)) }
         ensures clean { IfOk result (λ step. step ≡ Flush.Clean → (dirty_pages self.new ≡ []) × (closed_in self.new ≡ 8)) }
         ensures only { IfOk result (λ step. (step ≡ Flush.Clean) ↔ (dirty_pages self.old ≡ [])) }

@@ -2,6 +2,7 @@
 
 ghost use Rattle.std.specs.Prelude.{◌≡◌, ◌≢◌, ◌<◌, ◌≤◌, ◌+◌, ◌⊎◌, ◌↔◌, ℕ, List, [], length, min, Some, IfOk, OnOk, OnErr, IfErr, IsOk, Err, slice_get, slice_set, true, false};
 ghost use Rattle.disk_models.specs.Once.{OnceState, settled_in};
+ghost use Rattle.page_tx.specs.Device.{KeepsDevice};
 ghost use Rattle.page_tx.specs.Start.{Start};
 ghost use Rattle.route_meaning.specs.History.{History, Intake};
 ghost use Rattle.sequencer.specs.Lanes.{HasMarkAbove, Raises, marks};
@@ -93,6 +94,7 @@ fn plan_mark<P: Pages>(
     ensures block { IfOk result (λ next. next.block ≡ head.now.block) }
     ensures same { OnErr result ((start : Start) (shown : List (List ℕ)) → P.shows pages.old start shown → P.shows pages.new start shown) }
     ensures refused { IfErr result (λ e. e ≡ MarkError.OutOfMemory) }
+    ensures device { KeepsDevice (P.honest pages.old) (P.honest pages.new) (P.faults pages.old) (P.faults pages.new) ⊥ }
     ensures homes { P.homes pages.new ≡ P.homes pages.old }
     ensures honest { P.honest pages.old ↔ P.honest pages.new }
     ensures down { P.down pages.new ≡ P.down pages.old }
@@ -107,7 +109,7 @@ fn plan_mark<P: Pages>(
 }
 
 impl<E: EraseDisk + Drop, O: OnceDisk + Drop> Archive<E, O> {
-    ghost use Rattle.disk_archive.specs.Archives.{Carries, GoesOn, Holds, Stands, IsHonest, erase_of, is_down, once_of, once_state, settings_of, site_of};
+    ghost use Rattle.disk_archive.specs.Archives.{Carries, GoesOn, Holds, Stands, IsHonest, erase_of, is_down, once_of, once_state, pen_in, settings_of, site_of};
     ghost use Rattle.disk_archive.specs.Sites.{LeftEither};
     ghost use Rattle.disk_archive.specs.Crashes.{Crashes, Lasts};
     ghost use Rattle.disk_archive.specs.inner.Idle.{IsAsBefore};
@@ -118,6 +120,8 @@ impl<E: EraseDisk + Drop, O: OnceDisk + Drop> Archive<E, O> {
         ensures usable { OnOk result (is_down self.old ≡ false) }
         ensures still_usable { OnOk result (is_down self.new ≡ false) }
         ensures falls { is_down self.old ≡ false → is_down self.new ≡ true → result ≡ Err MarkError.Fault }
+        ensures device { KeepsDevice (E.honest (erase_of self.old)) (E.honest (erase_of self.new)) (E.fault_count (erase_of self.old)) (E.fault_count (erase_of self.new)) (result ≡ Err MarkError.Fault) }
+        ensures pen { pen_in self.new ≡ pen_in self.old }
         ensures idle { is_down self.old ≡ true → IsAsBefore self.old self.new }
         ensures recovery { (result ≡ Err MarkError.NeedsRecovery) ↔ (is_down self.old ≡ true) }
         ensures no_collector { (result ≡ Err MarkError.NoCollector) ↔ ((is_down self.old ≡ false) × ((settings_of self.old).collectors ≤ collector)) }
@@ -157,6 +161,9 @@ impl<E: EraseDisk + Drop, O: OnceDisk + Drop> Archive<E, O> {
         ensures usable { OnOk result (is_down self.old ≡ false) }
         ensures still_usable { OnOk result (is_down self.new ≡ false) }
         ensures falls { is_down self.old ≡ false → is_down self.new ≡ true → result ≡ Err MarkError.Fault }
+        ensures quiet { result ≢ Err MarkError.Fault → E.fault_count (erase_of self.new) ≡ E.fault_count (erase_of self.old) }
+        ensures counted { result ≡ Err MarkError.Fault → E.fault_count (erase_of self.new) ≡ min (E.fault_count (erase_of self.old) + 1) 18446744073709551615 }
+        ensures pen { pen_in self.new ≡ pen_in self.old }
         ensures recovery { (result ≡ Err MarkError.NeedsRecovery) ↔ (is_down self.old ≡ true) }
         ensures no_collector { (result ≡ Err MarkError.NoCollector) ↔ ((is_down self.old ≡ false) × ((settings_of self.old).collectors ≤ collector)) }
         ensures mark_back { IsHonest self.old → (h : History) → Holds self.old h → (result ≡ Err MarkError.MarkBack) ↔ ((is_down self.old ≡ false) × IsMarkAbove h collector mark) }

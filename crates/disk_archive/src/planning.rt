@@ -3,6 +3,7 @@
 ghost use Rattle.std.specs.Prelude.{◌≡◌, ◌≢◌, ◌<◌, ◌≤◌, ◌+◌, ◌↔◌, ℕ, Bool, true, false, List, [], length, sum_by, Some, IfOk, OnOk, IfErr, Err, slice_get};
 ghost use Rattle.std.specs.List.{AllByRecursion};
 ghost use Rattle.disk_models.specs.Once.{OnceState, settled_in};
+ghost use Rattle.page_tx.specs.Device.{KeepsDevice};
 ghost use Rattle.page_tx.specs.Start.{Start};
 ghost use Rattle.page_tx.specs.declared.error.PageError.TheVariants as pages_refusals;
 ghost use Rattle.route_model.specs.Admission.{Admitted, IsAdmission};
@@ -85,6 +86,7 @@ pub(crate) fn plan_batch<P: Pages>(
         → Bears (TreeLies count) settings (settled_in o) head.now shown h → slice_get h.intakes collector ≡ Some i → IsKeptOf i.mark offered batch.now → HasLane head.now collector lane
         → lane.offered + length offered ≤ 18446744073709551615 → (page : ℕ) → result ≡ Err (AdmitError.BadNode page) → ⊥ }
     ensures refused { IfErr result (PlanRefusal (P.down pages.old)) }
+    ensures device { KeepsDevice (P.honest pages.old) (P.honest pages.new) (P.faults pages.old) (P.faults pages.new) (result ≡ Err AdmitError.Fault) }
     ensures homes { P.homes pages.new ≡ P.homes pages.old }
     ensures honest { P.honest pages.old ↔ P.honest pages.new }
     ensures down { P.down pages.new ≡ P.down pages.old }

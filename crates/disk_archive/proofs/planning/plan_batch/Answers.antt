@@ -6,6 +6,7 @@ use Rattle.archive_pages.specs.Changes.{with_lane}
 use Rattle.archive_pages.specs.Refusals.{HeadRefusal}
 use Rattle.disk_archive.proofs.Limiting.{can_take}
 use Rattle.disk_archive.proofs.Plans.{lane_at, set_there, given_shown, plan_done}
+use Rattle.disk_archive.proofs.Faults.{keeps_none, keeps_then, keeps_told}
 use Rattle.disk_archive.proofs.planning.plan_batch.Goals as goal
 
 pub returns-in-Err-clause-refused : goal.returns-in-Err-clause-refused
@@ -91,3 +92,22 @@ returns-clause-block g c =
     let low : c.args.collector < length c.in_ok-next.next.lanes = subst (λ (x : Contents). c.args.collector < length x.lanes) (sym copy) c.requires.collector in
     let lane = lane_at c.args.collector _ low in
     ap (λ (x : Contents). x.block) (c.in_default.ensures.head lane.0 lane.1) ∙ ap (λ (x : Contents). x.block) copy
+
+-- ---- how often the device failed
+
+pub returns-in_err-next-clause-device : goal.returns-in_err-next-clause-device
+returns-in_err-next-clause-device g c = keeps_none _ _ _ (λ told. search (rules, told))
+
+pub returns-then-not-can_give-clause-device : goal.returns-then-not-can_give-clause-device
+returns-then-not-can_give-clause-device g c = keeps_none _ _ _ (λ told. cc)
+
+pub returns-in-Err-clause-device : goal.returns-in-Err-clause-device
+returns-in-Err-clause-device g c = keeps_told _ _ _ _ _ _ (λ told. ap (λ e. Err e) (c.of_intake.ensures.fault.0 (cc told))) (λ f. ap (λ e. Err e) (c.of_intake.ensures.fault.1 (cc f))) c.in-Err.ensures.device
+
+pub returns-in-Err-put_head-clause-device : goal.returns-in-Err-put_head-clause-device
+returns-in-Err-put_head-clause-device g c = keeps_then _ _ _ _ _ _ _ (keeps_told _ _ _ _ _ ⊥ (λ f. absurd f) (λ f. cc) c.in_default.ensures.device)
+    (keeps_told _ _ _ _ ⊥ _ (λ told. subst (HeadRefusal _) (c.of_page.ensures.fault.0 (cc told)) c.in-Err-put_head.ensures.refused) (λ f. absurd f) c.put_head.ensures.device)
+
+pub returns-clause-device : goal.returns-clause-device
+returns-clause-device g c = keeps_then _ _ _ _ _ _ _ (keeps_told _ _ _ _ _ ⊥ (λ f. absurd f) (λ f. cc) c.in_default.ensures.device)
+    (keeps_told _ _ _ _ ⊥ _ (λ told. cc) (λ f. absurd f) c.put_head.ensures.device)

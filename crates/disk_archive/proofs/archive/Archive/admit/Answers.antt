@@ -55,3 +55,9 @@ returns-clause-undamaged g c honest h held page told = ⊎_elim
     (λ k. c.try_admit.ensures.undamaged h k page told)
     (λ w. absurd (not_both c.try_admit.result (admits.BadNode page) (c.try_admit.ensures.told.1 w.unusable) (λ e. cc) told))
     (held honest)
+
+pub returns-clause-quiet : goal.returns-clause-quiet
+returns-clause-quiet g c other = c.try_admit.ensures.device.quiet other
+
+pub returns-clause-counted : goal.returns-clause-counted
+returns-clause-counted g c told = c.try_admit.ensures.device.counted told

@@ -21,3 +21,9 @@ returns-clause-lasts g c =
     lasts_steps a z g.met.E.EraseDisk.sound c.try_flush.ensures.honest.0 c.try_flush.ensures.idle
     (λ h k. (h, Begins-refl h, c.try_flush.ensures.goes_on h k))
     (λ h k. crashes_weaker a z (LeftEither (site_of a) h h) (LeftFrom (site_of a) h) (λ left either. (h, Begins-refl h, ⊎_elim (λ was. was) (λ is. is) either)) (c.try_flush.ensures.crash h k))
+
+pub returns-clause-quiet : goal.returns-clause-quiet
+returns-clause-quiet g c other = c.try_flush.ensures.device.quiet other
+
+pub returns-clause-counted : goal.returns-clause-counted
+returns-clause-counted g c told = c.try_flush.ensures.device.counted told

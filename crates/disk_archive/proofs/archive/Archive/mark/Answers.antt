@@ -60,3 +60,9 @@ returns-clause-present g c honest usable h held i here same = ⊎_elim
     (λ k. let p = c.try_mark.ensures.present h k i here same in (p.0, ap (λ j. disk_of j) p.1.journal))
     (λ w. absurd (true≢false (sym w.unusable ∙ usable)))
     (held honest)
+
+pub returns-clause-quiet : goal.returns-clause-quiet
+returns-clause-quiet g c other = c.try_mark.ensures.device.quiet other
+
+pub returns-clause-counted : goal.returns-clause-counted
+returns-clause-counted g c told = c.try_mark.ensures.device.counted told

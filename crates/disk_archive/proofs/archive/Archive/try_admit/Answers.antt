@@ -21,6 +21,7 @@ use Rattle.disk_archive.proofs.Calling.{Ready, start_of, grows_none, unwritten, 
 use Rattle.disk_archive.specs.inner.Committing.{admit_of_commit}
 use Rattle.buffer_pool.specs.Pool.{journal_of}
 use Rattle.page_tx.specs.Tx.{pool_of}
+use Rattle.disk_archive.proofs.Faults.{admit_fault, keeps_same, keeps_served, keeps_then, keeps_told, not_taken, told_as, told_of}
 use Rattle.disk_archive.proofs.Staying.{told_fault}
 use Rattle.disk_archive.proofs.archive.Archive.try_admit.Goals as goal
 
@@ -294,3 +295,39 @@ returns-in_err-commit-clause-falls g c up down =
     let was = c.plan_batch.ensures.down ∙ (ap needs_recovery c.begin.ensures.same ∙ up) in
     let fell = c.in_err-commit.ensures.falls was down in
     told_fault c.from_residual-in_err-commit.result admit_of_commit c.in_err-commit.field-0.0 c.from_residual-in_err-commit.ensures.1 (cc fell)
+
+-- ---- how often the device failed
+
+pub returns-in_err-begin-clause-device : goal.returns-in_err-begin-clause-device
+returns-in_err-begin-clause-device g c = keeps_told _ _ _ _ ⊥ _ (λ told. search (rules, told)) (λ f. absurd f) (keeps_same g.E.EraseDisk (journal_of (pool_of c.args.self.now.tx)) (journal_of (pool_of c.begin.new.tx)) c.begin.ensures.same)
+
+pub returns-in_err-may_take-clause-device : goal.returns-in_err-may_take-clause-device
+returns-in_err-may_take-clause-device g c =
+    let r = c.from_residual-in_err-may_take.result in
+    let refused = c.in_err-may_take.ensures.refused in
+    keeps_told _ _ _ _ ⊥ _ (λ told. let is = told_as r c.in_err-may_take.field-0.0 admits.Fault c.from_residual-in_err-may_take.ensures.1 told in not_taken c.in_err-may_take.field-0.0 refused is) (λ f. absurd f) (keeps_same g.E.EraseDisk (journal_of (pool_of c.args.self.now.tx)) (journal_of (pool_of c.begin.new.tx)) c.begin.ensures.same)
+
+pub returns-in_err-kept-clause-device : goal.returns-in_err-kept-clause-device
+returns-in_err-kept-clause-device g c = keeps_told _ _ _ _ ⊥ _ (λ told. search (rules, told)) (λ f. absurd f) (keeps_same g.E.EraseDisk (journal_of (pool_of c.args.self.now.tx)) (journal_of (pool_of c.begin.new.tx)) c.begin.ensures.same)
+
+pub returns-in_err-next-clause-device : goal.returns-in_err-next-clause-device
+returns-in_err-next-clause-device g c =
+    let r = c.from_residual-in_err-next.result in
+    let is = c.from_residual-in_err-next.ensures.1 in
+    keeps_then _ _ _ _ _ _ _ (keeps_same g.E.EraseDisk (journal_of (pool_of c.args.self.now.tx)) (journal_of (pool_of c.begin.new.tx)) c.begin.ensures.same)
+    (keeps_told _ _ _ _ _ _ (λ told. ap (λ e. Err e) (told_as r c.in_err-next.field-0.0 admits.Fault is told)) (λ f. let same : c.in_err-next.field-0.0 ≡ admits.Fault = cc f in told_of r _ is ∙ ap (λ e. Err e) same) c.in_err-next.ensures.device)
+
+pub returns-in_err-commit-clause-device : goal.returns-in_err-commit-clause-device
+returns-in_err-commit-clause-device g c =
+    let r = c.from_residual-in_err-commit.result in
+    let is = c.from_residual-in_err-commit.ensures.1 in
+    keeps_then _ _ _ _ _ _ _ (keeps_same g.E.EraseDisk (journal_of (pool_of c.args.self.now.tx)) (journal_of (pool_of c.begin.new.tx)) c.begin.ensures.same)
+    (keeps_then _ _ _ _ _ _ _ (keeps_told _ _ _ _ _ ⊥ (λ f. absurd f) (λ f. cc) c.in_ok-next.ensures.device)
+    (keeps_told _ _ _ _ _ _ (λ told. ap (λ e. Err e) (admit_fault c.in_err-commit.field-0.0 (told_as r _ admits.Fault is told))) (λ f. told_fault r admit_of_commit c.in_err-commit.field-0.0 is (cc f))
+    (keeps_served g.E.EraseDisk _ _ _ c.in_err-commit.ensures.journal.serves)))
+
+pub returns-clause-device : goal.returns-clause-device
+returns-clause-device g c =
+    keeps_then _ _ _ _ _ _ _ (keeps_same g.E.EraseDisk (journal_of (pool_of c.args.self.now.tx)) (journal_of (pool_of c.begin.new.tx)) c.begin.ensures.same)
+    (keeps_then _ _ _ _ _ _ _ (keeps_told _ _ _ _ _ ⊥ (λ f. absurd f) (λ f. cc) c.in_ok-next.ensures.device)
+    (keeps_told _ _ _ _ _ _ (λ told. absurd cc) (λ f. absurd cc) (keeps_served g.E.EraseDisk _ _ _ c.in_ok-commit.ensures.journal.serves)))

@@ -13,6 +13,7 @@ use Rattle.disk_archive.proofs.Telling.{carries_same}
 use Rattle.disk_archive.specs.declared.flush_error.FlushError.TheVariants as flushes
 use Rattle.page_journal.specs.declared.error.UseError.TheVariants as uses
 use Rattle.disk_archive.specs.inner.Flushed.{flush_of_use}
+use Rattle.disk_archive.proofs.Faults.{flush_fault, keeps_same, keeps_served, keeps_then, keeps_told, told_as, told_of}
 use Rattle.disk_archive.proofs.archive.Archive.try_flush.Goals as goal
 
 pub returns-clause-goes_on : goal.returns-clause-goes_on
@@ -60,3 +61,21 @@ returns-in_err-write_home-clause-crash g c h k =
     let homes = home_pages (journal_of (pool_of c.begin.new.tx)) in
     let l = leaves_weaker _ _ (λ f. Recovers homes start.note f start.pages) (RecoversEither homes start.note start.pages k.pages) (λ f means. inl means) (c.write_home.ensures.crash start k.pages s0) in
     written a _ h h k c.begin.new.tx k.pages a.head sound r (grows_none (once_state a)) (headed_of a h k) l
+
+-- ---- how often the device failed
+
+pub returns-in_err-begin-clause-device : goal.returns-in_err-begin-clause-device
+returns-in_err-begin-clause-device g c = keeps_told _ _ _ _ ⊥ _ (λ told. search (rules, told)) (λ f. absurd f) (keeps_same g.E.EraseDisk (journal_of (pool_of c.args.self.now.tx)) (journal_of (pool_of c.begin.new.tx)) c.begin.ensures.same)
+
+pub returns-in_err-write_home-clause-device : goal.returns-in_err-write_home-clause-device
+returns-in_err-write_home-clause-device g c =
+    let r = c.from_residual-in_err-write_home.result in
+    let is = c.from_residual-in_err-write_home.ensures.1 in
+    keeps_then _ _ _ _ _ _ _ (keeps_same g.E.EraseDisk (journal_of (pool_of c.args.self.now.tx)) (journal_of (pool_of c.begin.new.tx)) c.begin.ensures.same)
+    (keeps_told _ _ _ _ _ _ (λ told. ap (λ e. Err e) (flush_fault c.in_err-write_home.field-0.0 (told_as r _ flushes.Fault is told))) (λ f. let same : c.in_err-write_home.field-0.0 ≡ uses.Fault = cc f in told_of r _ is ∙ ap (λ e. Err (flush_of_use e)) same)
+    (keeps_served g.E.EraseDisk _ _ _ c.in_err-write_home.ensures.journal.serves))
+
+pub returns-clause-device : goal.returns-clause-device
+returns-clause-device g c =
+    keeps_then _ _ _ _ _ _ _ (keeps_same g.E.EraseDisk (journal_of (pool_of c.args.self.now.tx)) (journal_of (pool_of c.begin.new.tx)) c.begin.ensures.same)
+    (keeps_told _ _ _ _ _ _ (λ told. absurd cc) (λ f. absurd cc) (keeps_served g.E.EraseDisk _ _ _ c.in_ok-write_home.ensures.journal.serves))

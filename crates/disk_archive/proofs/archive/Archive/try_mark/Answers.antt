@@ -14,6 +14,7 @@ use Rattle.disk_archive.specs.declared.mark_error.MarkError.TheVariants as refus
 use Rattle.disk_archive.proofs.Steps.{crashes_weaker}
 use Rattle.buffer_pool.specs.Pool.{journal_of}
 use Rattle.page_tx.specs.Tx.{pool_of}
+use Rattle.disk_archive.proofs.Faults.{keeps_same, keeps_served, keeps_then, keeps_told, mark_fault, not_raised, told_as}
 use Rattle.disk_archive.proofs.Staying.{told_fault}
 use Rattle.disk_archive.proofs.archive.Archive.try_mark.Goals as goal
 
@@ -228,3 +229,38 @@ returns-in_err-commit-clause-falls g c up down =
     let was = c.plan_mark.ensures.down ∙ (ap needs_recovery c.begin.ensures.same ∙ up) in
     let fell = c.in_err-commit.ensures.falls was down in
     told_fault c.from_residual-in_err-commit.result mark_of_commit c.in_err-commit.field-0.0 c.from_residual-in_err-commit.ensures.1 (cc fell)
+
+-- ---- how often the device failed
+
+pub returns-in_err-begin-clause-device : goal.returns-in_err-begin-clause-device
+returns-in_err-begin-clause-device g c = keeps_told _ _ _ _ ⊥ _ (λ told. search (rules, told)) (λ f. absurd f) (keeps_same g.E.EraseDisk (journal_of (pool_of c.args.self.now.tx)) (journal_of (pool_of c.begin.new.tx)) c.begin.ensures.same)
+
+pub returns-in_err-raised-clause-device : goal.returns-in_err-raised-clause-device
+returns-in_err-raised-clause-device g c =
+    let r = c.from_residual-in_err-raised.result in
+    keeps_told _ _ _ _ ⊥ _ (λ told. not_raised c.in_err-raised.field-0.0 c.in_err-raised.ensures.refused (told_as r c.in_err-raised.field-0.0 refusals.Fault c.from_residual-in_err-raised.ensures.1 told)) (λ f. absurd f) (keeps_same g.E.EraseDisk (journal_of (pool_of c.args.self.now.tx)) (journal_of (pool_of c.begin.new.tx)) c.begin.ensures.same)
+
+pub returns-then-not-raised-clause-device : goal.returns-then-not-raised-clause-device
+returns-then-not-raised-clause-device g c = keeps_told _ _ _ _ ⊥ _ (λ told. cc) (λ f. absurd f) (keeps_same g.E.EraseDisk (journal_of (pool_of c.args.self.now.tx)) (journal_of (pool_of c.begin.new.tx)) c.begin.ensures.same)
+
+pub returns-in_err-next-clause-device : goal.returns-in_err-next-clause-device
+returns-in_err-next-clause-device g c =
+    let r = c.from_residual-in_err-next.result in
+    let memory = c.in_err-next.ensures.refused in
+    keeps_then _ _ _ _ _ _ _ (keeps_same g.E.EraseDisk (journal_of (pool_of c.args.self.now.tx)) (journal_of (pool_of c.begin.new.tx)) c.begin.ensures.same)
+    (keeps_told _ _ _ _ ⊥ _ (λ told. let is = told_as r c.in_err-next.field-0.0 refusals.Fault c.from_residual-in_err-next.ensures.1 told in let both : refusals.OutOfMemory ≡ refusals.Fault = sym memory ∙ is in cc) (λ f. absurd f) c.plan_mark.ensures.device)
+
+pub returns-in_err-commit-clause-device : goal.returns-in_err-commit-clause-device
+returns-in_err-commit-clause-device g c =
+    let r = c.from_residual-in_err-commit.result in
+    let is = c.from_residual-in_err-commit.ensures.1 in
+    keeps_then _ _ _ _ _ _ _ (keeps_same g.E.EraseDisk (journal_of (pool_of c.args.self.now.tx)) (journal_of (pool_of c.begin.new.tx)) c.begin.ensures.same)
+    (keeps_then _ _ _ _ _ _ _ c.plan_mark.ensures.device
+    (keeps_told _ _ _ _ _ _ (λ told. ap (λ e. Err e) (mark_fault c.in_err-commit.field-0.0 (told_as r _ refusals.Fault is told))) (λ f. told_fault r mark_of_commit c.in_err-commit.field-0.0 is (cc f))
+    (keeps_served g.E.EraseDisk _ _ _ c.in_err-commit.ensures.journal.serves)))
+
+pub returns-clause-device : goal.returns-clause-device
+returns-clause-device g c =
+    keeps_then _ _ _ _ _ _ _ (keeps_same g.E.EraseDisk (journal_of (pool_of c.args.self.now.tx)) (journal_of (pool_of c.begin.new.tx)) c.begin.ensures.same)
+    (keeps_then _ _ _ _ _ _ _ c.plan_mark.ensures.device
+    (keeps_told _ _ _ _ _ _ (λ told. absurd cc) (λ f. absurd cc) (keeps_served g.E.EraseDisk _ _ _ c.in_ok-commit.ensures.journal.serves)))

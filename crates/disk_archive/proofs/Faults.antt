@@ -1,0 +1,86 @@
+-- How often the erasable disk failed in a call.
+use Rattle.std.proofs.Common.{◌≡◌, ◌⊎◌, inl, inr, ◌+◌, ℕ, min, refl, sym, ◌∙◌, ap, subst, Result, Ok, Err}
+use Rattle.std.specs.Prelude.{IsErrAnd}
+use Rattle.disk_models.specs.declared.erase.EraseDisk.{Ghosts}
+use Rattle.disk_models.specs.Serves.{Serves}
+use Rattle.page_journal.specs.declared.journal.Journal.{Journal}
+use Rattle.page_journal.specs.Journal.{disk_of}
+use Rattle.page_journal.specs.declared.error.UseError.{UseError}
+use Rattle.page_journal.specs.declared.error.UseError.TheVariants as uses
+use Rattle.page_tx.specs.Device.{KeepsDevice}
+use Rattle.disk_archive.specs.declared.error.CommitError.{CommitError}
+use Rattle.disk_archive.specs.declared.error.CommitError.TheVariants as commits
+use Rattle.disk_archive.specs.declared.error.AdmitError.{AdmitError}
+use Rattle.disk_archive.specs.declared.error.AdmitError.TheVariants as admits
+use Rattle.disk_archive.specs.declared.mark_error.MarkError.{MarkError}
+use Rattle.disk_archive.specs.declared.mark_error.MarkError.TheVariants as marks
+use Rattle.disk_archive.specs.declared.flush_error.FlushError.TheVariants as flushes
+use Rattle.disk_archive.specs.inner.Flushed.{flush_of_use}
+use Rattle.disk_archive.specs.inner.Committing.{admit_of_commit}
+use Rattle.disk_archive.specs.inner.Marked.{mark_of_commit}
+
+-- the journal is as it was
+pub keeps_same : {D : Type 0} (device : Ghosts D) (old new : Journal D device) → new ≡ old
+    → KeepsDevice (device.honest (disk_of old)) (device.honest (disk_of new)) (device.fault_count (disk_of old)) (device.fault_count (disk_of new)) ⊥
+keeps_same device old new same = record {
+  honest = (λ h. subst (λ j. device.honest (disk_of j)) (sym same) h, λ h. subst (λ j. device.honest (disk_of j)) same h);
+  quiet = λ _. ap (λ j. device.fault_count (disk_of j)) same;
+  counted = λ f. absurd f;
+}
+
+-- what the journal's calls keep of their device
+pub keeps_served : {D : Type 0} (device : Ghosts D) (old new : D) (failed : Type 0) → Serves device old new failed → KeepsDevice (device.honest old) (device.honest new) (device.fault_count old) (device.fault_count new) failed
+keeps_served device old new failed s = record { honest = s.honest; quiet = s.quiet; counted = s.counted }
+
+-- nothing was asked of the device
+pub keeps_none : (p : Type 0) (a : ℕ) (told : Type 0) → (told → ⊥) → KeepsDevice p p a a told
+keeps_none p a told never = record { honest = (λ h. h, λ h. h); quiet = λ _. refl; counted = λ t. absurd (never t) }
+
+-- a call that told of no failure, and then another one
+pub keeps_then : (p q r : Type 0) (a b c : ℕ) (failed : Type 0) → KeepsDevice p q a b ⊥ → KeepsDevice q r b c failed → KeepsDevice p r a c failed
+keeps_then p q r a b c failed one two =
+    let same = one.quiet (λ f. f) in
+    record {
+      honest = (λ h. two.honest.0 (one.honest.0 h), λ h. one.honest.1 (two.honest.1 h));
+      quiet = λ never. two.quiet never ∙ same;
+      counted = λ f. two.counted f ∙ ap (λ (n : ℕ). min (n + 1) 18446744073709551615) same;
+    }
+
+-- a failure that is told by another refusal
+pub keeps_told : (p q : Type 0) (a b : ℕ) (failed told : Type 0) → (told → failed) → (failed → told) → KeepsDevice p q a b failed → KeepsDevice p q a b told
+keeps_told p q a b failed told fore back k = record { honest = k.honest; quiet = λ never. k.quiet (λ f. never (back f)); counted = λ t. k.counted (fore t) }
+
+-- ---- what is told
+
+pub told_of : {X E : Type 0} (r : Result X E) (e : E) → IsErrAnd r (λ y. y ≡ e) → r ≡ Err e
+told_of (Ok x) e is = absurd is
+told_of (Err y) e is = ap (λ z. Err z) is
+
+pub told_as : {X E : Type 0} (r : Result X E) (e f : E) → IsErrAnd r (λ y. y ≡ e) → r ≡ Err f → e ≡ f
+told_as (Ok x) e f is told = absurd is
+told_as (Err y) e f is told = let same : y ≡ f = cc in sym is ∙ same
+
+-- a batch that can't be taken is told as no failure
+pub not_taken : (e : AdmitError) → (e ≡ admits.NoCollector) ⊎ (e ≡ admits.BatchTooLarge) ⊎ (e ≡ admits.CounterFull) → e ≡ admits.Fault → ⊥
+not_taken e (inl none) is = cc
+not_taken e (inr (inl large)) is = cc
+not_taken e (inr (inr full)) is = cc
+
+pub admit_fault : (e : CommitError) → admit_of_commit e ≡ admits.Fault → e ≡ commits.Fault
+admit_fault commits.Fault is = cc
+admit_fault commits.NeedsRecovery is = absurd cc
+admit_fault commits.OutOfMemory is = absurd cc
+
+-- nor is a mark that can't be raised
+pub not_raised : (e : MarkError) → (e ≡ marks.NoCollector) ⊎ (e ≡ marks.MarkBack) → e ≡ marks.Fault → ⊥
+not_raised e (inl none) is = cc
+not_raised e (inr back) is = cc
+
+pub mark_fault : (e : CommitError) → mark_of_commit e ≡ marks.Fault → e ≡ commits.Fault
+mark_fault commits.Fault is = cc
+mark_fault commits.NeedsRecovery is = absurd cc
+mark_fault commits.OutOfMemory is = absurd cc
+
+pub flush_fault : (e : UseError) → flush_of_use e ≡ flushes.Fault → e ≡ uses.Fault
+flush_fault uses.Fault is = cc
+flush_fault uses.NeedsRecovery is = absurd cc
