@@ -3,31 +3,16 @@
 ghost use Rattle.std.specs.Prelude.{◌≤◌, IfOk};
 ghost use Rattle.tsb_walk.specs.Shown.{HasKey};
 
-use crate::trees::{Octets, Row, Tree, key_of, number_of};
-use disk_memory::{MemOnce, MemSeen};
-use once_store::ShelfReader;
+use crate::trees::{Octets, Row, Tree, key_of, look, number_of};
 use route_model::Key;
 use std::alloc::Global;
+use std::process::Abort;
 use std::test::Fail;
 use tsb_walk::{
     Descended, Found, KeyVersions, Looked, PagePlace, Parted, Reached, descend, hist_find,
     hist_next, hist_part, next, part, versions,
 };
 use version_model::{Entry, Stamp};
-
-// Who asks a tree: a reader of its blocks, and what is seen of them.
-#[derive(Drop)]
-pub struct Asker {
-    reader: ShelfReader<MemOnce>,
-    seen: MemSeen,
-}
-
-// One who sees all blocks that are settled.
-pub fn asker_of(tree: &mut Tree) -> Result<Asker, Fail> {
-    let seen = tree.shelf.seen()?;
-    let reader = tree.shelf.reader(tree.alloc, 1_024)?;
-    Ok(Asker { reader, seen })
-}
 
 // The root of the tree, to look for a key from it.
 fn root_for(tree: &Tree, key: Key) -> Result<PagePlace, Fail>
@@ -58,21 +43,17 @@ fn found_as(found: Option<Found>) -> Result<Option<(Stamp, Octets)>, Fail> {
 }
 
 // Since when a key has which value as of a stamp.
-pub fn find(
-    tree: &mut Tree,
-    asker: &mut Asker,
-    key: u16,
-    stamp: Stamp,
-) -> Result<Option<(Stamp, Octets)>, Fail> {
+pub fn find(tree: &mut Tree, key: u16, stamp: Stamp) -> Result<Option<(Stamp, Octets)>, Fail> {
     let key = key_of(key);
     let root = root_for(tree, key)?;
     let place = match descend(&mut tree.tx, tree.alloc, &root, key, stamp)? {
         Descended::Here(found) => return found_as(found),
         Descended::InBlock(place) => place,
     };
+    look(tree)?;
     let found = hist_find(
-        &mut asker.reader,
-        &mut asker.seen,
+        &mut tree.reader,
+        &mut tree.seen,
         tree.alloc,
         &place,
         key,
@@ -81,16 +62,30 @@ pub fn find(
     found_as(found)
 }
 
+// Expects since when a key has which value as of a stamp.
+pub fn expect_found(
+    rt: &impl Abort,
+    tree: &mut Tree,
+    key: u16,
+    stamp: Stamp,
+    wanted: Option<(Stamp, Octets)>,
+) -> Result<(), Fail> {
+    let found = find(tree, key, stamp)?;
+    assert_eq!(rt; found, wanted, "{key} at {stamp:?}");
+    Ok(())
+}
+
 // How far a look for the next key comes from a key.
-fn reached(tree: &mut Tree, asker: &mut Asker, from: Key, stamp: Stamp) -> Result<Reached, Fail> {
+fn reached(tree: &mut Tree, from: Key, stamp: Stamp) -> Result<Reached, Fail> {
     let root = root_for(tree, from)?;
     let place = match next(&mut tree.tx, tree.alloc, &root, from, stamp)? {
         Looked::Here(reached) => return Ok(reached),
         Looked::InBlock(place) => place,
     };
+    look(tree)?;
     let reached = hist_next(
-        &mut asker.reader,
-        &mut asker.seen,
+        &mut tree.reader,
+        &mut tree.seen,
         tree.alloc,
         &place,
         from,
@@ -102,13 +97,12 @@ fn reached(tree: &mut Tree, asker: &mut Asker, from: Key, stamp: Stamp) -> Resul
 // The next key from one on that has a value as of a stamp, from column to column.
 pub fn next_key(
     tree: &mut Tree,
-    asker: &mut Asker,
     from: u16,
     stamp: Stamp,
 ) -> Result<Option<(u16, Stamp, Octets)>, Fail> {
     let mut from = key_of(from);
     for _ in 0..65_536u32 {
-        match reached(tree, asker, from, stamp)? {
+        match reached(tree, from, stamp)? {
             Reached::At(key, found) => {
                 let octets = octets_of(&found.value)?;
                 return Ok(Some((number_of(key), found.stamp, octets)));
@@ -118,6 +112,19 @@ pub fn next_key(
         }
     }
     Err(Fail::from("the looks don't end"))
+}
+
+// Expects which key from one on is the next that has a value as of a stamp.
+pub fn expect_next(
+    rt: &impl Abort,
+    tree: &mut Tree,
+    from: u16,
+    stamp: Stamp,
+    wanted: Option<(u16, Stamp, Octets)>,
+) -> Result<(), Fail> {
+    let next = next_key(tree, from, stamp)?;
+    assert_eq!(rt; next, wanted, "from {from} at {stamp:?}");
+    Ok(())
 }
 
 // The versions that entries are.
@@ -134,20 +141,16 @@ fn rows_of(alloc: Global, entries: &[Entry]) -> Result<Vec<Row>, Fail> {
 }
 
 // The versions of a key from a stamp on, up to the stamp that is told.
-pub fn part_of(
-    tree: &mut Tree,
-    asker: &mut Asker,
-    key: u16,
-    from: Stamp,
-) -> Result<(Vec<Row>, Option<Stamp>), Fail> {
+pub fn part_of(tree: &mut Tree, key: u16, from: Stamp) -> Result<(Vec<Row>, Option<Stamp>), Fail> {
     let key = key_of(key);
     let root = root_for(tree, key)?;
     let told: KeyVersions = match part(&mut tree.tx, tree.alloc, &root, key, from)? {
         Parted::Here(told) => told,
         Parted::InBlock(place) => {
+            look(tree)?;
             hist_part(
-                &mut asker.reader,
-                &mut asker.seen,
+                &mut tree.reader,
+                &mut tree.seen,
                 tree.alloc,
                 &place,
                 key,
@@ -159,16 +162,11 @@ pub fn part_of(
 }
 
 // The versions of a key from a stamp on, part by part.
-pub fn parts_of(
-    tree: &mut Tree,
-    asker: &mut Asker,
-    key: u16,
-    from: Stamp,
-) -> Result<Vec<Row>, Fail> {
+pub fn parts_of(tree: &mut Tree, key: u16, from: Stamp) -> Result<Vec<Row>, Fail> {
     let mut from = from;
     let mut all = Vec::new(tree.alloc);
     for _ in 0..65_536u32 {
-        let (mut rows, told) = part_of(tree, asker, key, from)?;
+        let (mut rows, told) = part_of(tree, key, from)?;
         all.append(&mut rows)?;
         match told {
             Some(told) => from = told,
@@ -179,13 +177,14 @@ pub fn parts_of(
 }
 
 // All versions of a key.
-pub fn versions_of(tree: &mut Tree, asker: &mut Asker, key: u16) -> Result<Vec<Row>, Fail> {
+pub fn versions_of(tree: &mut Tree, key: u16) -> Result<Vec<Row>, Fail> {
     let key = key_of(key);
     let root = root_for(tree, key)?;
+    look(tree)?;
     let entries = versions(
         &mut tree.tx,
-        &mut asker.reader,
-        &mut asker.seen,
+        &mut tree.reader,
+        &mut tree.seen,
         tree.alloc,
         &root,
         key,

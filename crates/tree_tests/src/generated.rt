@@ -1,9 +1,8 @@
 //! Many versions from a generator, beside plain lists.
-use crate::asking::{Asker, asker_of, find};
+use crate::asking::expect_found;
 use crate::plain::{Plain, expect_alike, expect_all};
-use crate::trees::{Octets, Row, Tree, disks_of, put, tree_on, write_home};
+use crate::trees::{Octets, Row, Tree, disks_of, expect_taken, tree_on, write_home};
 use page_tx::Pages;
-use std::alloc::Global;
 use std::process::Abort;
 use std::test::Fail;
 use version_model::Stamp;
@@ -19,11 +18,18 @@ const IMAGES: usize = 20;
 
 // Numbers that look random, always the same, and the stamp that they have come to.
 #[derive(Drop)]
-struct Dice {
+pub struct Dice {
     state: u64,
     time: u64,
     order: u64,
 }
+
+// Dice that weren't rolled.
+pub const DICE: Dice = Dice {
+    state: 7,
+    time: 0,
+    order: 0,
+};
 
 impl Dice {
     fn roll(&mut self, below: u64) -> u64 {
@@ -40,7 +46,7 @@ impl Dice {
     }
 
     // A later stamp.
-    fn next_stamp(&mut self) -> Stamp {
+    pub fn next_stamp(&mut self) -> Stamp {
         if self.roll(3) == 0 {
             self.time = self.time.saturating_add(1);
             self.order = 0;
@@ -68,22 +74,25 @@ impl Dice {
     }
 }
 
-// Which keys take versions: any of so many from a first one on, which goes on with every second version, round after round.
+// Which keys take versions: any of so many from a first one on, which goes on by a step with every second version, round after round.
 #[derive(Clone, Copy)]
-struct Keys {
-    count: u64,
-    near: u64,
+pub struct Keys {
+    pub count: u64,
+    pub near: u64,
+    pub step: u64,
 }
 
 impl Keys {
     fn pick(&self, n: u64, dice: &mut Dice) -> u16 {
-        let key = (n / 2).saturating_add(dice.roll(self.near));
+        let key = (n / 2)
+            .saturating_mul(self.step)
+            .saturating_add(dice.roll(self.near));
         u16::try_from(key.checked_rem(self.count).unwrap_or(0)).unwrap_or(0)
     }
 }
 
 // Puts a version into a tree and into plain lists.
-fn put_both(
+pub fn put_both(
     rt: &impl Abort,
     tree: &mut Tree,
     plain: &mut Plain,
@@ -93,7 +102,7 @@ fn put_both(
     if tree.tx.images() > IMAGES {
         write_home(tree)?;
     }
-    assert_eq!(rt; put(tree, key, row)?, Ok(()), "{key} at {row:?}");
+    expect_taken(rt, tree, key, &row)?;
     plain.put(key, row)
 }
 
@@ -105,17 +114,12 @@ fn put_many(
     dice: &mut Dice,
     keys: Keys,
 ) -> Result<(), Fail> {
-    let mut asker = asker_of(tree)?;
     for n in 0..VERSIONS {
         let key = keys.pick(n, dice);
         let row = (dice.next_stamp(), dice.value());
         put_both(rt, tree, plain, key, row)?;
-        let found = find(tree, &mut asker, key, row.0)?;
-        assert_eq!(rt;
-            found,
-            row.1.map(|value| (row.0, value)),
-            "{key} at {row:?}"
-        );
+        let wanted = row.1.map(|value| (row.0, value));
+        expect_found(rt, tree, key, row.0, wanted)?;
     }
     Ok(())
 }
@@ -128,31 +132,37 @@ fn ask_many(
     dice: &mut Dice,
     keys: Keys,
 ) -> Result<(), Fail> {
-    let mut asker = asker_of(tree)?;
     for n in 0..QUESTIONS {
         let key = dice.key(keys.count);
-        expect_alike(rt, tree, &mut asker, plain, key, dice.stamp())?;
+        expect_alike(rt, tree, plain, key, dice.stamp())?;
         if n % 10 == 0 {
-            expect_all(rt, tree, &mut asker, plain, key)?;
+            expect_all(rt, tree, plain, key)?;
         }
     }
     Ok(())
 }
 
-// Puts versions and asks, in turn, and tells the tree that has come to be.
-fn run(rt: &impl Abort, alloc: Global, keys: Keys) -> Result<Tree, Fail> {
-    let mut tree = tree_on(alloc, disks_of(alloc, 4_096, 65_536))?;
-    let mut plain = Plain::new(alloc, u16::try_from(keys.count)?)?;
-    let mut dice = Dice {
-        state: 7,
-        time: 0,
-        order: 0,
-    };
-    for _ in 0..5u32 {
-        put_many(rt, &mut tree, &mut plain, &mut dice, keys)?;
-        ask_many(rt, &mut tree, &plain, &mut dice, keys)?;
+// Puts versions into a tree and into plain lists and asks, in turn, so many times.
+pub fn run(
+    rt: &impl Abort,
+    tree: &mut Tree,
+    plain: &mut Plain,
+    dice: &mut Dice,
+    keys: Keys,
+    times: u32,
+) -> Result<(), Fail> {
+    for _ in 0..times {
+        put_many(rt, tree, plain, dice, keys)?;
+        ask_many(rt, tree, plain, dice, keys)?;
     }
-    Ok(tree)
+    Ok(())
+}
+
+// Puts versions of these keys into a tree of none, and asks.
+fn grow(rt: &impl Abort, tree: &mut Tree, keys: Keys) -> Result<(), Fail> {
+    let mut plain = Plain::new(tree.alloc, u16::try_from(keys.count)?)?;
+    let mut dice = DICE;
+    run(rt, tree, &mut plain, &mut dice, keys, 5)
 }
 
 #[test]
@@ -160,8 +170,10 @@ fn many_versions_of_few_keys_are_those_of_plain_lists(rt: HostRuntime) -> Result
     let keys = Keys {
         count: 12,
         near: 12,
+        step: 1,
     };
-    let tree = run(&rt, rt.alloc(), keys)?;
+    let mut tree = tree_on(rt.alloc(), disks_of(rt.alloc(), 4_096, 65_536))?;
+    grow(&rt, &mut tree, keys)?;
     assert_eq!(rt; tree.place.level, 2);
     Ok(())
 }
@@ -171,8 +183,10 @@ fn versions_of_many_keys_are_those_of_plain_lists(rt: HostRuntime) -> Result<(),
     let keys = Keys {
         count: 16_384,
         near: 64,
+        step: 1,
     };
-    let tree = run(&rt, rt.alloc(), keys)?;
+    let mut tree = tree_on(rt.alloc(), disks_of(rt.alloc(), 4_096, 65_536))?;
+    grow(&rt, &mut tree, keys)?;
     assert!(rt; tree.place.level > 1);
     Ok(())
 }

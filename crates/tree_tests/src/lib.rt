@@ -24,6 +24,8 @@ mod plain;
 #[cfg(test)]
 mod refused;
 #[cfg(test)]
+mod three_levels;
+#[cfg(test)]
 mod too_high;
 #[cfg(test)]
 mod trees;

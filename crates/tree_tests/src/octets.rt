@@ -18,6 +18,24 @@ pub const COLUMN: u8 = 2;
 // How many children a key node has room for.
 pub const CHILDREN: u16 = 338;
 
+// The place of the octets that tell the keys of versions apart.
+pub const PLACE: usize = 16;
+
+// The keys of a node: from a number on, and below another one where there is one, which two octets at a place tell.
+#[derive(Clone, Copy)]
+pub struct Span {
+    pub low: u16,
+    pub high: Option<u16>,
+    pub place: usize,
+}
+
+// All keys.
+pub const ALL: Span = Span {
+    low: 0,
+    high: None,
+    place: PLACE,
+};
+
 // What the header of a node says of it: kind, level, how many entries and how many octets they take.
 #[derive(Clone, Copy)]
 struct Head {
@@ -63,19 +81,19 @@ fn add_key(octets: &mut Vec<u8>, number: u16, at: usize) -> Result<(), Fail> {
     add(octets, 0, 38usize.saturating_sub(at))
 }
 
-// The header of a node from the lowest key on, below the key 1 at a place, or of all keys.
+// The header of a node of these keys and stamps.
 fn header(
     alloc: Global,
     head: Head,
-    high: Option<usize>,
+    span: Span,
     stamps: (u8, Option<u8>),
 ) -> Result<Vec<u8>, Fail> {
     let mut octets = [head.kind, 0, head.level, 0].to_vec(alloc)?;
     octets.extend_from_slice(&head.count.to_be_bytes())?;
     octets.extend_from_slice(&head.used.to_be_bytes())?;
-    add(&mut octets, 0, 40)?;
-    match high {
-        Some(at) => add_key(&mut octets, 1, at)?,
+    add_key(&mut octets, span.low, span.place)?;
+    match span.high {
+        Some(high) => add_key(&mut octets, high, span.place)?,
         None => add(&mut octets, 255, 40)?,
     }
     let (start, end) = stamps;
@@ -93,7 +111,7 @@ fn counted(count: usize, size: u16) -> (u16, u16) {
 // A leaf of these versions: key, stamp, 1 for a value, its length, and the value.
 pub fn leaf(
     alloc: Global,
-    high: Option<usize>,
+    span: Span,
     stamps: (u8, Option<u8>),
     versions: &[Version],
 ) -> Result<Vec<u8>, Fail> {
@@ -104,9 +122,9 @@ pub fn leaf(
         count,
         used,
     };
-    let mut octets = header(alloc, head, high, stamps)?;
+    let mut octets = header(alloc, head, span, stamps)?;
     for (key, time, value) in versions {
-        add_key(&mut octets, u16::from(*key), 16)?;
+        add_key(&mut octets, u16::from(*key), PLACE)?;
         add_stamp(&mut octets, *time)?;
         octets.extend_from_slice(&[1, 0, 1, *value])?;
     }
@@ -114,12 +132,7 @@ pub fn leaf(
 }
 
 // A column of these parts, and in a page its current leaf.
-pub fn column(
-    alloc: Global,
-    high: Option<usize>,
-    end: Option<u8>,
-    parts: &[Part],
-) -> Result<Vec<u8>, Fail> {
+pub fn column(alloc: Global, span: Span, end: Option<u8>, parts: &[Part]) -> Result<Vec<u8>, Fail> {
     let (count, used) = counted(parts.len(), 25);
     let head = Head {
         kind: 2,
@@ -127,7 +140,7 @@ pub fn column(
         count,
         used,
     };
-    let mut octets = header(alloc, head, high, (0, end))?;
+    let mut octets = header(alloc, head, span, (0, end))?;
     for (start, kind, number) in parts {
         add_stamp(&mut octets, *start)?;
         octets.push(*kind)?;
@@ -136,26 +149,25 @@ pub fn column(
     Ok(octets)
 }
 
-// A key node of this level that is full: the lowest keys of its children are told by two octets at a place, from 0 on. The first child is in
-// this page, the others in pages that there aren't.
-pub fn full_key_node(
+// A key node of this level: of each child its lowest key, whose two octets are at a place, and its page.
+pub fn key_node(
     alloc: Global,
     level: u8,
-    high: Option<usize>,
-    at: usize,
-    page: u64,
+    span: Span,
+    place: usize,
+    children: &[(u16, u64)],
 ) -> Result<Vec<u8>, Fail> {
+    let (count, used) = counted(children.len(), 48);
     let head = Head {
         kind: 3,
         level,
-        count: CHILDREN,
-        used: CHILDREN * 48,
+        count,
+        used,
     };
-    let mut octets = header(alloc, head, high, (0, None))?;
-    for number in 0..CHILDREN {
-        let child = if number == 0 { page } else { u64::MAX };
-        add_key(&mut octets, number, at)?;
-        add_number(&mut octets, child, 0)?;
+    let mut octets = header(alloc, head, span, (0, None))?;
+    for (low, page) in children {
+        add_key(&mut octets, *low, place)?;
+        add_number(&mut octets, *page, 0)?;
     }
     Ok(octets)
 }

@@ -1,15 +1,14 @@
 //! A tree of the earlier form: a column has at most one part in its page, and the block of a column has two.
-use crate::asking::{Asker, asker_of};
-use crate::octets::{COLUMN, CURRENT, LEAF, Part, Version, column, leaf};
+use crate::octets::{ALL, COLUMN, CURRENT, LEAF, Part, Version, column, leaf};
 use crate::plain::{Plain, expect_alike, expect_all};
-use crate::trees::{Row, Tree, begun, disks_of, put, shelf_of};
-use disk_models::{Block, Page};
+use crate::trees::{Row, Tree, disks_of, expect_taken, lay, tree_at};
+use disk_models::Block;
 use once_store::seal;
 use page_tx::Pages;
 use std::alloc::Global;
 use std::process::Abort;
 use std::test::Fail;
-use tsb_tree::{TreePlace, open};
+use tsb_tree::open;
 use version_model::Stamp;
 
 // The time of the last version.
@@ -55,22 +54,11 @@ fn burn(tree: &mut Tree, octets: &[u8]) -> Result<u64, Fail> {
     Ok(tree.shelf.append(&block)?)
 }
 
-// Sets a page of a node.
-fn lay(tree: &mut Tree, n: u64, octets: &[u8]) -> Result<(), Fail> {
-    if octets.len() > 1_000 || n >= tree.tx.pool().home_pages() {
-        return Err(Fail::from("too many octets"));
-    }
-    let mut page = Page::new(tree.alloc)?;
-    page.put(0, octets);
-    tree.tx.set(n, page)?;
-    Ok(())
-}
-
 // Appends the block of the k-th leaf, and tells its part.
 fn burn_leaf(tree: &mut Tree, k: u8) -> Result<Part, Fail> {
     let (start, end) = (start_of(k), start_of(k.saturating_add(1)));
     let versions = versions_in(tree.alloc, start, end)?;
-    let octets = leaf(tree.alloc, None, (start, Some(end)), &versions)?;
+    let octets = leaf(tree.alloc, ALL, (start, Some(end)), &versions)?;
     Ok((start, LEAF, burn(tree, &octets)?))
 }
 
@@ -81,33 +69,29 @@ fn burn_past(tree: &mut Tree) -> Result<Part, Fail> {
     for k in 1..6u8 {
         let more = burn_leaf(tree, k)?;
         let end = start_of(k.saturating_add(1));
-        let octets = column(tree.alloc, None, Some(end), &[past, more])?;
+        let octets = column(tree.alloc, ALL, Some(end), &[past, more])?;
         past = (0, COLUMN, burn(tree, &octets)?);
     }
     Ok(past)
 }
 
-// A tree of the earlier form, whose column is in page 0 and its current leaf in page 1.
-fn older(alloc: Global) -> Result<Tree, Fail> {
-    let disks = disks_of(alloc, 40, 64);
-    let least = Stamp::new(u64::from(LAST), 1);
-    let mut tree = Tree {
-        alloc,
-        tx: begun(alloc, disks.homes, disks.kept, disks.erase, 2)?,
-        shelf: shelf_of(alloc, disks.blocks, disks.once)?,
-        place: TreePlace {
-            root: 0,
-            level: 1,
-            least,
-        },
-    };
-    let past = burn_past(&mut tree)?;
+// Sets the pages of a tree of the earlier form, and appends its blocks: the column is in page 0 and its current leaf in page 1.
+fn lay_older(tree: &mut Tree) -> Result<(), Fail> {
+    let alloc = tree.alloc;
+    let past = burn_past(tree)?;
     let start = start_of(6);
-    let octets = column(alloc, None, None, &[past, (start, CURRENT, 1)])?;
-    lay(&mut tree, 0, &octets)?;
+    let octets = column(alloc, ALL, None, &[past, (start, CURRENT, 1)])?;
+    lay(tree, 0, &octets)?;
     let versions = versions_in(alloc, start, LAST.saturating_add(1))?;
-    lay(&mut tree, 1, &leaf(alloc, None, (start, None), &versions)?)?;
-    tree.place = open(&mut tree.tx, 0, least)?;
+    lay(tree, 1, &leaf(alloc, ALL, (start, None), &versions)?)?;
+    tree.place = open(&mut tree.tx, 0, Stamp::new(u64::from(LAST), 1))?;
+    Ok(())
+}
+
+// That tree.
+fn older(alloc: Global) -> Result<Tree, Fail> {
+    let mut tree = tree_at(alloc, disks_of(alloc, 40, 64), 2, 0, 1)?;
+    lay_older(&mut tree)?;
     Ok(tree)
 }
 
@@ -123,16 +107,10 @@ fn older_versions(alloc: Global) -> Result<Plain, Fail> {
 }
 
 // Expects that each key has what it has as of each time below one.
-fn expect_times(
-    rt: &impl Abort,
-    tree: &mut Tree,
-    asker: &mut Asker,
-    plain: &Plain,
-    times: u64,
-) -> Result<(), Fail> {
+fn expect_times(rt: &impl Abort, tree: &mut Tree, plain: &Plain, times: u64) -> Result<(), Fail> {
     for time in 0..times {
         for key in 0..KEYS {
-            expect_alike(rt, tree, asker, plain, key, Stamp::new(time, 0))?;
+            expect_alike(rt, tree, plain, key, Stamp::new(time, 0))?;
         }
     }
     Ok(())
@@ -140,21 +118,18 @@ fn expect_times(
 
 // Expects that a tree answers as plain lists do, each key at each time below one.
 fn expect_plain(rt: &impl Abort, tree: &mut Tree, plain: &Plain, times: u64) -> Result<(), Fail> {
-    let mut asker = asker_of(tree)?;
-    expect_times(rt, tree, &mut asker, plain, times)?;
+    expect_times(rt, tree, plain, times)?;
     for key in 0..KEYS {
-        expect_all(rt, tree, &mut asker, plain, key)?;
+        expect_all(rt, tree, plain, key)?;
     }
     Ok(())
 }
 
 #[test]
 fn a_tree_of_the_earlier_form_is_asked(rt: HostRuntime) -> Result<(), Fail> {
-    let alloc = rt.alloc();
-    let mut tree = older(alloc)?;
-    assert_eq!(rt; tree.shelf.next(), BLOCKS);
-    assert_eq!(rt; tree.place.level, 1);
-    expect_plain(&rt, &mut tree, &older_versions(alloc)?, 23)
+    let mut tree = older(rt.alloc())?;
+    assert_eq!(rt; (tree.shelf.next(), tree.place.level), (BLOCKS, 1));
+    expect_plain(&rt, &mut tree, &older_versions(rt.alloc())?, 23)
 }
 
 // The version of a time behind those of the earlier form: of the largest size, of one of so many keys in turn.
@@ -164,43 +139,49 @@ fn large_at(time: u64, keys: u64) -> (u16, Row) {
     (key, (Stamp::new(time, 0), Some((3_072, octet))))
 }
 
-// Puts a version of the largest size into a tree and into plain lists.
+// Puts versions of the largest size into a tree and into plain lists, of so many keys in turn, up to a time.
 fn put_large(
     rt: &impl Abort,
     tree: &mut Tree,
     plain: &mut Plain,
-    time: u64,
     keys: u64,
+    end: u64,
 ) -> Result<(), Fail> {
-    let (key, row) = large_at(time, keys);
-    assert_eq!(rt; put(tree, key, row)?, Ok(()), "at {time}");
-    plain.put(key, row)
+    for time in tree.place.least.time().saturating_add(1)..end {
+        let (key, row) = large_at(time, keys);
+        expect_taken(rt, tree, key, &row)?;
+        plain.put(key, row)?;
+    }
+    Ok(())
 }
 
 // Beside four versions of the earlier form the leaf has room for five of the largest size.
-#[test]
-fn it_is_split_by_time_with_nothing_rewritten(rt: HostRuntime) -> Result<(), Fail> {
-    let alloc = rt.alloc();
-    let mut tree = older(alloc)?;
-    let mut plain = older_versions(alloc)?;
-    for time in 21..26 {
-        put_large(&rt, &mut tree, &mut plain, time, 1)?;
-        assert_eq!(rt; tree.shelf.next(), BLOCKS, "at {time}");
-    }
-    put_large(&rt, &mut tree, &mut plain, 26, 1)?;
+fn expect_time_split(rt: &impl Abort, tree: &mut Tree, plain: &mut Plain) -> Result<(), Fail> {
+    put_large(rt, tree, plain, 1, 26)?;
+    assert_eq!(rt; tree.shelf.next(), BLOCKS);
+    put_large(rt, tree, plain, 1, 27)?;
     assert_eq!(rt; tree.shelf.next(), BLOCKS + 1);
     assert_eq!(rt; (tree.place.level, tree.tx.next_page()), (1, 2));
-    expect_plain(&rt, &mut tree, &plain, 28)
+    expect_plain(rt, tree, plain, 28)
+}
+
+#[test]
+fn it_is_split_by_time_with_nothing_rewritten(rt: HostRuntime) -> Result<(), Fail> {
+    let mut plain = older_versions(rt.alloc())?;
+    let mut tree = older(rt.alloc())?;
+    expect_time_split(&rt, &mut tree, &mut plain)
+}
+
+// Eleven keys don't fit one leaf.
+fn expect_key_split(rt: &impl Abort, tree: &mut Tree, plain: &mut Plain) -> Result<(), Fail> {
+    put_large(rt, tree, plain, 11, 61)?;
+    assert_eq!(rt; tree.place.level, 2);
+    expect_plain(rt, tree, plain, 62)
 }
 
 #[test]
 fn it_is_split_by_key_and_both_halves_have_its_past(rt: HostRuntime) -> Result<(), Fail> {
-    let alloc = rt.alloc();
-    let mut tree = older(alloc)?;
-    let mut plain = older_versions(alloc)?;
-    for time in 21..61 {
-        put_large(&rt, &mut tree, &mut plain, time, 11)?;
-    }
-    assert_eq!(rt; tree.place.level, 2);
-    expect_plain(&rt, &mut tree, &plain, 62)
+    let mut plain = older_versions(rt.alloc())?;
+    let mut tree = older(rt.alloc())?;
+    expect_key_split(&rt, &mut tree, &mut plain)
 }

@@ -1,5 +1,5 @@
 //! Versions in plain lists, beside which a tree is held.
-use crate::asking::{Asker, find, next_key, part_of, versions_of};
+use crate::asking::{expect_found, expect_next, part_of, versions_of};
 use crate::one_key::are;
 use crate::trees::{Octets, Row, Tree};
 use std::alloc::Global;
@@ -89,16 +89,13 @@ fn is_before(stamp: Stamp, to: &Option<Stamp>) -> bool {
 pub fn expect_alike(
     rt: &impl Abort,
     tree: &mut Tree,
-    asker: &mut Asker,
     plain: &Plain,
     key: u16,
     stamp: Stamp,
 ) -> Result<(), Fail> {
-    let found = find(tree, asker, key, stamp)?;
-    assert_eq!(rt; found, plain.find(key, stamp), "{key} at {stamp:?}");
-    let next = next_key(tree, asker, key, stamp)?;
-    assert_eq!(rt; next, plain.next_key(key, stamp), "from {key} at {stamp:?}");
-    let (part, told) = part_of(tree, asker, key, stamp)?;
+    expect_found(rt, tree, key, stamp, plain.find(key, stamp))?;
+    expect_next(rt, tree, key, stamp, plain.next_key(key, stamp))?;
+    let (part, told) = part_of(tree, key, stamp)?;
     let wanted = plain.part(key, stamp, &told)?;
     assert!(rt; are(&part, &wanted), "{key} since {stamp:?}");
     assert!(rt; is_before(stamp, &told), "{key} since {stamp:?}");
@@ -106,14 +103,8 @@ pub fn expect_alike(
 }
 
 // Expects that a tree tells all versions of a key.
-pub fn expect_all(
-    rt: &impl Abort,
-    tree: &mut Tree,
-    asker: &mut Asker,
-    plain: &Plain,
-    key: u16,
-) -> Result<(), Fail> {
-    let all = versions_of(tree, asker, key)?;
+pub fn expect_all(rt: &impl Abort, tree: &mut Tree, plain: &Plain, key: u16) -> Result<(), Fail> {
+    let all = versions_of(tree, key)?;
     assert!(rt; are(&all, plain.rows(key)), "{key}");
     Ok(())
 }

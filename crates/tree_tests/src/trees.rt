@@ -6,13 +6,15 @@ ghost use Rattle.version_model.specs.Ranges.{key_end};
 ghost use Rattle.version_model.specs.Sizes.{entry_octets};
 
 use buffer_pool::Pool;
-use disk_memory::{Failure, MemErase, MemOnce, OnceFailure};
-use once_store::Shelf;
+use disk_memory::{Failure, MemErase, MemOnce, MemSeen, OnceFailure};
+use disk_models::Page;
+use once_store::{Shelf, ShelfReader};
 use page_journal::{Journal, PostError};
 use page_tx::{Pages, Tx};
 use route_model::Key;
 use std::alloc::Global;
 use std::num::NonZeroUsize;
+use std::process::Abort;
 use std::sync::Arc;
 use std::test::Fail;
 use tsb_tree::{TreeError, TreePlace, create, insert};
@@ -21,7 +23,7 @@ use version_model::{Entry, Stamp};
 // The octets of a page.
 const PAGE: u64 = 16_384;
 
-// A value of so many octets of one kind.
+// A value: so many octets of one kind.
 pub type Octets = (usize, u8);
 
 // A version of a key: its stamp, and a value or an end.
@@ -78,11 +80,7 @@ pub fn begun(
 }
 
 // A shelf over a disk of so many blank blocks, where these calls fail.
-pub fn shelf_of(
-    alloc: Global,
-    blocks: u64,
-    script: Vec<OnceFailure>,
-) -> Result<Shelf<MemOnce>, Fail> {
+fn shelf_of(alloc: Global, blocks: u64, script: Vec<OnceFailure>) -> Result<Shelf<MemOnce>, Fail> {
     let (disk, mut pen) = MemOnce::new(alloc, blocks);
     pen.set_script(script);
     match Shelf::open(Arc::new(alloc, disk)?, pen, 0) {
@@ -91,26 +89,62 @@ pub fn shelf_of(
     }
 }
 
-// A tree, with the transaction and the shelf in which it lies.
+// A tree, with the transaction and the shelf in which it lies, a reader of its blocks, and what it last saw of them.
 #[derive(Drop)]
 pub struct Tree {
     pub alloc: Global,
     pub tx: Tx<MemErase>,
     pub shelf: Shelf<MemOnce>,
     pub place: TreePlace,
+    pub reader: ShelfReader<MemOnce>,
+    pub seen: MemSeen,
 }
 
-// A tree of no version.
-pub fn tree_on(alloc: Global, disks: Disks) -> Result<Tree, Fail> {
-    let mut tx = begun(alloc, disks.homes, disks.kept, disks.erase, 0)?;
-    let shelf = shelf_of(alloc, disks.blocks, disks.once)?;
-    let place = create(&mut tx, alloc)?;
+// A tree at this place in a transaction and on a shelf.
+fn tree_in(
+    alloc: Global,
+    tx: Tx<MemErase>,
+    shelf: Shelf<MemOnce>,
+    place: TreePlace,
+) -> Result<Tree, Fail> {
+    let mut shelf = shelf;
+    let reader = shelf.reader(alloc, 1_024)?;
+    let seen = shelf.seen()?;
     Ok(Tree {
         alloc,
         tx,
         shelf,
         place,
+        reader,
+        seen,
     })
+}
+
+// A tree whose pages are to be set by hand: home pages from one on were never used, and its root, of a level, is in this page.
+pub fn tree_at(
+    alloc: Global,
+    disks: Disks,
+    unused: u64,
+    root: u64,
+    level: u8,
+) -> Result<Tree, Fail> {
+    let tx = begun(alloc, disks.homes, disks.kept, disks.erase, unused)?;
+    let shelf = shelf_of(alloc, disks.blocks, disks.once)?;
+    let least = Stamp::new(0, 0);
+    tree_in(alloc, tx, shelf, TreePlace { root, level, least })
+}
+
+// A tree of no version.
+pub fn tree_on(alloc: Global, disks: Disks) -> Result<Tree, Fail> {
+    let mut tree = tree_at(alloc, disks, 0, 0, 1)?;
+    tree.place = create(&mut tree.tx, alloc)?;
+    Ok(tree)
+}
+
+// Sees all blocks that are settled by now.
+pub fn look(tree: &mut Tree) -> Result<(), Fail> {
+    tree.seen = tree.shelf.seen()?;
+    Ok(())
 }
 
 // The key with this number.
@@ -168,6 +202,37 @@ pub fn put(tree: &mut Tree, key: u16, row: Row) -> Result<Result<(), TreeError>,
     Ok(Ok(()))
 }
 
+// Puts a version of a key into the tree, which takes it.
+pub fn expect_taken(rt: &impl Abort, tree: &mut Tree, key: u16, row: &Row) -> Result<(), Fail> {
+    assert_eq!(rt; put(tree, key, *row)?, Ok(()), "{key} at {row:?}");
+    Ok(())
+}
+
+// Expects that a tree refuses a version for a reason, and that it, its pages and its shelf stay as they were.
+pub fn expect_refused(
+    rt: &impl Abort,
+    tree: &mut Tree,
+    key: u16,
+    row: &Row,
+    reason: TreeError,
+) -> Result<(), Fail> {
+    let before = state_of(tree);
+    assert_eq!(rt; put(tree, key, *row)?, Err(reason), "{key} at {row:?}");
+    assert_eq!(rt; state_of(tree), before, "{key} at {row:?}");
+    Ok(())
+}
+
+// Sets a page of a node that is made by hand.
+pub fn lay(tree: &mut Tree, n: u64, octets: &[u8]) -> Result<(), Fail> {
+    if octets.len() > 16_384 || n >= tree.tx.pool().home_pages() {
+        return Err(Fail::from("too many octets"));
+    }
+    let mut page = Page::new(tree.alloc)?;
+    page.put(0, octets);
+    tree.tx.set(n, page)?;
+    Ok(())
+}
+
 // Commits the tree's transaction, and writes its pages home.
 pub fn write_home(tree: &mut Tree) -> Result<(), Fail> {
     tree.tx.commit()?;
@@ -184,6 +249,16 @@ pub struct State {
     pub next_page: u64,
     pub images: usize,
     pub next_block: u64,
+}
+
+impl State {
+    // The same where blocks up to a number are spent.
+    pub fn spending(&self, next_block: u64) -> State {
+        State {
+            next_block,
+            ..*self
+        }
+    }
 }
 
 pub fn state_of(tree: &Tree) -> State {
