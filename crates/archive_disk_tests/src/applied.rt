@@ -5,6 +5,7 @@ use crate::made::{Made, empty_at, made, mark_at, vectors};
 use archive_pages::Settings;
 use disk_archive::Step;
 use memory_archive::MemArchive;
+use std::alloc::Global;
 use std::test::Fail;
 
 /// What a question of 10.0.0.0/8 tells, where the peer 192.0.2.1 of AS 65001 announced it.
@@ -78,5 +79,26 @@ fn many_changes_take_few_steps(rt: HostRuntime) -> Result<(), Fail> {
     let mut archive = MemArchive { archive };
     let told = answer(alloc, &mut archive, "at 1704067200 prefix 10.0.0.0/8")?;
     assert!(rt; told.as_slice() == LINES.as_bytes());
+    Ok(())
+}
+
+// How many steps apply so many admissions without changes.
+fn steps_of_empty(alloc: Global, count: usize) -> Result<u32, Fail> {
+    let settings = Settings {
+        collectors: 1,
+        ring: 9,
+    };
+    let mut archive = made(alloc, settings)?;
+    let times = vec![in alloc; 5u32; count]?;
+    archive.admit(0, &empty_at(alloc, &times)?)?;
+    archive.mark(0, mark_at(6))?;
+    steps(&mut archive)
+}
+
+#[test]
+fn a_step_applies_a_thousand_and_no_more(rt: HostRuntime) -> Result<(), Fail> {
+    let alloc = rt.alloc();
+    assert_eq!(rt; steps_of_empty(alloc, 1_000)?, 1);
+    assert_eq!(rt; steps_of_empty(alloc, 1_001)?, 2);
     Ok(())
 }

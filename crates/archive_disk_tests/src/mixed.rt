@@ -17,6 +17,9 @@ use std::test::Fail;
 // How many calls a run has.
 const CALLS: u32 = 120;
 
+// How many runs there are.
+const SEEDS: u64 = 60;
+
 // As many changes as a run may have: two records of two changes a call.
 const WAITING: u32 = 4 * CALLS;
 
@@ -209,25 +212,7 @@ impl Model {
         state_of(&self.plain, self.applied)
     }
 
-    // Applies all that may be applied. Whether that came to an end.
-    fn applies_all(&mut self) -> bool {
-        for _ in 0..WAITING {
-            if self.make(&Call::Apply) == Told::Idle {
-                return true;
-            }
-        }
-        false
-    }
-
-    // Whether the model can do as was told. A step of the disks' archive applies one change or more, so the model may stay behind.
-    fn does(&mut self, call: &Call, told: Told) -> bool {
-        match (call, told) {
-            (Call::Apply, Told::Idle) => self.applies_all(),
-            _ => self.make(call) == told,
-        }
-    }
-
-    // Applies until so many changes are applied. Whether just so many can be.
+    // Applies until so many changes are applied. Whether just so many can be, and weren't fewer than were applied before.
     fn catches_up(&mut self, applied: u64) -> bool {
         for _ in 0..WAITING {
             if self.applied >= applied {
@@ -238,20 +223,24 @@ impl Model {
         self.applied == applied
     }
 
-    // Whether what was found behind a call is what the model is then. A call that was stopped was made whole or not at all.
-    fn follows(&mut self, call: &Call, told: Told, found: &State) -> bool {
+    // Whether the model can do as was told, and so many changes are applied then. A step of the disks' archive applies one or more.
+    fn does(&mut self, call: &Call, told: Told, applied: u64) -> bool {
+        if matches!(call, Call::Apply) && told == Told::Applied {
+            return self.applied < applied && self.catches_up(applied);
+        }
+        self.make(call) == told && self.applied == applied
+    }
+
+    // Whether what was found behind a call that was stopped is what the model is then: the call was made whole, or not at all.
+    fn follows(&mut self, call: &Call, found: &State) -> bool {
         if matches!(call, Call::Apply) {
-            let is_done = told == Told::Stopped || self.does(call, told);
-            return is_done && self.catches_up(found.applied) && self.state() == *found;
+            return self.catches_up(found.applied) && self.state() == *found;
         }
-        if !self.catches_up(found.applied) {
-            return false;
-        }
-        if told == Told::Stopped && self.state() == *found {
+        if self.state() == *found {
             return true;
         }
-        let wanted = self.make(call);
-        (told == Told::Stopped || told == wanted) && self.state() == *found
+        let _told = self.make(call);
+        self.state() == *found
     }
 }
 
@@ -327,38 +316,88 @@ fn answers_alike(
     Ok(answer(alloc, witness, &line)? == answer(alloc, &mut model.plain, &line)?)
 }
 
-// Whether a run of calls goes as those of the model, with a crash behind each eighth call and each that is stopped.
-fn goes_alike(alloc: Global, seed: u64) -> Result<bool, Fail> {
+/// How often a run was stopped: by disks that failed in a call, and by crashes between two calls.
+#[derive(Clone, Copy, Debug, PartialEq, Eq)]
+struct Stops {
+    failed: u32,
+    between: u32,
+}
+
+impl Stops {
+    // With one more, by what the call before it told.
+    fn counted(self, told: Told) -> Stops {
+        if told == Told::Stopped {
+            return Stops {
+                failed: self.failed.saturating_add(1),
+                ..self
+            };
+        }
+        Stops {
+            between: self.between.saturating_add(1),
+            ..self
+        }
+    }
+}
+
+// Whether the archive is behind a call that wasn't stopped what the model is.
+fn goes_on(model: &mut Model, disk: &MemArchive, call: &Call, told: Told) -> bool {
+    let applied = disk.archive.applied();
+    model.does(call, told, applied) && model.state() == state_of(disk, applied)
+}
+
+// Whether what is found behind a crash is what the model is: all that was told as done is there.
+fn is_found(model: &mut Model, found: &Found, call: &Call, told: Told) -> bool {
+    let is_same = match told {
+        Told::Stopped => model.follows(call, &found.state),
+        _ => model.state() == found.state,
+    };
+    is_same && found.disk.archive.applied() == found.state.applied
+}
+
+// How often a run of calls is stopped, which has a crash behind each eighth call and each that fails. None where it doesn't go as the
+// model's calls.
+fn goes_alike(alloc: Global, seed: u64) -> Result<Option<Stops>, Fail> {
     let mut chance = Chance { last: seed };
     let mut model = Model {
         plain: Plain::plain(alloc, 2)?,
         applied: 0,
     };
     let mut disk = created(alloc)?;
+    let mut stops = Stops {
+        failed: 0,
+        between: 0,
+    };
     for number in 0..CALLS {
         let call = draw_call(alloc, &mut chance, number)?;
         let told = make(&mut disk, &call);
-        if told != Told::Stopped && number % 8 != 7 {
-            if !model.does(&call, told) {
-                return Ok(false);
+        if told != Told::Stopped {
+            if !goes_on(&mut model, &disk, &call, told) {
+                return Ok(None);
             }
-            continue;
+            if number % 8 != 7 {
+                continue;
+            }
         }
         let mut found = find(alloc, &mut chance, &given_up(disk.archive))?;
-        if !model.follows(&call, told, &found.state)
+        if !is_found(&mut model, &found, &call, told)
             || !answers_alike(alloc, &mut chance, &mut model, &mut found.witness)?
         {
-            return Ok(false);
+            return Ok(None);
         }
+        stops = stops.counted(told);
         disk = found.disk;
     }
-    Ok(true)
+    Ok(Some(stops))
 }
 
 #[test]
-fn mixed_calls_go_on_behind_crashes(rt: HostRuntime) -> Result<(), Fail> {
-    for seed in 0..4 {
-        assert!(rt; goes_alike(rt.alloc(), seed)?, "{seed}");
+fn mixed_calls_go_on_behind_a_thousand_stops(rt: HostRuntime) -> Result<(), Fail> {
+    let mut all = 0u32;
+    for seed in 0..SEEDS {
+        let stops = goes_alike(rt.alloc(), seed)?;
+        assert!(rt; stops.is_some(), "{seed}");
+        all = all.saturating_add(stops.map_or(0, |it| it.failed.saturating_add(it.between)));
     }
+    assert!(rt; all >= 1000, "{all}");
     Ok(())
 }
