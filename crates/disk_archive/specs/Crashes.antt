@@ -9,7 +9,7 @@ use Rattle.disk_archive.specs.Sites.{LeftFrom}
 use Rattle.disk_archive.specs.Archives.{erase_state, once_state, site_of, Stands}
 
 -- Whatever a crash inside a call left has P, where the archive was `old` before the call and is `new` after it: for some state of the
--- write-once disk between the call's start and end, which it had when the first erasable write began.
+-- write-once disk between the call's start and end, taken for the one that it had when the first erasable write began.
 pub record Crashes {E O Pen Seen : Type 0} {erase : EraseGhosts E} {once : OnceGhosts O Pen Seen} (old new : Archive E O Pen Seen erase once) (P : Left → Type 0) : Type 0 where
   pub first : OnceState
   pub from : Grows (once_state old) first
