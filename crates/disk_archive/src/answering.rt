@@ -91,6 +91,7 @@ fn answer_by<P: Pages, O: OnceDisk + Drop>(
             Ok(Answer::Rows(answer))
         }
         Query::Events(question) => {
+            // What peers and prefixes are limited to is known to a proof by a call on each.
             let _len = question.peer.encoded_len();
             let _address = question.prefix.address();
             let answer = events(pages, reader, seen, alloc, &root, question)?;

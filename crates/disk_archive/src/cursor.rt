@@ -27,6 +27,7 @@ impl Cursor {
         match query {
             Query::Rows(question) => Cursor::Rows(RowsCursor::start(alloc, question)),
             Query::Events(question) => {
+                // What peers and prefixes are limited to is known to a proof by a call on each.
                 let _len = question.peer.encoded_len();
                 let _address = question.prefix.address();
                 Cursor::Events(EventsCursor::start(alloc, question))

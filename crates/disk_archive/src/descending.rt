@@ -85,6 +85,7 @@ fn descend_by<P: Pages>(
             Ok(of_rows(turn))
         }
         Cursor::Events(events) => {
+            // What peers and prefixes are limited to is known to a proof by a call on each.
             let _len = events.question.peer.encoded_len();
             let _address = events.question.prefix.address();
             let turn = events_turn(pages, alloc, &root, events)?;

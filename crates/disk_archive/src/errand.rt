@@ -58,6 +58,7 @@ impl Errand {
         match (self, cursor) {
             (Errand::Rows(errand), Cursor::Rows(rows)) => errand.finish(reader, seen, alloc, rows),
             (Errand::Events(errand), Cursor::Events(events)) => {
+                // What peers and prefixes are limited to is known to a proof by a call on each.
                 let _len = events.question.peer.encoded_len();
                 let _address = events.question.prefix.address();
                 errand.finish(reader, seen, alloc, events)
