@@ -1,7 +1,6 @@
 //! A ring of which an octet isn't what was put there.
-use crate::made::{ONE, PAGE, append, begun, ends, front, one, waiting_times};
+use crate::made::{ONE, PAGE, append, begun, copy_of, ends, front, one, waiting_times};
 use disk_memory::MemErase;
-use disk_models::Page;
 use intake::{ReadError, Ring};
 use page_tx::{Pages, Tx};
 use route_model::Moment;
@@ -34,16 +33,13 @@ const FREE_OF_ENDS: [(usize, usize); 4] = [(4, 8), (10, 11), (12, 16), (28, 32)]
 // Changes one octet at a place of the ring. Done twice, it is as before.
 fn spoil(alloc: Global, tx: &mut Tx<MemErase>, ring: &Ring, place: u64) -> Result<(), Fail> {
     let number = ring.low.saturating_add(place / PAGE);
+    let mut spoiled = copy_of(alloc, tx, number)?;
+    let Some(octet) = spoiled.octets_mut().get_mut((place % PAGE) as usize) else {
+        return Err(Fail::from("no such octet"));
+    };
+    *octet ^= 0x81;
     if number >= tx.pool().home_pages() {
-        return Ok(());
-    }
-    tx.fetch(number)?;
-    let mut spoiled = Page::new(alloc)?;
-    if let Some(shown) = tx.page(number) {
-        spoiled.copy_from(shown);
-    }
-    if let Some(octet) = spoiled.octets_mut().get_mut((place % PAGE) as usize) {
-        *octet ^= 0x81;
+        return Err(Fail::from("no such page"));
     }
     tx.set(number, spoiled)?;
     Ok(())

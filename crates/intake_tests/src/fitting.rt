@@ -1,11 +1,11 @@
 //! How much a ring of nine pages takes.
 use crate::made::{
-    HOMES, ONE, PAGE, SHORTEST, append, begun, ends, free, front, is_untouched, many, octets_of,
-    one, pop, waiting_times,
+    HOMES, ONE, PAGE, SHORTEST, append, begun, begun_with, ends, fill, free, front, is_untouched,
+    largest, many, octets_of, one, pop, waiting_times,
 };
 use disk_memory::MemErase;
 use intake::{IntakeError, Ring};
-use page_tx::{Pages, Tx};
+use page_tx::{PageError, Pages, Tx};
 use route_model::Moment;
 use std::alloc::Global;
 use std::test::Fail;
@@ -145,5 +145,43 @@ fn numbers_that_are_no_ring_are_told(rt: HostRuntime) -> Result<(), Fail> {
     assert!(rt; just.can_pop(&shortest));
     let less = Ring { used: 17, ..ring };
     assert!(rt; !less.can_pop(&shortest));
+    Ok(())
+}
+
+// Holds images of so many pages behind a ring of forty.
+fn hold(alloc: Global, tx: &mut Tx<MemErase>, count: u64) -> Result<(), Fail> {
+    for n in 40..count.saturating_add(40) {
+        fill(alloc, tx, n)?;
+    }
+    Ok(())
+}
+
+#[test]
+fn a_batch_at_its_limit_takes_images_of_seventeen_pages(rt: HostRuntime) -> Result<(), Fail> {
+    let alloc = rt.alloc();
+    // 131,076 and 131,068 octets are 262,144, from the last octet of a page on.
+    let batch = [largest(alloc, 7)?, ends(alloc, 8, 43_676)?];
+    let begins = Ring {
+        first: PAGE - 1,
+        ..Ring::empty(0, 40)
+    };
+    let mut tx = begun_with(alloc, 60)?;
+    let mut ring = begins;
+    hold(alloc, &mut tx, 15)?;
+    let refused = append(alloc, &mut tx, &mut ring, &batch);
+    assert!(rt; refused == Err(IntakeError::Pages(PageError::TooManyImages)));
+    assert!(rt; ring == begins && tx.images() == 15);
+    for n in 0..40u64 {
+        assert!(rt; is_untouched(&mut tx, n)?, "{n}");
+    }
+    tx.commit()?;
+    hold(alloc, &mut tx, 14)?;
+    append(alloc, &mut tx, &mut ring, &batch)?;
+    assert!(rt; ring.used == 262_144 && tx.images() == 31);
+    let seen = waiting_times(alloc, &mut tx, &ring)?;
+    assert!(rt; seen.as_slice() == [Moment::from(7), Moment::from(8)].as_slice());
+    for n in 17..40u64 {
+        assert!(rt; is_untouched(&mut tx, n)?, "{n}");
+    }
     Ok(())
 }

@@ -1,7 +1,6 @@
 //! An entry that has another length than what was put there.
-use crate::made::{PAGE, append, begun, ends, front, many, one, waiting_times};
+use crate::made::{PAGE, append, begun, copy_of, ends, front, many, one, waiting_times};
 use disk_memory::MemErase;
-use disk_models::Page;
 use intake::{ReadError, Ring};
 use page_tx::{Pages, Tx};
 use std::alloc::Global;
@@ -45,16 +44,13 @@ fn put_octet(
     octet: u8,
 ) -> Result<(), Fail> {
     let number = ring.low.saturating_add(place / PAGE);
+    let mut changed = copy_of(alloc, tx, number)?;
+    let Some(old) = changed.octets_mut().get_mut((place % PAGE) as usize) else {
+        return Err(Fail::from("no such octet"));
+    };
+    *old = octet;
     if number >= tx.pool().home_pages() {
-        return Ok(());
-    }
-    tx.fetch(number)?;
-    let mut changed = Page::new(alloc)?;
-    if let Some(shown) = tx.page(number) {
-        changed.copy_from(shown);
-    }
-    if let Some(old) = changed.octets_mut().get_mut((place % PAGE) as usize) {
-        *old = octet;
+        return Err(Fail::from("no such page"));
     }
     tx.set(number, changed)?;
     Ok(())
@@ -132,5 +128,42 @@ fn a_length_that_no_admission_has_is_told_where_it_stands(rt: HostRuntime) -> Re
     put_length(alloc, &mut tx, &ring, 131_073)?;
     assert!(rt; front_told(alloc, &mut tx, &ring)? == Some(1));
     assert!(rt; times_told(alloc, &mut tx, &ring)? == Err(1));
+    Ok(())
+}
+
+#[test]
+fn octets_without_room_for_a_length_or_a_time_are_told(rt: HostRuntime) -> Result<(), Fail> {
+    let alloc = rt.alloc();
+    let mut tx = begun(alloc)?;
+    // The used octets begin with the last two of page 4. From four on they begin with a length that is too large.
+    for used in 1..12u64 {
+        let ring = Ring {
+            first: 2 * PAGE - 2,
+            used,
+            ..Ring::empty(3, 3)
+        };
+        assert!(rt; front_told(alloc, &mut tx, &ring)? == Some(4), "{used}");
+        assert!(rt; times_told(alloc, &mut tx, &ring)? == Err(4), "{used}");
+    }
+    Ok(())
+}
+
+#[test]
+fn octets_behind_an_entry_without_room_for_a_time_are_told(rt: HostRuntime) -> Result<(), Fail> {
+    let alloc = rt.alloc();
+    let mut tx = begun(alloc)?;
+    // Of 123 used octets 11 to 1 are left behind the first entry, which begins with the last ten of page 5. They begin on
+    // page 3.
+    for length in 108..119u32 {
+        let mut ring = Ring {
+            first: 49_142,
+            ..Ring::empty(3, 3)
+        };
+        let batch = [one(alloc)?, ends(alloc, 7, 4)?];
+        append(alloc, &mut tx, &mut ring, &batch)?;
+        put_length(alloc, &mut tx, &ring, length)?;
+        assert!(rt; front_told(alloc, &mut tx, &ring)? == Some(5), "{length}");
+        assert!(rt; times_told(alloc, &mut tx, &ring)? == Err(3), "{length}");
+    }
     Ok(())
 }

@@ -4,6 +4,8 @@
 #[cfg(test)]
 mod damaged;
 #[cfg(test)]
+mod failing;
+#[cfg(test)]
 mod fitting;
 #[cfg(test)]
 mod lengths;

@@ -1,6 +1,6 @@
 //! Rings, admissions, and calls of a ring whose map is asked first.
 use buffer_pool::Pool;
-use disk_memory::MemErase;
+use disk_memory::{Failure, MemErase};
 use disk_models::Page;
 use intake::{IntakeError, ReadError, Ring};
 use page_journal::{Journal, PostError};
@@ -79,18 +79,38 @@ fn filled(alloc: Global, octet: u8) -> Result<Page, Fail> {
     Ok(page)
 }
 
-fn fill(alloc: Global, tx: &mut Tx<MemErase>, n: u64) -> Result<(), Fail> {
+// Sets a page to the octet 90.
+pub(crate) fn fill(alloc: Global, tx: &mut Tx<MemErase>, n: u64) -> Result<(), Fail> {
     let page = filled(alloc, 90)?;
-    if n < tx.pool().home_pages() {
-        tx.set(n, page)?;
+    if n >= tx.pool().home_pages() {
+        return Err(Fail::from("no such page"));
     }
+    tx.set(n, page)?;
     Ok(())
 }
 
-// A transaction over home pages that are filled with the octet 90.
-pub(crate) fn begun(alloc: Global) -> Result<Tx<MemErase>, Fail> {
-    let disk = MemErase::new(alloc, (265 + HOMES) * PAGE);
-    let journal = match Journal::create(alloc, disk, HOMES) {
+// A page as it is shown.
+pub(crate) fn copy_of(alloc: Global, tx: &mut Tx<MemErase>, n: u64) -> Result<Page, Fail> {
+    if n >= tx.pool().home_pages() {
+        return Err(Fail::from("no such page"));
+    }
+    tx.fetch(n)?;
+    let Some(shown) = tx.page(n) else {
+        return Err(Fail::from("the page isn't there"));
+    };
+    let mut page = Page::new(alloc)?;
+    page.copy_from(shown);
+    Ok(page)
+}
+
+// A transaction over so many home pages that are filled with the octet 90. These calls of its disk fail.
+fn begun_on(alloc: Global, homes: u64, failures: Vec<Failure>) -> Result<Tx<MemErase>, Fail> {
+    if homes > 65_536 {
+        return Err(Fail::from("too many home pages"));
+    }
+    let mut disk = MemErase::new(alloc, (265 + homes) * PAGE);
+    disk.set_script(failures);
+    let journal = match Journal::create(alloc, disk, homes) {
         Ok(journal) => journal,
         Err(refused) => return Err(refused.error.into()),
     };
@@ -100,13 +120,36 @@ pub(crate) fn begun(alloc: Global) -> Result<Tx<MemErase>, Fail> {
     let Ok(pool) = Pool::new(alloc, journal, capacity) else {
         return Err(PostError::OutOfMemory.into());
     };
-    let mut tx = Tx::new(alloc, pool, HOMES);
-    for n in 0..HOMES {
+    if homes > pool.home_pages() {
+        return Err(Fail::from("too few home pages"));
+    }
+    let mut tx = Tx::new(alloc, pool, homes);
+    for n in 0..homes {
         fill(alloc, &mut tx, n)?;
+        if n % 16 == 15 {
+            tx.commit()?;
+        }
     }
     tx.commit()?;
     tx.checkpoint()?;
     Ok(tx)
+}
+
+// A transaction over the home pages.
+pub(crate) fn begun(alloc: Global) -> Result<Tx<MemErase>, Fail> {
+    begun_on(alloc, HOMES, Vec::new(alloc))
+}
+
+// A transaction over so many home pages.
+pub(crate) fn begun_with(alloc: Global, homes: u64) -> Result<Tx<MemErase>, Fail> {
+    begun_on(alloc, homes, Vec::new(alloc))
+}
+
+// A transaction over the home pages, on a disk of which the read with this number fails.
+pub(crate) fn begun_failing(alloc: Global, number: u64) -> Result<Tx<MemErase>, Fail> {
+    let mut failures = Vec::new(alloc);
+    failures.push(Failure::Read(number))?;
+    begun_on(alloc, HOMES, failures)
 }
 
 // Whether a page is as it was at the start.

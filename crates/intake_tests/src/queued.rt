@@ -275,3 +275,44 @@ fn an_entry_wraps_at_each_of_its_octets(rt: HostRuntime) -> Result<(), Fail> {
     }
     Ok(())
 }
+
+// Takes one out, and tells whether it is that of the second, with so many ends of a session.
+fn take_one(
+    alloc: Global,
+    tx: &mut Tx<MemErase>,
+    ring: &mut Ring,
+    second: u32,
+    count: usize,
+) -> Result<bool, Fail> {
+    let Some(found) = front(alloc, tx, ring)? else {
+        return Ok(false);
+    };
+    let same = found.time() == Moment::from(second) && found.changes().len() == count;
+    Ok(pop(tx, ring, &found) && same)
+}
+
+#[test]
+fn two_rings_side_by_side_are_two_queues(rt: HostRuntime) -> Result<(), Fail> {
+    let alloc = rt.alloc();
+    let mut tx = begun(alloc)?;
+    // An admission takes 220 octets in the one and 223 in the other, so that what is put goes round four times.
+    let mut one = Ring::empty(2, 2);
+    let mut other = Ring::empty(4, 2);
+    for turn in 0..600u32 {
+        append(alloc, &mut tx, &mut one, &[ends(alloc, turn, 60)?])?;
+        append(alloc, &mut tx, &mut other, &[ends(alloc, turn, 61)?])?;
+        if turn >= 100 {
+            assert!(rt;
+                take_one(alloc, &mut tx, &mut one, turn - 100, 60)?,
+                "{turn}"
+            );
+            assert!(rt;
+                take_one(alloc, &mut tx, &mut other, turn - 100, 61)?,
+                "{turn}"
+            );
+        }
+    }
+    assert!(rt; one.used == 100 * 220 && other.used == 100 * 223);
+    assert!(rt; is_untouched(&mut tx, 1)? && is_untouched(&mut tx, 6)?);
+    Ok(())
+}
