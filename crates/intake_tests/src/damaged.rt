@@ -150,46 +150,79 @@ fn second_changed(k: usize, page: u64) -> Reading<[u32; 2]> {
     }
 }
 
+// Two entries from this octet of a ring on, of 71 octets and of 52.
+fn laid(alloc: Global, tx: &mut Tx<MemErase>, empty: Ring, first: u64) -> Result<Ring, Fail> {
+    let batch = [one(alloc)?, ends(alloc, 7, 4)?];
+    let mut ring = Ring { first, ..empty };
+    append(alloc, tx, &mut ring, &batch)?;
+    Ok(ring)
+}
+
+// Whether this is read as the first admission's spelling and these as the times.
+fn is_read(
+    alloc: Global,
+    tx: &mut Tx<MemErase>,
+    ring: &Ring,
+    first: Reading<&[u8]>,
+    times: Reading<[u32; 2]>,
+) -> Result<bool, Fail> {
+    Ok(is_first(alloc, tx, ring, first)? && are_times(alloc, tx, ring, times)?)
+}
+
+// The same where the octet at a place of the ring is changed. It is mended then.
+fn is_read_changed(
+    alloc: Global,
+    tx: &mut Tx<MemErase>,
+    ring: &Ring,
+    place: u64,
+    first: Reading<&[u8]>,
+    times: Reading<[u32; 2]>,
+) -> Result<bool, Fail> {
+    spoil(alloc, tx, ring, place)?;
+    let read = is_read(alloc, tx, ring, first, times)?;
+    spoil(alloc, tx, ring, place)?;
+    Ok(read)
+}
+
+// Whether what is read is what is wanted where the octet k of the first entry is changed, which begins on page 4.
+fn is_first_entry_read(
+    alloc: Global,
+    tx: &mut Tx<MemErase>,
+    ring: &Ring,
+    k: usize,
+) -> Result<bool, Fail> {
+    let mut spelled = ONE;
+    let (answers, times) = first_changed(k, 4, &mut spelled);
+    let first = if answers {
+        Ok(spelled.as_slice())
+    } else {
+        Err(4)
+    };
+    let place = ring.first.saturating_add(k as u64);
+    is_read_changed(alloc, tx, ring, place, first, times)
+}
+
 #[test]
 fn a_changed_octet_is_told_with_the_page_on_which_its_entry_begins(
     rt: HostRuntime,
 ) -> Result<(), Fail> {
     let alloc = rt.alloc();
     let mut tx = begun(alloc)?;
-    let mut ring = Ring::empty(3, 3);
-    // The first entry, of 71 octets, begins on the page 4 and ends on the page 5, on which the second begins.
-    ring.first = 2 * PAGE - 40;
-    let first = ring.first;
-    append(
-        alloc,
-        &mut tx,
-        &mut ring,
-        &[one(alloc)?, ends(alloc, 7, 4)?],
-    )?;
+    // The first entry begins on the page 4 and ends on the page 5, on which the second begins.
+    let first = 2 * PAGE - 40;
+    let ring = laid(alloc, &mut tx, Ring::empty(3, 3), first)?;
     assert!(rt; ring.used == 71 + 52);
-    assert!(rt; is_first(alloc, &mut tx, &ring, Ok(&ONE))?);
-    assert!(rt; are_times(alloc, &mut tx, &ring, Ok(TIMES))?);
+    assert!(rt; is_read(alloc, &mut tx, &ring, Ok(&ONE), Ok(TIMES))?);
     for k in 0..71usize {
-        spoil(alloc, &mut tx, &ring, first + k as u64)?;
-        let mut spelled = ONE;
-        let (answers, times) = first_changed(k, 4, &mut spelled);
-        let wanted = if answers {
-            Ok(spelled.as_slice())
-        } else {
-            Err(4)
-        };
-        assert!(rt; is_first(alloc, &mut tx, &ring, wanted)?, "{k}");
-        assert!(rt; are_times(alloc, &mut tx, &ring, times)?, "{k}");
-        spoil(alloc, &mut tx, &ring, first + k as u64)?;
+        assert!(rt; is_first_entry_read(alloc, &mut tx, &ring, k)?, "{k}");
     }
     for k in 0..52usize {
-        spoil(alloc, &mut tx, &ring, first + 71 + k as u64)?;
-        assert!(rt; is_first(alloc, &mut tx, &ring, Ok(&ONE))?, "{k}");
+        let place = first + 71 + k as u64;
+        let times = second_changed(k, 5);
         assert!(rt;
-            are_times(alloc, &mut tx, &ring, second_changed(k, 5))?,
+            is_read_changed(alloc, &mut tx, &ring, place, Ok(&ONE), times)?,
             "{k}"
         );
-        spoil(alloc, &mut tx, &ring, first + 71 + k as u64)?;
     }
     Ok(())
 }
@@ -198,19 +231,13 @@ fn a_changed_octet_is_told_with_the_page_on_which_its_entry_begins(
 fn octets_that_are_not_used_change_nothing(rt: HostRuntime) -> Result<(), Fail> {
     let alloc = rt.alloc();
     let mut tx = begun(alloc)?;
-    let mut ring = Ring::empty(3, 1);
     // The second entry wraps, and ends before the place 39.
-    ring.first = 16_300;
-    append(
-        alloc,
-        &mut tx,
-        &mut ring,
-        &[one(alloc)?, ends(alloc, 7, 4)?],
-    )?;
+    let ring = laid(alloc, &mut tx, Ring::empty(3, 1), 16_300)?;
     for place in 39..16_300u64 {
-        spoil(alloc, &mut tx, &ring, place)?;
-        assert!(rt; is_first(alloc, &mut tx, &ring, Ok(&ONE))?, "{place}");
-        assert!(rt; are_times(alloc, &mut tx, &ring, Ok(TIMES))?, "{place}");
+        assert!(rt;
+            is_read_changed(alloc, &mut tx, &ring, place, Ok(&ONE), Ok(TIMES))?,
+            "{place}"
+        );
     }
     Ok(())
 }
@@ -289,22 +316,31 @@ fn full(alloc: Global, tx: &mut Tx<MemErase>) -> Result<Ring, Fail> {
     Ok(ring)
 }
 
+// Whether what is read of a full ring is what is wanted where the octet k of all is changed. It is mended then.
+fn is_full_read(
+    alloc: Global,
+    tx: &mut Tx<MemErase>,
+    ring: &Ring,
+    spelled: &[u8],
+    k: u32,
+) -> Result<bool, Fail> {
+    let place = ring.first.saturating_add(u64::from(k)) % PAGE;
+    spoil(alloc, tx, ring, place)?;
+    let read = is_first_of_full(alloc, tx, ring, spelled, k as usize)?
+        && are_seconds(alloc, tx, ring, time_changed(k))?;
+    spoil(alloc, tx, ring, place)?;
+    Ok(read)
+}
+
 #[test]
 fn each_octet_of_a_full_ring_is_read_or_told(rt: HostRuntime) -> Result<(), Fail> {
     let alloc = rt.alloc();
+    let spelled = ends(alloc, 0, 328)?.encode(alloc)?;
     let mut tx = begun(alloc)?;
     let ring = full(alloc, &mut tx)?;
     assert!(rt; ring.used == PAGE);
-    let spelled = ends(alloc, 0, 328)?.encode(alloc)?;
     for k in 0..16_384u32 {
-        let place = (1022 + u64::from(k)) % PAGE;
-        spoil(alloc, &mut tx, &ring, place)?;
-        assert!(rt;
-            is_first_of_full(alloc, &mut tx, &ring, &spelled, k as usize)?,
-            "{k}"
-        );
-        assert!(rt; are_seconds(alloc, &mut tx, &ring, time_changed(k))?, "{k}");
-        spoil(alloc, &mut tx, &ring, place)?;
+        assert!(rt; is_full_read(alloc, &mut tx, &ring, &spelled, k)?, "{k}");
     }
     Ok(())
 }

@@ -28,40 +28,70 @@ fn is_one(alloc: Global, tx: &mut Tx<MemErase>, ring: &Ring) -> Result<bool, Fai
     }
 }
 
-#[test]
-fn a_read_that_fails_leaves_all_as_it_was(rt: HostRuntime) -> Result<(), Fail> {
-    let alloc = rt.alloc();
-    // An entry of 71 octets is put on the last 30 of page 4 and the first 41 of page 3. Both have octets that are used.
-    let begins = Ring {
+// Appends an admission of 71 octets, again where it is refused. Tells whether it was refused for the failure with nothing
+// changed, none where it wasn't refused.
+fn append_refused(
+    alloc: Global,
+    tx: &mut Tx<MemErase>,
+    ring: &mut Ring,
+) -> Result<Option<bool>, Fail> {
+    let batch = [one(alloc)?];
+    let begins = *ring;
+    let Err(refusal) = append(alloc, tx, ring, &batch) else {
+        return Ok(None);
+    };
+    let fault = refusal == IntakeError::Pages(PageError::Fault);
+    let same = *ring == begins && tx.images() == 0;
+    append(alloc, tx, ring, &batch)?;
+    Ok(Some(fault && same))
+}
+
+// Asks for the first admission, again where that is refused. Tells whether it was refused for the failure, none where it
+// wasn't refused.
+fn look_refused(alloc: Global, tx: &mut Tx<MemErase>, ring: &Ring) -> Result<Option<bool>, Fail> {
+    let told = match front(alloc, tx, ring) {
+        Ok(_) => None,
+        Err(refusal) => Some(refusal == ReadError::Pages(PageError::Fault)),
+    };
+    if !is_one(alloc, tx, ring)? {
+        return Ok(Some(false));
+    }
+    Ok(told)
+}
+
+// An append and a look over a disk of which the read with this number fails: what is told of each. An entry of 71 octets is
+// put on the last 30 of page 4 and the first 41 of page 3. Both have octets that are used.
+fn refusals(alloc: Global, number: u64) -> Result<(Option<bool>, Option<bool>), Fail> {
+    let mut tx = begun_failing(alloc, number)?;
+    let mut ring = Ring {
         first: PAGE - 50,
         used: PAGE + 20,
         ..Ring::empty(3, 2)
     };
+    leave(&mut tx)?;
+    let append = append_refused(alloc, &mut tx, &mut ring)?;
+    if ring.used != PAGE + 91 || tx.images() != 2 {
+        return Ok((Some(false), None));
+    }
+    tx.commit()?;
+    tx.checkpoint()?;
+    let last = Ring {
+        first: 2 * PAGE - 30,
+        used: 71,
+        ..ring
+    };
+    leave(&mut tx)?;
+    Ok((append, look_refused(alloc, &mut tx, &last)?))
+}
+
+#[test]
+fn a_read_that_fails_leaves_all_as_it_was(rt: HostRuntime) -> Result<(), Fail> {
     let (mut appends, mut looks) = (0u32, 0u32);
     for number in 0..24u64 {
-        let mut tx = begun_failing(alloc, number)?;
-        let mut ring = begins;
-        leave(&mut tx)?;
-        if let Err(refusal) = append(alloc, &mut tx, &mut ring, &[one(alloc)?]) {
-            assert!(rt; refusal == IntakeError::Pages(PageError::Fault));
-            assert!(rt; ring == begins && tx.images() == 0, "{number}");
-            appends = appends.saturating_add(1);
-            append(alloc, &mut tx, &mut ring, &[one(alloc)?])?;
-        }
-        assert!(rt; ring.used == PAGE + 91 && tx.images() == 2, "{number}");
-        tx.commit()?;
-        tx.checkpoint()?;
-        let last = Ring {
-            first: 2 * PAGE - 30,
-            used: 71,
-            ..begins
-        };
-        leave(&mut tx)?;
-        if let Err(refusal) = front(alloc, &mut tx, &last) {
-            assert!(rt; refusal == ReadError::Pages(PageError::Fault));
-            looks = looks.saturating_add(1);
-        }
-        assert!(rt; is_one(alloc, &mut tx, &last)?, "{number}");
+        let (append, look) = refusals(rt.alloc(), number)?;
+        assert!(rt; append != Some(false) && look != Some(false), "{number}");
+        appends = appends.saturating_add(u32::from(append.is_some()));
+        looks = looks.saturating_add(u32::from(look.is_some()));
     }
     // Each of the two pages is read once by the one and once by the other.
     assert!(rt; appends == 2 && looks == 2);

@@ -67,21 +67,41 @@ fn put_length(alloc: Global, tx: &mut Tx<MemErase>, ring: &Ring, length: u32) ->
     Ok(())
 }
 
-// The page that is told where the first admission is asked for, none where one is answered.
-fn front_told(alloc: Global, tx: &mut Tx<MemErase>, ring: &Ring) -> Result<Option<u64>, Fail> {
-    match front(alloc, tx, ring) {
-        Ok(_) => Ok(None),
-        Err(ReadError::BadNode(page)) => Ok(Some(page)),
-        Err(other) => Err(other.into()),
-    }
+// What is told: the page where the first admission is asked for, none where one is answered; and of the times.
+fn told(alloc: Global, tx: &mut Tx<MemErase>, ring: &Ring) -> Result<(Option<u64>, Times), Fail> {
+    let page = match front(alloc, tx, ring) {
+        Ok(_) => None,
+        Err(ReadError::BadNode(page)) => Some(page),
+        Err(other) => return Err(other.into()),
+    };
+    let times = match waiting_times(alloc, tx, ring) {
+        Ok(times) => Ok(times.len()),
+        Err(ReadError::BadNode(page)) => Err(page),
+        Err(other) => return Err(other.into()),
+    };
+    Ok((page, times))
 }
 
-fn times_told(alloc: Global, tx: &mut Tx<MemErase>, ring: &Ring) -> Result<Times, Fail> {
-    match waiting_times(alloc, tx, ring) {
-        Ok(times) => Ok(Ok(times.len())),
-        Err(ReadError::BadNode(page)) => Ok(Err(page)),
-        Err(other) => Err(other.into()),
-    }
+// What is told where the first entry has this length.
+fn told_with(
+    alloc: Global,
+    tx: &mut Tx<MemErase>,
+    ring: &Ring,
+    length: u32,
+) -> Result<(Option<u64>, Times), Fail> {
+    put_length(alloc, tx, ring, length)?;
+    told(alloc, tx, ring)
+}
+
+// A ring of three pages from page 3 on, with an entry of 71 octets from its first used octet on, and one of 52.
+fn laid(alloc: Global, tx: &mut Tx<MemErase>, first: u64) -> Result<Ring, Fail> {
+    let batch = [one(alloc)?, ends(alloc, 7, 4)?];
+    let mut ring = Ring {
+        first,
+        ..Ring::empty(3, 3)
+    };
+    append(alloc, tx, &mut ring, &batch)?;
+    Ok(ring)
 }
 
 #[test]
@@ -89,27 +109,10 @@ fn a_wrong_length_is_told_with_its_page(rt: HostRuntime) -> Result<(), Fail> {
     let alloc = rt.alloc();
     let mut tx = begun(alloc)?;
     for (first, length, page, times) in &CASES {
-        let mut ring = Ring {
-            first: *first,
-            ..Ring::empty(3, 3)
-        };
-        append(
-            alloc,
-            &mut tx,
-            &mut ring,
-            &[one(alloc)?, ends(alloc, 7, 4)?],
-        )?;
-        assert!(rt; front_told(alloc, &mut tx, &ring)?.is_none());
-        assert!(rt; times_told(alloc, &mut tx, &ring)? == Ok(2));
-        put_length(alloc, &mut tx, &ring, *length)?;
-        assert!(rt;
-            front_told(alloc, &mut tx, &ring)? == Some(*page),
-            "{first} {length}"
-        );
-        assert!(rt;
-            times_told(alloc, &mut tx, &ring)? == *times,
-            "{first} {length}"
-        );
+        let ring = laid(alloc, &mut tx, *first)?;
+        assert!(rt; told(alloc, &mut tx, &ring)? == (None, Ok(2)));
+        let seen = told_with(alloc, &mut tx, &ring, *length)?;
+        assert!(rt; seen == (Some(*page), *times), "{first} {length}");
     }
     Ok(())
 }
@@ -117,17 +120,16 @@ fn a_wrong_length_is_told_with_its_page(rt: HostRuntime) -> Result<(), Fail> {
 #[test]
 fn a_length_that_no_admission_has_is_told_where_it_stands(rt: HostRuntime) -> Result<(), Fail> {
     let alloc = rt.alloc();
+    let batch = many(alloc, 2000)?;
     let mut tx = begun(alloc)?;
     let mut ring = Ring::empty(1, 9);
-    append(alloc, &mut tx, &mut ring, &many(alloc, 2000)?)?;
+    append(alloc, &mut tx, &mut ring, &batch)?;
     // By the greatest length the next entry would begin at the place 131,076, on the ninth page, 10 octets behind the first
     // of an entry, where no time stands.
-    put_length(alloc, &mut tx, &ring, 131_072)?;
-    assert!(rt; front_told(alloc, &mut tx, &ring)? == Some(1));
-    assert!(rt; times_told(alloc, &mut tx, &ring)? == Err(9));
-    put_length(alloc, &mut tx, &ring, 131_073)?;
-    assert!(rt; front_told(alloc, &mut tx, &ring)? == Some(1));
-    assert!(rt; times_told(alloc, &mut tx, &ring)? == Err(1));
+    for (length, page) in [(131_072u32, 9u64), (131_073, 1)] {
+        let seen = told_with(alloc, &mut tx, &ring, length)?;
+        assert!(rt; seen == (Some(1), Err(page)), "{length}");
+    }
     Ok(())
 }
 
@@ -142,8 +144,7 @@ fn octets_without_room_for_a_length_or_a_time_are_told(rt: HostRuntime) -> Resul
             used,
             ..Ring::empty(3, 3)
         };
-        assert!(rt; front_told(alloc, &mut tx, &ring)? == Some(4), "{used}");
-        assert!(rt; times_told(alloc, &mut tx, &ring)? == Err(4), "{used}");
+        assert!(rt; told(alloc, &mut tx, &ring)? == (Some(4), Err(4)), "{used}");
     }
     Ok(())
 }
@@ -155,15 +156,9 @@ fn octets_behind_an_entry_without_room_for_a_time_are_told(rt: HostRuntime) -> R
     // Of 123 used octets 11 to 1 are left behind the first entry, which begins with the last ten of page 5. They begin on
     // page 3.
     for length in 108..119u32 {
-        let mut ring = Ring {
-            first: 49_142,
-            ..Ring::empty(3, 3)
-        };
-        let batch = [one(alloc)?, ends(alloc, 7, 4)?];
-        append(alloc, &mut tx, &mut ring, &batch)?;
-        put_length(alloc, &mut tx, &ring, length)?;
-        assert!(rt; front_told(alloc, &mut tx, &ring)? == Some(5), "{length}");
-        assert!(rt; times_told(alloc, &mut tx, &ring)? == Err(3), "{length}");
+        let ring = laid(alloc, &mut tx, 49_142)?;
+        let seen = told_with(alloc, &mut tx, &ring, length)?;
+        assert!(rt; seen == (Some(5), Err(3)), "{length}");
     }
     Ok(())
 }

@@ -153,7 +153,7 @@ pub(crate) fn begun_failing(alloc: Global, number: u64) -> Result<Tx<MemErase>, 
 }
 
 // Whether a page is as it was at the start.
-pub(crate) fn is_untouched(tx: &mut Tx<MemErase>, n: u64) -> Result<bool, Fail> {
+fn is_untouched(tx: &mut Tx<MemErase>, n: u64) -> Result<bool, Fail> {
     if n >= tx.pool().home_pages() {
         return Ok(false);
     }
@@ -162,6 +162,16 @@ pub(crate) fn is_untouched(tx: &mut Tx<MemErase>, n: u64) -> Result<bool, Fail> 
         Some(page) => Ok(page.octets().iter().all(|octet| *octet == 90)),
         None => Ok(false),
     }
+}
+
+// Whether the pages before one and from another on are as they were at the start.
+pub(crate) fn is_rest_untouched(tx: &mut Tx<MemErase>, low: u64, high: u64) -> Result<bool, Fail> {
+    for n in 0..tx.pool().home_pages() {
+        if (n < low || high <= n) && !is_untouched(tx, n)? {
+            return Ok(false);
+        }
+    }
+    Ok(true)
 }
 
 // The octets of so many pages, from one on.
@@ -173,12 +183,8 @@ pub(crate) fn octets_of(
 ) -> Result<Vec<u8>, Fail> {
     let mut octets = Vec::new(alloc);
     for n in low..low.saturating_add(count) {
-        if n < tx.pool().home_pages() {
-            tx.fetch(n)?;
-            if let Some(page) = tx.page(n) {
-                octets.extend_from_slice(page.octets())?;
-            }
-        }
+        let page = copy_of(alloc, tx, n)?;
+        octets.extend_from_slice(page.octets())?;
     }
     Ok(octets)
 }

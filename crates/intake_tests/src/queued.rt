@@ -1,10 +1,10 @@
 //! A ring beside a plain queue.
 use crate::made::{
-    HOMES, PAGE, SHORTEST, append, begun, ends, free, front, is_untouched, largest, pop,
+    PAGE, SHORTEST, append, begun, ends, free, front, is_rest_untouched, largest, pop,
     waiting_times,
 };
 use disk_memory::MemErase;
-use intake::{IntakeError, ReadError, Ring};
+use intake::{IntakeError, Ring};
 use page_tx::Tx;
 use route_model::{Admission, Moment};
 use std::alloc::Global;
@@ -139,6 +139,28 @@ fn have_the_times(alloc: Global, tx: &mut Tx<MemErase>, both: &Both) -> Result<b
     )
 }
 
+// One step, whether the ring is as the plain queue says. At each 500th step the times of all that waits are looked at.
+fn is_in_step(
+    alloc: Global,
+    tx: &mut Tx<MemErase>,
+    both: &mut Both,
+    numbers: &mut Numbers,
+    n: u32,
+) -> Result<bool, Fail> {
+    if !step(alloc, tx, both, numbers, n)?
+        || both.ring.used != both.octets
+        || both.ring.first != both.taken % 147_456
+    {
+        return Ok(false);
+    }
+    if n % 500 != 499 {
+        return Ok(true);
+    }
+    tx.commit()?;
+    tx.checkpoint()?;
+    have_the_times(alloc, tx, both)
+}
+
 #[test]
 fn a_ring_is_a_queue(rt: HostRuntime) -> Result<(), Fail> {
     let alloc = rt.alloc();
@@ -153,19 +175,14 @@ fn a_ring_is_a_queue(rt: HostRuntime) -> Result<(), Fail> {
     };
     let mut numbers = Numbers { last: 20_240_101 };
     for n in 0..10_000u32 {
-        assert!(rt; step(alloc, &mut tx, &mut both, &mut numbers, n)?, "{n}");
-        assert!(rt; both.ring.used == both.octets);
-        assert!(rt; both.ring.first == both.taken % 147_456);
-        if n % 500 == 499 {
-            assert!(rt; have_the_times(alloc, &mut tx, &both)?);
-            tx.commit()?;
-            tx.checkpoint()?;
-        }
+        assert!(rt;
+            is_in_step(alloc, &mut tx, &mut both, &mut numbers, n)?,
+            "{n}"
+        );
     }
     // It was filled until a batch didn't fit, and emptied, and so went round, again and again.
     assert!(rt; both.drained >= 20 && both.taken / 147_456 >= 40);
-    assert!(rt; is_untouched(&mut tx, 0)?);
-    assert!(rt; is_untouched(&mut tx, HOMES - 1)?);
+    assert!(rt; is_rest_untouched(&mut tx, 1, 10)?);
     Ok(())
 }
 
@@ -249,45 +266,52 @@ fn a_queue_wraps_at_each_octet_of_an_entry(rt: HostRuntime) -> Result<(), Fail> 
     Ok(())
 }
 
+// Whether an admission of 18 octets comes out as it was put, where so many octets lie behind the first one up to the end of
+// a ring of one page.
+fn is_wrapped(alloc: Global, tx: &mut Tx<MemErase>, before: u64) -> Result<bool, Fail> {
+    let mut ring = Ring {
+        first: PAGE.saturating_sub(before) % PAGE,
+        ..Ring::empty(3, 1)
+    };
+    append(alloc, tx, &mut ring, &[ends(alloc, 7, 0)?])?;
+    let Some(found) = front(alloc, tx, &ring)? else {
+        return Ok(false);
+    };
+    let same = found.encode(alloc)?.as_slice() == SHORTEST.as_slice();
+    Ok(
+        same && pop(tx, &mut ring, &found)
+            && ring.used == 0
+            && ring.first == (PAGE + 18).saturating_sub(before) % PAGE,
+    )
+}
+
 #[test]
 fn an_entry_wraps_at_each_of_its_octets(rt: HostRuntime) -> Result<(), Fail> {
     let alloc = rt.alloc();
     let mut tx = begun(alloc)?;
-    let admission = [ends(alloc, 7, 0)?];
     for before in 0..=18u64 {
-        let mut ring = Ring {
-            first: (PAGE - before) % PAGE,
-            ..Ring::empty(3, 1)
-        };
-        append(alloc, &mut tx, &mut ring, &admission)?;
-        let Some(found) = front(alloc, &mut tx, &ring)? else {
-            return Err(ReadError::BadNode(before).into());
-        };
-        assert!(rt;
-            found.encode(alloc)?.as_slice() == SHORTEST.as_slice(),
-            "{before}"
-        );
-        assert!(rt; pop(&tx, &mut ring, &found));
-        assert!(rt;
-            ring.used == 0 && ring.first == (PAGE + 18 - before) % PAGE,
-            "{before}"
-        );
+        assert!(rt; is_wrapped(alloc, &mut tx, before)?, "{before}");
     }
     Ok(())
 }
 
-// Takes one out, and tells whether it is that of the second, with so many ends of a session.
-fn take_one(
+// Puts an admission with so many ends of a session, and from the turn 100 on takes out that of 100 turns before. Tells whether
+// it was that.
+fn is_its_turn(
     alloc: Global,
     tx: &mut Tx<MemErase>,
     ring: &mut Ring,
-    second: u32,
+    turn: u32,
     count: usize,
 ) -> Result<bool, Fail> {
+    append(alloc, tx, ring, &[ends(alloc, turn, count)?])?;
+    let Some(before) = turn.checked_sub(100) else {
+        return Ok(true);
+    };
     let Some(found) = front(alloc, tx, ring)? else {
         return Ok(false);
     };
-    let same = found.time() == Moment::from(second) && found.changes().len() == count;
+    let same = found.time() == Moment::from(before) && found.changes().len() == count;
     Ok(pop(tx, ring, &found) && same)
 }
 
@@ -299,20 +323,13 @@ fn two_rings_side_by_side_are_two_queues(rt: HostRuntime) -> Result<(), Fail> {
     let mut one = Ring::empty(2, 2);
     let mut other = Ring::empty(4, 2);
     for turn in 0..600u32 {
-        append(alloc, &mut tx, &mut one, &[ends(alloc, turn, 60)?])?;
-        append(alloc, &mut tx, &mut other, &[ends(alloc, turn, 61)?])?;
-        if turn >= 100 {
-            assert!(rt;
-                take_one(alloc, &mut tx, &mut one, turn - 100, 60)?,
-                "{turn}"
-            );
-            assert!(rt;
-                take_one(alloc, &mut tx, &mut other, turn - 100, 61)?,
-                "{turn}"
-            );
-        }
+        assert!(rt;
+            is_its_turn(alloc, &mut tx, &mut one, turn, 60)?
+                && is_its_turn(alloc, &mut tx, &mut other, turn, 61)?,
+            "{turn}"
+        );
     }
     assert!(rt; one.used == 100 * 220 && other.used == 100 * 223);
-    assert!(rt; is_untouched(&mut tx, 1)? && is_untouched(&mut tx, 6)?);
+    assert!(rt; is_rest_untouched(&mut tx, 2, 6)?);
     Ok(())
 }
