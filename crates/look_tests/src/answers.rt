@@ -12,7 +12,7 @@ use version_model::{Entry, Place, Stamp};
 // Of a place in the past: its block, where its bounds start and end, and its highest key.
 pub(crate) type In = Option<(u64, At, Option<At>, Option<u8>)>;
 
-fn at_of(stamp: Stamp) -> At {
+pub(crate) fn at_of(stamp: Stamp) -> At {
     (stamp.time(), stamp.order())
 }
 
@@ -83,7 +83,7 @@ pub(crate) fn next_at(
 }
 
 // Whether entries are just these versions.
-fn are_versions(entries: &[Entry], versions: &[(At, Option<u8>)]) -> bool {
+pub(crate) fn are_versions(entries: &[Entry], versions: &[(At, Option<u8>)]) -> bool {
     entries.len() == versions.len()
         && entries.iter().zip(versions).all(|(entry, wanted)| {
             at_of(entry.stamp) == wanted.0

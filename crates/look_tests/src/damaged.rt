@@ -1,12 +1,13 @@
 //! Pages and blocks that someone damaged: each look answers, or names the one that isn't what it is to be.
-use crate::answers::{Comes, In, all_of, found_at, next_at, part_at};
+use crate::answers::{Comes, In, Since, all_of, are_versions, at_of, found_at, next_at, part_at};
 use crate::spelling::At;
 use crate::tree::{
-    Tree, Turned, block_octets, key_node, octets_of, page_with, set_page, spoil_block, whole_tree,
+    Tree, Turned, block_octets, key_node, key_of, octets_of, page_with, set_page, spoil_block,
+    whole_tree,
 };
 use std::alloc::Global;
 use std::test::Fail;
-use tsb_walk::NodeError;
+use tsb_walk::{KeyVersions, NodeError};
 
 // A page of the tree with an octet turned.
 fn spoil(tree: &mut Tree, n: u64, at: usize) -> Result<(), Fail> {
@@ -27,7 +28,46 @@ fn mend(tree: &mut Tree, n: u64) -> Result<(), Fail> {
     set_page(tree, n, page)
 }
 
-// Whether the look for the next key tells this; where it is refused, the looks for the key and for its versions are, for the same reason.
+// What a key has where the look for the next key from it on tells this, and in which block.
+fn had(key: u8, told: &(In, Comes)) -> (Option<u64>, Since) {
+    let block = match &told.0 {
+        Some(place) => Some(place.0),
+        None => None,
+    };
+    match told.1 {
+        Comes::To(next, since, value) => {
+            if next == key {
+                (block, Some((since, value)))
+            } else {
+                (block, None)
+            }
+        }
+        _ => (block, None),
+    }
+}
+
+// Whether these are versions of a key from a stamp on; where the key has something just since then, this first.
+fn are_from(key: u8, at: At, since: &Since, part: &KeyVersions) -> bool {
+    let key = key_of(key);
+    if !part
+        .entries
+        .iter()
+        .all(|entry| entry.key == key && at <= at_of(entry.stamp))
+    {
+        return false;
+    }
+    let Some((since, value)) = since else {
+        return true;
+    };
+    if *since != at {
+        return true;
+    }
+    let first = part.entries.as_slice().get(..1).unwrap_or(&[]);
+    are_versions(first, &[(at, *value)])
+}
+
+// Whether the look for the next key tells this, and the looks for the key and for its versions the same of it; where it is refused,
+// they are, for the same reason.
 fn is_told(
     tree: &mut Tree,
     key: u8,
@@ -37,11 +77,18 @@ fn is_told(
     if next_at(tree, key, at)? != *wanted {
         return Ok(false);
     }
-    let found = found_at(tree, key, at)?.err();
-    let part = part_at(tree, key, at)?.err();
+    let found = found_at(tree, key, at)?;
+    let part = part_at(tree, key, at)?;
     Ok(match wanted {
-        Ok(_) => found.is_none() && part.is_none(),
-        Err(error) => found == Some(*error) && part == Some(*error),
+        Ok(told) => {
+            let (block, since) = had(key, told);
+            found == Ok((block, since))
+                && match &part {
+                    Ok(part) => part.0 == block && are_from(key, at, &since, &part.1),
+                    Err(_) => false,
+                }
+        }
+        Err(error) => found.err() == Some(*error) && part.err() == Some(*error),
     })
 }
 
@@ -96,30 +143,146 @@ fn refusal_at(tree: &mut Tree, key: u8, at: At) -> Result<Option<NodeError>, Fai
     Ok(refusal)
 }
 
-// Whether looks answer, or name a page or a block as damaged; of a leaf, just this one.
-fn is_named(refusal: Option<NodeError>, leaf: Option<NodeError>) -> bool {
-    match refusal {
-        None => true,
-        Some(NodeError::BadNode(_) | NodeError::Damaged(_)) => leaf.is_none() || refusal == leaf,
-        Some(_) => false,
+// What looks at a key and a stamp tell of the tree as it was put.
+#[derive(Clone, Copy)]
+struct Whole {
+    next: (In, Comes),
+    found: (Option<u64>, Since),
+    // The block, the versions, and up to when they are all.
+    part: (Option<u64>, &'static [(At, Option<u8>)], Option<At>),
+}
+
+// Where the last keys have no past.
+fn of_now(next: Comes, found: Since, part: &'static [(At, Option<u8>)]) -> Whole {
+    Whole {
+        next: (None, next),
+        found: (None, found),
+        part: (None, part, None),
+    }
+}
+
+// Whether looks at a key and a stamp tell what they tell of the tree as it was put.
+fn is_whole(tree: &mut Tree, key: u8, at: At, whole: &Whole) -> Result<bool, Fail> {
+    if next_at(tree, key, at)? != Ok(whole.next) || found_at(tree, key, at)? != Ok(whole.found) {
+        return Ok(false);
+    }
+    Ok(match part_at(tree, key, at)? {
+        Ok((block, part)) => {
+            block == whole.part.0
+                && are_versions(&part.entries, whole.part.1)
+                && part.told.map(at_of) == whole.part.2
+        }
+        Err(_) => false,
+    })
+}
+
+// Whether looks that pass a page or a block of which an octet that leads on is turned tell what they told before, or all name
+// one page or block as damaged.
+fn is_whole_or_named(tree: &mut Tree, key: u8, at: At, whole: &Whole) -> Result<bool, Fail> {
+    match refusal_at(tree, key, at)? {
+        None => is_whole(tree, key, at, whole),
+        Some(NodeError::BadNode(_) | NodeError::Damaged(_)) => Ok(true),
+        Some(_) => Ok(false),
     }
 }
 
 #[test]
-fn each_octet_of_the_entries_of_a_page_is_read_or_told(rt: HostRuntime) -> Result<(), Fail> {
+fn each_octet_of_the_entries_of_a_page_that_leads_on_is_read_or_told(
+    rt: HostRuntime,
+) -> Result<(), Fail> {
     let alloc = rt.alloc();
     let mut tree = whole_tree(alloc)?;
-    for (n, key, at) in WAYS.as_slice() {
-        let leaf = if *n < 9 {
-            None
-        } else {
-            Some(NodeError::BadNode(*n))
-        };
+    let last = of_now(
+        Comes::To(15, (30, 0), Some(3)),
+        Some(((30, 0), Some(3))),
+        &[((30, 0), Some(3))],
+    );
+    let ways: [(u64, u8, At, Whole); 8] = [
+        (
+            1,
+            0,
+            (300, 0),
+            of_now(Comes::To(3, (150, 0), Some(170)), None, &[]),
+        ),
+        (2, 7, (300, 0), of_now(Comes::Past(8), None, &[])),
+        (3, 15, (30, 0), last),
+        (
+            4,
+            8,
+            (30, 0),
+            of_now(
+                Comes::To(8, (10, 0), Some(1)),
+                Some(((10, 0), Some(1))),
+                &[((50, 0), None)],
+            ),
+        ),
+        (
+            5,
+            200,
+            (40, 0),
+            of_now(
+                Comes::To(200, (40, 0), Some(4)),
+                Some(((40, 0), Some(4))),
+                &[((40, 0), Some(4))],
+            ),
+        ),
+        (
+            6,
+            0,
+            (100, 0),
+            Whole {
+                next: (LATE, Comes::To(3, (1, 0), Some(160))),
+                found: (Some(3), None),
+                part: (Some(3), &[], Some((199, 0))),
+            },
+        ),
+        (
+            7,
+            14,
+            (20, 0),
+            of_now(
+                Comes::To(14, (20, 0), Some(2)),
+                Some(((20, 0), Some(2))),
+                &[((20, 0), Some(2))],
+            ),
+        ),
+        (8, 15, (30, 0), last),
+    ];
+    for (n, key, at, whole) in ways.as_slice() {
+        assert!(rt; is_whole(&mut tree, *key, *at, whole)?, "{n}");
+        let octets = octets_of(alloc, *n)?.len();
+        for octet in 120..octets {
+            spoil(&mut tree, *n, octet)?;
+            assert!(rt;
+                is_whole_or_named(&mut tree, *key, *at, whole)?,
+                "{n} {octet}"
+            );
+        }
+        mend(&mut tree, *n)?;
+    }
+    Ok(())
+}
+
+// Whether looks answer, or name just this page or block as damaged.
+fn is_named(refusal: Option<NodeError>, leaf: NodeError) -> bool {
+    match refusal {
+        None => true,
+        Some(error) => error == leaf,
+    }
+}
+
+#[test]
+fn each_octet_of_the_entries_of_a_current_leaf_is_read_or_told(
+    rt: HostRuntime,
+) -> Result<(), Fail> {
+    let alloc = rt.alloc();
+    let mut tree = whole_tree(alloc)?;
+    for (n, key, at) in WAYS.iter().skip(8) {
         let octets = octets_of(alloc, *n)?.len();
         for octet in 120..octets {
             spoil(&mut tree, *n, octet)?;
             let refusal = refusal_at(&mut tree, *key, *at)?;
-            assert!(rt; is_named(refusal, leaf), "{n} {octet}");
+            assert!(rt; is_named(refusal, NodeError::BadNode(*n)), "{n} {octet}");
         }
         mend(&mut tree, *n)?;
     }
@@ -302,6 +465,15 @@ fn a_key_node_that_names_itself_is_bad(rt: HostRuntime) -> Result<(), Fail> {
     Ok(())
 }
 
+// An octet of a block that is turned before the block gets its digest.
+fn turned_of(block: u64, octet: usize) -> Turned {
+    Turned {
+        block,
+        octet,
+        is_sealed: true,
+    }
+}
+
 // Whether the tree's looks tell this where an octet of a block is turned.
 fn is_told_of_block(tree: &mut Tree, turned: Turned, told: &Told) -> Result<bool, Fail> {
     spoil_block(tree, turned)?;
@@ -311,12 +483,7 @@ fn is_told_of_block(tree: &mut Tree, turned: Turned, told: &Told) -> Result<bool
 // Whether looks tell these of blocks with a digest of what they are then.
 fn are_told_of_blocks(tree: &mut Tree, wanted: &[Told]) -> Result<bool, Fail> {
     for told in wanted {
-        let turned = Turned {
-            block: told.0,
-            octet: told.1,
-            is_sealed: true,
-        };
-        if !is_told_of_block(tree, turned, told)? {
+        if !is_told_of_block(tree, turned_of(told.0, told.1), told)? {
             return Ok(false);
         }
     }
@@ -347,6 +514,8 @@ fn a_block_with_a_damaged_header_is_damaged(rt: HostRuntime) -> Result<(), Fail>
                 are_told_of_blocks(&mut tree, [told].as_slice())?,
                 "{n} {octet}"
             );
+            let refusal = all_of(&mut tree, *key)?.err();
+            assert!(rt; refusal == answer.err(), "{n} {octet}");
         }
         let told = (*n, 16_351, *key, *at, Err(NodeError::Damaged(*n)));
         assert!(rt; are_told_of_blocks(&mut tree, [told].as_slice())?, "{n}");
@@ -358,23 +527,26 @@ fn a_block_with_a_damaged_header_is_damaged(rt: HostRuntime) -> Result<(), Fail>
 fn each_octet_of_the_entries_of_a_block_is_read_or_told(rt: HostRuntime) -> Result<(), Fail> {
     let alloc = rt.alloc();
     let mut tree = whole_tree(alloc)?;
-    for (n, key, at, _, _) in BLOCK_WAYS.as_slice() {
-        let leaf = if *n < 3 {
-            Some(NodeError::Damaged(*n))
-        } else {
-            None
-        };
+    for (n, key, at, _, _) in BLOCK_WAYS.iter().take(3) {
         let octets = block_octets(alloc, *n)?.len();
         for octet in 120..octets {
-            let turned = Turned {
-                block: *n,
-                octet,
-                is_sealed: true,
-            };
-            spoil_block(&mut tree, turned)?;
+            spoil_block(&mut tree, turned_of(*n, octet))?;
             let refusal = refusal_at(&mut tree, *key, *at)?;
-            assert!(rt; is_named(refusal, leaf), "{n} {octet}");
+            assert!(rt; is_named(refusal, NodeError::Damaged(*n)), "{n} {octet}");
         }
+    }
+    // Those of the column lead on.
+    let whole = Whole {
+        next: (LATE, Comes::To(3, (150, 0), Some(170))),
+        found: (Some(3), None),
+        part: (Some(3), &[], Some((200, 5))),
+    };
+    for octet in 120..block_octets(alloc, 3)?.len() {
+        spoil_block(&mut tree, turned_of(3, octet))?;
+        assert!(rt;
+            is_whole_or_named(&mut tree, 0, (200, 4), &whole)?,
+            "{octet}"
+        );
     }
     Ok(())
 }
