@@ -1,0 +1,220 @@
+//! An archive on disks in memory, and what is given to it and asked of it.
+
+use crate::chance::Chance;
+use crate::logs::Log;
+use archive_pages::Settings;
+use disk_archive::Archive;
+use disk_memory::{MemErase, MemOnce};
+use interleaving_core::Query;
+use query_threads::{Step, Store};
+use route_meaning::{EventsQuestion, RowsQuestion, Select};
+use route_model::{Address, Admission, Change, Mark, Moment, Peer, Prefix, Route, SharedRoute};
+use shared_archive::MemStore;
+use std::alloc::Global;
+use std::sync::Arc;
+use std::test::Fail;
+
+/// How many collectors each archive has.
+pub(crate) const COLLECTORS: u8 = 2;
+
+/// As many steps of applying as a test may need.
+pub(crate) const STEPS: u32 = 1_000_000;
+
+/// The moment from which a loaded archive has records.
+pub(crate) const FIRST: u64 = 1_000;
+
+/// The moment up to which a loaded archive has records, and from which more are given to it.
+pub(crate) const SECOND: u64 = 1_060;
+
+/// How many records are given of one prefix, one each second: of so many routes of 800 octets a leaf overflows three times.
+pub(crate) const RECORDS: u8 = 60;
+
+// The octets of an erasable disk: 265 pages before the home pages; the head, two rings of 60 pages, and 400 pages of the tree.
+const OCTETS: u64 = (265 + 1 + 2 * 60 + 400) * 16_384;
+
+// The blocks of a write-once disk.
+const BLOCKS: u64 = 20_000;
+
+/// The spelling of a route, as docs/FORMATS.md has it, up to the count of its attributes: the path 65001 65002 by IGP, and the next hop
+/// 192.0.2.1.
+const ROUTE: [u8; 19] = [
+    0, 0, 1, 2, 2, 0, 0, 0xFD, 0xE9, 0, 0, 0xFD, 0xEA, 4, 0xC0, 0, 2, 1, 0,
+];
+
+/// An archive to which nothing was given.
+pub(crate) fn empty_store(alloc: Global) -> Result<MemStore, Fail> {
+    let settings = Settings {
+        collectors: COLLECTORS,
+        ring: 60,
+    };
+    let erase = MemErase::new(alloc, OCTETS);
+    let (once, pen) = MemOnce::new(alloc, BLOCKS);
+    match Archive::create(alloc, erase, Arc::new(alloc, once)?, pen, settings) {
+        Ok(archive) => Ok(MemStore { archive }),
+        Err(refused) => Err(refused.error.into()),
+    }
+}
+
+// Gives the first records, and applies them.
+fn load(alloc: Global, store: &mut MemStore, log: &mut Log) -> Result<(), Fail> {
+    let records = announcements(alloc, FIRST, RECORDS).ok_or("no memory")?;
+    let reply = store.admit(0, &records)?;
+    log.keep(&reply, records).ok_or("no memory")?;
+    store.mark(0, mark_of(SECOND))?;
+    store.mark(1, mark_of(SECOND))?;
+    for _ in 0..STEPS {
+        if store.apply_step()? == Step::Idle {
+            return Ok(());
+        }
+    }
+    Err(Fail::from("not applied"))
+}
+
+/// An archive with a record of each moment from `FIRST` to below `SECOND`, all applied.
+pub(crate) fn loaded_store(alloc: Global, log: &mut Log) -> Result<MemStore, Fail> {
+    let mut store = empty_store(alloc)?;
+    load(alloc, &mut store, log)?;
+    Ok(store)
+}
+
+/// How many blocks were burnt.
+pub(crate) fn burnt_by(store: MemStore) -> usize {
+    let (_erase, _once, pen) = store.archive.into_disks();
+    pen.settled().len()
+}
+
+/// A mark at these seconds, or the last mark.
+pub(crate) fn mark_of(seconds: u64) -> Mark {
+    Mark::new(seconds).unwrap_or(Mark::at(Moment::from(u32::MAX)))
+}
+
+/// The moment at these seconds, or the last one.
+pub(crate) fn moment_of(seconds: u64) -> Moment {
+    Moment::new(seconds).unwrap_or(Moment::from(u32::MAX))
+}
+
+fn peer_of(collector: u8, number: u8) -> Peer {
+    Peer {
+        collector,
+        address: Address::V4([192, 0, 2, number]),
+        as_number: 65001,
+    }
+}
+
+// One of two peers of the collector.
+fn draw_peer(chance: &mut Chance, collector: u8) -> Peer {
+    peer_of(collector, chance.below(2).saturating_add(1))
+}
+
+fn prefix_of(number: u8) -> Prefix {
+    Prefix::containing(Address::V4([10, number, 0, 0]), 16)
+}
+
+/// A route of some 800 octets: a leaf has room for some twenty of them.
+fn route_of(alloc: Global, number: u8) -> Option<SharedRoute> {
+    let mut octets = Vec::new(alloc);
+    octets.extend_from_slice(&ROUTE).ok()?;
+    octets[12] = number;
+    // An attribute of type 99, with 770 octets.
+    octets.extend_from_slice(&[0, 1, 99, 0xC0, 3, 2]).ok()?;
+    octets.resize(795, number).ok()?;
+    let route = Route::decode(alloc, &octets).ok()??;
+    SharedRoute::new(alloc, route).ok()
+}
+
+fn draw_change(alloc: Global, chance: &mut Chance, collector: u8) -> Option<Change> {
+    let peer = draw_peer(chance, collector);
+    let prefix = prefix_of(chance.below(4));
+    Some(match chance.below(8) {
+        0 => Change::Down(peer),
+        1 => Change::Withdraw(peer, prefix),
+        number => Change::Announce(peer, prefix, route_of(alloc, number)?),
+    })
+}
+
+// A record of one or two changes at this time.
+fn draw_record(
+    alloc: Global,
+    chance: &mut Chance,
+    collector: u8,
+    seconds: u64,
+) -> Option<Admission> {
+    let mut changes = Vec::new(alloc);
+    for _ in 0..=chance.below(2) {
+        changes.push(draw_change(alloc, chance, collector)?).ok()?;
+    }
+    Admission::new(moment_of(seconds), changes).ok()
+}
+
+/// One to three records from this time on, of which a later one may be earlier, and then is late.
+pub(crate) fn draw_batch(
+    alloc: Global,
+    chance: &mut Chance,
+    collector: u8,
+    from: u64,
+) -> Option<Vec<Admission>> {
+    let mut batch = Vec::new(alloc);
+    for _ in 0..=chance.below(3) {
+        let time = from.saturating_add(u64::from(chance.below(3)));
+        batch
+            .push(draw_record(alloc, chance, collector, time)?)
+            .ok()?;
+    }
+    Some(batch)
+}
+
+/// Announcements of 10.0.0.0/16 by one peer of the first collector, so many, each a second later than the one before.
+pub(crate) fn announcements(alloc: Global, from: u64, count: u8) -> Option<Vec<Admission>> {
+    let mut batch = Vec::new(alloc);
+    for number in 0..count {
+        let change = Change::Announce(peer_of(0, 1), prefix_of(0), route_of(alloc, number)?);
+        let mut changes = Vec::new(alloc);
+        changes.push(change).ok()?;
+        let time = moment_of(from.saturating_add(u64::from(number)));
+        batch.push(Admission::new(time, changes).ok()?).ok()?;
+    }
+    Some(batch)
+}
+
+/// What that peer told of 10.0.0.0/16 from one moment to another.
+pub(crate) fn history_of(from: u64, to: u64) -> Query {
+    Query::Events(EventsQuestion {
+        from: moment_of(from),
+        to: moment_of(to),
+        peer: peer_of(0, 1),
+        prefix: prefix_of(0),
+        skip: 0,
+    })
+}
+
+fn draw_select(chance: &mut Chance) -> Select {
+    let collector = chance.below(COLLECTORS);
+    let peer = draw_peer(chance, collector);
+    let number = chance.below(4);
+    match chance.below(5) {
+        0 => Select::Route(peer, prefix_of(number)),
+        1 => Select::ByPrefix(prefix_of(number)),
+        2 => Select::Covering(Address::V4([10, number, 0, 1])),
+        3 => Select::PeerTable(peer),
+        _ => Select::All,
+    }
+}
+
+/// A question of which this is the last moment.
+pub(crate) fn draw_query(chance: &mut Chance, moment: u64) -> Query {
+    let collector = chance.below(COLLECTORS);
+    if chance.below(3) == 0 {
+        return Query::Events(EventsQuestion {
+            from: moment_of(moment.saturating_sub(u64::from(chance.below(200)))),
+            to: moment_of(moment),
+            peer: draw_peer(chance, collector),
+            prefix: prefix_of(chance.below(4)),
+            skip: u64::from(chance.below(3)),
+        });
+    }
+    Query::Rows(RowsQuestion {
+        moment: moment_of(moment),
+        select: draw_select(chance),
+        after: None,
+    })
+}

@@ -1,0 +1,191 @@
+//! One thread's calls on a shared archive.
+
+use crate::chance::Chance;
+use crate::logs::{Asked, Given, Log};
+use crate::made::{COLLECTORS, STEPS, draw_batch, draw_query, mark_of};
+use crate::team::Done;
+use board::{Named, Pass};
+use interleaving_core::Query;
+use query_threads::{AdmitError, Gate, MarkError, Reader, Shared, Step, Unpromised};
+use route_model::Admission;
+use shared_archive::MemStore;
+use std::alloc::Global;
+use std::sync::Wait;
+
+/// The archive of a test. Each call of a test names its board `B`.
+pub(crate) type Stage<B, G> = Shared<MemStore, Unpromised<B>, G>;
+
+/// A thread's pass and reader, and what it did so far.
+#[derive(Drop)]
+pub(crate) struct Hand<B: Named> {
+    pub(crate) alloc: Global,
+    pub(crate) pass: Pass<Unpromised<B>>,
+    pub(crate) reader: Reader<MemStore, Unpromised<B>>,
+    pub(crate) chance: Chance,
+    pub(crate) log: Log,
+}
+
+impl<B: Named> Hand<B> {
+    /// With a reader that keeps up to so many blocks, from 1 to 1,024. None for want of memory.
+    pub(crate) fn new<G: Gate + Drop>(
+        rt: &impl Wait,
+        alloc: Global,
+        stage: &Stage<B, G>,
+        pass: Pass<Unpromised<B>>,
+        capacity: usize,
+        seed: u64,
+    ) -> Option<Hand<B>> {
+        let reader = Reader::new(rt, alloc, stage, capacity.clamp(1, 1024)).ok()?;
+        Some(Hand {
+            alloc,
+            pass,
+            reader,
+            chance: Chance { last: seed },
+            log: Log::new(alloc),
+        })
+    }
+
+    /// What it gives back at its end.
+    pub(crate) fn done(self) -> Done<B> {
+        let Hand { pass, log, .. } = self;
+        Done { pass, log }
+    }
+
+    /// Gives records. What the thread is told afterwards counts them.
+    pub(crate) fn give<G: Gate + Drop>(
+        &mut self,
+        rt: &impl Wait,
+        stage: &Stage<B, G>,
+        collector: u8,
+        records: Vec<Admission>,
+    ) -> Option<()> {
+        if collector >= stage.collectors() {
+            return None;
+        }
+        let before = stage.durable(&mut self.pass, collector);
+        match stage.admit(rt, &mut self.pass, collector, &records) {
+            Ok(reply) => {
+                let after = stage.durable(&mut self.pass, collector);
+                let told = reply.receipt;
+                self.log.expect(
+                    told.collector == collector && before <= told.from && told.to <= after,
+                );
+                self.log.keep(&reply, records)?;
+            }
+            Err(AdmitError::IntakeFull) => {}
+            Err(_) => self.log.expect(false),
+        }
+        Some(())
+    }
+
+    /// Sets a mark, if the collector's isn't above it.
+    pub(crate) fn mark<G: Gate + Drop>(
+        &mut self,
+        rt: &impl Wait,
+        stage: &Stage<B, G>,
+        collector: u8,
+        behind: u64,
+    ) {
+        match stage.mark(rt, &mut self.pass, collector, mark_of(behind)) {
+            Ok(()) | Err(MarkError::MarkBack) => {}
+            Err(_) => self.log.expect(false),
+        }
+    }
+
+    /// Applies until nothing may be applied, or many times.
+    pub(crate) fn apply_all<G: Gate + Drop>(&mut self, rt: &impl Wait, stage: &Stage<B, G>) {
+        for _ in 0..STEPS {
+            match stage.apply(rt, &mut self.pass) {
+                Ok(Step::Applied) => {}
+                Ok(Step::Idle) => return,
+                Err(_) => break,
+            }
+        }
+        self.log.expect(false);
+    }
+
+    /// Gives records of the first collector, marks both behind them, and applies all.
+    pub(crate) fn give_all<G: Gate + Drop>(
+        &mut self,
+        rt: &impl Wait,
+        stage: &Stage<B, G>,
+        records: Vec<Admission>,
+        behind: u64,
+    ) -> Option<()> {
+        self.give(rt, stage, 0, records)?;
+        for collector in 0..COLLECTORS {
+            self.mark(rt, stage, collector, behind);
+        }
+        self.apply_all(rt, stage);
+        Some(())
+    }
+
+    /// Asks a question that has to be answered.
+    pub(crate) fn ask<G: Gate + Drop>(
+        &mut self,
+        rt: &impl Wait,
+        stage: &Stage<B, G>,
+        request: u64,
+        query: &Query,
+    ) -> Option<()> {
+        match stage.ask(rt, &mut self.pass, &mut self.reader, request, *query) {
+            Ok(answer) => {
+                let asked = Asked {
+                    query: *query,
+                    answer,
+                };
+                self.log.asked.push(asked).ok()?;
+            }
+            Err(_) => self.log.expect(false),
+        }
+        Some(())
+    }
+
+    /// Asks a question of moments that the thread has seen to be settled, if there is one.
+    pub(crate) fn ask_settled<G: Gate + Drop>(
+        &mut self,
+        rt: &impl Wait,
+        stage: &Stage<B, G>,
+    ) -> Option<()> {
+        match stage.watermark(&mut self.pass).checked_sub(1) {
+            Some(last) => {
+                let moment = last.saturating_sub(u64::from(self.chance.below(60)));
+                let query = draw_query(&mut self.chance, moment);
+                self.ask(rt, stage, 0, &query)
+            }
+            None => Some(()),
+        }
+    }
+
+    /// Any one call.
+    pub(crate) fn mix<G: Gate + Drop>(
+        &mut self,
+        rt: &impl Wait,
+        stage: &Stage<B, G>,
+    ) -> Option<()> {
+        let collector = self.chance.below(COLLECTORS);
+        let seen = stage.watermark(&mut self.pass);
+        let soon = seen.saturating_add(u64::from(self.chance.below(8)));
+        match self.chance.below(10) {
+            0..=2 => {
+                let records = draw_batch(self.alloc, &mut self.chance, collector, soon)?;
+                self.give(rt, stage, collector, records)
+            }
+            3 | 4 => {
+                self.mark(rt, stage, collector, soon);
+                Some(())
+            }
+            5 | 6 => {
+                let applied = stage.apply(rt, &mut self.pass);
+                self.log.expect(applied.is_ok());
+                Some(())
+            }
+            7 => {
+                let flushed = stage.flush(rt, &mut self.pass);
+                self.log.expect(flushed.is_ok());
+                Some(())
+            }
+            _ => self.ask_settled(rt, stage),
+        }
+    }
+}

@@ -1,0 +1,47 @@
+//! What a thread that is held and the thread for which it is held tell each other.
+
+use std::sync::atomic::{AtomicBool, Ordering};
+use std::thread;
+
+// How often a thread gives way to others before it gives up, which takes it many seconds.
+const LOOKS: u32 = 50_000_000;
+
+/// Flags that are set once.
+#[derive(Drop)]
+pub(crate) struct Signals {
+    /// A thread is held.
+    pub(crate) is_held: AtomicBool,
+    /// What it is held for is done.
+    pub(crate) is_done: AtomicBool,
+    /// A thread waited in vain.
+    pub(crate) is_late: AtomicBool,
+}
+
+impl Signals {
+    pub(crate) fn new() -> Signals {
+        Signals {
+            is_held: AtomicBool::new(false),
+            is_done: AtomicBool::new(false),
+            is_late: AtomicBool::new(false),
+        }
+    }
+
+    /// Waits until the flag is set, which is one of these. It counts no time, but how often it gives way
+    /// to others, so that a slow machine is no reason to give up.
+    pub(crate) fn wait_for(&self, flag: &AtomicBool) {
+        for _ in 0..LOOKS {
+            if flag.load(Ordering::SeqCst) {
+                return;
+            }
+            thread::yield_now();
+        }
+        self.is_late.store(true, Ordering::SeqCst);
+    }
+
+    /// Holds the first thread that comes, until what it is held for is done.
+    pub(crate) fn hold(&self) {
+        if !self.is_held.swap(true, Ordering::SeqCst) {
+            self.wait_for(&self.is_done);
+        }
+    }
+}
