@@ -1,0 +1,4 @@
+pub mod OneCommand
+pub mod Words
+pub mod Serving
+pub mod Unmarked

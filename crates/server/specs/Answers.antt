@@ -1,0 +1,69 @@
+-- How the lines of a connection are answered by a shared archive, of which something is promised or not.
+use Rattle.std.specs.Prelude.{◌≡◌, ◌⊎◌, ◌≤◌, ℕ, List}
+use Rattle.board.specs.Views.{View, BeginsView, watermark_of, with_seen}
+use Rattle.service.specs.AnswerLines.{watermark_line}
+use Rattle.service.specs.Faults.{of_unanswered, of_load}
+use Rattle.service.specs.Outputs.{OutputState, Tells}
+use Rattle.service.specs.Refusals.{refusal_line}
+use Rattle.service.specs.declared.faults.LoadStop.{LoadStop}
+use Rattle.service.specs.declared.faults.Unanswered.{Unanswered}
+use Rattle.service.specs.declared.refusal.Refusal.TheVariants as refusals
+use Rattle.service.specs.declared.request.Request.{Request}
+use Rattle.server.specs.declared.answering.Next.{Next}
+use Rattle.server.specs.declared.answering.Next.TheVariants as nexts
+use Rattle.server.specs.declared.command.Command.{Command}
+use Rattle.server.specs.declared.command.Command.TheVariants as commands
+use Rattle.server.specs.Commands.{IsCommandLine}
+use Rattle.server.specs.Lines.{ok_line}
+use Rattle.server.specs.Marks.{MarksAndApplies, IsUnmarked}
+use Rattle.server.specs.Replies.{IsReplyOver, IsRefusedOver, SeesBy}
+
+-- the text of a reply over what the pass sees then is written, or the line of a refusal
+abbrev pub TellsReply : Type 0 → ℕ → Request → View → OutputState → OutputState → Type 0
+TellsReply promised collectors request w was now =
+    ((text : List ℕ) × IsReplyOver promised w request text × Tells was now text)
+    ⊎ ((why : Unanswered) × IsRefusedOver promised collectors w request why × Tells was now (refusal_line (of_unanswered why)))
+
+-- a request is answered
+pub record AnswersRequest (promised : Type 0) (collectors : ℕ) (request : Request) (v w : View) (was now : OutputState) : Type 0 where
+  pub sees : SeesBy request v w
+  pub tells : TellsReply promised collectors request w was now
+
+-- a mark was set and what may be applied was; then the watermark was loaded and its line written
+pub record TellsMarked (promised : Type 0) (collector mark : ℕ) (v w : View) (was now : OutputState) : Type 0 where
+  pub then : View
+  pub begins : BeginsView v then
+  pub marked : promised → MarksAndApplies collector mark v then
+  pub loaded : w ≡ with_seen then 0 (watermark_of w)
+  pub rises : watermark_of then ≤ watermark_of w
+  pub tells : Tells was now (watermark_line (watermark_of w))
+
+-- a mark isn't set, or not all is applied then, and the line of why is written
+pub record TellsUnmarked (promised : Type 0) (collector mark : ℕ) (v w : View) (was now : OutputState) : Type 0 where
+  pub why : LoadStop
+  pub begins : BeginsView v w
+  pub unmarked : promised → IsUnmarked collector mark v w why
+  pub tells : Tells was now (refusal_line (of_load why))
+
+-- a mark is set, or why it isn't is told
+abbrev pub AnswersMark : Type 0 → ℕ → ℕ → View → View → OutputState → OutputState → Type 0
+AnswersMark promised collector mark v w was now = TellsMarked promised collector mark v w was now ⊎ TellsUnmarked promised collector mark v w was now
+
+-- the line asks nothing, which is told, or memory was wanting to read it
+pub record TellsNone (line : List ℕ) (v w : View) (was now : OutputState) : Type 0 where
+  pub same : w ≡ v
+  pub tells : (((command : Command) → IsCommandLine line command → ⊥) × Tells was now (refusal_line refusals.BadRequest)) ⊎ Tells was now (refusal_line refusals.OutOfMemory)
+
+-- How a line is answered behind which the next one is read: a request, a mark, or a line that asks nothing.
+abbrev pub AnswersOne : Type 0 → ℕ → List ℕ → View → View → OutputState → OutputState → Type 0
+AnswersOne promised collectors line v w was now =
+    ((request : Request) × IsCommandLine line (commands.Request request) × AnswersRequest promised collectors request v w was now)
+    ⊎ (((collector : ℕ) × (mark : ℕ) × IsCommandLine line (commands.Mark collector mark) × AnswersMark promised collector mark v w was now)
+    ⊎ TellsNone line v w was now)
+
+-- How a line is answered, by what the connection does then: nothing is told before a feed, and `ok` before an end.
+abbrev pub AnswersLine : Type 0 → ℕ → List ℕ → Next → View → View → OutputState → OutputState → Type 0
+AnswersLine promised collectors line nexts.Line v w was now = AnswersOne promised collectors line v w was now
+AnswersLine promised collectors line (nexts.Feed collector limit) v w was now = IsCommandLine line (commands.Feed collector limit) × (w ≡ v) × (now ≡ was)
+AnswersLine promised collectors line nexts.Quit v w was now = IsCommandLine line commands.Quit × (w ≡ v) × Tells was now ok_line
+AnswersLine promised collectors line nexts.Stop v w was now = IsCommandLine line commands.Stop × (w ≡ v) × Tells was now ok_line

@@ -1,0 +1,9 @@
+pub mod Commands
+pub mod CommandLaws
+pub mod Troubles
+pub mod Replies
+pub mod Marks
+pub mod Lines
+pub mod Answers
+pub mod Connections
+pub mod inner

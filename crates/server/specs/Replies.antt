@@ -1,0 +1,48 @@
+-- What a shared archive replies to a request, over what a pass sees once it is replied. Where nothing is promised of the archive, as of
+-- one in files, no answer of it is called right.
+use Rattle.std.specs.Prelude.{◌≡◌, ◌⊎◌, ⊤, ℕ, suc, ◌≤◌, List}
+use Rattle.route_meaning.specs.History.{settled}
+use Rattle.interleaving_core.specs.declared.query.Query.{Query}
+use Rattle.interleaving_core.specs.declared.query.Answer.{Answer}
+use Rattle.interleaving_core.specs.Does.{last_moment}
+use Rattle.board.specs.Views.{View, BeginsView, watermark_of, durable_of, with_seen}
+use Rattle.service.specs.AnswerLines.{skip_of, reply_text, watermark_line, count_line}
+use Rattle.service.specs.Replies.{IsAnswerText}
+use Rattle.service.specs.declared.request.Request.{Request}
+use Rattle.service.specs.declared.request.Request.TheVariants.{Question, Watermark, Durable}
+use Rattle.service.specs.declared.faults.Unanswered.{Unanswered}
+use Rattle.service.specs.declared.faults.Unanswered.TheVariants as whys
+
+-- these are the lines of some answer to the question
+pub record IsSomeAnswer (query : Query) (text : List ℕ) : Type 0 where
+  pub answer : Answer
+  pub told : text ≡ reply_text (skip_of query) answer
+
+-- they are the lines of some answer; of a promised archive, of the answer over what is applied in the past that the pass sees
+pub record IsAnswerOver (promised : Type 0) (v : View) (query : Query) (text : List ℕ) : Type 0 where
+  pub lines : IsSomeAnswer query text
+  pub right : promised → IsAnswerText v.past.history query text
+
+-- This is the text of the reply: to a question, the lines of its answer; else the line of the number that was seen.
+abbrev pub IsReplyOver : Type 0 → View → Request → List ℕ → Type 0
+IsReplyOver promised v (Question query) text = IsAnswerOver promised v query text
+IsReplyOver promised v Watermark text = text ≡ watermark_line (watermark_of v)
+IsReplyOver promised v (Durable collector) text = text ≡ count_line (durable_of v collector)
+
+-- Why there is no reply, of an archive with so many collectors: the question's last moment isn't below the settled watermark, which is told; there is no such collector; or the archive had another trouble.
+abbrev pub IsRefusedOver : Type 0 → ℕ → View → Request → Unanswered → Type 0
+IsRefusedOver promised collectors v (Question query) (whys.AboveWatermark told) = promised → (told ≡ settled v.past.history) × (settled v.past.history ≤ last_moment query)
+IsRefusedOver promised collectors v (Durable collector) whys.NoCollector = collectors ≤ collector
+IsRefusedOver promised collectors v request (whys.Trouble trouble) = ⊤
+IsRefusedOver promised collectors v request why = ⊥
+
+-- What the pass sees then: to answer a question, its past goes on and no number falls; else one number is loaded, which hasn't fallen, or nothing is.
+abbrev pub SeesBy : Request → View → View → Type 0
+SeesBy (Question query) v w = BeginsView v w
+SeesBy Watermark v w = (w ≡ with_seen v 0 (watermark_of w)) × (watermark_of v ≤ watermark_of w)
+SeesBy (Durable collector) v w = (w ≡ v) ⊎ ((w ≡ with_seen v (suc collector) (durable_of w collector)) × (durable_of v collector ≤ durable_of w collector))
+
+-- a question is told above the watermark only where it isn't below one that the pass had seen
+abbrev pub IsNotBelow : View → Request → Unanswered → Type 0
+IsNotBelow v (Question query) (whys.AboveWatermark told) = watermark_of v ≤ last_moment query
+IsNotBelow v request why = ⊤

@@ -1,0 +1,33 @@
+-- What calls on a shared archive tell, in the words of lines.
+use Rattle.archive_calls.specs.declared.refusal.Trouble.{Trouble as Told}
+use Rattle.archive_calls.specs.declared.refusal.Trouble.TheVariants as told
+use Rattle.query_threads.specs.declared.refusal.Trouble.{Trouble}
+use Rattle.query_threads.specs.declared.refusal.Trouble.TheVariants as troubles
+use Rattle.query_threads.specs.declared.refusal.AskError.{AskError}
+use Rattle.query_threads.specs.declared.refusal.AskError.TheVariants as asks
+use Rattle.query_threads.specs.declared.refusal.MarkError.{MarkError}
+use Rattle.query_threads.specs.declared.refusal.MarkError.TheVariants as marks
+use Rattle.service.specs.declared.faults.LoadStop.{LoadStop}
+use Rattle.service.specs.declared.faults.LoadStop.TheVariants as ends
+use Rattle.service.specs.declared.faults.Unanswered.{Unanswered}
+use Rattle.service.specs.declared.faults.Unanswered.TheVariants as whys
+
+-- what a shared archive couldn't do; one that is full is told as one without a page left
+abbrev pub of_shared : Trouble → Told
+of_shared troubles.Fault = told.Fault
+of_shared troubles.NeedsRecovery = told.NeedsRecovery
+of_shared (troubles.DamagedPage page) = told.BadNode page
+of_shared (troubles.DamagedBlock block) = told.Damaged block
+of_shared troubles.Full = told.PagesFull
+of_shared troubles.OutOfMemory = told.OutOfMemory
+
+-- why a question isn't answered
+abbrev pub of_ask : AskError → Unanswered
+of_ask (asks.AboveWatermark settled) = whys.AboveWatermark settled
+of_ask (asks.Trouble trouble) = whys.Trouble (of_shared trouble)
+
+-- why a mark isn't set
+abbrev pub of_mark : MarkError → LoadStop
+of_mark marks.NoCollector = ends.NoCollector
+of_mark marks.MarkBack = ends.MarkBack
+of_mark (marks.Trouble trouble) = ends.Trouble (of_shared trouble)

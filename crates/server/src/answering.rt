@@ -1,0 +1,150 @@
+//! The lines of a connection, answered by a shared archive.
+
+ghost use Rattle.std.specs.Prelude.{◌≡◌, IsSome};
+ghost use Rattle.board.specs.Past.{Among, GoesOnAs};
+ghost use Rattle.service.specs.AnswerLines.{number_line};
+ghost use Rattle.service.specs.Outputs.{Tells};
+ghost use Rattle.service.specs.Refusals.{refusal_line};
+ghost use Rattle.server.specs.Answers.{AnswersLine, AnswersMark, AnswersRequest};
+ghost use Rattle.server.specs.Lines.{of_request};
+
+use crate::command::{Command, read_command};
+use crate::marking::set_mark;
+use crate::replying::{load_watermark, reply_to};
+use board::{Named, Pass};
+use query_threads::{Gate, OnDisk, Reader, Shared, Store};
+use route_model::Mark;
+use service::{Output, Refusal, Request, RequestError, write_refusal};
+use std::alloc::Global;
+use std::io::Write;
+use std::sync::Wait;
+use std::sync::atomic::{AtomicU64, Ordering};
+
+/// What a connection does behind a line.
+#[derive(Clone, Copy, Debug, PartialEq, Eq)]
+pub enum Next {
+    /// It reads the next line.
+    Line,
+    /// It takes the octets behind the line in, as records of the collector of this number, in batches of at most so many
+    /// admissions.
+    Feed(u8, u16),
+    /// It ends.
+    Quit,
+    /// It ends, and the server with it.
+    Stop,
+}
+
+/// The refusal of a line that isn't read.
+fn refusal_of(why: RequestError) -> Refusal
+    ensures { result ≡ of_request why }
+{
+    match why {
+        RequestError::BadRequest => Refusal::BadRequest,
+        RequestError::OutOfMemory => Refusal::OutOfMemory,
+    }
+}
+
+/// The number of a question: the first has 1. Other requests have 0.
+fn number_of(numbers: &AtomicU64, request: &Request) -> u64 {
+    match request {
+        Request::Question(_) => numbers.fetch_add(1, Ordering::SeqCst).wrapping_add(1),
+        Request::Watermark | Request::Durable(_) => 0,
+    }
+}
+
+/// Writes a letter, a bar, the number and LF.
+fn write_number_line<W: Write>(out: &mut Output<W>, letter: &str, number: u64)
+    ensures line { Tells out.old out.new (number_line letter.now number) }
+{
+    out.text(letter);
+    out.text("|");
+    out.number(number);
+    out.text("\n");
+}
+
+/// Answers a request: writes the lines of the reply, or the line of the refusal.
+fn answer_request<A: Store, N: Named + OnDisk<A::Disk>, G: Gate + Drop, W: Write>(
+    rt: &impl Wait,
+    alloc: Global,
+    shared: &Shared<A, N, G>,
+    pass: &mut Pass<N>,
+    reader: &mut Reader<A, N>,
+    numbers: &AtomicU64,
+    request: Request,
+    out: &mut Output<W>,
+)
+    requires reader { IsSome N.disk → Among reader.old pass.old.past.blocks }
+    ensures reader { IsSome N.disk → Among reader.new pass.new.past.blocks }
+    ensures answers { AnswersRequest (IsSome N.disk) shared.now.collectors request pass.old pass.new out.old out.new }
+{
+    let number = number_of(numbers, &request);
+    match reply_to(rt, alloc, shared, pass, reader, number, request) {
+        Ok(text) => out.text(text.as_str()),
+        Err(why) => write_refusal(out, &Refusal::from(why)),
+    }
+}
+
+/// Raises a mark, applies what may be applied, and writes the line of the watermark, or that of the refusal.
+fn answer_mark<A: Store, N: Named + OnDisk<A::Disk>, G: Gate + Drop, W: Write>(
+    rt: &impl Wait,
+    shared: &Shared<A, N, G>,
+    pass: &mut Pass<N>,
+    collector: u8,
+    mark: Mark,
+    out: &mut Output<W>,
+)
+    ensures answers { AnswersMark (IsSome N.disk) collector mark pass.old pass.new out.old out.new }
+    ensures goes_on { GoesOnAs pass.old.past pass.new.past }
+{
+    match set_mark(rt, shared, pass, collector, mark) {
+        Ok(()) => {
+            let settled = load_watermark(shared, pass);
+            write_number_line(out, "S", settled);
+        }
+        Err(why) => write_refusal(out, &Refusal::from(why)),
+    }
+}
+
+/// Answers a line of a connection, which is without its end, and tells what the connection does then. A line that is none
+/// is refused, and the next one is read.
+pub fn answer_line<A: Store, N: Named + OnDisk<A::Disk>, G: Gate + Drop, W: Write>(
+    rt: &impl Wait,
+    alloc: Global,
+    shared: &Shared<A, N, G>,
+    pass: &mut Pass<N>,
+    reader: &mut Reader<A, N>,
+    numbers: &AtomicU64,
+    line: &[u8],
+    out: &mut Output<W>,
+) -> Next
+    requires reader { IsSome N.disk → Among reader.old pass.old.past.blocks }
+    ensures reader { IsSome N.disk → Among reader.new pass.new.past.blocks }
+    ensures answers { AnswersLine (IsSome N.disk) shared.now.collectors line.now result pass.old pass.new out.old out.new }
+{
+    let command = match read_command(alloc, line) {
+        Ok(command) => command,
+        Err(why) => {
+            write_refusal(out, &refusal_of(why));
+            return Next::Line;
+        }
+    };
+    match command {
+        Command::Request(request) => {
+            answer_request(rt, alloc, shared, pass, reader, numbers, request, out);
+            Next::Line
+        }
+        Command::Mark(collector, mark) => {
+            answer_mark(rt, shared, pass, collector, mark, out);
+            Next::Line
+        }
+        Command::Feed(collector, limit) => Next::Feed(collector, limit),
+        Command::Quit => {
+            out.text("ok\n");
+            Next::Quit
+        }
+        Command::Stop => {
+            out.text("ok\n");
+            Next::Stop
+        }
+    }
+}

@@ -1,0 +1,180 @@
+//! What a shared archive replies to requests.
+
+ghost use Rattle.std.specs.Prelude.{◌≡◌, ◌≤◌, ℕ, IfOk, IfErr, IfSome, IsNone, IsSome, ◌↔◌, suc, string_bytes};
+ghost use Rattle.board.specs.Past.{Among};
+ghost use Rattle.board.specs.Views.{BeginsView, with_seen, watermark_of, durable_of};
+ghost use Rattle.interleaving_core.specs.Does.{last_moment};
+ghost use Rattle.service.specs.AnswerLines.{skip_of, reply_text, watermark_line, count_line};
+ghost use Rattle.server.specs.Replies.{IsAnswerOver, IsReplyOver, IsRefusedOver, IsNotBelow, SeesBy};
+
+use crate::troubles::unanswered;
+use archive_calls::Trouble;
+use board::{Named, Pass};
+use interleaving_core::{Answer, Query};
+use query_threads::{Gate, OnDisk, Reader, Shared, Store};
+use service::{Request, Unanswered, write_answer, write_events};
+use std::alloc::{AllocError, Global};
+use std::sync::Wait;
+
+/// How many events the question skips.
+fn skip_of(query: &Query) -> u64
+    ensures skip { result ≡ skip_of query.now }
+{
+    match query {
+        Query::Rows(_) => 0,
+        Query::Events(question) => question.skip,
+    }
+}
+
+/// The lines of an answer to a question that skips so many events.
+fn text_of(alloc: Global, skip: u64, answer: &Answer) -> Result<String, AllocError>
+    ensures text { IfOk result (λ text. string_bytes text ≡ reply_text skip answer.now) }
+{
+    let mut text = String::new(alloc);
+    match answer {
+        Answer::Rows(rows) => {
+            write_answer(&mut text, rows)?;
+            Ok(text)
+        }
+        Answer::Events(events) => {
+            write_events(&mut text, skip, events)?;
+            Ok(text)
+        }
+    }
+}
+
+/// The line of a watermark.
+fn watermark_text(alloc: Global, settled: u64) -> Result<String, AllocError>
+    ensures text { IfOk result (λ text. string_bytes text ≡ watermark_line settled) }
+{
+    format!(in alloc; "S|{settled}\n")
+}
+
+/// The line of a count of records.
+fn count_text(alloc: Global, count: u64) -> Result<String, AllocError>
+    ensures text { IfOk result (λ text. string_bytes text ≡ count_line count) }
+{
+    format!(in alloc; "N|{count}\n")
+}
+
+/// The lines of the answer to a question, over what the pass sees then.
+fn answer_question<A: Store, N: Named + OnDisk<A::Disk>, G: Gate + Drop>(
+    rt: &impl Wait,
+    alloc: Global,
+    shared: &Shared<A, N, G>,
+    pass: &mut Pass<N>,
+    reader: &mut Reader<A, N>,
+    number: u64,
+    query: Query,
+) -> Result<String, Unanswered>
+    requires reader { IsSome N.disk → Among reader.old pass.old.past.blocks }
+    ensures reader { IsSome N.disk → Among reader.new pass.new.past.blocks }
+    ensures begins { BeginsView pass.old pass.new }
+    ensures answered { IfOk result (λ text. IsAnswerOver (IsSome N.disk) pass.new query (string_bytes text)) }
+    ensures refused { IfErr result (IsRefusedOver (IsSome N.disk) shared.now.collectors pass.new (Request.Question query)) }
+    ensures not_refused { IsSome N.disk → IfErr result (IsNotBelow pass.old (Request.Question query)) }
+{
+    let skip = skip_of(&query);
+    let answer = match shared.ask(rt, pass, reader, number, query) {
+        Ok(answer) => answer,
+        Err(refusal) => return Err(unanswered(refusal)),
+    };
+    match text_of(alloc, skip, &answer) {
+        Ok(text) => Ok(text),
+        Err(_) => Err(Unanswered::Trouble(Trouble::OutOfMemory)),
+    }
+}
+
+/// The watermark as the pass sees it then.
+pub(crate) fn load_watermark<A: Store, N: Named + OnDisk<A::Disk>, G: Gate + Drop>(
+    shared: &Shared<A, N, G>,
+    pass: &mut Pass<N>,
+) -> u64
+    ensures number { result ≡ watermark_of pass.new }
+    ensures sees { SeesBy Request.Watermark pass.old pass.new }
+{
+    shared.watermark(pass)
+}
+
+/// How many records of the collector are admitted, as the pass sees it then, if there is such a collector.
+fn load_count<A: Store, N: Named + OnDisk<A::Disk>, G: Gate + Drop>(
+    shared: &Shared<A, N, G>,
+    pass: &mut Pass<N>,
+    collector: u8,
+) -> Option<u64>
+    ensures number { IfSome result (λ count. count ≡ durable_of pass.new collector) }
+    ensures sees { SeesBy (Request.Durable collector) pass.old pass.new }
+    ensures past { pass.new.past ≡ pass.old.past }
+    ensures none { IsNone result ↔ (shared.now.collectors ≤ collector) }
+{
+    if collector >= shared.collectors() {
+        return None;
+    }
+    Some(shared.durable(pass, collector))
+}
+
+/// The line of the watermark, as the pass sees it then.
+fn tell_watermark<A: Store, N: Named + OnDisk<A::Disk>, G: Gate + Drop>(
+    alloc: Global,
+    shared: &Shared<A, N, G>,
+    pass: &mut Pass<N>,
+) -> Result<String, Unanswered>
+    ensures told { IfOk result (λ text. IsReplyOver (IsSome N.disk) pass.new Request.Watermark (string_bytes text)) }
+    ensures refused { IfErr result (IsRefusedOver (IsSome N.disk) shared.now.collectors pass.new Request.Watermark) }
+    ensures sees { SeesBy Request.Watermark pass.old pass.new }
+{
+    let settled = load_watermark(shared, pass);
+    match watermark_text(alloc, settled) {
+        Ok(text) => Ok(text),
+        Err(_) => Err(Unanswered::Trouble(Trouble::OutOfMemory)),
+    }
+}
+
+/// The line of how many records of the collector are admitted, as the pass sees it then.
+fn tell_count<A: Store, N: Named + OnDisk<A::Disk>, G: Gate + Drop>(
+    alloc: Global,
+    shared: &Shared<A, N, G>,
+    pass: &mut Pass<N>,
+    collector: u8,
+) -> Result<String, Unanswered>
+    ensures told { IfOk result (λ text. IsReplyOver (IsSome N.disk) pass.new (Request.Durable collector) (string_bytes text)) }
+    ensures refused { IfErr result (IsRefusedOver (IsSome N.disk) shared.now.collectors pass.new (Request.Durable collector)) }
+    ensures sees { SeesBy (Request.Durable collector) pass.old pass.new }
+    ensures past { pass.new.past ≡ pass.old.past }
+{
+    let Some(count) = load_count(shared, pass, collector) else {
+        return Err(Unanswered::NoCollector);
+    };
+    match count_text(alloc, count) {
+        Ok(text) => Ok(text),
+        Err(_) => Err(Unanswered::Trouble(Trouble::OutOfMemory)),
+    }
+}
+
+/// What is replied to a request, over what the pass sees then, or why there is no reply. A question takes the lock for each
+/// of its descents; `watermark` and `durable` wait for nobody, and tell the board's numbers. `number` is the one by which
+/// the gate is told of a question.
+pub fn reply_to<A: Store, N: Named + OnDisk<A::Disk>, G: Gate + Drop>(
+    rt: &impl Wait,
+    alloc: Global,
+    shared: &Shared<A, N, G>,
+    pass: &mut Pass<N>,
+    reader: &mut Reader<A, N>,
+    number: u64,
+    request: Request,
+) -> Result<String, Unanswered>
+    requires reader { IsSome N.disk → Among reader.old pass.old.past.blocks }
+    ensures reader { IsSome N.disk → Among reader.new pass.new.past.blocks }
+    ensures replied { IfOk result (λ text. IsReplyOver (IsSome N.disk) pass.new request (string_bytes text)) }
+    ensures refused { IfErr result (IsRefusedOver (IsSome N.disk) shared.now.collectors pass.new request) }
+    ensures sees { SeesBy request pass.old pass.new }
+    ensures not_refused { IsSome N.disk → IfErr result (IsNotBelow pass.old request) }
+{
+    match request {
+        Request::Question(query) => {
+            answer_question(rt, alloc, shared, pass, reader, number, query)
+        }
+        Request::Watermark => tell_watermark(alloc, shared, pass),
+        Request::Durable(collector) => tell_count(alloc, shared, pass, collector),
+    }
+}
