@@ -7,6 +7,8 @@ use Rattle.version_model.specs.Looks.{IsReached}
 use Rattle.version_model.specs.Pages.{PageNode, CurrentLeaf}
 use Rattle.tsb_node.specs.declared.column.Current.{Current}
 use Rattle.tsb_node.specs.Views.{PageSays}
+use Rattle.tsb_walk.specs.declared.error.NodeError.{NodeError}
+use Rattle.tsb_walk.specs.declared.error.NodeError.TheVariants.{BadNode, Damaged, Fault, OnceFault, NeedsRecovery, OutOfMemory}
 use Rattle.tsb_walk.specs.declared.looks.Reached.{Reached}
 use Rattle.tsb_walk.specs.declared.looks.Reached.TheVariants.{At, Past, End}
 use Rattle.tsb_walk.specs.declared.page_looks.ColumnAt.{ColumnAt}
@@ -17,7 +19,8 @@ use Rattle.tsb_walk.specs.Answers.{reached_as}
 use Rattle.tsb_walk.specs.Looked.{GoesOnFrom}
 use Rattle.tsb_walk.specs.Shown.{Says, HasKey, keys_at}
 use Rattle.tsb_walk.specs.PageWays.{PageWay, IsLower, IsNoColumn, IsNoLeaf, IsBadKeyNode}
-use Rattle.tsb_walk.specs.PageLooks.{InCurrentLeaf, InPastOf, IsBadLook, bad_key_node, bad_column, bad_leaf}
+use Rattle.tsb_walk.specs.PageLooks.{InCurrentLeaf, InPastOf, IsReadFor, IsBadLook, bad_key_node, bad_column, bad_leaf, in_leaf as read_in_leaf}
+use Rattle.tsb_walk.specs.Refusals.{IsDamage, NeedsNoDevice}
 use Rattle.tsb_walk.specs.inner.PageSteps.{IsChildIn, IsSpotOf}
 use Rattle.tsb_walk.specs.inner.ColumnSpots.{IsSpotAt, IsThere}
 
@@ -31,6 +34,15 @@ said_here shown page octets node at says = subst (λ (o : List ℕ). PageSays o 
 
 pub lower_is : (shown : List (List ℕ)) (octets : List ℕ) (place next : PagePlace) (key : ℕ) → slice_get shown place.page ≡ Some octets → IsChildIn octets place key next → IsLower shown key place next
 lower_is shown octets place next key at is = record { children = is.children; says = record { octets = octets; at = at; says = is.says }; child = is.child; level = is.level; has = is.has }
+
+-- damage of a page needs no device
+pub no_device : (e : NodeError) → IsDamage e → NeedsNoDevice e
+no_device (BadNode page) d = d
+no_device (Damaged block) d = absurd d
+no_device Fault d = absurd d
+no_device OnceFault d = absurd d
+no_device NeedsRecovery d = absurd d
+no_device OutOfMemory d = absurd d
 
 -- ---- where the way comes to
 
@@ -60,6 +72,11 @@ module _ (shown : List (List ℕ)) (root : PagePlace) (key stamp : ℕ) (at : Co
         leaf = subst (λ (p : ℕ). Says shown p (CurrentLeaf (keys_at at.column) is.start versions)) there.1 (subst (λ (b : ℕ). Says shown leaf.page (CurrentLeaf (keys_at at.column) b versions)) there.0 says);
         from = there.2;
       }
+
+  pub read_leaf : (leaf : Current) → at.spot ≡ InLeaf leaf → IsReadFor shown root key stamp leaf.page
+  read_leaf leaf e =
+      let there : spot_of (InLeaf leaf) = subst spot_of e is.there in
+      subst (IsReadFor shown root key stamp) (sym there.1) (read_in_leaf at.column is.parts is.start is.current is.comes there.2)
 
   pub in_past : (place : Place) → at.spot ≡ InPast place → InPastOf shown root key stamp place
   in_past place e =

@@ -5,7 +5,7 @@ use Rattle.tsb_walk.specs.declared.looks.KeyVersions.{KeyVersions}
 use Rattle.tsb_walk.specs.declared.looks.Parted.TheVariants as parted
 use Rattle.tsb_walk.specs.declared.page_place.PagePlace.{PagePlace}
 use Rattle.tsb_walk.specs.HistLooks.{TellsPart, ComesToTelling}
-use Rattle.tsb_walk.specs.PageLooks.{IsPartLookOf, InPastOf}
+use Rattle.tsb_walk.specs.PageLooks.{IsPartLookOf, InCurrentLeaf, InPastOf}
 use Rattle.tsb_walk.specs.Ways.{ComesToDamage, ComesToUnknown}
 use Rattle.version_model.specs.declared.part.Place.{Place}
 use Rattle.version_model.specs.Versions.{Version}
@@ -55,3 +55,7 @@ pub record MeetsDamage (shown : List (List ℕ)) (known : ℕ → Option (List �
   pub place : Place
   pub past : InPastOf shown root key from place
   pub damage : ComesToDamage known count key from place block
+
+-- for some stamp the way of the key comes to the current leaf, which is what it is to be, or to a place in the column's past
+abbrev pub ComesToPart : List (List ℕ) → PagePlace → ℕ → Type 0
+ComesToPart shown root key = (from : ℕ) × (((column : PagePlace) × (versions : List Version) × InCurrentLeaf shown root key from column versions) ⊎ ((place : Place) × InPastOf shown root key from place))

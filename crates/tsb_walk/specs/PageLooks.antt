@@ -54,6 +54,11 @@ abbrev pub IsFoundLookOf : List (List ℕ) → PagePlace → ℕ → ℕ → Des
 IsFoundLookOf shown root key stamp (descended.Here found) = (column : PagePlace) × (versions : List Version) × InCurrentLeaf shown root key stamp column versions × Answers versions key stamp (found_as found)
 IsFoundLookOf shown root key stamp (descended.InBlock place) = InPastOf shown root key stamp place
 
+-- The page is one that a look reads: of a key node or of the column on the way of the key, or of the column's current leaf, where the stamp isn't before its start.
+pub data IsReadFor (shown : List (List ℕ)) (root : PagePlace) (key stamp : ℕ) : ℕ → Type 0 where
+  on_way : (place : PagePlace) → PageWay shown key root place → IsReadFor shown root key stamp place.page
+  in_leaf : (column : PagePlace) (parts : List Part) (start current : ℕ) → ComesToColumn shown root key column parts start current → start ≤ stamp → IsReadFor shown root key stamp current
+
 -- The page is the last one of the way of the key that isn't what it is to be: a key node of its level and keys; the column; or the current leaf, where the stamp is in it.
 pub data IsBadLook (shown : List (List ℕ)) (root : PagePlace) (key stamp : ℕ) : ℕ → Type 0 where
   bad_key_node : (last : PagePlace) → PageWay shown key root last → 1 < last.level → IsNoKeyNode shown last → IsBadLook shown root key stamp last.page

@@ -41,6 +41,15 @@ LookRefusal down OnceFault = ⊥
 LookRefusal down NeedsRecovery = down ≡ true
 LookRefusal down OutOfMemory = ⊤
 
+-- a page is at fault or memory is wanting: no device failed, and the journal needn't be opened again
+abbrev pub NeedsNoDevice : NodeError → Type 0
+NeedsNoDevice (BadNode page) = ⊤
+NeedsNoDevice (Damaged block) = ⊥
+NeedsNoDevice Fault = ⊥
+NeedsNoDevice OnceFault = ⊥
+NeedsNoDevice NeedsRecovery = ⊥
+NeedsNoDevice OutOfMemory = ⊤
+
 -- the page alone is at fault
 abbrev pub IsDamage : NodeError → Type 0
 IsDamage (BadNode page) = ⊤

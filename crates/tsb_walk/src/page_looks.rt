@@ -13,9 +13,9 @@ ghost use Rattle.tsb_walk.specs.Answers.{found_as, reached_as};
 ghost use Rattle.tsb_walk.specs.Borders.{ReachesTo};
 ghost use Rattle.tsb_walk.specs.Looked.{IsLooked, IsParted, IsDescended, GoesOnFrom, LooksOn, LooksAt, PartsAt, DescendsAt, TellsAll};
 ghost use Rattle.tsb_walk.specs.Shown.{Says, StandsShown, keys_at, HasKey};
-ghost use Rattle.tsb_walk.specs.PageWays.{IsNoColumn, IsNoLeaf};
-ghost use Rattle.tsb_walk.specs.PageLooks.{InCurrentLeaf, IsLookOf, IsPartLookOf, IsFoundLookOf, IsBadLook};
-ghost use Rattle.tsb_walk.specs.Refusals.{OnlyReads, WalkRefusal, LookRefusal, IsDamage};
+ghost use Rattle.tsb_walk.specs.PageWays.{PageWay, IsNoColumn, IsNoLeaf};
+ghost use Rattle.tsb_walk.specs.PageLooks.{InCurrentLeaf, IsLookOf, IsPartLookOf, IsFoundLookOf, IsReadFor, IsBadLook};
+ghost use Rattle.tsb_walk.specs.Refusals.{OnlyReads, WalkRefusal, LookRefusal, IsDamage, NeedsNoDevice};
 ghost use Rattle.tsb_walk.specs.inner.ColumnSpots.{IsSpotAt, IsThere, HasPoint};
 
 use crate::error::NodeError;
@@ -76,6 +76,8 @@ fn column_at<P: Pages>(
     ensures point { IfOk result (λ at. HasPoint key stamp at.spot) }
     ensures bad { (start : Start) (shown : List (List ℕ)) → P.shows pages.old start shown → (page : ℕ) → result ≡ Err (NodeError.BadNode page) → IsBadLook shown root.now key stamp page }
     ensures held { ((n : ℕ) → n < P.homes pages.old → IsListed n (P.named pages.old)) → IfErr result IsDamage }
+    ensures held_on_way { (start : Start) (shown : List (List ℕ)) → P.shows pages.old start shown
+        → ((place : PagePlaceValue) → PageWay shown key root.now place → place.page < P.homes pages.old → IsListed place.page (P.named pages.old)) → IfErr result IsDamage }
     ensures refused { IfErr result (WalkRefusal (P.down pages.old)) }
     ensures same { OnlyReads P.Pages pages.old pages.new (result ≡ Err NodeError.Fault) }
 {
@@ -90,6 +92,7 @@ fn leaf_refusal(fault: ReadFault, page: u64) -> NodeError
     ensures memory { result ≡ NodeError.OutOfMemory → fault ≡ ReadFault.Memory }
     ensures refused { (down : Bool) → LookRefusal down result }
     ensures never { result ≡ NodeError.Fault → ⊥ }
+    ensures quiet { NeedsNoDevice result }
 {
     match fault {
         ReadFault::NotANode => NodeError::BadNode(page),
@@ -113,6 +116,7 @@ fn next_here<P: Pages>(
     ensures bad { (start : Start) (shown : List (List ℕ)) → P.shows pages.old start shown → (page : ℕ) → result ≡ Err (NodeError.BadNode page) → (current.now.page ≡ page) × IsNoLeaf shown column.now current.now.start page }
     ensures memory { (start : Start) (shown : List (List ℕ)) → P.shows pages.old start shown → (current.now.page < P.homes pages.old → IsListed current.now.page (P.named pages.old)) → result ≡ Err NodeError.OutOfMemory
         → (versions : List Version) × Says shown current.now.page (CurrentLeaf (keys_at column.now) current.now.start versions) }
+    ensures held { (current.now.page < P.homes pages.old → IsListed current.now.page (P.named pages.old)) → IfErr result NeedsNoDevice }
     ensures refused { IfErr result (LookRefusal (P.down pages.old)) }
     ensures same { OnlyReads P.Pages pages.old pages.new (result ≡ Err NodeError.Fault) }
 {
@@ -141,6 +145,7 @@ fn part_here<P: Pages>(
     ensures bad { (start : Start) (shown : List (List ℕ)) → P.shows pages.old start shown → (page : ℕ) → result ≡ Err (NodeError.BadNode page) → (current.now.page ≡ page) × IsNoLeaf shown column.now current.now.start page }
     ensures memory { (start : Start) (shown : List (List ℕ)) → P.shows pages.old start shown → (current.now.page < P.homes pages.old → IsListed current.now.page (P.named pages.old)) → result ≡ Err NodeError.OutOfMemory
         → (versions : List Version) × Says shown current.now.page (CurrentLeaf (keys_at column.now) current.now.start versions) }
+    ensures held { (current.now.page < P.homes pages.old → IsListed current.now.page (P.named pages.old)) → IfErr result NeedsNoDevice }
     ensures refused { IfErr result (LookRefusal (P.down pages.old)) }
     ensures same { OnlyReads P.Pages pages.old pages.new (result ≡ Err NodeError.Fault) }
 {
@@ -168,6 +173,7 @@ fn found_here<P: Pages>(
     ensures bad { (start : Start) (shown : List (List ℕ)) → P.shows pages.old start shown → (page : ℕ) → result ≡ Err (NodeError.BadNode page) → (current.now.page ≡ page) × IsNoLeaf shown column.now current.now.start page }
     ensures memory { (start : Start) (shown : List (List ℕ)) → P.shows pages.old start shown → (current.now.page < P.homes pages.old → IsListed current.now.page (P.named pages.old)) → result ≡ Err NodeError.OutOfMemory
         → (versions : List Version) × Says shown current.now.page (CurrentLeaf (keys_at column.now) current.now.start versions) }
+    ensures held { (current.now.page < P.homes pages.old → IsListed current.now.page (P.named pages.old)) → IfErr result NeedsNoDevice }
     ensures refused { IfErr result (LookRefusal (P.down pages.old)) }
     ensures same { OnlyReads P.Pages pages.old pages.new (result ≡ Err NodeError.Fault) }
 {
@@ -186,7 +192,8 @@ fn found_here<P: Pages>(
 ///
 /// The first page on the way that isn't what it is to be is called bad: a key node, the column, or its current leaf where the
 /// stamp lies in it. A failure of the disk, the need of opening and want of memory refuse it too; where images of the pages are
-/// held, want of memory is told only where the current leaf is what it is to be. Pages are only read, whatever is answered.
+/// held, want of memory is told only where the current leaf is what it is to be. No page is asked for but those on the way and,
+/// where the stamp lies in it, the current leaf. Pages are only read, whatever is answered.
 pub fn next<P: Pages>(
     pages: &mut P,
     alloc: Global,
@@ -204,6 +211,8 @@ pub fn next<P: Pages>(
     ensures onward { IfOk result (LooksOn from) }
     ensures memory { (start : Start) (shown : List (List ℕ)) → P.shows pages.old start shown → ((n : ℕ) → n < P.homes pages.old → IsListed n (P.named pages.old)) → result ≡ Err NodeError.OutOfMemory
         → (column : PagePlaceValue) × (versions : List Version) × InCurrentLeaf shown root.now from stamp column versions }
+    ensures held { (start : Start) (shown : List (List ℕ)) → P.shows pages.old start shown
+        → ((page : ℕ) → IsReadFor shown root.now from stamp page → page < P.homes pages.old → IsListed page (P.named pages.old)) → IfErr result NeedsNoDevice }
     ensures refused { IfErr result (LookRefusal (P.down pages.old)) }
     ensures same { OnlyReads P.Pages pages.old pages.new (result ≡ Err NodeError.Fault) }
 {
@@ -239,6 +248,8 @@ pub fn part<P: Pages>(
     ensures told { IfOk result TellsAll }
     ensures memory { (start : Start) (shown : List (List ℕ)) → P.shows pages.old start shown → ((n : ℕ) → n < P.homes pages.old → IsListed n (P.named pages.old)) → result ≡ Err NodeError.OutOfMemory
         → (column : PagePlaceValue) × (versions : List Version) × InCurrentLeaf shown root.now key from column versions }
+    ensures held { (start : Start) (shown : List (List ℕ)) → P.shows pages.old start shown
+        → ((page : ℕ) → IsReadFor shown root.now key from page → page < P.homes pages.old → IsListed page (P.named pages.old)) → IfErr result NeedsNoDevice }
     ensures refused { IfErr result (LookRefusal (P.down pages.old)) }
     ensures same { OnlyReads P.Pages pages.old pages.new (result ≡ Err NodeError.Fault) }
 {
@@ -272,6 +283,8 @@ pub fn descend<P: Pages>(
     ensures point { IfOk result (DescendsAt key stamp) }
     ensures memory { (start : Start) (shown : List (List ℕ)) → P.shows pages.old start shown → ((n : ℕ) → n < P.homes pages.old → IsListed n (P.named pages.old)) → result ≡ Err NodeError.OutOfMemory
         → (column : PagePlaceValue) × (versions : List Version) × InCurrentLeaf shown root.now key stamp column versions }
+    ensures held { (start : Start) (shown : List (List ℕ)) → P.shows pages.old start shown
+        → ((page : ℕ) → IsReadFor shown root.now key stamp page → page < P.homes pages.old → IsListed page (P.named pages.old)) → IfErr result NeedsNoDevice }
     ensures refused { IfErr result (LookRefusal (P.down pages.old)) }
     ensures same { OnlyReads P.Pages pages.old pages.new (result ≡ Err NodeError.Fault) }
 {

@@ -1,5 +1,5 @@
 use Rattle.std.proofs.Common.{rules, ◌≡◌, inl, inr, Err, ap, subst}
-use Rattle.tsb_walk.specs.declared.error.NodeError.TheVariants.{Damaged}
+use Rattle.tsb_walk.specs.declared.error.NodeError.TheVariants.{Damaged, OutOfMemory}
 use Rattle.tsb_walk.specs.Refusals.{of_block}
 use Rattle.tsb_walk.specs.PageLooks.{IsPartLookOf}
 use Rattle.tsb_walk.proofs.Gathering.{place_known, of_damaged}
@@ -69,3 +69,24 @@ returns-in_err-part-in-InBlock-clause-inside g c = c.hist_part.ensures.inside
 
 pub returns-in_ok-part-in-InBlock-clause-inside : goal.returns-in_ok-part-in-InBlock-clause-inside
 returns-in_ok-part-in-InBlock-clause-inside g c = c.hist_part.ensures.inside
+
+pub returns-in-Here-clause-comes : goal.returns-in-Here-clause-comes
+returns-in-Here-clause-comes g c = λ start shown shows.
+    let here = subst (IsPartLookOf shown c.args.root.now c.args.key c.args.from) c.in-Here.is (c.in_ok-part.ensures.checked start shown shows) in
+    (c.args.from, inl (here.0, here.1, here.2))
+
+pub returns-in_ok-part-in-InBlock-clause-comes : goal.returns-in_ok-part-in-InBlock-clause-comes
+returns-in_ok-part-in-InBlock-clause-comes g c = λ start shown shows.
+    let past = subst (IsPartLookOf shown c.args.root.now c.args.key c.args.from) c.in-InBlock.is (c.in_ok-part.ensures.checked start shown shows) in
+    (c.args.from, inr (c.in-InBlock.place, past))
+
+pub returns-in_err-part-clause-memory : goal.returns-in_err-part-clause-memory
+returns-in_err-part-clause-memory g c = λ start shown shows held e.
+    let d : c.part.result ≡ Err OutOfMemory = search rules in
+    let here = c.part.ensures.memory start shown shows held d in
+    (c.args.from, inl here)
+
+pub returns-in_err-part-in-InBlock-clause-memory : goal.returns-in_err-part-in-InBlock-clause-memory
+returns-in_err-part-in-InBlock-clause-memory g c = λ start shown shows held e.
+    let past = subst (IsPartLookOf shown c.args.root.now c.args.key c.args.from) c.in-InBlock.is (c.in_ok-part.ensures.checked start shown shows) in
+    (c.args.from, inr (c.in-InBlock.place, past))

@@ -1,10 +1,11 @@
-use Rattle.std.proofs.Common.{rules, ◌≡◌, ◌∙◌, inl, inr, Err, ap, refl, sym, subst, filter, ℕ, Option, arith}
+use Rattle.std.proofs.Common.{rules, ◌≡◌, ◌∙◌, inl, inr, Err, ap, refl, sym, subst, filter, ℕ, ◌<◌, Option, arith}
 use Rattle.once_store.specs.Readers.{reader_disk}
 use Rattle.version_model.specs.Ranges.{end_or}
 use Rattle.version_model.specs.Looks.{is_of}
 use Rattle.version_model.specs.Entries.{versions_of}
 use Rattle.tsb_walk.proofs.Gathering.{known_on, none_gathered, gathered}
-use Rattle.tsb_walk.specs.declared.error.NodeError.TheVariants.{Damaged}
+use Rattle.page_journal.specs.Recovers.{IsListed}
+use Rattle.tsb_walk.specs.declared.error.NodeError.TheVariants.{Damaged, OutOfMemory}
 use Rattle.tsb_walk.specs.AllVersions.{IsPartOfTree, MeetsUnknown, MeetsDamage}
 use Rattle.tsb_walk.proofs.Made.{by_same, none_yet, one_more, all_made}
 use Rattle.tsb_walk.proofs.Untouched.{reads_none, reads_then, reads_as}
@@ -179,3 +180,16 @@ returns-in-None-clause-reads_on g c = λ start shown shows well.
 
 pub returns-in-None-clause-inside : goal.returns-in-None-clause-inside
 returns-in-None-clause-inside g c = λ k. c.next_part.ensures.inside (c.loop-all.invariant.inside k)
+
+pub returns-in_err-part-clause-memory : goal.returns-in_err-part-clause-memory
+returns-in_err-part-clause-memory g c = λ start shown shows held e.
+    let i = c.loop-all.invariant in
+    let shows' = i.pages.shown start shown shows in
+    let d : c.next_part.result ≡ Err OutOfMemory = search rules in
+    let held' : (n : ℕ) → n < g.P.Pages.homes c.loop-all.pages → IsListed n (g.P.Pages.named c.loop-all.pages) =
+    λ n low. subst (IsListed n) (sym i.pages.named) (held n (subst (λ h. n < h) i.pages.homes low)) in
+    c.next_part.ensures.memory start shown shows' held' d
+
+pub returns-in_err-append-clause-memory : goal.returns-in_err-append-clause-memory
+returns-in_err-append-clause-memory g c = λ start shown shows held e.
+    c.in_ok-part.ensures.comes start shown (c.loop-all.invariant.pages.shown start shown shows)

@@ -32,3 +32,17 @@ returns-in_err-spot-clause-held g c = λ listed.
     let h = c.in_err-spot.ensures.held (λ inside. subst (IsListed page) (sym same.named) (listed page (omega (arith, inside, same.homes)))) in
     let d : c.from_residual-in_err-spot.result ≡ Err c.in_err-spot.field-0.0 = search rules in
     subst (λ (r : Result ColumnAt NodeError). IfErr r IsDamage) (sym d) h
+
+pub returns-in_err-column-clause-held_on_way : goal.returns-in_err-column-clause-held_on_way
+returns-in_err-column-clause-held_on_way g c = λ start shown shows listed.
+    let h = c.in_err-column.ensures.held_on_way start shown shows (λ place way above. listed place way) in
+    let d : c.from_residual.result ≡ Err c.in_err-column.field-0.0 = search rules in
+    subst (λ (r : Result ColumnAt NodeError). IfErr r IsDamage) (sym d) h
+
+pub returns-in_err-spot-clause-held_on_way : goal.returns-in_err-spot-clause-held_on_way
+returns-in_err-spot-clause-held_on_way g c = λ start shown shows listed.
+    let same = c.locate.ensures.same in
+    let column = c.in_ok-column.column in
+    let h = c.in_err-spot.ensures.held (λ inside. subst (IsListed column.page) (sym same.named) (listed column (c.in_ok-column.ensures.way start shown shows) (omega (arith, inside, same.homes)))) in
+    let d : c.from_residual-in_err-spot.result ≡ Err c.in_err-spot.field-0.0 = search rules in
+    subst (λ (r : Result ColumnAt NodeError). IfErr r IsDamage) (sym d) h
