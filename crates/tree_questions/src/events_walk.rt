@@ -1,9 +1,10 @@
 //! A question of a history, answered to its end.
 
-ghost use Rattle.std.specs.Prelude.{◌≡◌, ◌<◌, ◌≤◌, ℕ, List, IfOk, IfErr, OnOk, Ok, Err, None, true, false};
+ghost use Rattle.std.specs.Prelude.{◌≡◌, ◌<◌, ◌≤◌, ℕ, List, IfOk, IfErr, OnOk, Ok, Err, None, true, false, ◌↔◌, ◌+◌, IsErrOf, min};
 ghost use Rattle.route_model.specs.Admission.{Admitted};
 ghost use Rattle.route_meaning.specs.Merged.{Placed};
 ghost use Rattle.route_meaning.specs.Events.{IsEventsAnswer};
+ghost use Rattle.once_store.specs.Readers.{capacity_of, reader_disk};
 ghost use Rattle.version_model.specs.Pages.{all_keys};
 ghost use Rattle.version_model.specs.Versions.{Version};
 ghost use Rattle.tsb_walk.specs.AllVersions.{VersionsRefusal};
@@ -44,6 +45,12 @@ fn take_look<P: Pages, O: OnceDisk + Drop>(
     ensures blames { (all : List Version) → ReadsTree P.Pages pages.old O.OnceDisk reader.old seen.old root.now all → IfErr result BlamesNone }
     ensures refused { IfErr result (VersionsRefusal (P.down pages.old)) }
     ensures same { OnlyReads P.Pages pages.old pages.new (result ≡ Err NodeError.Fault) }
+    ensures known { O.honest_seen (reader_disk reader.old) seen.old → O.known seen.new ≡ O.known seen.old }
+    ensures disk { reader_disk reader.new ≡ reader_disk reader.old }
+    ensures capacity { capacity_of reader.new ≡ capacity_of reader.old }
+    ensures honest { O.honest_seen (reader_disk reader.old) seen.old ↔ O.honest_seen (reader_disk reader.old) seen.new }
+    ensures quiet { (IsErrOf result NodeError.OnceFault → ⊥) → O.seen_fault_count seen.new ≡ O.seen_fault_count seen.old }
+    ensures counted { IsErrOf result NodeError.OnceFault → O.seen_fault_count seen.new ≡ min (O.seen_fault_count seen.old + 1) 18446744073709551615 }
 {
     let Some(from) = cursor.at else {
         return Ok(false);
@@ -76,6 +83,12 @@ pub fn events<P: Pages, O: OnceDisk + Drop>(
     ensures blames { (all : List Version) → ReadsTree P.Pages pages.old O.OnceDisk reader.old seen.old root.now all → IfErr result BlamesNone }
     ensures refused { IfErr result (VersionsRefusal (P.down pages.old)) }
     ensures same { OnlyReads P.Pages pages.old pages.new (result ≡ Err NodeError.Fault) }
+    ensures known { O.honest_seen (reader_disk reader.old) seen.old → O.known seen.new ≡ O.known seen.old }
+    ensures disk { reader_disk reader.new ≡ reader_disk reader.old }
+    ensures capacity { capacity_of reader.new ≡ capacity_of reader.old }
+    ensures honest { O.honest_seen (reader_disk reader.old) seen.old ↔ O.honest_seen (reader_disk reader.old) seen.new }
+    ensures quiet { (IsErrOf result NodeError.OnceFault → ⊥) → O.seen_fault_count seen.new ≡ O.seen_fault_count seen.old }
+    ensures counted { IsErrOf result NodeError.OnceFault → O.seen_fault_count seen.new ≡ min (O.seen_fault_count seen.old + 1) 18446744073709551615 }
 {
     let mut cursor = EventsCursor::start(alloc, question);
     loop {

@@ -1,6 +1,7 @@
 //! Looks that are answered to their end: by current pages, or in the blocks of the past to which these lead.
 
-ghost use Rattle.std.specs.Prelude.{◌≡◌, ◌≤◌, ℕ, List, IfOk, IfErr, Err};
+ghost use Rattle.std.specs.Prelude.{◌≡◌, ◌≤◌, ℕ, List, IfOk, IfErr, Err, ◌↔◌, ◌+◌, IsErrOf, min};
+ghost use Rattle.once_store.specs.Readers.{capacity_of, reader_disk};
 ghost use Rattle.version_model.specs.Entries.{versions_of};
 ghost use Rattle.version_model.specs.Looks.{IsPart, IsReached};
 ghost use Rattle.version_model.specs.Pages.{all_keys};
@@ -43,6 +44,12 @@ pub(crate) fn next_key<P: Pages, O: OnceDisk + Drop>(
     ensures onward { IfOk result (GoesOnFrom from) }
     ensures refused { IfErr result (VersionsRefusal (P.down pages.old)) }
     ensures same { OnlyReads P.Pages pages.old pages.new (result ≡ Err NodeError.Fault) }
+    ensures known { O.honest_seen (reader_disk reader.old) seen.old → O.known seen.new ≡ O.known seen.old }
+    ensures disk { reader_disk reader.new ≡ reader_disk reader.old }
+    ensures capacity { capacity_of reader.new ≡ capacity_of reader.old }
+    ensures honest { O.honest_seen (reader_disk reader.old) seen.old ↔ O.honest_seen (reader_disk reader.old) seen.new }
+    ensures quiet { (IsErrOf result NodeError.OnceFault → ⊥) → O.seen_fault_count seen.new ≡ O.seen_fault_count seen.old }
+    ensures counted { IsErrOf result NodeError.OnceFault → O.seen_fault_count seen.new ≡ min (O.seen_fault_count seen.old + 1) 18446744073709551615 }
 {
     key_fits(from);
     match next(pages, alloc, root, from, stamp)? {
@@ -73,6 +80,12 @@ pub(crate) fn part_from<P: Pages, O: OnceDisk + Drop>(
     ensures onward { IfOk result (TellsFrom from) }
     ensures refused { IfErr result (VersionsRefusal (P.down pages.old)) }
     ensures same { OnlyReads P.Pages pages.old pages.new (result ≡ Err NodeError.Fault) }
+    ensures known { O.honest_seen (reader_disk reader.old) seen.old → O.known seen.new ≡ O.known seen.old }
+    ensures disk { reader_disk reader.new ≡ reader_disk reader.old }
+    ensures capacity { capacity_of reader.new ≡ capacity_of reader.old }
+    ensures honest { O.honest_seen (reader_disk reader.old) seen.old ↔ O.honest_seen (reader_disk reader.old) seen.new }
+    ensures quiet { (IsErrOf result NodeError.OnceFault → ⊥) → O.seen_fault_count seen.new ≡ O.seen_fault_count seen.old }
+    ensures counted { IsErrOf result NodeError.OnceFault → O.seen_fault_count seen.new ≡ min (O.seen_fault_count seen.old + 1) 18446744073709551615 }
 {
     key_fits(key);
     stamp_fits(from);

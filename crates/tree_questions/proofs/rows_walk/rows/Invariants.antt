@@ -1,4 +1,5 @@
-use Rattle.std.proofs.Common.{◌≡◌, List}
+use Rattle.std.proofs.Common.{◌≡◌, ◌↔◌, List}
+use Rattle.once_store.specs.Readers.{capacity_of, reader_disk}
 use Rattle.route_model.specs.Admission.{Admitted}
 use Rattle.route_meaning.specs.Merged.{Placed}
 use Rattle.version_model.specs.Versions.{Version}
@@ -14,6 +15,11 @@ invariant-loop-cursor g l = record {
   stays : (all : List Version) → ReadsTree g.P.Pages l.initial.pages g.O.OnceDisk l.initial.reader l.initial.seen l.root all → ReadsTree g.P.Pages l.pages g.O.OnceDisk l.reader l.seen l.root all;
   question : l.cursor.question ≡ l.fn.question;
   gathered : (all : List Version) (ps : List (Placed Admitted)) → ReadsTree g.P.Pages l.initial.pages g.O.OnceDisk l.initial.reader l.initial.seen l.root all → Tells all ps l.fn.question.moment → Gathered all ps l.cursor;
+  known : g.O.OnceDisk.honest_seen (reader_disk l.initial.reader) l.initial.seen → g.O.OnceDisk.known l.seen ≡ g.O.OnceDisk.known l.initial.seen;
+  disk : reader_disk l.reader ≡ reader_disk l.initial.reader;
+  capacity : capacity_of l.reader ≡ capacity_of l.initial.reader;
+  honest : g.O.OnceDisk.honest_seen (reader_disk l.initial.reader) l.initial.seen ↔ g.O.OnceDisk.honest_seen (reader_disk l.initial.reader) l.seen;
+  faults : g.O.OnceDisk.seen_fault_count l.seen ≡ g.O.OnceDisk.seen_fault_count l.initial.seen;
 }
 
 abbrev pub decreases-loop-cursor : goal.decreases-loop-cursor
