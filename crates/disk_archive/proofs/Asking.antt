@@ -1,5 +1,5 @@
 -- What a question is answered from, and what is told where it isn't.
-use Rattle.std.proofs.Common.{◌≡◌, ◌↔◌, ◌≤◌, ⊎_elim, true≢false, ℕ, zero, suc, List, [], ◌∷◌, ◌++◌, take, drop, map, Bool, true, false, Option, refl, sym, ◌∙◌, subst, Result, Ok, Err, IfOk, IfErr, OnOk}
+use Rattle.std.proofs.Common.{◌≡◌, ◌↔◌, ◌≤◌, ⊎_elim, true≢false, ℕ, zero, suc, List, [], ◌∷◌, ◌++◌, take, drop, map, Bool, true, false, Option, Some, refl, sym, ◌∙◌, ap, subst, Result, Ok, Err, IfOk, IfErr, OnOk}
 use Rattle.std.specs.List.{AllByRecursion}
 use Rattle.disk_models.specs.declared.erase.EraseDisk.{Ghosts as EraseGhosts}
 use Rattle.disk_models.specs.declared.once.OnceDisk.{Ghosts as OnceGhosts}
@@ -31,6 +31,8 @@ use Rattle.disk_archive.specs.declared.archive.Archive.{Archive}
 use Rattle.disk_archive.specs.declared.ask_error.AskError.{AskError}
 use Rattle.disk_archive.specs.declared.ask_error.AskError.TheVariants as asks
 use Rattle.disk_archive.specs.Archives.{Carries, Holds, IsHonest, is_down}
+use Rattle.disk_archive.specs.Reading.{ReadsFrom}
+use Rattle.disk_archive.specs.inner.Idle.{IsAsBefore}
 use Rattle.disk_archive.specs.Trees.{TreeLies}
 use Rattle.disk_archive.specs.inner.Asking.{ask_of_node, LookRefusal, BlamesNone, HasTree, known_in}
 
@@ -79,6 +81,26 @@ pub reads_well : {O Pen Seen : Type 0} (device : OnceGhosts O Pen Seen) (reader 
 reads_well {O} {Pen} {Seen} device reader seen disk same honest none = record {
   honest = subst (λ (d : O). device.honest_seen d seen) (sym same) honest;
   kept = λ n block kept. absurd (none n block kept);
+}
+
+-- a reader that keeps what is settled reads well
+pub reads_kept : {O Pen Seen : Type 0} (device : OnceGhosts O Pen Seen) (reader : ShelfReader O Pen Seen device) (seen : Seen) (disk : O) (o : OnceState) → reader_disk reader ≡ disk → device.honest_seen disk seen → device.known seen ≡ o.settled
+    → ((n : ℕ) (block : List ℕ) → IsKept reader n block → o.settled n ≡ Some block) → ReadsWell device reader seen
+reads_kept {O} device reader seen disk o same honest known settled = record {
+  honest = subst (λ (d : O). device.honest_seen d seen) (sym same) honest;
+  kept = λ n block kept. ap (λ (f : ℕ → Option (List ℕ)). f n) known ∙ settled n block kept;
+}
+
+-- what it keeps then is settled
+pub kept_reads : {O Pen Seen : Type 0} (device : OnceGhosts O Pen Seen) (reader : ShelfReader O Pen Seen device) (seen : Seen) (o : OnceState) → ReadsWell device reader seen → device.known seen ≡ o.settled
+    → (n : ℕ) (block : List ℕ) → IsKept reader n block → o.settled n ≡ Some block
+kept_reads device reader seen o well known n block kept = ap (λ (f : ℕ → Option (List ℕ)). f n) (sym known) ∙ well.kept n block kept
+
+-- a call that only looked whether it may go on leaves a reader as it was
+pub reads_idle : {E O Pen Seen : Type 0} {erase : EraseGhosts E} {once : OnceGhosts O Pen Seen} (a z : Archive E O Pen Seen erase once) (r s : ShelfReader O Pen Seen once) → IsAsBefore a z → s ≡ r → ReadsFrom a r → ReadsFrom z s
+reads_idle {O = O} {Pen = Pen} {Seen = Seen} {once = once} a z r s idle same from = record {
+  disk = ap (λ (x : ShelfReader O Pen Seen once). reader_disk x) same ∙ from.disk ∙ sym idle.disk;
+  kept = λ n block kept. ap (λ (o : OnceState). o.settled n) idle.state ∙ from.kept n block (subst (λ (x : ShelfReader O Pen Seen once). IsKept x n block) same kept);
 }
 
 -- it can be read by a question

@@ -1,5 +1,5 @@
 -- How often the erasable disk failed in a call.
-use Rattle.std.proofs.Common.{◌≡◌, ◌⊎◌, inl, inr, ◌+◌, ℕ, min, refl, sym, ◌∙◌, ap, subst, Result, Ok, Err}
+use Rattle.std.proofs.Common.{◌≡◌, ◌⊎◌, inl, inr, ◌+◌, ℕ, min, refl, sym, ◌∙◌, ap, subst, Result, Ok, Err, Bool}
 use Rattle.std.specs.Prelude.{IsErrAnd}
 use Rattle.disk_models.specs.declared.erase.EraseDisk.{Ghosts}
 use Rattle.disk_models.specs.Serves.{Serves}
@@ -15,6 +15,12 @@ use Rattle.disk_archive.specs.declared.error.AdmitError.TheVariants as admits
 use Rattle.disk_archive.specs.declared.mark_error.MarkError.{MarkError}
 use Rattle.disk_archive.specs.declared.mark_error.MarkError.TheVariants as marks
 use Rattle.disk_archive.specs.declared.flush_error.FlushError.TheVariants as flushes
+use Rattle.disk_archive.specs.declared.ask_error.AskError.{AskError}
+use Rattle.disk_archive.specs.declared.ask_error.AskError.TheVariants as asks
+use Rattle.disk_archive.specs.inner.Asking.{ask_of_node}
+use Rattle.tsb_walk.specs.declared.error.NodeError.{NodeError}
+use Rattle.tsb_walk.specs.declared.error.NodeError.TheVariants as nodes
+use Rattle.tsb_walk.specs.Refusals.{LookRefusal as PageRefusal}
 use Rattle.disk_archive.specs.inner.Flushed.{flush_of_use}
 use Rattle.disk_archive.specs.inner.Committing.{admit_of_commit}
 use Rattle.disk_archive.specs.inner.Marked.{mark_of_commit}
@@ -84,3 +90,29 @@ mark_fault commits.OutOfMemory is = absurd cc
 pub flush_fault : (e : UseError) → flush_of_use e ≡ flushes.Fault → e ≡ uses.Fault
 flush_fault uses.Fault is = cc
 flush_fault uses.NeedsRecovery is = absurd cc
+
+-- a failure that a look through pages tells is told of the question, and no other
+pub asked_fault : (down : Bool) (e : NodeError) → PageRefusal down e → ask_of_node e ≡ asks.Fault → e ≡ nodes.Fault
+asked_fault down (nodes.BadNode page) refused is = absurd cc
+asked_fault down (nodes.Damaged block) refused is = absurd refused
+asked_fault down nodes.Fault refused is = refl
+asked_fault down nodes.OnceFault refused is = absurd refused
+asked_fault down nodes.NeedsRecovery refused is = absurd cc
+asked_fault down nodes.OutOfMemory refused is = absurd cc
+
+-- what is done isn't told as a failure
+pub done_not_told : {X E : Type 0} (r : Result X E) (x : X) (e : E) → r ≡ Ok x → r ≡ Err e → ⊥
+done_not_told (Ok y) x e is told = absurd (cc)
+done_not_told (Err y) x e is told = absurd (cc)
+
+-- one refusal is told
+pub one_told : {X E : Type 0} (r : Result X E) (d e : E) → r ≡ Err d → r ≡ Err e → d ≡ e
+one_told (Ok y) d e is told = absurd (cc)
+one_told (Err y) d e is told = (let a : y ≡ d = cc in let b : y ≡ e = cc in sym a ∙ b)
+
+-- these refusals are no failure of a device
+pub need_no_fault : asks.NeedsRecovery ≡ asks.Fault → ⊥
+need_no_fault is = cc
+
+pub above_no_fault : (e : AskError) (mark : ℕ) → e ≡ asks.AboveWatermark mark → e ≡ asks.Fault → ⊥
+above_no_fault e mark above is = cc

@@ -13,5 +13,6 @@ pub mod Creations
 pub mod Outcome
 pub mod Checks
 pub mod Cursors
+pub mod Reading
 pub mod Descents
 pub mod inner

@@ -1,6 +1,8 @@
 //! Questions are answered over what is applied.
 
 ghost use Rattle.std.specs.Prelude.{◌≡◌, ◌↔◌, ◌<◌, ◌≤◌, ℕ, List, length, map, IfOk, IfErr, OnOk, OnErr, Err, true, false};
+ghost use Rattle.once_store.specs.Readers.{capacity_of, reader_disk};
+ghost use Rattle.page_tx.specs.Device.{KeepsDevice};
 ghost use Rattle.page_tx.specs.Start.{Start};
 ghost use Rattle.route_model.specs.Admission.{Admitted};
 ghost use Rattle.route_meaning.specs.History.{History, applied, least, settled};
@@ -10,6 +12,7 @@ ghost use Rattle.interleaving_core.specs.Does.{last_moment};
 ghost use Rattle.interleaving_core.specs.Headline.{IsAnswered};
 ghost use Rattle.version_model.specs.Pages.{Store, TreeStands, all_keys};
 ghost use Rattle.version_model.specs.Versions.{Version};
+ghost use Rattle.tsb_walk.specs.Knowing.{ReadsWell};
 ghost use Rattle.tsb_walk.specs.Shown.{AreShown, StandsShown, keys_at};
 ghost use Rattle.disk_archive.specs.inner.Asking.{BlamesNone, HasTree, LookRefusal};
 
@@ -57,6 +60,7 @@ pub(crate) fn root_of<P: Pages>(pages: &mut P, head: &Head) -> Result<PagePlace,
     ensures reads { (start : Start) (shown : List (List ℕ)) → P.shows pages.old start shown → P.shows pages.new start shown }
     ensures homes { P.homes pages.new ≡ P.homes pages.old }
     ensures down { P.down pages.new ≡ P.down pages.old }
+    ensures device { KeepsDevice (P.honest pages.old) (P.honest pages.new) (P.faults pages.old) (P.faults pages.new) (result ≡ Err AskError.Fault) }
     ensures honest { P.honest pages.old ↔ P.honest pages.new }
 {
     let least = Stamp::new(0, 0);
@@ -67,7 +71,7 @@ pub(crate) fn root_of<P: Pages>(pages: &mut P, head: &Head) -> Result<PagePlace,
 }
 
 // Answers a question over the archive's tree, by these pages and the blocks that the reader knows.
-fn answer_by<P: Pages, O: OnceDisk + Drop>(
+pub(crate) fn answer_by<P: Pages, O: OnceDisk + Drop>(
     alloc: Global,
     pages: &mut P,
     reader: &mut ShelfReader<O>,
@@ -82,6 +86,10 @@ fn answer_by<P: Pages, O: OnceDisk + Drop>(
     ensures homes { P.homes pages.new ≡ P.homes pages.old }
     ensures down { P.down pages.new ≡ P.down pages.old }
     ensures honest { P.honest pages.old ↔ P.honest pages.new }
+    ensures keeps { (ps : List (Placed Admitted)) → HasTree P.Pages pages.old O.OnceDisk reader.old seen.old head.now.root ps → ReadsWell O.OnceDisk reader.new seen.new }
+    ensures known { O.honest_seen (reader_disk reader.old) seen.old → O.known seen.new ≡ O.known seen.old }
+    ensures disk { reader_disk reader.new ≡ reader_disk reader.old }
+    ensures capacity { capacity_of reader.new ≡ capacity_of reader.old }
 {
     versions_tell();
     let root = root_of(pages, head)?;

@@ -1,6 +1,6 @@
 //! Why a question isn't answered.
 
-ghost use Rattle.std.specs.Prelude.{◌≡◌, ℕ, Bool, true};
+ghost use Rattle.std.specs.Prelude.{◌≡◌, ◌↔◌, ℕ, Bool, true};
 ghost use Rattle.disk_archive.specs.declared.ask_error.AskError.TheVariants as asks;
 ghost use Rattle.tsb_tree.specs.Refusals.{ReadRefusal};
 ghost use Rattle.disk_archive.specs.inner.Asking.{LookRefusal};
@@ -83,6 +83,7 @@ pub(crate) fn of_root(refusal: TreeError) -> AskError
     ensures bad { (page : ℕ) → result ≡ AskError.BadNode page → refusal ≡ TreeError.BadNode page }
     ensures damaged { (block : ℕ) → result ≡ AskError.Damaged block → refusal ≡ TreeError.Damaged block }
     ensures refused { (down : Bool) → ReadRefusal down refusal → LookRefusal down result }
+    ensures fault { (result ≡ AskError.Fault) ↔ (refusal ≡ TreeError.Pages PageError.Fault) }
 {
     match refusal {
         TreeError::BadNode(page) => AskError::BadNode(page),

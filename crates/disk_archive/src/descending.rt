@@ -1,6 +1,7 @@
 //! Turns of questions over what is applied. A turn reads pages alone, and no block.
 
-ghost use Rattle.std.specs.Prelude.{◌≡◌, ◌↔◌, ◌<◌, ◌≤◌, ℕ, List, Option, IfOk, IfErr, OnOk, Err, true, false};
+ghost use Rattle.std.specs.Prelude.{◌≡◌, ◌↔◌, ◌<◌, ◌≤◌, ℕ, List, Option, IfOk, IfErr, OnOk, Err, true, false, ◌≢◌, ◌+◌, min};
+ghost use Rattle.page_tx.specs.Device.{KeepsDevice};
 ghost use Rattle.page_tx.specs.Start.{Start};
 ghost use Rattle.route_meaning.specs.History.{History, settled};
 ghost use Rattle.interleaving_core.specs.Does.{last_moment};
@@ -74,6 +75,7 @@ fn descend_by<P: Pages>(
     ensures reads { (start : Start) (shown : List (List ℕ)) → P.shows pages.old start shown → P.shows pages.new start shown }
     ensures homes { P.homes pages.new ≡ P.homes pages.old }
     ensures down { P.down pages.new ≡ P.down pages.old }
+    ensures device { KeepsDevice (P.honest pages.old) (P.honest pages.new) (P.faults pages.old) (P.faults pages.new) (result ≡ Err AskError.Fault) }
     ensures honest { P.honest pages.old ↔ P.honest pages.new }
 {
     versions_tell();
@@ -95,7 +97,7 @@ fn descend_by<P: Pages>(
 }
 
 impl<E: EraseDisk + Drop, O: OnceDisk + Drop> Archive<E, O> {
-    ghost use Rattle.disk_archive.specs.Archives.{Carries, Holds, Stands, IsHonest, is_down, once_of, once_state, settings_of, site_of};
+    ghost use Rattle.disk_archive.specs.Archives.{Carries, Holds, Stands, IsHonest, erase_of, is_down, once_of, once_state, pen_in, settings_of, site_of};
     ghost use Rattle.disk_archive.specs.Sites.{LeftCarries, LeftEither};
     ghost use Rattle.disk_archive.specs.Crashes.{Crashes, Lasts};
     ghost use Rattle.disk_archive.specs.inner.Idle.{IsAsBefore};
@@ -130,6 +132,8 @@ impl<E: EraseDisk + Drop, O: OnceDisk + Drop> Archive<E, O> {
         ensures crash { (h : History) → Carries self.old h → Crashes self.old self.new (LeftEither (site_of self.old) h h) }
         ensures disk { once_of self.new ≡ once_of self.old }
         ensures blocks { once_state self.new ≡ once_state self.old }
+        ensures device { KeepsDevice (E.honest (erase_of self.old)) (E.honest (erase_of self.new)) (E.fault_count (erase_of self.old)) (E.fault_count (erase_of self.new)) (result ≡ Err AskError.Fault) }
+        ensures pen { pen_in self.new ≡ pen_in self.old }
         ensures settings { settings_of self.new ≡ settings_of self.old }
     {
         begin(&mut self.tx)?;
@@ -160,6 +164,9 @@ impl<E: EraseDisk + Drop, O: OnceDisk + Drop> Archive<E, O> {
         ensures recovery { (result ≡ Err AskError.NeedsRecovery) ↔ (is_down self.old ≡ true) }
         ensures sound { IsHonest self.old → (h : History) → Holds self.old h → (page : ℕ) → result ≡ Err (AskError.BadNode page) → ⊥ }
         ensures undamaged { (block : ℕ) → result ≡ Err (AskError.Damaged block) → ⊥ }
+        ensures quiet { result ≢ Err AskError.Fault → E.fault_count (erase_of self.new) ≡ E.fault_count (erase_of self.old) }
+        ensures counted { result ≡ Err AskError.Fault → E.fault_count (erase_of self.new) ≡ min (E.fault_count (erase_of self.old) + 1) 18446744073709551615 }
+        ensures pen { pen_in self.new ≡ pen_in self.old }
         ensures honest { IsHonest self.old ↔ IsHonest self.new }
         ensures disk { once_of self.new ≡ once_of self.old }
         ensures blocks { once_state self.new ≡ once_state self.old }

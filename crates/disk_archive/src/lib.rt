@@ -4,6 +4,7 @@
 
 mod admitting;
 mod answering;
+mod answering_with;
 mod apply_error;
 mod applying;
 mod archive;

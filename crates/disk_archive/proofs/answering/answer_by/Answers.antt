@@ -52,3 +52,30 @@ returns-in_err-answer-in-Events-clause-refused g c =
     let r = subst (λ (d : Bool). IfErr c.events.result (VersionsRefusal d)) c.root_of.ensures.down c.events.ensures.refused in
     let b : IfErr c.events.result (λ e. LookRefusal (g.P.Pages.down c.args.pages.now) (ask_of_node e)) = if_err ask_of_node (VersionsRefusal (g.P.Pages.down c.args.pages.now)) (LookRefusal (g.P.Pages.down c.args.pages.now)) c.events.result (ask_refused (g.P.Pages.down c.args.pages.now)) r in
     search (rules, b)
+
+pub returns-in_ok-answer-in-Rows-clause-keeps : goal.returns-in_ok-answer-in-Rows-clause-keeps
+returns-in_ok-answer-in-Rows-clause-keeps g c ps t =
+    let stands = c.in_ok-root.ensures.stands t.start t.shown t.lies.store t.versions t.lies.level t.shows t.lies.says t.lies.has.stands in
+    let read = tree_read g.P.Pages c.args.pages.now c.root_of.new.pages g.O.OnceDisk c.args.reader.now c.args.seen.now c.args.head.now.root ps t c.in_ok-root.root c.root_of.ensures.reads stands in
+    (c.rows.ensures.stays t.versions read).well
+
+pub returns-in_err-answer-in-Rows-clause-keeps : goal.returns-in_err-answer-in-Rows-clause-keeps
+returns-in_err-answer-in-Rows-clause-keeps g c ps t =
+    let stands = c.in_ok-root.ensures.stands t.start t.shown t.lies.store t.versions t.lies.level t.shows t.lies.says t.lies.has.stands in
+    let read = tree_read g.P.Pages c.args.pages.now c.root_of.new.pages g.O.OnceDisk c.args.reader.now c.args.seen.now c.args.head.now.root ps t c.in_ok-root.root c.root_of.ensures.reads stands in
+    (c.rows.ensures.stays t.versions read).well
+
+pub returns-in_ok-answer-in-Events-clause-keeps : goal.returns-in_ok-answer-in-Events-clause-keeps
+returns-in_ok-answer-in-Events-clause-keeps g c ps t =
+    let stands = c.in_ok-root.ensures.stands t.start t.shown t.lies.store t.versions t.lies.level t.shows t.lies.says t.lies.has.stands in
+    let read = tree_read g.P.Pages c.args.pages.now c.root_of.new.pages g.O.OnceDisk c.args.reader.now c.args.seen.now c.args.head.now.root ps t c.in_ok-root.root c.root_of.ensures.reads stands in
+    (c.events.ensures.stays t.versions read).well
+
+pub returns-in_err-answer-in-Events-clause-keeps : goal.returns-in_err-answer-in-Events-clause-keeps
+returns-in_err-answer-in-Events-clause-keeps g c ps t =
+    let stands = c.in_ok-root.ensures.stands t.start t.shown t.lies.store t.versions t.lies.level t.shows t.lies.says t.lies.has.stands in
+    let read = tree_read g.P.Pages c.args.pages.now c.root_of.new.pages g.O.OnceDisk c.args.reader.now c.args.seen.now c.args.head.now.root ps t c.in_ok-root.root c.root_of.ensures.reads stands in
+    (c.events.ensures.stays t.versions read).well
+
+pub returns-in_err-root-clause-keeps : goal.returns-in_err-root-clause-keeps
+returns-in_err-root-clause-keeps g c ps t = t.well

@@ -1,9 +1,12 @@
-use Rattle.std.proofs.Common.{◌≡◌, ℕ, sym, ◌∙◌, ap, subst}
+use Rattle.std.proofs.Common.{◌≡◌, ℕ, sym, ◌∙◌, ap, subst, Err}
+use Rattle.page_tx.specs.declared.error.PageError.TheVariants as pages
+use Rattle.tsb_tree.specs.declared.error.TreeError.TheVariants as trees
 use Rattle.archive_head.specs.Head.{Contents}
 use Rattle.version_model.specs.Pages.{TreeStands}
 use Rattle.tsb_tree.specs.Refusals.{ReadRefusal}
 use Rattle.disk_archive.specs.declared.ask_error.AskError.TheVariants as asks
 use Rattle.disk_archive.proofs.Asking.{at_root, root_blames}
+use Rattle.disk_archive.proofs.Faults.{keeps_told}
 use Rattle.disk_archive.proofs.answering.root_of.Goals as goal
 
 pub of_root-requires : goal.of_root-requires
@@ -28,3 +31,13 @@ pub returns-in-Err-clause-undamaged : goal.returns-in-Err-clause-undamaged
 returns-in-Err-clause-undamaged g c block is =
     let told : c.of_root.result ≡ asks.Damaged block = cc in
     subst (ReadRefusal (g.P.Pages.down c.args.pages.now)) (c.of_root.ensures.damaged block told) c.in-Err.ensures.refused
+
+pub returns-in-Ok-clause-device : goal.returns-in-Ok-clause-device
+returns-in-Ok-clause-device g c = keeps_told _ _ _ _ _ _ (λ told. absurd (cc)) (λ failed. absurd (cc)) c.open.ensures.reads.device
+
+pub returns-in-Err-clause-device : goal.returns-in-Err-clause-device
+returns-in-Err-clause-device g c =
+    keeps_told _ _ _ _ _ _
+    (λ told. (let is : c.of_root.result ≡ asks.Fault = cc in c.in-Err.is ∙ ap Err (c.of_root.ensures.fault.0 is)))
+    (λ failed. (let is : c.in-Err.refusal ≡ trees.Pages pages.Fault = cc in ap Err (c.of_root.ensures.fault.1 is)))
+    c.open.ensures.reads.device

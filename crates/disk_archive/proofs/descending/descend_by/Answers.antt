@@ -1,4 +1,7 @@
-use Rattle.std.proofs.Common.{rules, ◌<◌, Bool, IfErr, sym, subst}
+use Rattle.std.proofs.Common.{rules, ◌≡◌, ◌∙◌, ◌<◌, Bool, Ok, Err, IfErr, ap, refl, sym, subst}
+use Rattle.tsb_walk.specs.declared.error.NodeError.{NodeError}
+use Rattle.tsb_walk.specs.declared.error.NodeError.TheVariants as nodes
+use Rattle.disk_archive.specs.declared.ask_error.AskError.TheVariants as refusals
 use Rattle.interleaving_core.specs.Does.{last_moment}
 use Rattle.route_meaning.specs.History.{settled}
 use Rattle.route_history.specs.Blame.{BlamesNone as NodeBlamesNone}
@@ -10,6 +13,7 @@ use Rattle.disk_archive.specs.declared.cursor.Cursor.TheVariants.{Rows, Events}
 use Rattle.disk_archive.specs.declared.descending.Descent.{Descent}
 use Rattle.disk_archive.specs.inner.Asking.{ask_of_node, BlamesNone, LookRefusal}
 use Rattle.disk_archive.proofs.Asking.{ask_blames, if_err}
+use Rattle.disk_archive.proofs.Faults.{asked_fault, done_not_told, keeps_then, keeps_told, one_told}
 use Rattle.disk_archive.proofs.Turning.{rows_descends, rows_gathered, rows_further, events_descends, events_gathered, events_further, shows_tree, turn_refused}
 use Rattle.disk_archive.proofs.descending.descend_by.Goals as goal
 
@@ -105,3 +109,57 @@ returns-in_err-turn-in-Events-clause-refused g c =
     let r = subst (λ (d : Bool). IfErr c.events_turn.result (PageRefusal d)) c.root_of.ensures.down c.events_turn.ensures.refused in
     let b : IfErr c.events_turn.result (λ e. LookRefusal down (ask_of_node e)) = if_err ask_of_node (PageRefusal down) (LookRefusal down) c.events_turn.result (turn_refused down) r in
     search (rules, b)
+
+-- ---- the device of the pages
+
+pub returns-in_err-root-clause-device : goal.returns-in_err-root-clause-device
+returns-in_err-root-clause-device g c =
+    let e = c.in_err-root.field-0.0 in
+    let r : c.root_of.result ≡ Err e = search rules in
+    let d : c.from_residual.result ≡ Err e = search rules in
+    keeps_told _ _ _ _ _ _
+    (λ told. r ∙ ap Err (one_told c.from_residual.result e refusals.Fault d told))
+    (λ failed. d ∙ ap Err (one_told c.root_of.result e refusals.Fault r failed))
+    c.root_of.ensures.device
+
+pub returns-in_ok-turn-in-Rows-clause-device : goal.returns-in_ok-turn-in-Rows-clause-device
+returns-in_ok-turn-in-Rows-clause-device g c =
+    let root : c.root_of.result ≡ Ok c.in_ok-root.root = search rules in
+    let first = keeps_told _ _ _ _ _ ⊥ (λ never. absurd never) (done_not_told c.root_of.result c.in_ok-root.root refusals.Fault root) c.root_of.ensures.device in
+    let turn : c.rows_turn.result ≡ Ok c.in_ok-turn-in-Rows.turn = search rules in
+    keeps_then _ _ _ _ _ _ _ first
+    (keeps_told _ _ _ _ _ _ (λ told. absurd (done_not_told _ _ refusals.Fault refl told)) (λ failed. absurd (done_not_told c.rows_turn.result c.in_ok-turn-in-Rows.turn nodes.Fault turn failed)) c.rows_turn.ensures.same.device)
+
+pub returns-in_err-turn-in-Rows-clause-device : goal.returns-in_err-turn-in-Rows-clause-device
+returns-in_err-turn-in-Rows-clause-device g c =
+    let root : c.root_of.result ≡ Ok c.in_ok-root.root = search rules in
+    let first = keeps_told _ _ _ _ _ ⊥ (λ never. absurd never) (done_not_told c.root_of.result c.in_ok-root.root refusals.Fault root) c.root_of.ensures.device in
+    let e = c.in_err-turn-in-Rows.field-0.0 in
+    let r : c.rows_turn.result ≡ Err e = search rules in
+    let d : c.from_residual-in_err-turn-in-Rows.result ≡ Err (ask_of_node e) = search rules in
+    keeps_then _ _ _ _ _ _ _ first
+    (keeps_told _ _ _ _ _ _
+    (λ told. r ∙ ap Err (asked_fault _ e c.in_err-turn-in-Rows.ensures.refused (one_told c.from_residual-in_err-turn-in-Rows.result (ask_of_node e) refusals.Fault d told)))
+    (λ failed. d ∙ ap (λ (x : NodeError). Err (ask_of_node x)) (one_told c.rows_turn.result e nodes.Fault r failed))
+    c.rows_turn.ensures.same.device)
+
+pub returns-in_ok-turn-in-Events-clause-device : goal.returns-in_ok-turn-in-Events-clause-device
+returns-in_ok-turn-in-Events-clause-device g c =
+    let root : c.root_of.result ≡ Ok c.in_ok-root.root = search rules in
+    let first = keeps_told _ _ _ _ _ ⊥ (λ never. absurd never) (done_not_told c.root_of.result c.in_ok-root.root refusals.Fault root) c.root_of.ensures.device in
+    let turn : c.events_turn.result ≡ Ok c.in_ok-turn-in-Events.turn = search rules in
+    keeps_then _ _ _ _ _ _ _ first
+    (keeps_told _ _ _ _ _ _ (λ told. absurd (done_not_told _ _ refusals.Fault refl told)) (λ failed. absurd (done_not_told c.events_turn.result c.in_ok-turn-in-Events.turn nodes.Fault turn failed)) c.events_turn.ensures.same.device)
+
+pub returns-in_err-turn-in-Events-clause-device : goal.returns-in_err-turn-in-Events-clause-device
+returns-in_err-turn-in-Events-clause-device g c =
+    let root : c.root_of.result ≡ Ok c.in_ok-root.root = search rules in
+    let first = keeps_told _ _ _ _ _ ⊥ (λ never. absurd never) (done_not_told c.root_of.result c.in_ok-root.root refusals.Fault root) c.root_of.ensures.device in
+    let e = c.in_err-turn-in-Events.field-0.0 in
+    let r : c.events_turn.result ≡ Err e = search rules in
+    let d : c.from_residual-in_err-turn-in-Events.result ≡ Err (ask_of_node e) = search rules in
+    keeps_then _ _ _ _ _ _ _ first
+    (keeps_told _ _ _ _ _ _
+    (λ told. r ∙ ap Err (asked_fault _ e c.in_err-turn-in-Events.ensures.refused (one_told c.from_residual-in_err-turn-in-Events.result (ask_of_node e) refusals.Fault d told)))
+    (λ failed. d ∙ ap (λ (x : NodeError). Err (ask_of_node x)) (one_told c.events_turn.result e nodes.Fault r failed))
+    c.events_turn.ensures.same.device)

@@ -43,3 +43,9 @@ returns-clause-below g c = below_of c.args.self.now c.try_descend.result (λ h. 
 
 pub returns-clause-above : goal.returns-clause-above
 returns-clause-above g c = watermark_of c.args.self.now c.try_descend.result (last_moment (asks c.args.cursor.now)) c.try_descend.ensures.told c.try_descend.ensures.above c.try_descend.ensures.watermark
+
+pub returns-clause-quiet : goal.returns-clause-quiet
+returns-clause-quiet g c other = c.try_descend.ensures.device.quiet other
+
+pub returns-clause-counted : goal.returns-clause-counted
+returns-clause-counted g c told = c.try_descend.ensures.device.counted told

@@ -1,4 +1,4 @@
-use Rattle.std.proofs.Common.{rules, ◌≡◌, ◌<◌, ℕ, refl, sym, ◌∙◌, ap, arith, true≢false, Err}
+use Rattle.std.proofs.Common.{rules, ◌≡◌, ◌<◌, ℕ, refl, sym, ◌∙◌, ap, arith, true≢false, Ok, Err}
 use Rattle.page_journal.specs.Journal.{home_pages}
 use Rattle.page_tx.specs.Start.{Start}
 use Rattle.route_meaning.specs.History.{settled}
@@ -9,6 +9,7 @@ use Rattle.disk_archive.specs.Cursors.{asks}
 use Rattle.disk_archive.proofs.Mirroring.{mirror_settled}
 use Rattle.disk_archive.proofs.Calling.{Ready, start_of, grows_none, unwritten, kept}
 use Rattle.disk_archive.proofs.Asking.{above_told}
+use Rattle.disk_archive.proofs.Faults.{above_no_fault, done_not_told, keeps_same, keeps_then, keeps_told, need_no_fault, one_told}
 use Rattle.disk_archive.proofs.Turning.{pages_in}
 use Rattle.disk_archive.proofs.archive.Archive.try_descend.Goals as goal
 
@@ -155,3 +156,36 @@ returns-clause-watermark g c h k above =
     let lt = c.in_ok-check_settled.ensures.below in
     let asked = ap last_moment c.query.ensures in
     absurd (omega (arith, lt, e, asked, above))
+
+-- ---- the device of the pages
+
+pub returns-in_err-begin-clause-device : goal.returns-in_err-begin-clause-device
+returns-in_err-begin-clause-device g c =
+    let d : c.from_residual.result ≡ Err refusals.NeedsRecovery = search rules in
+    keeps_told _ _ _ _ _ _ (λ told. need_no_fault (one_told c.from_residual.result refusals.NeedsRecovery refusals.Fault d told)) (λ never. absurd never) (keeps_same g.E.EraseDisk _ _ c.begin.ensures.same)
+
+pub returns-in_err-check_settled-clause-device : goal.returns-in_err-check_settled-clause-device
+returns-in_err-check_settled-clause-device g c =
+    let above = c.in_err-check_settled.ensures.above in
+    let e = c.in_err-check_settled.field-0.0 in
+    let d : c.from_residual-in_err-check_settled.result ≡ Err e = search rules in
+    keeps_told _ _ _ _ _ _ (λ told. above_no_fault e _ above.0 (one_told c.from_residual-in_err-check_settled.result e refusals.Fault d told)) (λ never. absurd never) (keeps_same g.E.EraseDisk _ _ c.begin.ensures.same)
+
+pub returns-in_err-descent-clause-device : goal.returns-in_err-descent-clause-device
+returns-in_err-descent-clause-device g c =
+    let first = keeps_same g.E.EraseDisk _ _ c.begin.ensures.same in
+    let e = c.in_err-descent.field-0.0 in
+    let r : c.descend_by.result ≡ Err e = search rules in
+    let d : c.from_residual-in_err-descent.result ≡ Err e = search rules in
+    keeps_then _ _ _ _ _ _ _ first
+    (keeps_told _ _ _ _ _ _
+    (λ told. r ∙ ap Err (one_told c.from_residual-in_err-descent.result e refusals.Fault d told))
+    (λ failed. d ∙ ap Err (one_told c.descend_by.result e refusals.Fault r failed))
+    c.descend_by.ensures.device)
+
+pub returns-clause-device : goal.returns-clause-device
+returns-clause-device g c =
+    let first = keeps_same g.E.EraseDisk _ _ c.begin.ensures.same in
+    let r : c.descend_by.result ≡ Ok c.in_ok-descent.descent = search rules in
+    keeps_then _ _ _ _ _ _ _ first
+    (keeps_told _ _ _ _ _ _ (λ told. absurd (done_not_told _ _ refusals.Fault refl told)) (λ failed. absurd (done_not_told c.descend_by.result c.in_ok-descent.descent refusals.Fault r failed)) c.descend_by.ensures.device)

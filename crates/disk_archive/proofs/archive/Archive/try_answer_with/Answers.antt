@@ -1,0 +1,260 @@
+use Rattle.std.proofs.Common.{rules, ◌≡◌, ◌≤◌, ℕ, refl, sym, ◌∙◌, ap, subst, arith, true≢false, Err}
+use Rattle.disk_models.specs.Once.{OnceState, Grows}
+use Rattle.once_store.specs.Shelves.{pen_of}
+use Rattle.page_journal.specs.Journal.{home_pages}
+use Rattle.page_tx.specs.Start.{Start}
+use Rattle.route_meaning.specs.History.{applied, settled}
+use Rattle.interleaving_core.specs.Does.{last_moment}
+use Rattle.route_history.specs.Stamps.{stamp_of}
+use Rattle.archive_pages.specs.Places.{tree_low}
+use Rattle.disk_archive.specs.declared.ask_error.AskError.TheVariants as asks
+use Rattle.disk_archive.specs.Archives.{once_of, once_state}
+use Rattle.disk_archive.specs.inner.Asking.{HasTree}
+use Rattle.disk_archive.proofs.Mirroring.{mirror_settled}
+use Rattle.disk_archive.proofs.Calling.{Ready, start_of, grows_none, unwritten, kept}
+use Rattle.disk_archive.proofs.Asking.{rises_applied, lies_known, reads_kept, kept_reads, above_told}
+use Rattle.disk_archive.proofs.archive.Archive.try_answer_with.Goals as goal
+
+pub returns-in_err-begin-clause-carries : goal.returns-in_err-begin-clause-carries
+returns-in_err-begin-clause-carries g c h k =
+    absurd (true≢false (sym c.in_err-begin.ensures.down ∙ k.maps.keeps.usable))
+
+pub returns-in_err-begin-clause-crash : goal.returns-in_err-begin-clause-crash
+returns-in_err-begin-clause-crash g c h k =
+    absurd (true≢false (sym c.in_err-begin.ensures.down ∙ k.maps.keeps.usable))
+
+pub returns-in_err-begin-clause-watermark : goal.returns-in_err-begin-clause-watermark
+returns-in_err-begin-clause-watermark g c h k above =
+    absurd (true≢false (sym c.in_err-begin.ensures.down ∙ k.maps.keeps.usable))
+
+pub returns-in_err-check_settled-clause-carries : goal.returns-in_err-check_settled-clause-carries
+returns-in_err-check_settled-clause-carries g c h k =
+    let a = c.args.self.now in
+    let start : Start = start_of a h k in
+    let s0 = c.in_ok-begin.ensures.shown k.honest.0 k.pages k.maps in
+    let homes0 = ap home_pages c.begin.ensures.same in
+    let r : Ready a h k c.begin.new.tx k.pages = record { shows = s0; homes = homes0 } in
+    kept c.args.self.now _ h k k.pages r refl refl refl refl (s0.honest, k.honest.1) k.mirrors
+
+pub returns-in_err-check_settled-clause-crash : goal.returns-in_err-check_settled-clause-crash
+returns-in_err-check_settled-clause-crash g c h k =
+    let a = c.args.self.now in
+    let start : Start = start_of a h k in
+    let s0 = c.in_ok-begin.ensures.shown k.honest.0 k.pages k.maps in
+    let homes0 = ap home_pages c.begin.ensures.same in
+    let r : Ready a h k c.begin.new.tx k.pages = record { shows = s0; homes = homes0 } in
+    unwritten a _ h h k k.pages g.met.E.EraseDisk.sound r (grows_none (once_state a))
+
+pub returns-in_err-seen-clause-carries : goal.returns-in_err-seen-clause-carries
+returns-in_err-seen-clause-carries g c h k =
+    let a = c.args.self.now in
+    let start : Start = start_of a h k in
+    let s0 = c.in_ok-begin.ensures.shown k.honest.0 k.pages k.maps in
+    let homes0 = ap home_pages c.begin.ensures.same in
+    let r : Ready a h k c.begin.new.tx k.pages = record { shows = s0; homes = homes0 } in
+    let pen = subst (λ d. g.O.OnceDisk.honest d (pen_of c.seen.new.self)) (sym c.seen.ensures.disk) (c.seen.ensures.honest.0 k.honest.1) in
+    kept a _ h k k.pages r c.seen.ensures.disk (c.seen.ensures.same k.honest.1) refl refl (s0.honest, pen) k.mirrors
+
+pub returns-in_err-seen-clause-crash : goal.returns-in_err-seen-clause-crash
+returns-in_err-seen-clause-crash g c h k =
+    let a = c.args.self.now in
+    let start : Start = start_of a h k in
+    let s0 = c.in_ok-begin.ensures.shown k.honest.0 k.pages k.maps in
+    let homes0 = ap home_pages c.begin.ensures.same in
+    let r : Ready a h k c.begin.new.tx k.pages = record { shows = s0; homes = homes0 } in
+    unwritten a _ h h k k.pages g.met.E.EraseDisk.sound r (subst (λ (o : OnceState). Grows (once_state a) o) (sym (c.seen.ensures.same k.honest.1)) (grows_none (once_state a)))
+
+pub returns-in_err-answer-clause-carries : goal.returns-in_err-answer-clause-carries
+returns-in_err-answer-clause-carries g c h k =
+    let a = c.args.self.now in
+    let start : Start = start_of a h k in
+    let s0 = c.in_ok-begin.ensures.shown k.honest.0 k.pages k.maps in
+    let homes0 = ap home_pages c.begin.ensures.same in
+    let s1 = c.answer_by.ensures.reads start k.pages s0 in
+    let r : Ready a h k c.answer_by.new.pages k.pages = record { shows = s1; homes = c.answer_by.ensures.homes ∙ homes0 } in
+    let pen = subst (λ d. g.O.OnceDisk.honest d (pen_of c.seen.new.self)) (sym c.seen.ensures.disk) (c.seen.ensures.honest.0 k.honest.1) in
+    kept a _ h k k.pages r c.seen.ensures.disk (c.seen.ensures.same k.honest.1) refl refl (s1.honest, pen) k.mirrors
+
+pub returns-in_err-answer-clause-crash : goal.returns-in_err-answer-clause-crash
+returns-in_err-answer-clause-crash g c h k =
+    let a = c.args.self.now in
+    let start : Start = start_of a h k in
+    let s0 = c.in_ok-begin.ensures.shown k.honest.0 k.pages k.maps in
+    let homes0 = ap home_pages c.begin.ensures.same in
+    let s1 = c.answer_by.ensures.reads start k.pages s0 in
+    let r : Ready a h k c.answer_by.new.pages k.pages = record { shows = s1; homes = c.answer_by.ensures.homes ∙ homes0 } in
+    let pen = subst (λ d. g.O.OnceDisk.honest d (pen_of c.seen.new.self)) (sym c.seen.ensures.disk) (c.seen.ensures.honest.0 k.honest.1) in
+    unwritten a _ h h k k.pages g.met.E.EraseDisk.sound r (subst (λ (o : OnceState). Grows (once_state a) o) (sym (c.seen.ensures.same k.honest.1)) (grows_none (once_state a)))
+
+pub returns-clause-carries : goal.returns-clause-carries
+returns-clause-carries g c h k =
+    let a = c.args.self.now in
+    let start : Start = start_of a h k in
+    let s0 = c.in_ok-begin.ensures.shown k.honest.0 k.pages k.maps in
+    let homes0 = ap home_pages c.begin.ensures.same in
+    let s1 = c.answer_by.ensures.reads start k.pages s0 in
+    let r : Ready a h k c.answer_by.new.pages k.pages = record { shows = s1; homes = c.answer_by.ensures.homes ∙ homes0 } in
+    let pen = subst (λ d. g.O.OnceDisk.honest d (pen_of c.seen.new.self)) (sym c.seen.ensures.disk) (c.seen.ensures.honest.0 k.honest.1) in
+    kept a _ h k k.pages r c.seen.ensures.disk (c.seen.ensures.same k.honest.1) refl refl (s1.honest, pen) k.mirrors
+
+pub returns-clause-crash : goal.returns-clause-crash
+returns-clause-crash g c h k =
+    let a = c.args.self.now in
+    let start : Start = start_of a h k in
+    let s0 = c.in_ok-begin.ensures.shown k.honest.0 k.pages k.maps in
+    let homes0 = ap home_pages c.begin.ensures.same in
+    let s1 = c.answer_by.ensures.reads start k.pages s0 in
+    let r : Ready a h k c.answer_by.new.pages k.pages = record { shows = s1; homes = c.answer_by.ensures.homes ∙ homes0 } in
+    let pen = subst (λ d. g.O.OnceDisk.honest d (pen_of c.seen.new.self)) (sym c.seen.ensures.disk) (c.seen.ensures.honest.0 k.honest.1) in
+    unwritten a _ h h k k.pages g.met.E.EraseDisk.sound r (subst (λ (o : OnceState). Grows (once_state a) o) (sym (c.seen.ensures.same k.honest.1)) (grows_none (once_state a)))
+
+pub returns-in_err-answer-clause-blames : goal.returns-in_err-answer-clause-blames
+returns-in_err-answer-clause-blames g c h k from =
+    let a = c.args.self.now in
+    let start : Start = start_of a h k in
+    let s0 = c.in_ok-begin.ensures.shown k.honest.0 k.pages k.maps in
+    let tree : HasTree _ c.begin.new.tx g.O.OnceDisk c.args.reader.now c.in_ok-seen.seen a.head.root (applied h) = record {
+      start = start;
+      shown = k.pages;
+      shows = s0;
+      well = reads_kept g.O.OnceDisk c.args.reader.now c.in_ok-seen.seen (once_of a) (once_state a) from.disk (c.in_ok-seen.ensures.seen k.honest.1) (c.in_ok-seen.ensures.known k.honest.1) from.kept;
+      low = tree_low a.settings;
+      fresh = a.head.fresh;
+      block = a.head.block;
+      stamp = stamp_of a.head.last a.head.applied;
+      versions = k.bears.versions;
+      lies = lies_known g.O.OnceDisk c.args.reader.now c.in_ok-seen.seen (once_of a) (once_state a) k.pages (tree_low a.settings) a.head.root a.head.fresh a.head.block (stamp_of a.head.last a.head.applied) k.bears.versions from.disk (c.in_ok-seen.ensures.known k.honest.1) k.bears.tree;
+      timely = rises_applied h;
+      kept = k.bears.kept;
+    } in
+    let b = c.answer_by.ensures.blames (applied h) tree in
+    search (rules, b)
+
+pub returns-clause-answered : goal.returns-clause-answered
+returns-clause-answered g c h k from =
+    let a = c.args.self.now in
+    let start : Start = start_of a h k in
+    let s0 = c.in_ok-begin.ensures.shown k.honest.0 k.pages k.maps in
+    let tree : HasTree _ c.begin.new.tx g.O.OnceDisk c.args.reader.now c.in_ok-seen.seen a.head.root (applied h) = record {
+      start = start;
+      shown = k.pages;
+      shows = s0;
+      well = reads_kept g.O.OnceDisk c.args.reader.now c.in_ok-seen.seen (once_of a) (once_state a) from.disk (c.in_ok-seen.ensures.seen k.honest.1) (c.in_ok-seen.ensures.known k.honest.1) from.kept;
+      low = tree_low a.settings;
+      fresh = a.head.fresh;
+      block = a.head.block;
+      stamp = stamp_of a.head.last a.head.applied;
+      versions = k.bears.versions;
+      lies = lies_known g.O.OnceDisk c.args.reader.now c.in_ok-seen.seen (once_of a) (once_state a) k.pages (tree_low a.settings) a.head.root a.head.fresh a.head.block (stamp_of a.head.last a.head.applied) k.bears.versions from.disk (c.in_ok-seen.ensures.known k.honest.1) k.bears.tree;
+      timely = rises_applied h;
+      kept = k.bears.kept;
+    } in
+    c.in_ok-answer.ensures.answer (applied h) tree
+
+pub returns-clause-below : goal.returns-clause-below
+returns-clause-below g c h k =
+    let e = mirror_settled c.args.self.now.sequencer h k.mirrors in
+    let lt = c.in_ok-check_settled.ensures.below in
+    omega (arith, lt, e)
+
+pub returns-in_err-check_settled-clause-above : goal.returns-in_err-check_settled-clause-above
+returns-in_err-check_settled-clause-above g c h k mark told =
+    let e = mirror_settled c.args.self.now.sequencer h k.mirrors in
+    let was : c.check_settled.result ≡ Err (asks.AboveWatermark mark) = search (rules, told) in
+    let f = above_told c.check_settled.result _ (last_moment c.args.query) mark c.check_settled.ensures.above was in
+    (f.0 ∙ e, subst (λ (n : ℕ). n ≤ last_moment c.args.query) e f.1)
+
+pub returns-in_err-check_settled-clause-watermark : goal.returns-in_err-check_settled-clause-watermark
+returns-in_err-check_settled-clause-watermark g c h k above =
+    let e = mirror_settled c.args.self.now.sequencer h k.mirrors in
+    let f = c.in_err-check_settled.ensures.above in
+    let is : c.in_err-check_settled.field-0.0 ≡ asks.AboveWatermark (settled h) = f.0 ∙ ap (λ (n : ℕ). asks.AboveWatermark n) e in
+    search (rules, is)
+
+pub returns-in_err-seen-clause-watermark : goal.returns-in_err-seen-clause-watermark
+returns-in_err-seen-clause-watermark g c h k above =
+    let e = mirror_settled c.args.self.now.sequencer h k.mirrors in
+    let lt = c.in_ok-check_settled.ensures.below in
+    absurd (omega (arith, lt, e, above))
+
+pub returns-in_err-answer-clause-watermark : goal.returns-in_err-answer-clause-watermark
+returns-in_err-answer-clause-watermark g c h k above =
+    let e = mirror_settled c.args.self.now.sequencer h k.mirrors in
+    let lt = c.in_ok-check_settled.ensures.below in
+    absurd (omega (arith, lt, e, above))
+
+pub returns-clause-watermark : goal.returns-clause-watermark
+returns-clause-watermark g c h k above =
+    let e = mirror_settled c.args.self.now.sequencer h k.mirrors in
+    let lt = c.in_ok-check_settled.ensures.below in
+    absurd (omega (arith, lt, e, above))
+
+-- ---- nothing is burnt
+
+pub returns-in_err-seen-clause-blocks : goal.returns-in_err-seen-clause-blocks
+returns-in_err-seen-clause-blocks g c honest = c.seen.ensures.same honest.1
+
+pub returns-in_err-answer-clause-blocks : goal.returns-in_err-answer-clause-blocks
+returns-in_err-answer-clause-blocks g c honest = c.seen.ensures.same honest.1
+
+pub returns-clause-blocks : goal.returns-clause-blocks
+returns-clause-blocks g c honest = c.seen.ensures.same honest.1
+
+-- ---- what the reader keeps then
+
+pub returns-in_err-answer-clause-reads : goal.returns-in_err-answer-clause-reads
+returns-in_err-answer-clause-reads g c h k from =
+    let a = c.args.self.now in
+    let start : Start = start_of a h k in
+    let s0 = c.in_ok-begin.ensures.shown k.honest.0 k.pages k.maps in
+    let tree : HasTree _ c.begin.new.tx g.O.OnceDisk c.args.reader.now c.in_ok-seen.seen a.head.root (applied h) = record {
+      start = start;
+      shown = k.pages;
+      shows = s0;
+      well = reads_kept g.O.OnceDisk c.args.reader.now c.in_ok-seen.seen (once_of a) (once_state a) from.disk (c.in_ok-seen.ensures.seen k.honest.1) (c.in_ok-seen.ensures.known k.honest.1) from.kept;
+      low = tree_low a.settings;
+      fresh = a.head.fresh;
+      block = a.head.block;
+      stamp = stamp_of a.head.last a.head.applied;
+      versions = k.bears.versions;
+      lies = lies_known g.O.OnceDisk c.args.reader.now c.in_ok-seen.seen (once_of a) (once_state a) k.pages (tree_low a.settings) a.head.root a.head.fresh a.head.block (stamp_of a.head.last a.head.applied) k.bears.versions from.disk (c.in_ok-seen.ensures.known k.honest.1) k.bears.tree;
+      timely = rises_applied h;
+      kept = k.bears.kept;
+    } in
+    let well = c.answer_by.ensures.keeps (applied h) tree in
+    let known = c.answer_by.ensures.known tree.well.honest ∙ c.in_ok-seen.ensures.known k.honest.1 ∙ ap (λ (o : OnceState). o.settled) (sym (c.seen.ensures.same k.honest.1)) in
+    record { disk = c.answer_by.ensures.disk ∙ from.disk ∙ sym c.seen.ensures.disk; kept = kept_reads g.O.OnceDisk c.answer_by.new.reader c.answer_by.new.seen (g.O.OnceDisk.model (pen_of c.seen.new.self)) well known }
+
+pub returns-clause-reads : goal.returns-clause-reads
+returns-clause-reads g c h k from =
+    let a = c.args.self.now in
+    let start : Start = start_of a h k in
+    let s0 = c.in_ok-begin.ensures.shown k.honest.0 k.pages k.maps in
+    let tree : HasTree _ c.begin.new.tx g.O.OnceDisk c.args.reader.now c.in_ok-seen.seen a.head.root (applied h) = record {
+      start = start;
+      shown = k.pages;
+      shows = s0;
+      well = reads_kept g.O.OnceDisk c.args.reader.now c.in_ok-seen.seen (once_of a) (once_state a) from.disk (c.in_ok-seen.ensures.seen k.honest.1) (c.in_ok-seen.ensures.known k.honest.1) from.kept;
+      low = tree_low a.settings;
+      fresh = a.head.fresh;
+      block = a.head.block;
+      stamp = stamp_of a.head.last a.head.applied;
+      versions = k.bears.versions;
+      lies = lies_known g.O.OnceDisk c.args.reader.now c.in_ok-seen.seen (once_of a) (once_state a) k.pages (tree_low a.settings) a.head.root a.head.fresh a.head.block (stamp_of a.head.last a.head.applied) k.bears.versions from.disk (c.in_ok-seen.ensures.known k.honest.1) k.bears.tree;
+      timely = rises_applied h;
+      kept = k.bears.kept;
+    } in
+    let well = c.answer_by.ensures.keeps (applied h) tree in
+    let known = c.answer_by.ensures.known tree.well.honest ∙ c.in_ok-seen.ensures.known k.honest.1 ∙ ap (λ (o : OnceState). o.settled) (sym (c.seen.ensures.same k.honest.1)) in
+    record { disk = c.answer_by.ensures.disk ∙ from.disk ∙ sym c.seen.ensures.disk; kept = kept_reads g.O.OnceDisk c.answer_by.new.reader c.answer_by.new.seen (g.O.OnceDisk.model (pen_of c.seen.new.self)) well known }
+
+pub returns-in_err-begin-clause-reads : goal.returns-in_err-begin-clause-reads
+returns-in_err-begin-clause-reads g c h k from =
+    absurd (true≢false (sym c.in_err-begin.ensures.down ∙ k.maps.keeps.usable))
+
+pub returns-in_err-check_settled-clause-reads : goal.returns-in_err-check_settled-clause-reads
+returns-in_err-check_settled-clause-reads g c h k from = record { disk = from.disk; kept = from.kept }
+
+pub returns-in_err-seen-clause-reads : goal.returns-in_err-seen-clause-reads
+returns-in_err-seen-clause-reads g c h k from =
+    record { disk = from.disk ∙ sym c.seen.ensures.disk; kept = λ n block kept. ap (λ (o : OnceState). o.settled n) (c.seen.ensures.same k.honest.1) ∙ from.kept n block kept }

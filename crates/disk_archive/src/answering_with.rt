@@ -1,0 +1,94 @@
+//! Questions are answered by a reader that goes on keeping the blocks that it read.
+
+ghost use Rattle.std.specs.Prelude.{◌≡◌, ◌↔◌, ◌<◌, ◌≤◌, ℕ, IfOk, IfErr, OnOk, Err, true, false};
+ghost use Rattle.once_store.specs.Readers.{capacity_of};
+ghost use Rattle.route_meaning.specs.History.{History, applied, settled};
+ghost use Rattle.interleaving_core.specs.Does.{last_moment};
+ghost use Rattle.interleaving_core.specs.Headline.{IsAnswered};
+ghost use Rattle.disk_archive.specs.inner.Asking.{BlamesNone};
+
+use crate::answering::{answer_by, check_settled};
+use crate::archive::Archive;
+use crate::ask_error::AskError;
+use crate::committing::begin;
+use disk_models::{EraseDisk, OnceDisk};
+use interleaving_core::{Answer, Query};
+use once_store::ShelfReader;
+
+impl<E: EraseDisk + Drop, O: OnceDisk + Drop> Archive<E, O> {
+    ghost use Rattle.disk_archive.specs.Archives.{Carries, Holds, Stands, IsHonest, is_down, once_of, once_state, settings_of, site_of};
+    ghost use Rattle.disk_archive.specs.Sites.{LeftCarries, LeftEither};
+    ghost use Rattle.disk_archive.specs.Crashes.{Crashes, Lasts};
+    ghost use Rattle.disk_archive.specs.Reading.{ReadsFrom};
+    ghost use Rattle.disk_archive.specs.inner.Idle.{IsAsBefore};
+
+    // Answers a question by a reader of its blocks, where the archive carries a history.
+    fn try_answer_with(
+        &mut self,
+        reader: &mut ShelfReader<O>,
+        query: Query,
+    ) -> Result<Answer, AskError>
+        ensures usable { OnOk result (is_down self.old ≡ false) }
+        ensures down { is_down self.new ≡ is_down self.old }
+        ensures idle { is_down self.old ≡ true → IsAsBefore self.old self.new }
+        ensures unread { is_down self.old ≡ true → reader.new ≡ reader.old }
+        ensures told { is_down self.old ≡ true → result ≡ Err AskError.NeedsRecovery }
+        ensures recovery { result ≡ Err AskError.NeedsRecovery → is_down self.old ≡ true }
+        ensures honest { IsHonest self.old ↔ IsHonest self.new }
+        ensures answered { IfOk result (λ answer. (h : History) → Carries self.old h → ReadsFrom self.old reader.old → IsAnswered (applied h) query answer) }
+        ensures below { OnOk result ((h : History) → Carries self.old h → last_moment query < settled h) }
+        ensures above { (h : History) → Carries self.old h → (mark : ℕ) → result ≡ Err (AskError.AboveWatermark mark) → (mark ≡ settled h) × (settled h ≤ last_moment query) }
+        ensures watermark { (h : History) → Carries self.old h → settled h ≤ last_moment query → result ≡ Err (AskError.AboveWatermark (settled h)) }
+        ensures carries { (h : History) → Carries self.old h → Carries self.new h }
+        ensures blames { (h : History) → Carries self.old h → ReadsFrom self.old reader.old → IfErr result BlamesNone }
+        ensures crash { (h : History) → Carries self.old h → Crashes self.old self.new (LeftEither (site_of self.old) h h) }
+        ensures settings { settings_of self.new ≡ settings_of self.old }
+        ensures disk { once_of self.new ≡ once_of self.old }
+        ensures blocks { IsHonest self.old → once_state self.new ≡ once_state self.old }
+        ensures reads { (h : History) → Carries self.old h → ReadsFrom self.old reader.old → ReadsFrom self.new reader.new }
+        ensures capacity { capacity_of reader.new ≡ capacity_of reader.old }
+    {
+        begin(&mut self.tx)?;
+        check_settled(&self.sequencer, &query)?;
+        let mut seen = self.shelf.seen()?;
+        let answer = answer_by(
+            self.alloc,
+            &mut self.tx,
+            reader,
+            &mut seen,
+            &self.head,
+            query,
+        )?;
+        Ok(answer)
+    }
+
+    /// Answers a question as `answer` does, by a reader of the archive's blocks that goes on keeping what it read: questions that come to
+    /// the same blocks read each of them once.
+    ///
+    /// The reader was got from this archive, however many calls ago, and is used for its blocks alone: what is settled never changes.
+    pub fn answer_with(
+        &mut self,
+        reader: &mut ShelfReader<O>,
+        query: Query,
+    ) -> Result<Answer, AskError>
+        ensures answered { IfOk result (λ answer. IsHonest self.old → (h : History) → Holds self.old h → ReadsFrom self.old reader.old → IsAnswered (applied h) query answer) }
+        ensures reads { IsHonest self.old → (h : History) → Holds self.old h → ReadsFrom self.old reader.old → ReadsFrom self.new reader.new }
+        ensures capacity { capacity_of reader.new ≡ capacity_of reader.old }
+        ensures below { OnOk result (IsHonest self.old → (h : History) → Holds self.old h → last_moment query < settled h) }
+        ensures above { IsHonest self.old → (h : History) → Holds self.old h → (mark : ℕ) → (result ≡ Err (AskError.AboveWatermark mark)) ↔ ((is_down self.old ≡ false) × (mark ≡ settled h) × (settled h ≤ last_moment query)) }
+        ensures holds { (h : History) → Holds self.old h → Holds self.new h }
+        ensures crash { (h : History) → Carries self.old h → Crashes self.old self.new (LeftCarries (site_of self.old) h) }
+        ensures lasts { (h : History) → Stands self.old h → Lasts self.old self.new h }
+        ensures usable { OnOk result (is_down self.old ≡ false) }
+        ensures down { is_down self.new ≡ is_down self.old }
+        ensures recovery { (result ≡ Err AskError.NeedsRecovery) ↔ (is_down self.old ≡ true) }
+        ensures sound { IsHonest self.old → (h : History) → Holds self.old h → ReadsFrom self.old reader.old → (page : ℕ) → result ≡ Err (AskError.BadNode page) → ⊥ }
+        ensures undamaged { IsHonest self.old → (h : History) → Holds self.old h → ReadsFrom self.old reader.old → (block : ℕ) → result ≡ Err (AskError.Damaged block) → ⊥ }
+        ensures honest { IsHonest self.old ↔ IsHonest self.new }
+        ensures settings { settings_of self.new ≡ settings_of self.old }
+        ensures disk { once_of self.new ≡ once_of self.old }
+        ensures blocks { IsHonest self.old → once_state self.new ≡ once_state self.old }
+    {
+        self.try_answer_with(reader, query)
+    }
+}
