@@ -11,6 +11,7 @@ use archive_calls::{
 use disk_archive::Archive;
 use disk_files::{FileErase, FileOnce};
 use interleaving_core::{Answer, BatchReply, Query, Resume};
+use once_store::ShelfReader;
 use route_model::{Admission, Mark};
 
 /// The most octets of one admission as a batch. A ring, which has nine pages at least, has room for it.
@@ -19,13 +20,19 @@ const ONE_ADMISSION: usize = 131_076;
 /// The octets of a page.
 const PAGE: usize = 16_384;
 
-/// An archive on disks over the files of a folder, with how many octets a batch of it may have.
+/// How many blocks questions keep in memory at most, of 16,384 octets each.
+const KEPT_BLOCKS: usize = 1_024;
+
+/// An archive on disks over the files of a folder, with how many octets a batch of it may have, and with the blocks that its questions
+/// read: at most 1,024, 16 MiB, so that each is read and checked once for many questions.
 ///
 /// It is a type of its own, since the archive on any two disks can't be one that feeds and questions use: docs/DECISIONS.md
 /// says why.
 #[derive(Drop)]
 pub struct FileArchive {
     archive: Archive<FileErase, FileOnce>,
+    // none where there was no memory for it: then each question reads blocks anew
+    reader: Option<ShelfReader<FileOnce>>,
     limit: usize,
     ghost one: { 131076 ≤ limit },
     ghost few: { limit ≤ 262144 },
@@ -44,7 +51,12 @@ impl FileArchive {
     {
         let ring = usize::from(archive.ring()) * PAGE;
         let limit = MAX_BATCH_LEN.min(ring).max(ONE_ADMISSION);
-        FileArchive { archive, limit }
+        let reader = archive.reader(KEPT_BLOCKS).ok();
+        FileArchive {
+            archive,
+            reader,
+            limit,
+        }
     }
 
     /// How many changes are applied: as many as [`RouteArchive::check`] counts. After a failed write or sync, as many as before the call
@@ -115,7 +127,13 @@ impl RouteArchive for FileArchive {
     }
 
     fn answer(&mut self, query: Query) -> Result<Answer, AskError> {
-        match self.archive.answer(query) {
+        let Some(reader) = &mut self.reader else {
+            return match self.archive.answer(query) {
+                Ok(answer) => Ok(answer),
+                Err(refusal) => Err(ask_refusal(refusal)),
+            };
+        };
+        match self.archive.answer_with(reader, query) {
             Ok(answer) => Ok(answer),
             Err(refusal) => Err(ask_refusal(refusal)),
         }
