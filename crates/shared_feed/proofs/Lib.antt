@@ -1,0 +1,5 @@
+pub mod Making
+pub mod Following
+pub mod GivingUp
+pub mod Streams
+pub mod Limits
