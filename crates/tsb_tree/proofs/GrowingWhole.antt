@@ -12,6 +12,7 @@ use Rattle.tsb_node.specs.Leaves.{IsLeafPage, IsShortOf, value_spelled}
 use Rattle.tsb_node.proofs.ViewLaws.{entries-octets}
 use Rattle.worm_migration.specs.Settled.{ShelfSays}
 use Rattle.tsb_tree.specs.declared.whole.Whole.{Whole}
+use Rattle.tsb_tree.specs.Needs.{IsWhatStays}
 use Rattle.tsb_tree.specs.Shapes.{IsWhole, bounds_from, leaf_in_page}
 use Rattle.tsb_tree.specs.Shelves.{TakesOn}
 use Rattle.tsb_tree.specs.Wholes.{Takes}
@@ -42,6 +43,9 @@ module _ (w w' : Whole) (v : Version) (taken : w' ≡ record w { leaf = w.leaf +
 
   pub taken_only : (x : Version) → Has w'.leaf x → Has w.leaf x ⊎ (x ≡ v)
   taken_only x h = Has-push_cases w.leaf v x (subst (λ (l : List Version). Has l x) leaf_is h)
+
+  pub taken_stays : (stays : List Version) → IsWhatStays w'.leaf v.stamp stays → IsWhatStays (w.leaf ++ v ∷ []) v.stamp stays
+  taken_stays stays what = subst (λ (l : List Version). IsWhatStays l v.stamp stays) leaf_is what
 
   pub taken_on : {O Pen Seen : Type 0} (device : Ghosts O Pen Seen) (shelf : Shelf O Pen Seen) (blocks : ℕ → Option BlockNode) → ShelfSays device shelf blocks → TakesOn device shelf blocks blocks (next_of shelf) v w w'
   taken_on device shelf blocks says = record {

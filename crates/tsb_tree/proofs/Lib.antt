@@ -26,4 +26,5 @@ pub mod Roots
 pub mod Looks
 pub mod Beginning
 pub mod Wanting
+pub mod Needing
 pub mod Outliving

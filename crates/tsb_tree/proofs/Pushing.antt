@@ -29,6 +29,7 @@ use Rattle.tsb_tree.proofs.GrowingWhole.{below_or, value_size}
 use Rattle.tsb_tree.proofs.PlanningLeaf.{more}
 use Rattle.tsb_tree.proofs.Saying.{LeafOf, leaf_of, each_get}
 use Rattle.tsb_tree.proofs.Splitting.{found}
+use Rattle.tsb_tree.proofs.Taking.{octets-push}
 
 -- the same where pages were only read
 abbrev pub can_after : {P O Pen Seen : Type 0} (pages : Ghosts P) (a b : P) (device : OnceGhosts O Pen Seen) (shelf : Shelf O Pen Seen) (s : Store) (all : List Version) (place : PagePlace) (v : Version) (F : Type 0) → OnlyReads pages a b F → CanTake pages a device shelf s all place v → CanTake pages b device shelf s all place v
@@ -110,6 +111,15 @@ module _ (s : Store) (all : List Version) (place : PagePlace) (shown : List (Lis
       let said : CurrentLeaf (keys_between l.leaf.bounds) l.leaf.bounds.start l.leaf.versions ≡ CurrentLeaf (keys_at place) standing.start standing.versions = l.is in
       let versions : l.leaf.versions ≡ standing.versions = cc in
       record { start = of.start; versions = of.versions; says = of.says; filled = (let same : standing.versions ≡ of.versions = (let e = leaf_said in cc) in omega (arith, full, entries-octets l.leaf.versions, entry-size v, value_size v.value, ap octets versions, ap octets same)) }
+
+  pub room_here : (v : Version) (new : List ℕ) → IsLeafPage (with_version leaf_here.leaf v) new → octets of.versions + entry_octets v ≤ 16232
+  room_here v new is =
+      let l = leaf_here in
+      let said : CurrentLeaf (keys_between l.leaf.bounds) l.leaf.bounds.start l.leaf.versions ≡ CurrentLeaf (keys_at place) standing.start standing.versions = l.is in
+      let versions : l.leaf.versions ≡ standing.versions = cc in
+      let same : standing.versions ≡ of.versions = (let e = leaf_said in cc) in
+      let fits = is.valid.fits in
+      omega (arith, fits, entries-octets (l.leaf.versions ++ v ∷ []), octets-push l.leaf.versions v, ap octets versions, ap octets same)
 
 -- the keys and stamps of a column in memory that stands and whose leaf has no room for a version
 module _ (s : Store) (all : List Version) (place : PagePlace) (current : ℕ) (image : List ℕ) (w : Whole) (v : Version) (at : IsAt s.nodes place.page current w) (stands : StandsIn s all place.level (keys_at place) place.page) (leaf : IsLeafPage (leaf_in_page w) image) where

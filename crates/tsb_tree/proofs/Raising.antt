@@ -1,5 +1,5 @@
 -- What is planned for a child of a key node, raised to the key node.
-use Rattle.std.proofs.Common.{◌≡◌, ℕ, suc, ◌+◌, ◌<◌, ◌≤◌, inl, inr, Bool, List, [], ◌∷◌, ◌++◌, Option, Some, None, Result, Ok, Err, slice_get, refl, sym, ◌∙◌, ap, subst, arith, length}
+use Rattle.std.proofs.Common.{◌≡◌, ℕ, suc, ◌+◌, ◌<◌, ◌≤◌, inl, inr, Bool, List, [], ◌∷◌, ◌++◌, Option, Some, None, Result, Ok, Err, slice_get, refl, sym, ◌∙◌, ap, subst, arith}
 use Rattle.std.specs.List.{insert}
 use Rattle.std.specs.Prelude.{IfErr, IfOk, OnOk, IfSome, IsSome}
 use Rattle.disk_models.specs.declared.once.OnceDisk.{Ghosts as OnceGhosts}
@@ -29,7 +29,7 @@ use Rattle.tsb_tree.specs.declared.change.Change.{Change}
 use Rattle.tsb_tree.specs.declared.error.TreeError.{TreeError}
 use Rattle.tsb_tree.specs.declared.error.TreeError.TheVariants as errors
 use Rattle.tsb_tree.specs.KeyNodes.{BeginsBehind}
-use Rattle.tsb_tree.specs.NoRoom.{IsFullWay, full_key_node, LeadsToFullLeaf, in_child}
+use Rattle.tsb_tree.specs.NoRoom.{LeadsToFullLeaf, in_child}
 use Rattle.tsb_tree.specs.Outlived.{LeadsToOutdated, outdated_below}
 use Rattle.tsb_tree.specs.Plans.{Plans, CanBeLaid}
 use Rattle.tsb_tree.specs.Puts.{PutsChild, PutRefusal}
@@ -66,11 +66,11 @@ take_lower pages a b F device shelf s all place next v reads can above lower = r
   inside = can.inside;
 }
 
--- where no node on the way from that child has room, and its key node hasn't either
-pub full_lower : {P O Pen Seen : Type 0} (pages : Ghosts P) (a b : P) (F : Type 0) (device : OnceGhosts O Pen Seen) (shelf : Shelf O Pen Seen) (s : Store) (all : List Version) (place next : PagePlace) (v : Version) (reads : OnlyReads pages a b F) (can : CanTake pages a device shelf s all place v) (above : 1 < place.level) (lower : IsLower can.shown v.key place next)
-    → length lower.children ≡ 338 → IsFullWay (take_lower pages a b F device shelf s all place next v reads can above lower).shown v next → IsFullWay can.shown v place
+-- what is so of the pages that it is shown is so of those that its key node is
+pub at_lower : {P O Pen Seen : Type 0} (pages : Ghosts P) (a b : P) (F : Type 0) (device : OnceGhosts O Pen Seen) (shelf : Shelf O Pen Seen) (s : Store) (all : List Version) (place next : PagePlace) (v : Version) (reads : OnlyReads pages a b F) (can : CanTake pages a device shelf s all place v) (above : 1 < place.level) (lower : IsLower can.shown v.key place next)
+    → (fact : List (List ℕ) → Type 0) → fact (take_lower pages a b F device shelf s all place next v reads can above lower).shown → fact can.shown
 unfolding take_lower
-full_lower pages a b F device shelf s all place next v reads can above lower many rest = full_key_node place next lower many rest
+at_lower pages a b F device shelf s all place next v reads can above lower fact is = is
 
 -- the way from that child leads on from its key node
 pub leads_lower : {P O Pen Seen : Type 0} (pages : Ghosts P) (a b : P) (F : Type 0) (device : OnceGhosts O Pen Seen) (shelf : Shelf O Pen Seen) (s : Store) (all : List Version) (place next : PagePlace) (v : Version) (reads : OnlyReads pages a b F) (can : CanTake pages a device shelf s all place v) (above : 1 < place.level) (lower : IsLower can.shown v.key place next)

@@ -1,18 +1,16 @@
 -- What a tree has no room for.
-use Rattle.std.proofs.Common.{◌≡◌, ℕ, suc, ◌+◌, ◌<◌, ◌≤◌, ◌⊎◌, inl, inr, Bool, List, Option, Some, None, Result, Ok, Err, refl, sym, ◌∙◌, ap, subst, arith}
+use Rattle.std.proofs.Common.{◌≡◌, ℕ, suc, ◌+◌, ◌<◌, ◌≤◌, ◌⊎◌, inl, inr, Bool, Option, Some, None, Result, Ok, Err, refl, sym, subst, arith}
 use Rattle.std.specs.Prelude.{IsSome, IfOk, IfErr}
 use Rattle.std.proofs.lemmas.Bool.{false≢true}
 use Rattle.page_tx.specs.declared.error.PageError.{PageError}
 use Rattle.page_tx.specs.declared.error.PageError.TheVariants as pages
 use Rattle.page_tx.specs.Refusals.{LayRefusal}
-use Rattle.tsb_walk.specs.declared.page_place.PagePlace.{PagePlace}
 use Rattle.version_model.specs.declared.child.Child.{Child}
-use Rattle.version_model.specs.Versions.{Version}
 use Rattle.tsb_tree.specs.declared.change.Change.{Change}
 use Rattle.tsb_tree.specs.declared.error.TreeError.{TreeError}
 use Rattle.tsb_tree.specs.declared.error.TreeError.TheVariants as errors
 use Rattle.tsb_tree.specs.InPlace.{IsInPlace}
-use Rattle.tsb_tree.specs.NoRoom.{LeadsToFullLeaf, in_leaf, in_child, IsFullWay, full_leaf, full_key_node, IsForWant}
+use Rattle.tsb_tree.specs.NoRoom.{IsForWant}
 use Rattle.tsb_tree.specs.Refusals.{PlanRefusal, ReadRefusal, of_page}
 
 -- nothing became two
@@ -22,11 +20,6 @@ no_half o none some = absurd (false≢true (subst (λ (x : Option Child). IsSome
 pub is_half : (o : Option Child) → (o ≡ None → ⊥) → IsSome o
 is_half None some = absurd (some refl)
 is_half (Some new) some = refl
-
--- a way that is full leads to a full leaf
-pub full_leads : (shown : List (List ℕ)) (v : Version) (place : PagePlace) → IsFullWay shown v place → LeadsToFullLeaf shown v place
-full_leads shown v _ (full_leaf column page image of filled) = in_leaf column page image of filled
-full_leads shown v _ (full_key_node place next lower many rest) = in_child place next lower (full_leads shown v next rest)
 
 -- reading wants neither pages nor blocks
 pub read_wants_none : (e : TreeError) (down : Bool) → ReadRefusal down e → IsForWant e → ⊥
@@ -50,13 +43,7 @@ lay_wants_none pages.TooManyImages homes unused count is inside want = want
 lay_wants_none pages.PagesFull homes unused count is inside want = omega (arith, is, inside)
 lay_wants_none pages.OutOfMemory homes unused count is inside want = want
 
--- what is raised is two nodes only where what is below is
-pub raised_full : {F : Type 0} (many : Type 0) (change : Change) (r : Result Change TreeError) → (change.new ≡ None → r ≡ Ok change) → IfOk r (λ put. IsSome put.new → many) → (IsSome change.new → many → F) → IfOk r (λ put. IsSome put.new → F)
-raised_full many change (Ok put) kept full up =
-    λ some. up (is_half change.new (λ none. let same : put ≡ change = (let e = kept none in cc) in no_half put.new (ap (λ (c : Change). c.new) same ∙ none) some)) (full some)
-raised_full many change (Err e) kept full up = tt
-
--- and isn't raised only where what is below is two nodes
+-- what is refused for want isn't raised only where what is below is two nodes
 pub raised_wants : {F : Type 0} (change : Change) (r : Result Change TreeError) → (change.new ≡ None → r ≡ Ok change) → (IsSome change.new → F) → IfErr r (λ e. IsForWant e → F)
 raised_wants change (Ok put) kept up = tt
 raised_wants change (Err e) kept up = λ want. up (is_half change.new (λ none. let h = kept none in absurd (cc)))
@@ -72,6 +59,10 @@ raised_light before next change (Err e) kept same up light = tt
 pub if_ok : {A E : Type 0} {F : A → Type 0} (r : Result A E) → ((a : A) → F a) → IfOk r F
 if_ok (Ok a) each = each a
 if_ok (Err e) each = tt
+
+pub ok_then : {A E : Type 0} (F G : A → Type 0) (r : Result A E) → ((a : A) → F a → G a) → IfOk r F → IfOk r G
+ok_then F G (Ok a) up is = up a is
+ok_then F G (Err e) up is = tt
 
 pub if_err : {A E : Type 0} {F : E → Type 0} (r : Result A E) → ((e : E) → F e) → IfErr r F
 if_err (Ok a) each = tt

@@ -14,5 +14,7 @@ pub mod Raises
 pub mod Inserted
 pub mod Opened
 pub mod NoRoom
+pub mod Needs
 pub mod InPlace
 pub mod Outlived
+pub mod inner

@@ -1,5 +1,5 @@
 -- Versions for which a tree has no room.
-use Rattle.std.specs.Prelude.{◌≡◌, ℕ, List, length}
+use Rattle.std.specs.Prelude.{◌≡◌, ℕ, List}
 use Rattle.page_tx.specs.declared.error.PageError.TheVariants as pages
 use Rattle.tsb_walk.specs.declared.page_place.PagePlace.{PagePlace}
 use Rattle.tsb_walk.specs.PageWays.{IsLower}
@@ -14,11 +14,6 @@ use Rattle.tsb_tree.specs.Read.{IsLeafOf, IsFilled}
 pub data LeadsToFullLeaf (shown : List (List ℕ)) (v : Version) : PagePlace → Type 0 where
   in_leaf : (column : PagePlace) (page : ℕ) (image : List ℕ) → IsLeafOf shown column page image → IsFilled column image v → LeadsToFullLeaf shown v column
   in_child : (place next : PagePlace) → IsLower shown v.key place next → LeadsToFullLeaf shown v next → LeadsToFullLeaf shown v place
-
--- The same, and each key node on the way has as many children as one can have.
-pub data IsFullWay (shown : List (List ℕ)) (v : Version) : PagePlace → Type 0 where
-  full_leaf : (column : PagePlace) (page : ℕ) (image : List ℕ) → IsLeafOf shown column page image → IsFilled column image v → IsFullWay shown v column
-  full_key_node : (place next : PagePlace) (lower : IsLower shown v.key place next) → length lower.children ≡ 338 → IsFullWay shown v next → IsFullWay shown v place
 
 -- the fact holds of the root of a tree: in this page, of this level, with all keys
 abbrev pub AtRoot : (PagePlace → Type 0) → ℕ → ℕ → Type 0

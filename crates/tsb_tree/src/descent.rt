@@ -1,6 +1,7 @@
 //! A version goes down through key nodes to the column that has its key, and what is planned there comes up again.
-ghost use Rattle.std.specs.Prelude.{◌≡◌, ◌<◌, ◌≤◌, ◌+◌, ◌^◌, ◌⊎◌, ℕ, suc, List, Some, None, Ok, length, IfOk, OnOk, IfErr, IsSome};
+ghost use Rattle.std.specs.Prelude.{◌≡◌, ◌<◌, ◌≤◌, ◌+◌, ◌^◌, ◌⊎◌, ℕ, suc, List, Some, None, Ok, Err, length, IfOk, OnOk, IfErr, IsSome};
 ghost use Rattle.std.specs.List.{insert};
+ghost use Rattle.once_store.specs.declared.error.AppendError.{AppendError};
 ghost use Rattle.page_journal.specs.Layout.{pages_of};
 ghost use Rattle.page_journal.specs.Recovers.{AreDistinct};
 ghost use Rattle.page_tx.specs.Start.{Start};
@@ -14,7 +15,7 @@ ghost use Rattle.tsb_walk.specs.PageWays.{IsLower};
 ghost use Rattle.tsb_walk.specs.Shown.{Says, HasKey, keys_at};
 ghost use Rattle.tsb_tree.specs.KeyNodes.{IsWide};
 ghost use Rattle.tsb_tree.specs.InPlace.{IsInPlace};
-ghost use Rattle.tsb_tree.specs.NoRoom.{IsForWant, IsFullWay, LeadsToFullLeaf};
+ghost use Rattle.tsb_tree.specs.NoRoom.{IsForWant, LeadsToFullLeaf};
 ghost use Rattle.tsb_tree.specs.Outlived.{LeadsToOutdated};
 ghost use Rattle.tsb_tree.specs.Plans.{CanBeLaid, Plans};
 ghost use Rattle.tsb_tree.specs.Puts.{PutsChild};
@@ -23,6 +24,7 @@ ghost use Rattle.tsb_tree.specs.Refusals.{IsHonest, PlanRefusal, ReadRefusal};
 ghost use Rattle.tsb_tree.specs.Shelves.{KeepsShelf};
 ghost use Rattle.tsb_tree.specs.Stores.{ReadsAlone};
 ghost use Rattle.tsb_tree.specs.Takers.{CanTake};
+ghost use Rattle.tsb_tree.specs.inner.Uses.{UsesForHalf, UsesPages, WantsPages};
 
 use crate::change::Change;
 use crate::error::TreeError;
@@ -31,7 +33,7 @@ use crate::putting::put_half;
 use crate::reading::{image_of, key_node_in};
 use disk_models::OnceDisk;
 use once_store::Shelf;
-use page_tx::Pages;
+use page_tx::{PageError, Pages};
 use route_model::Key;
 use std::alloc::Global;
 use tsb_node::KeyNodeSaid;
@@ -83,8 +85,10 @@ fn raise<P: Pages>(
     ensures kept { change.new ≡ None → result ≡ Ok change }
     ensures puts { (start : Start) (shown : List (List ℕ)) (new : ChildValue) (room : HasRoomBehind shown place.now new) → P.shows pages.old start shown → change.new ≡ Some new
         → IfOk result (PutsChild place.now.page place.now.level (keys_at place.now) (insert room.children (suc room.at) new) change) }
-    ensures full { (start : Start) (shown : List (List ℕ)) (level : ℕ) (k : Keys) (children : List ChildValue) → P.shows pages.old start shown → Says shown place.now.page (KeyNode level k children)
-        → IfOk result (λ put. IsSome put.new → length children ≡ 338) }
+    ensures uses { (start : Start) (shown : List (List ℕ)) (level : ℕ) (k : Keys) (children : List ChildValue) → P.shows pages.old start shown → Says shown place.now.page (KeyNode level k children)
+        → IsSome change.new → IfOk result (λ put. UsesForHalf (length children) change.unused put.unused put.new) }
+    ensures wants_pages { (start : Start) (shown : List (List ℕ)) (level : ℕ) (k : Keys) (children : List ChildValue) → P.shows pages.old start shown → Says shown place.now.page (KeyNode level k children)
+        → result ≡ Err (TreeError.Pages PageError.PagesFull) → length children ≡ 338 }
     ensures inside { IsSome change.new → OnOk result (place.now.page < P.homes pages.old) }
     ensures laid { (next level : ℕ) → CanBeLaid (P.homes pages.old) next level change → IfOk result (CanBeLaid (P.homes pages.old) next (suc level)) }
     ensures honest { (start : Start) (shown : List (List ℕ)) → P.shows pages.old start shown → ((new : ChildValue) → change.new ≡ Some new → HasRoomBehind shown place.now new) → IsHonest result }
@@ -123,13 +127,17 @@ pub fn plan_under<P: Pages, O: OnceDisk + Drop>(
     ensures plans { (s : Store) (all : List Version) → CanTake P.Pages pages.old O.OnceDisk shelf.old s all place.now (version_of entry.now)
         → IfOk result (λ change. Plans O.OnceDisk shelf.new (P.homes pages.old) s (version_of entry.now) place.now.level place.now.page change) }
     ensures honest { (s : Store) (all : List Version) → CanTake P.Pages pages.old O.OnceDisk shelf.old s all place.now (version_of entry.now) → IsHonest result }
-    ensures full { (s : Store) (all : List Version) → (can : CanTake P.Pages pages.old O.OnceDisk shelf.old s all place.now (version_of entry.now))
-        → IfOk result (λ change. IsSome change.new → IsFullWay can.shown (version_of entry.now) place.now) }
+    ensures uses { (s : Store) (all : List Version) → (can : CanTake P.Pages pages.old O.OnceDisk shelf.old s all place.now (version_of entry.now))
+        → IfOk result (λ change. UsesPages can.shown (version_of entry.now) place.now (P.next pages.old) change.unused change.new) }
+    ensures wants_pages { (s : Store) (all : List Version) → (can : CanTake P.Pages pages.old O.OnceDisk shelf.old s all place.now (version_of entry.now))
+        → result ≡ Err (TreeError.Pages PageError.PagesFull) → WantsPages can.shown (version_of entry.now) place.now (P.homes pages.old) (P.next pages.old) }
     ensures wants { (s : Store) (all : List Version) → (can : CanTake P.Pages pages.old O.OnceDisk shelf.old s all place.now (version_of entry.now))
         → IfErr result (λ e. IsForWant e → LeadsToFullLeaf can.shown (version_of entry.now) place.now) }
     ensures light { (s : Store) (all : List Version) → (can : CanTake P.Pages pages.old O.OnceDisk shelf.old s all place.now (version_of entry.now))
         → IfOk result (λ change. (IsInPlace (P.next pages.old) change × (shelf.new ≡ shelf.old)) ⊎ LeadsToFullLeaf can.shown (version_of entry.now) place.now) }
     ensures burns { (s : Store) (all : List Version) → (can : CanTake P.Pages pages.old O.OnceDisk shelf.old s all place.now (version_of entry.now)) → (shelf.new ≡ shelf.old) ⊎ LeadsToOutdated can.shown (version_of entry.now) place.now }
+    ensures once { (s : Store) (all : List Version) → (can : CanTake P.Pages pages.old O.OnceDisk shelf.old s all place.now (version_of entry.now))
+        → (refusal : AppendError) → result ≡ Err (TreeError.Once refusal) → LeadsToOutdated can.shown (version_of entry.now) place.now }
     ensures laid { IfOk result (λ change. CanBeLaid (P.homes pages.old) (P.next pages.old) place.now.level change) }
     ensures refused { IfErr result (PlanRefusal (P.homes pages.old) (P.next pages.old) place.now.level (P.down pages.old)) }
     ensures reads { ReadsAlone P.Pages pages.old pages.new result }

@@ -5,6 +5,7 @@ ghost use Rattle.version_model.specs.Ranges.{key_end};
 ghost use Rattle.version_model.specs.Versions.{Version, Has, IsAbove, IsRising};
 ghost use Rattle.version_model.specs.Shows.{IsFrom};
 ghost use Rattle.version_model.specs.Sizes.{octets, IsSingle, IsSplitPoint};
+ghost use Rattle.tsb_tree.specs.Needs.{IsWhatStays};
 ghost use Rattle.tsb_tree.specs.Outlived.{HasOutlived};
 ghost use Rattle.tsb_tree.specs.Shapes.{IsFull, IsWhole, least_of};
 ghost use Rattle.tsb_tree.specs.Wholes.{AreHalves};
@@ -29,6 +30,7 @@ pub fn take(whole: &mut Whole, entry: &Entry) -> Result<(), AllocError>
 /// What of a leaf goes on from a stamp on, where the last version is of that stamp; none where all of it does.
 pub fn newer_of(alloc: Global, leaf: &Leaf, at: Stamp) -> Result<Option<Leaf>, AllocError>
     ensures from { IfOk result (λ newer. IfSome newer (IsFrom leaf.now at)) }
+    ensures stays { IfOk result (λ newer. MatchOption newer (IsWhatStays leaf.now at leaf.now) (IsWhatStays leaf.now at)) }
     ensures size { IfOk result (λ newer. IfSome newer (λ newer. octets newer ≤ octets leaf.now)) }
     ensures single { (front : List Version) (v : Version) → leaf.now ≡ front ++ v ∷ [] → v.stamp ≡ at → IsAbove front at
         → IfOk result (λ newer. MatchOption newer (IsSingle leaf.now) IsSingle) }

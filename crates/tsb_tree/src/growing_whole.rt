@@ -1,5 +1,6 @@
 //! A column in memory takes a version for which its leaf has no room in its page.
-ghost use Rattle.std.specs.Prelude.{◌≡◌, ◌+◌, ◌^◌, ◌<◌, ◌≤◌, ◌⊎◌, ℕ, Option, IfErr, OnOk};
+ghost use Rattle.std.specs.Prelude.{◌≡◌, ◌+◌, ◌^◌, ◌<◌, ◌≤◌, ◌⊎◌, ◌++◌, ◌∷◌, [], ℕ, Option, IfErr, OnOk, Err};
+ghost use Rattle.once_store.specs.declared.error.AppendError.{AppendError};
 ghost use Rattle.once_store.specs.Shelves.{disk_of, next_of, pen_of};
 ghost use Rattle.version_model.specs.Blocks.{BlockNode};
 ghost use Rattle.version_model.specs.Entries.{version_of};
@@ -8,6 +9,7 @@ ghost use Rattle.version_model.specs.Sizes.{octets, entry_octets, IsSingle};
 ghost use Rattle.version_model.specs.Versions.{Version, Has, IsAbove};
 ghost use Rattle.tsb_node.specs.Leaves.{IsLeafPage};
 ghost use Rattle.worm_migration.specs.Settled.{ShelfSays};
+ghost use Rattle.tsb_tree.specs.Needs.{IsWhatStays};
 ghost use Rattle.tsb_tree.specs.Outlived.{HasOutlived};
 ghost use Rattle.tsb_tree.specs.Refusals.{IsHonest, GrowRefusal};
 ghost use Rattle.tsb_tree.specs.Shapes.{IsWhole, leaf_in_page};
@@ -43,9 +45,11 @@ pub fn grow<O: OnceDisk + Drop>(
     ensures whole { OnOk result (IsWhole whole.new) }
     ensures single { OnOk result (IsSingle whole.new.leaf) }
     ensures most { OnOk result (octets whole.new.leaf ≤ 19363) }
+    ensures stays { OnOk result (IsWhatStays (whole.old.leaf ++ version_of entry.now ∷ []) entry.now.stamp whole.new.leaf) }
     ensures only { OnOk result ((v : Version) → Has whole.new.leaf v → Has whole.old.leaf v ⊎ (v ≡ version_of entry.now)) }
     ensures honest { IsAbove whole.old.leaf entry.now.stamp → whole.old.start < entry.now.stamp → IsHonest result }
     ensures burns { (shelf.new ≡ shelf.old) ⊎ HasOutlived whole.old.leaf (version_of entry.now) }
+    ensures once { (refusal : AppendError) → result ≡ Err (TreeError.Once refusal) → HasOutlived whole.old.leaf (version_of entry.now) }
     ensures refused { IfErr result GrowRefusal }
     ensures shelf { KeepsShelf O.OnceDisk 2 shelf.old shelf.new result }
 {

@@ -1,5 +1,6 @@
 //! A tree takes a version.
 ghost use Rattle.std.specs.Prelude.{◌≡◌, ◌↔◌, ◌<◌, ◌≤◌, ◌+◌, ◌*◌, ◌^◌, ◌⊎◌, ◌++◌, ◌∷◌, [], ℕ, suc, List, length, Err, IfOk, OnOk, OnErr, IfErr, IsErrOf};
+ghost use Rattle.once_store.specs.declared.error.AppendError.{AppendError};
 ghost use Rattle.page_tx.specs.Device.{KeepsDevice};
 ghost use Rattle.page_tx.specs.Images.{joined};
 ghost use Rattle.page_tx.specs.Start.{Start};
@@ -9,7 +10,8 @@ ghost use Rattle.version_model.specs.Sizes.{entry_octets};
 ghost use Rattle.version_model.specs.Versions.{Version};
 ghost use Rattle.tsb_tree.specs.Inserted.{PlansTree, TakenIn};
 ghost use Rattle.tsb_tree.specs.InPlace.{IsInPlace, TakesInPlace};
-ghost use Rattle.tsb_tree.specs.NoRoom.{AtRoot, IsForWant, IsFullWay, LeadsToFullLeaf};
+ghost use Rattle.tsb_tree.specs.Needs.{NeedsLevel, NeedsPages};
+ghost use Rattle.tsb_tree.specs.NoRoom.{AtRoot, IsForWant, LeadsToFullLeaf};
 ghost use Rattle.tsb_tree.specs.Outlived.{LeadsToOutdated};
 ghost use Rattle.tsb_tree.specs.Raises.{TreeCanBeLaid};
 ghost use Rattle.tsb_tree.specs.Refusals.{IsHonest, InsertRefusal};
@@ -58,15 +60,21 @@ fn planned<P: Pages, O: OnceDisk + Drop>(
         → IfOk result (λ plan. PlansTree O.OnceDisk shelf.new (P.homes pages.old) tree.store (all ++ version_of entry.now ∷ []) plan.0 plan.1) }
     ensures honest { (start : Start) (shown : List (List ℕ)) (all : List Version) → TreeShown P.Pages pages.old O.OnceDisk shelf.old start shown all place.root place.level place.least → place.least ≤ entry.now.stamp → IsHonest result }
     ensures high { (start : Start) (shown : List (List ℕ)) (all : List Version) → TreeShown P.Pages pages.old O.OnceDisk shelf.old start shown all place.root place.level place.least → place.least ≤ entry.now.stamp
-        → result ≡ Err TreeError.TooHigh → AtRoot (IsFullWay shown (version_of entry.now)) place.root place.level }
+        → result ≡ Err TreeError.TooHigh → AtRoot (NeedsLevel shown (version_of entry.now)) place.root place.level }
     ensures wants { (start : Start) (shown : List (List ℕ)) (all : List Version) → TreeShown P.Pages pages.old O.OnceDisk shelf.old start shown all place.root place.level place.least → place.least ≤ entry.now.stamp
         → IfErr result (λ e. IsForWant e → AtRoot (LeadsToFullLeaf shown (version_of entry.now)) place.root place.level) }
+    ensures wants_pages { (start : Start) (shown : List (List ℕ)) (all : List Version) → TreeShown P.Pages pages.old O.OnceDisk shelf.old start shown all place.root place.level place.least → place.least ≤ entry.now.stamp
+        → result ≡ Err (TreeError.Pages PageError.PagesFull) → (n : ℕ) × AtRoot (λ root. NeedsPages shown (version_of entry.now) root n) place.root place.level × (P.homes pages.old < P.next pages.old + n) }
+    ensures once { (start : Start) (shown : List (List ℕ)) (all : List Version) → TreeShown P.Pages pages.old O.OnceDisk shelf.old start shown all place.root place.level place.least → place.least ≤ entry.now.stamp
+        → (refusal : AppendError) → result ≡ Err (TreeError.Once refusal) → AtRoot (LeadsToOutdated shown (version_of entry.now)) place.root place.level }
+    ensures uses { (start : Start) (shown : List (List ℕ)) (all : List Version) → TreeShown P.Pages pages.old O.OnceDisk shelf.old start shown all place.root place.level place.least → place.least ≤ entry.now.stamp
+        → IfOk result (λ plan. (n : ℕ) × AtRoot (λ root. NeedsPages shown (version_of entry.now) root n) place.root place.level × (plan.0.unused ≡ P.next pages.old + n)) }
     ensures light { (start : Start) (shown : List (List ℕ)) (all : List Version) → TreeShown P.Pages pages.old O.OnceDisk shelf.old start shown all place.root place.level place.least → place.least ≤ entry.now.stamp
         → IfOk result (λ plan. (IsInPlace (P.next pages.old) plan.0 × (shelf.new ≡ shelf.old) × (plan.1.root ≡ place.root) × (plan.1.level ≡ place.level)) ⊎ AtRoot (LeadsToFullLeaf shown (version_of entry.now)) place.root place.level) }
     ensures burns { (start : Start) (shown : List (List ℕ)) (all : List Version) → TreeShown P.Pages pages.old O.OnceDisk shelf.old start shown all place.root place.level place.least → place.least ≤ entry.now.stamp
         → (shelf.new ≡ shelf.old) ⊎ AtRoot (LeadsToOutdated shown (version_of entry.now)) place.root place.level }
     ensures grows { (start : Start) (shown : List (List ℕ)) (all : List Version) → TreeShown P.Pages pages.old O.OnceDisk shelf.old start shown all place.root place.level place.least → place.least ≤ entry.now.stamp
-        → IfOk result (λ plan. ((plan.1.root ≡ place.root) × (plan.1.level ≡ place.level)) ⊎ ((plan.1.level ≡ suc place.level) × AtRoot (IsFullWay shown (version_of entry.now)) place.root place.level)) }
+        → IfOk result (λ plan. ((plan.1.root ≡ place.root) × (plan.1.level ≡ place.level)) ⊎ ((plan.1.level ≡ suc place.level) × AtRoot (NeedsLevel shown (version_of entry.now)) place.root place.level)) }
     ensures highest { place.level ≡ 7 → result ≡ Err (TreeError.Pages PageError.PagesFull) → P.homes pages.old < P.next pages.old + 8 }
     ensures laid { IfOk result (λ plan. TreeCanBeLaid (P.homes pages.old) (P.next pages.old) place.level plan.0) }
     ensures images { IfOk result (λ plan. length plan.0.images.items ≤ 2 * plan.1.level + 2) }
@@ -125,15 +133,21 @@ pub fn insert<P: Pages, O: OnceDisk + Drop>(
         → TreeShown P.Pages pages.new O.OnceDisk shelf.new start shown all place.root place.level place.least) }
     ensures honest { (start : Start) (shown : List (List ℕ)) (all : List Version) → TreeShown P.Pages pages.old O.OnceDisk shelf.old start shown all place.root place.level place.least → IsHonest result }
     ensures high { (start : Start) (shown : List (List ℕ)) (all : List Version) → TreeShown P.Pages pages.old O.OnceDisk shelf.old start shown all place.root place.level place.least
-        → result ≡ Err TreeError.TooHigh → AtRoot (IsFullWay shown (version_of entry.now)) place.root place.level }
+        → result ≡ Err TreeError.TooHigh → AtRoot (NeedsLevel shown (version_of entry.now)) place.root place.level }
     ensures wants { (start : Start) (shown : List (List ℕ)) (all : List Version) → TreeShown P.Pages pages.old O.OnceDisk shelf.old start shown all place.root place.level place.least
         → IfErr result (λ e. IsForWant e → AtRoot (LeadsToFullLeaf shown (version_of entry.now)) place.root place.level) }
+    ensures wants_pages { (start : Start) (shown : List (List ℕ)) (all : List Version) → TreeShown P.Pages pages.old O.OnceDisk shelf.old start shown all place.root place.level place.least
+        → result ≡ Err (TreeError.Pages PageError.PagesFull) → (n : ℕ) × AtRoot (λ root. NeedsPages shown (version_of entry.now) root n) place.root place.level × (P.homes pages.old < P.next pages.old + n) }
+    ensures once { (start : Start) (shown : List (List ℕ)) (all : List Version) → TreeShown P.Pages pages.old O.OnceDisk shelf.old start shown all place.root place.level place.least
+        → (refusal : AppendError) → result ≡ Err (TreeError.Once refusal) → AtRoot (LeadsToOutdated shown (version_of entry.now)) place.root place.level }
+    ensures uses { (start : Start) (shown : List (List ℕ)) (all : List Version) → TreeShown P.Pages pages.old O.OnceDisk shelf.old start shown all place.root place.level place.least
+        → IfOk result (λ now. (n : ℕ) × AtRoot (λ root. NeedsPages shown (version_of entry.now) root n) place.root place.level × (P.next pages.new ≡ P.next pages.old + n)) }
     ensures in_place { (start : Start) (shown : List (List ℕ)) (all : List Version) → TreeShown P.Pages pages.old O.OnceDisk shelf.old start shown all place.root place.level place.least
         → IfOk result (λ now. TakesInPlace P.Pages pages.old pages.new shelf.old shelf.new place now ⊎ AtRoot (LeadsToFullLeaf shown (version_of entry.now)) place.root place.level) }
     ensures burns { (start : Start) (shown : List (List ℕ)) (all : List Version) → TreeShown P.Pages pages.old O.OnceDisk shelf.old start shown all place.root place.level place.least
         → (shelf.new ≡ shelf.old) ⊎ AtRoot (LeadsToOutdated shown (version_of entry.now)) place.root place.level }
     ensures grows { (start : Start) (shown : List (List ℕ)) (all : List Version) → TreeShown P.Pages pages.old O.OnceDisk shelf.old start shown all place.root place.level place.least
-        → IfOk result (λ now. ((now.root ≡ place.root) × (now.level ≡ place.level)) ⊎ ((now.level ≡ suc place.level) × AtRoot (IsFullWay shown (version_of entry.now)) place.root place.level)) }
+        → IfOk result (λ now. ((now.root ≡ place.root) × (now.level ≡ place.level)) ⊎ ((now.level ≡ suc place.level) × AtRoot (NeedsLevel shown (version_of entry.now)) place.root place.level)) }
     ensures highest { place.level ≡ 7 → result ≡ Err (TreeError.Pages PageError.PagesFull) → P.homes pages.old < P.next pages.old + 8 }
     ensures back { (result ≡ Err TreeError.StampBack) ↔ (entry.now.stamp < place.least) }
     ensures refused { IfErr result (InsertRefusal (P.homes pages.old) (P.next pages.old) (length (P.named pages.old)) place.level (P.down pages.old) place.least entry.now.stamp) }

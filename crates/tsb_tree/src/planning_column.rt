@@ -1,12 +1,14 @@
 //! What a column becomes that takes a version is planned.
-ghost use Rattle.std.specs.Prelude.{◌≡◌, ◌+◌, ◌^◌, ◌<◌, ◌≤◌, ◌⊎◌, ℕ, List, IfOk, IfErr, OnOk, IsSome, Some, slice_get};
+ghost use Rattle.std.specs.Prelude.{◌≡◌, ◌+◌, ◌^◌, ◌<◌, ◌≤◌, ◌⊎◌, ℕ, List, IfOk, IfErr, OnOk, Err, Some, slice_get};
+ghost use Rattle.once_store.specs.declared.error.AppendError.{AppendError};
+ghost use Rattle.page_tx.specs.Start.{Start};
 ghost use Rattle.version_model.specs.Entries.{version_of};
 ghost use Rattle.version_model.specs.Pages.{Store};
 ghost use Rattle.version_model.specs.Sizes.{entry_octets};
 ghost use Rattle.version_model.specs.Versions.{Version};
 ghost use Rattle.tsb_walk.specs.Shown.{HasKey};
 ghost use Rattle.tsb_tree.specs.InPlace.{IsInPlace};
-ghost use Rattle.tsb_tree.specs.NoRoom.{IsForWant, IsFullWay, LeadsToFullLeaf};
+ghost use Rattle.tsb_tree.specs.NoRoom.{IsForWant, LeadsToFullLeaf};
 ghost use Rattle.tsb_tree.specs.Outlived.{IsOutdated, LeadsToOutdated};
 ghost use Rattle.tsb_tree.specs.Plans.{CanBeLaid, Plans};
 ghost use Rattle.tsb_tree.specs.Read.{IsFilled, IsLeafOf};
@@ -14,6 +16,7 @@ ghost use Rattle.tsb_tree.specs.Refusals.{IsHonest, PlanRefusal};
 ghost use Rattle.tsb_tree.specs.Shelves.{KeepsShelf};
 ghost use Rattle.tsb_tree.specs.Stores.{ReadsAlone};
 ghost use Rattle.tsb_tree.specs.Takers.{CanTake};
+ghost use Rattle.tsb_tree.specs.inner.Uses.{UsesPages, WantsPages};
 
 use crate::change::Change;
 use crate::current_leaf::{LeafImage, current_leaf};
@@ -24,7 +27,7 @@ use crate::reading_whole::whole_in;
 use crate::splitting_column::{Unused, split_column};
 use disk_models::OnceDisk;
 use once_store::Shelf;
-use page_tx::Pages;
+use page_tx::{PageError, Pages};
 use std::alloc::Global;
 use tsb_walk::PagePlace;
 use version_model::Entry;
@@ -47,7 +50,12 @@ fn plan_splits<P: Pages, O: OnceDisk + Drop>(
         → IfOk result (λ change. Plans O.OnceDisk shelf.new (P.homes pages.old) s (version_of entry.now) place.now.level place.now.page change) }
     ensures honest { (s : Store) (all : List Version) → (can : CanTake P.Pages pages.old O.OnceDisk shelf.old s all place.now (version_of entry.now)) → IsLeafOf can.shown place.now leaf.now.page leaf.now.image
         → IsFilled place.now leaf.now.image (version_of entry.now) → IsHonest result }
+    ensures uses { (start : Start) (shown : List (List ℕ)) → P.shows pages.old start shown → slice_get shown leaf.now.page ≡ Some leaf.now.image → IsFilled place.now leaf.now.image (version_of entry.now)
+        → IfOk result (λ change. UsesPages shown (version_of entry.now) place.now (P.next pages.old) change.unused change.new) }
+    ensures wants_pages { (start : Start) (shown : List (List ℕ)) → P.shows pages.old start shown → slice_get shown leaf.now.page ≡ Some leaf.now.image → IsFilled place.now leaf.now.image (version_of entry.now)
+        → result ≡ Err (TreeError.Pages PageError.PagesFull) → WantsPages shown (version_of entry.now) place.now (P.homes pages.old) (P.next pages.old) }
     ensures burns { (shelf.new ≡ shelf.old) ⊎ IsOutdated place.now leaf.now.image (version_of entry.now) }
+    ensures once { (refusal : AppendError) → result ≡ Err (TreeError.Once refusal) → IsOutdated place.now leaf.now.image (version_of entry.now) }
     ensures laid { IfOk result (λ change. CanBeLaid (P.homes pages.old) (P.next pages.old) place.now.level change) }
     ensures inside { OnOk result (place.now.page < P.homes pages.old) }
     ensures refused { IfErr result (PlanRefusal (P.homes pages.old) (P.next pages.old) place.now.level (P.down pages.old)) }
@@ -81,13 +89,17 @@ pub fn plan_column<P: Pages, O: OnceDisk + Drop>(
     ensures plans { (s : Store) (all : List Version) → CanTake P.Pages pages.old O.OnceDisk shelf.old s all place.now (version_of entry.now)
         → IfOk result (λ change. Plans O.OnceDisk shelf.new (P.homes pages.old) s (version_of entry.now) place.now.level place.now.page change) }
     ensures honest { (s : Store) (all : List Version) → CanTake P.Pages pages.old O.OnceDisk shelf.old s all place.now (version_of entry.now) → IsHonest result }
-    ensures full { (s : Store) (all : List Version) → (can : CanTake P.Pages pages.old O.OnceDisk shelf.old s all place.now (version_of entry.now))
-        → IfOk result (λ change. IsSome change.new → IsFullWay can.shown (version_of entry.now) place.now) }
+    ensures uses { (s : Store) (all : List Version) → (can : CanTake P.Pages pages.old O.OnceDisk shelf.old s all place.now (version_of entry.now))
+        → IfOk result (λ change. UsesPages can.shown (version_of entry.now) place.now (P.next pages.old) change.unused change.new) }
+    ensures wants_pages { (s : Store) (all : List Version) → (can : CanTake P.Pages pages.old O.OnceDisk shelf.old s all place.now (version_of entry.now))
+        → result ≡ Err (TreeError.Pages PageError.PagesFull) → WantsPages can.shown (version_of entry.now) place.now (P.homes pages.old) (P.next pages.old) }
     ensures wants { (s : Store) (all : List Version) → (can : CanTake P.Pages pages.old O.OnceDisk shelf.old s all place.now (version_of entry.now))
         → IfErr result (λ e. IsForWant e → LeadsToFullLeaf can.shown (version_of entry.now) place.now) }
     ensures light { (s : Store) (all : List Version) → (can : CanTake P.Pages pages.old O.OnceDisk shelf.old s all place.now (version_of entry.now))
         → IfOk result (λ change. (IsInPlace (P.next pages.old) change × (shelf.new ≡ shelf.old)) ⊎ LeadsToFullLeaf can.shown (version_of entry.now) place.now) }
     ensures burns { (s : Store) (all : List Version) → (can : CanTake P.Pages pages.old O.OnceDisk shelf.old s all place.now (version_of entry.now)) → (shelf.new ≡ shelf.old) ⊎ LeadsToOutdated can.shown (version_of entry.now) place.now }
+    ensures once { (s : Store) (all : List Version) → (can : CanTake P.Pages pages.old O.OnceDisk shelf.old s all place.now (version_of entry.now))
+        → (refusal : AppendError) → result ≡ Err (TreeError.Once refusal) → LeadsToOutdated can.shown (version_of entry.now) place.now }
     ensures laid { IfOk result (λ change. CanBeLaid (P.homes pages.old) (P.next pages.old) place.now.level change) }
     ensures inside { OnOk result (place.now.page < P.homes pages.old) }
     ensures refused { IfErr result (PlanRefusal (P.homes pages.old) (P.next pages.old) place.now.level (P.down pages.old)) }

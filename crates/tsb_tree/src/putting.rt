@@ -1,5 +1,5 @@
 //! A key node takes the new half of a child, over the images of a change.
-ghost use Rattle.std.specs.Prelude.{◌≡◌, ◌<◌, ◌≤◌, ◌+◌, ◌^◌, ℕ, suc, length, IfOk, IfErr, IfSome, IsSome};
+ghost use Rattle.std.specs.Prelude.{◌≡◌, ◌<◌, ◌≤◌, ◌+◌, ◌^◌, ℕ, suc, length, Err, IfOk, IfErr, IfSome};
 ghost use Rattle.std.specs.List.{insert};
 ghost use Rattle.page_journal.specs.Layout.{pages_of};
 ghost use Rattle.page_journal.specs.Recovers.{AreDistinct};
@@ -9,6 +9,7 @@ ghost use Rattle.tsb_tree.specs.KeyNodes.{BeginsBehind, IsWide};
 ghost use Rattle.tsb_tree.specs.Plans.{CanBeLaid};
 ghost use Rattle.tsb_tree.specs.Puts.{PutsOne, PutsTwo, PutsChild, PutRefusal};
 ghost use Rattle.tsb_tree.specs.Refusals.{IsHonest};
+ghost use Rattle.tsb_tree.specs.inner.Uses.{UsesForHalf};
 
 use crate::change::{Change, lay_image};
 use crate::error::TreeError;
@@ -108,7 +109,8 @@ pub fn put_half(
     ensures puts { (place : ℕ) → BeginsBehind node.children.items place new.low
         → IfOk result (PutsChild page node.level (keys_between node.bounds) (insert node.children.items (suc place) new) change) }
     ensures laid { IfOk result (λ put. (next level : ℕ) → page < homes → CanBeLaid homes next level change → CanBeLaid homes next (suc level) put) }
-    ensures full { IfOk result (λ put. IsSome put.new → length node.children.items ≡ 338) }
+    ensures uses { IfOk result (λ put. UsesForHalf (length node.children.items) change.unused put.unused put.new) }
+    ensures wants_pages { result ≡ Err (TreeError.Pages PageError.PagesFull) → length node.children.items ≡ 338 }
     ensures refused { IfErr result (PutRefusal homes change.unused) }
     ensures honest { (place : ℕ) → BeginsBehind node.children.items place new.low → IfSome node.bounds.high (λ n. new.low < n) → IsHonest result }
 {

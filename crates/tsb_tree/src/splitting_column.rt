@@ -1,5 +1,6 @@
 //! A column takes a version for which its leaf has no room, and is laid out as one or as two.
-ghost use Rattle.std.specs.Prelude.{◌≡◌, ◌+◌, ◌^◌, ◌<◌, ◌≤◌, ◌⊎◌, ℕ, Bool, Option, IfOk, IfErr, IsErrOf};
+ghost use Rattle.std.specs.Prelude.{◌≡◌, ◌+◌, ◌^◌, ◌<◌, ◌≤◌, ◌⊎◌, ◌++◌, ◌∷◌, [], ℕ, Bool, List, Option, IfOk, IfErr, Err, IsErrOf};
+ghost use Rattle.once_store.specs.declared.error.AppendError.{AppendError};
 ghost use Rattle.once_store.specs.Shelves.{disk_of, next_of, pen_of};
 ghost use Rattle.version_model.specs.Blocks.{BlockNode};
 ghost use Rattle.version_model.specs.Entries.{version_of};
@@ -9,11 +10,13 @@ ghost use Rattle.version_model.specs.Versions.{Version, Has, IsAbove};
 ghost use Rattle.tsb_node.specs.Leaves.{IsLeafPage};
 ghost use Rattle.worm_migration.specs.Settled.{ShelfSays};
 ghost use Rattle.tsb_tree.specs.Layouts.{LaysOut, TakesOut};
+ghost use Rattle.tsb_tree.specs.Needs.{IsWhatStays};
 ghost use Rattle.tsb_tree.specs.Outlived.{HasOutlived};
 ghost use Rattle.tsb_tree.specs.Plans.{CanBeLaid};
 ghost use Rattle.tsb_tree.specs.Refusals.{IsHonest, LayoutRefusal, PlanRefusal};
 ghost use Rattle.tsb_tree.specs.Shapes.{IsWhole, leaf_in_page};
 ghost use Rattle.tsb_tree.specs.Shelves.{KeepsShelf};
+ghost use Rattle.tsb_tree.specs.inner.Uses.{UsesForLeaf};
 
 use crate::change::Change;
 use crate::current_leaf::LeafImage;
@@ -53,6 +56,8 @@ fn lay_out(
     requires most { octets whole.leaf ≤ 19363 }
     ensures laid { IfOk result (λ change. LaysOut page current unused.next whole change.images.items change.unused change.new) }
     ensures inside { IfOk result (λ change. change.unused ≤ unused.homes) }
+    ensures uses { IfOk result (λ change. UsesForLeaf (octets whole.leaf) unused.next change.unused change.new) }
+    ensures wants_pages { result ≡ Err (TreeError.Pages PageError.PagesFull) → 10821 < octets whole.leaf }
     ensures honest { ((v : Version) → Has whole.leaf v → v.key + 1 < key_end) → IsHonest result }
     ensures refused { IfErr result (LayoutRefusal unused.homes unused.next) }
 {
@@ -91,7 +96,10 @@ pub fn split_column<O: OnceDisk + Drop>(
     ensures laid { page < unused.homes → leaf.now.page < unused.homes → IfOk result (λ change. CanBeLaid unused.homes unused.next 1 change) }
     ensures inside { IfOk result (λ change. change.unused ≤ unused.homes) }
     ensures honest { IsAbove whole.leaf entry.now.stamp → whole.start < entry.now.stamp → ((v : Version) → Has whole.leaf v → v.key + 1 < key_end) → entry.now.key + 1 < key_end → IsHonest result }
+    ensures uses { IfOk result (λ change. (stays : List Version) × IsWhatStays (whole.leaf ++ version_of entry.now ∷ []) entry.now.stamp stays × UsesForLeaf (octets stays) unused.next change.unused change.new) }
+    ensures wants_pages { result ≡ Err (TreeError.Pages PageError.PagesFull) → (stays : List Version) × IsWhatStays (whole.leaf ++ version_of entry.now ∷ []) entry.now.stamp stays × (10821 < octets stays) × (unused.homes < unused.next + 2) }
     ensures burns { (shelf.new ≡ shelf.old) ⊎ HasOutlived whole.leaf (version_of entry.now) }
+    ensures once { (refusal : AppendError) → result ≡ Err (TreeError.Once refusal) → HasOutlived whole.leaf (version_of entry.now) }
     ensures refused { (down : Bool) → IfErr result (PlanRefusal unused.homes unused.next 1 down) }
     ensures read { IsErrOf result (TreeError.Pages PageError.Fault) → ⊥ }
     ensures shelf { KeepsShelf O.OnceDisk 2 shelf.old shelf.new result }

@@ -1,9 +1,10 @@
-use Rattle.std.proofs.Common.{rules, ◌≤◌, List, ap, subst, arith}
+use Rattle.std.proofs.Common.{rules, ◌≤◌, List, sym, ap, subst, arith}
 use Rattle.version_model.specs.Entries.{version_of}
 use Rattle.version_model.specs.Shows.{IsFrom}
 use Rattle.version_model.specs.Sizes.{octets}
 use Rattle.version_model.specs.Versions.{Version, Has}
-use Rattle.tsb_tree.proofs.GrowingWhole.{taken_whole, taken_most, taken_only, taken_on}
+use Rattle.tsb_tree.specs.Needs.{IsWhatStays}
+use Rattle.tsb_tree.proofs.GrowingWhole.{taken_whole, taken_most, taken_only, taken_stays, taken_on}
 use Rattle.tsb_tree.proofs.growing_whole.grow.Goals as goal
 
 pub returns-in_default-clause-takes : goal.returns-in_default-clause-takes
@@ -37,3 +38,13 @@ returns-in-Ok-clause-only g c v h =
     let from : IsFrom c.take.new.whole.leaf c.args.entry.now.stamp c.in-Some.newer = search rules in
     let newer : Has c.in-Some.newer v = subst (λ (l : List Version). Has l v) c.in-Ok.ensures.leaf h in
     taken_only c.args.whole.now c.take.new.whole (version_of c.args.entry.now) c.in_ok-take.ensures.taken v (from.is_in v newer)
+
+pub returns-in_default-clause-stays : goal.returns-in_default-clause-stays
+returns-in_default-clause-stays g c =
+    let what : IsWhatStays c.take.new.whole.leaf c.args.entry.now.stamp c.take.new.whole.leaf = search rules in
+    taken_stays c.args.whole.now c.take.new.whole (version_of c.args.entry.now) c.in_ok-take.ensures.taken c.take.new.whole.leaf what
+
+pub returns-in-Ok-clause-stays : goal.returns-in-Ok-clause-stays
+returns-in-Ok-clause-stays g c =
+    let what : IsWhatStays c.take.new.whole.leaf c.args.entry.now.stamp c.in-Some.newer = search rules in
+    taken_stays c.args.whole.now c.take.new.whole (version_of c.args.entry.now) c.in_ok-take.ensures.taken c.split_by_time.new.whole.leaf (subst (λ (l : List Version). IsWhatStays c.take.new.whole.leaf c.args.entry.now.stamp l) (sym c.in-Ok.ensures.leaf) what)

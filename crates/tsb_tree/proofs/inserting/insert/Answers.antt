@@ -1,4 +1,4 @@
-use Rattle.std.proofs.Common.{◌≡◌, ◌≤◌, ◌++◌, ◌∷◌, [], ℕ, length, rules, inl, inr, sym, ◌∙◌, ap, subst, arith}
+use Rattle.std.proofs.Common.{◌≡◌, ◌≤◌, ℕ, length, rules, inl, inr, sym, ◌∙◌, ap, subst, arith}
 use Rattle.std.proofs.lemmas.Result.{err_from_is_err_and}
 use Rattle.page_journal.specs.Layout.{pages_of}
 use Rattle.page_tx.proofs.Laying.{length_pages_of}
@@ -8,6 +8,7 @@ use Rattle.version_model.specs.Entries.{version_of}
 use Rattle.tsb_tree.specs.NoRoom.{AtRoot, IsForWant, LeadsToFullLeaf}
 use Rattle.tsb_tree.specs.Refusals.{InsertRefusal}
 use Rattle.tsb_tree.proofs.Wanting.{lay_never_full, lay_wants_none, page_never_high}
+use Rattle.tsb_tree.proofs.Needing.{page_never_once}
 use Rattle.tsb_tree.proofs.Insertion.{as_it_was, taken_in, lay_insert, never_back, lay_reads, not_less}
 use Rattle.tsb_tree.proofs.Shelving.{honest_on}
 use Rattle.tsb_tree.proofs.inserting.insert.Goals as goal
@@ -144,3 +145,30 @@ pub returns-in-Err-clause-highest : goal.returns-in-Err-clause-highest
 returns-in-Err-clause-highest g c seven full =
     let homes : g.P.Pages.homes c.planned.new.pages ≡ g.P.Pages.homes c.args.pages.now = c.in_ok-change.ensures.reads.homes in
     absurd (lay_never_full c.in-Err.refusal _ _ _ c.in-Err.ensures.refused (omega (arith, homes, c.in_ok-change.ensures.laid.inside)) (let e = c.from.ensures in cc))
+
+pub returns-in_err-change-clause-wants_pages : goal.returns-in_err-change-clause-wants_pages
+returns-in_err-change-clause-wants_pages g c start shown all tree is =
+    let later : c.args.place.least ≤ c.args.entry.now.stamp = not_less c.lt.result _ _ c.lt.ensures c.if-lt.false in
+    let p = err_from_is_err_and c.from_residual.result c.from_residual.ensures.1 in
+    c.in_err-change.ensures.wants_pages start shown all tree later (cc)
+
+pub returns-in_err-change-clause-once : goal.returns-in_err-change-clause-once
+returns-in_err-change-clause-once g c start shown all tree refusal is =
+    let later : c.args.place.least ≤ c.args.entry.now.stamp = not_less c.lt.result _ _ c.lt.ensures c.if-lt.false in
+    let p = err_from_is_err_and c.from_residual.result c.from_residual.ensures.1 in
+    c.in_err-change.ensures.once start shown all tree later refusal (cc)
+
+pub returns-in-Ok-clause-uses : goal.returns-in-Ok-clause-uses
+returns-in-Ok-clause-uses g c start shown all tree =
+    let later : c.args.place.least ≤ c.args.entry.now.stamp = not_less c.lt.result _ _ c.lt.ensures c.if-lt.false in
+    let uses = c.in_ok-change.ensures.uses start shown all tree later in
+    (uses.0, uses.1, c.in-Ok.ensures.next ∙ uses.2)
+
+pub returns-in-Err-clause-wants_pages : goal.returns-in-Err-clause-wants_pages
+returns-in-Err-clause-wants_pages g c start shown all tree is =
+    let homes : g.P.Pages.homes c.planned.new.pages ≡ g.P.Pages.homes c.args.pages.now = c.in_ok-change.ensures.reads.homes in
+    absurd (lay_never_full c.in-Err.refusal _ _ _ c.in-Err.ensures.refused (omega (arith, homes, c.in_ok-change.ensures.laid.inside)) (let e = c.from.ensures in cc))
+
+pub returns-in-Err-clause-once : goal.returns-in-Err-clause-once
+returns-in-Err-clause-once g c start shown all tree refusal is =
+    absurd (page_never_once c.in-Err.refusal refusal (let e = c.from.ensures in cc))

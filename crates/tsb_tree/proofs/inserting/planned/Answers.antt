@@ -1,16 +1,18 @@
-use Rattle.std.proofs.Common.{◌≡◌, ◌<◌, ℕ, Option, rules, None, Some, inl, inr, refl, sym, ◌∙◌, subst, arith}
+use Rattle.std.proofs.Common.{◌≡◌, ◌<◌, ℕ, Option, rules, inl, inr, refl, sym, ◌∙◌, subst, arith}
 use Rattle.std.proofs.lemmas.Result.{err_from_is_err_and}
-use Rattle.std.specs.Prelude.{IfOk, IsSome}
+use Rattle.std.specs.Prelude.{IsSome}
 use Rattle.version_model.specs.declared.child.Child.{Child}
 use Rattle.version_model.specs.Entries.{version_of}
 use Rattle.version_model.specs.Ranges.{stamp_end}
 use Rattle.version_model.specs.Versions.{Version}
-use Rattle.tsb_tree.specs.NoRoom.{AtRoot, IsForWant, IsFullWay, LeadsToFullLeaf}
+use Rattle.tsb_tree.specs.NoRoom.{AtRoot, IsForWant, LeadsToFullLeaf}
 use Rattle.tsb_tree.specs.Outlived.{LeadsToOutdated}
 use Rattle.tsb_tree.specs.Plans.{CanBeLaid}
 use Rattle.tsb_tree.specs.Raises.{TreeCanBeLaid}
+use Rattle.tsb_tree.specs.inner.Uses.{UsesPages, WantsPages}
+use Rattle.tsb_tree.proofs.Needing.{tree_wants, tree_same_uses, tree_grown_uses, tree_grown_wants, tree_level, tree_leads, root_full, root_never_once}
 use Rattle.tsb_tree.proofs.Outliving.{or_else}
-use Rattle.tsb_tree.proofs.Wanting.{full_leads, plan_full, plan_never_high}
+use Rattle.tsb_tree.proofs.Wanting.{plan_full, plan_never_high}
 use Rattle.tsb_tree.proofs.Insertion.{root_can, root_so, root_plans, tree_same, tree_grown, half_above, not_highest}
 use Rattle.tsb_tree.proofs.inserting.planned.Goals as goal
 
@@ -101,7 +103,11 @@ returns-in_err-change-2-clause-high g c start shown all tree later high =
     let place = c.args.place in
     let v : Version = version_of c.args.entry.now in
     let can = root_can g.P.Pages c.args.pages.now g.O.OnceDisk c.args.shelf.now start shown all root.result place.root place.level place.least v root.ensures.page root.ensures.level root.ensures.keys tree later c.requires.inside in
-    root_so g.P.Pages c.args.pages.now g.O.OnceDisk c.args.shelf.now start shown all root.result place.root place.level place.least v (λ pages at. IsFullWay pages v at) root.ensures.page root.ensures.level root.ensures.keys tree later c.requires.inside (c.in_ok-change.ensures.full tree.store all can (subst (λ (o : Option Child). IsSome o) (sym c.in-Some.is) refl))
+    let change = c.in_ok-change.change in
+    let next : ℕ = g.P.Pages.next c.args.pages.now in
+    let uses = root_so g.P.Pages c.args.pages.now g.O.OnceDisk c.args.shelf.now start shown all root.result place.root place.level place.least v (λ pages at. UsesPages pages v at next change.unused change.new) root.ensures.page root.ensures.level root.ensures.keys tree later c.requires.inside (c.in_ok-change.ensures.uses tree.store all can) in
+    let some = subst (λ (o : Option Child). IsSome o) (sym c.in-Some.is) refl in
+    tree_level shown v place.root place.level next change.unused change.new uses some
 
 pub returns-in_err-change-2-clause-wants : goal.returns-in_err-change-2-clause-wants
 returns-in_err-change-2-clause-wants g c start shown all tree later =
@@ -109,7 +115,11 @@ returns-in_err-change-2-clause-wants g c start shown all tree later =
     let place = c.args.place in
     let v : Version = version_of c.args.entry.now in
     let can = root_can g.P.Pages c.args.pages.now g.O.OnceDisk c.args.shelf.now start shown all root.result place.root place.level place.least v root.ensures.page root.ensures.level root.ensures.keys tree later c.requires.inside in
-    let full = root_so g.P.Pages c.args.pages.now g.O.OnceDisk c.args.shelf.now start shown all root.result place.root place.level place.least v (λ pages at. LeadsToFullLeaf pages v at) root.ensures.page root.ensures.level root.ensures.keys tree later c.requires.inside (full_leads _ _ _ (c.in_ok-change.ensures.full tree.store all can (subst (λ (o : Option Child). IsSome o) (sym c.in-Some.is) refl))) in
+    let change = c.in_ok-change.change in
+    let next : ℕ = g.P.Pages.next c.args.pages.now in
+    let uses = root_so g.P.Pages c.args.pages.now g.O.OnceDisk c.args.shelf.now start shown all root.result place.root place.level place.least v (λ pages at. UsesPages pages v at next change.unused change.new) root.ensures.page root.ensures.level root.ensures.keys tree later c.requires.inside (c.in_ok-change.ensures.uses tree.store all can) in
+    let some = subst (λ (o : Option Child). IsSome o) (sym c.in-Some.is) refl in
+    let full = tree_leads shown v place.root place.level next change.unused change.new uses some in
     search rules
 
 pub returns-in_default-clause-images : goal.returns-in_default-clause-images
@@ -145,7 +155,11 @@ returns-clause-light g c start shown all tree later =
     let place = c.args.place in
     let v : Version = version_of c.args.entry.now in
     let can = root_can g.P.Pages c.args.pages.now g.O.OnceDisk c.args.shelf.now start shown all root.result place.root place.level place.least v root.ensures.page root.ensures.level root.ensures.keys tree later c.requires.inside in
-    inr (root_so g.P.Pages c.args.pages.now g.O.OnceDisk c.args.shelf.now start shown all root.result place.root place.level place.least v (λ pages at. LeadsToFullLeaf pages v at) root.ensures.page root.ensures.level root.ensures.keys tree later c.requires.inside (full_leads _ _ _ (c.in_ok-change.ensures.full tree.store all can (subst (λ (o : Option Child). IsSome o) (sym c.in-Some.is) refl))))
+    let change = c.in_ok-change.change in
+    let next : ℕ = g.P.Pages.next c.args.pages.now in
+    let uses = root_so g.P.Pages c.args.pages.now g.O.OnceDisk c.args.shelf.now start shown all root.result place.root place.level place.least v (λ pages at. UsesPages pages v at next change.unused change.new) root.ensures.page root.ensures.level root.ensures.keys tree later c.requires.inside (c.in_ok-change.ensures.uses tree.store all can) in
+    let some = subst (λ (o : Option Child). IsSome o) (sym c.in-Some.is) refl in
+    inr (tree_leads shown v place.root place.level next change.unused change.new uses some)
 
 pub returns-in_err-change-clause-burns : goal.returns-in_err-change-clause-burns
 returns-in_err-change-clause-burns g c start shown all tree later =
@@ -188,7 +202,11 @@ returns-clause-grows g c start shown all tree later =
     let place = c.args.place in
     let v : Version = version_of c.args.entry.now in
     let can = root_can g.P.Pages c.args.pages.now g.O.OnceDisk c.args.shelf.now start shown all root.result place.root place.level place.least v root.ensures.page root.ensures.level root.ensures.keys tree later c.requires.inside in
-    inr (omega arith, root_so g.P.Pages c.args.pages.now g.O.OnceDisk c.args.shelf.now start shown all root.result place.root place.level place.least v (λ pages at. IsFullWay pages v at) root.ensures.page root.ensures.level root.ensures.keys tree later c.requires.inside (c.in_ok-change.ensures.full tree.store all can (subst (λ (o : Option Child). IsSome o) (sym c.in-Some.is) refl)))
+    let change = c.in_ok-change.change in
+    let next : ℕ = g.P.Pages.next c.args.pages.now in
+    let uses = root_so g.P.Pages c.args.pages.now g.O.OnceDisk c.args.shelf.now start shown all root.result place.root place.level place.least v (λ pages at. UsesPages pages v at next change.unused change.new) root.ensures.page root.ensures.level root.ensures.keys tree later c.requires.inside (c.in_ok-change.ensures.uses tree.store all can) in
+    let some = subst (λ (o : Option Child). IsSome o) (sym c.in-Some.is) refl in
+    inr (omega arith, tree_level shown v place.root place.level next change.unused change.new uses some)
 
 pub returns-in_err-change-clause-highest : goal.returns-in_err-change-clause-highest
 returns-in_err-change-clause-highest g c seven full =
@@ -200,3 +218,66 @@ returns-in_err-change-2-clause-highest g c seven full =
     let p = err_from_is_err_and c.from_residual-in_err-change-2.result c.from_residual-in_err-change-2.ensures.1 in
     let high = c.in_err-change-2.ensures.high.1 seven in
     absurd (cc)
+
+pub returns-in_err-change-clause-wants_pages : goal.returns-in_err-change-clause-wants_pages
+returns-in_err-change-clause-wants_pages g c start shown all tree later is =
+    let root = c.root-root in
+    let place = c.args.place in
+    let v : Version = version_of c.args.entry.now in
+    let can = root_can g.P.Pages c.args.pages.now g.O.OnceDisk c.args.shelf.now start shown all root.result place.root place.level place.least v root.ensures.page root.ensures.level root.ensures.keys tree later c.requires.inside in
+    let p = err_from_is_err_and c.from_residual.result c.from_residual.ensures.1 in
+    let homes : ℕ = g.P.Pages.homes c.args.pages.now in
+    let next : ℕ = g.P.Pages.next c.args.pages.now in
+    tree_wants shown v place.root place.level homes next (root_so g.P.Pages c.args.pages.now g.O.OnceDisk c.args.shelf.now start shown all root.result place.root place.level place.least v (λ pages at. WantsPages pages v at homes next) root.ensures.page root.ensures.level root.ensures.keys tree later c.requires.inside (c.in_err-change.ensures.wants_pages tree.store all can (cc)))
+
+pub returns-in_err-change-clause-once : goal.returns-in_err-change-clause-once
+returns-in_err-change-clause-once g c start shown all tree later refusal is =
+    let root = c.root-root in
+    let place = c.args.place in
+    let v : Version = version_of c.args.entry.now in
+    let can = root_can g.P.Pages c.args.pages.now g.O.OnceDisk c.args.shelf.now start shown all root.result place.root place.level place.least v root.ensures.page root.ensures.level root.ensures.keys tree later c.requires.inside in
+    let p = err_from_is_err_and c.from_residual.result c.from_residual.ensures.1 in
+    root_so g.P.Pages c.args.pages.now g.O.OnceDisk c.args.shelf.now start shown all root.result place.root place.level place.least v (λ pages at. LeadsToOutdated pages v at) root.ensures.page root.ensures.level root.ensures.keys tree later c.requires.inside (c.in_err-change.ensures.once tree.store all can refusal (cc))
+
+pub returns-in_default-clause-uses : goal.returns-in_default-clause-uses
+returns-in_default-clause-uses g c start shown all tree later =
+    let root = c.root-root in
+    let place = c.args.place in
+    let v : Version = version_of c.args.entry.now in
+    let can = root_can g.P.Pages c.args.pages.now g.O.OnceDisk c.args.shelf.now start shown all root.result place.root place.level place.least v root.ensures.page root.ensures.level root.ensures.keys tree later c.requires.inside in
+    let change = c.in_ok-change.change in
+    let next : ℕ = g.P.Pages.next c.args.pages.now in
+    let uses = root_so g.P.Pages c.args.pages.now g.O.OnceDisk c.args.shelf.now start shown all root.result place.root place.level place.least v (λ pages at. UsesPages pages v at next change.unused change.new) root.ensures.page root.ensures.level root.ensures.keys tree later c.requires.inside (c.in_ok-change.ensures.uses tree.store all can) in
+    tree_same_uses shown v place.root place.level next change.unused change.new uses c.in_default.is
+
+pub returns-in_err-change-2-clause-wants_pages : goal.returns-in_err-change-2-clause-wants_pages
+returns-in_err-change-2-clause-wants_pages g c start shown all tree later is =
+    let root = c.root-root in
+    let place = c.args.place in
+    let v : Version = version_of c.args.entry.now in
+    let can = root_can g.P.Pages c.args.pages.now g.O.OnceDisk c.args.shelf.now start shown all root.result place.root place.level place.least v root.ensures.page root.ensures.level root.ensures.keys tree later c.requires.inside in
+    let change = c.in_ok-change.change in
+    let next : ℕ = g.P.Pages.next c.args.pages.now in
+    let uses = root_so g.P.Pages c.args.pages.now g.O.OnceDisk c.args.shelf.now start shown all root.result place.root place.level place.least v (λ pages at. UsesPages pages v at next change.unused change.new) root.ensures.page root.ensures.level root.ensures.keys tree later c.requires.inside (c.in_ok-change.ensures.uses tree.store all can) in
+    let some = subst (λ (o : Option Child). IsSome o) (sym c.in-Some.is) refl in
+    let p = err_from_is_err_and c.from_residual-in_err-change-2.result c.from_residual-in_err-change-2.ensures.1 in
+    let same : c.home_pages.result ≡ g.P.Pages.homes c.args.pages.now = c.home_pages.ensures ∙ c.in_ok-change.ensures.reads.homes in
+    let few = root_full _ _ _ _ c.in_err-change-2.ensures.refused (cc) in
+    tree_grown_wants shown v place.root place.level next change.unused change.new uses some (g.P.Pages.homes c.args.pages.now) (omega (arith, few, same))
+
+pub returns-in_err-change-2-clause-once : goal.returns-in_err-change-2-clause-once
+returns-in_err-change-2-clause-once g c start shown all tree later refusal is =
+    let p = err_from_is_err_and c.from_residual-in_err-change-2.result c.from_residual-in_err-change-2.ensures.1 in
+    absurd (root_never_once _ refusal _ _ _ c.in_err-change-2.ensures.refused (cc))
+
+pub returns-clause-uses : goal.returns-clause-uses
+returns-clause-uses g c start shown all tree later =
+    let root = c.root-root in
+    let place = c.args.place in
+    let v : Version = version_of c.args.entry.now in
+    let can = root_can g.P.Pages c.args.pages.now g.O.OnceDisk c.args.shelf.now start shown all root.result place.root place.level place.least v root.ensures.page root.ensures.level root.ensures.keys tree later c.requires.inside in
+    let change = c.in_ok-change.change in
+    let next : ℕ = g.P.Pages.next c.args.pages.now in
+    let uses = root_so g.P.Pages c.args.pages.now g.O.OnceDisk c.args.shelf.now start shown all root.result place.root place.level place.least v (λ pages at. UsesPages pages v at next change.unused change.new) root.ensures.page root.ensures.level root.ensures.keys tree later c.requires.inside (c.in_ok-change.ensures.uses tree.store all can) in
+    let some = subst (λ (o : Option Child). IsSome o) (sym c.in-Some.is) refl in
+    tree_grown_uses shown v place.root place.level next change.unused change.new uses some c.in_ok-change-2.change.unused c.in_ok-change-2.ensures.grows.unused

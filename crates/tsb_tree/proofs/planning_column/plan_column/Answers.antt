@@ -1,4 +1,5 @@
 use Rattle.std.proofs.Common.{rules, ◌≡◌, ◌<◌, ℕ, List, Some, true, false, Err, Result, IfOk, slice_get, inl, inr, refl, sym, ◌∙◌, ap, subst, arith}
+use Rattle.std.proofs.lemmas.Result.{err_from_is_err_and}
 use Rattle.version_model.specs.Entries.{version_of}
 use Rattle.tsb_tree.specs.declared.change.Change.{Change}
 use Rattle.tsb_tree.specs.declared.error.TreeError.{TreeError}
@@ -7,14 +8,17 @@ use Rattle.tsb_walk.specs.Shown.{keys_at}
 use Rattle.tsb_tree.specs.Layouts.{LaysLeaf}
 use Rattle.tsb_tree.specs.Read.{IsLeafOf, IsFilled}
 use Rattle.tsb_tree.proofs.PlanningLeaf.{plans_leaf}
-use Rattle.tsb_tree.specs.NoRoom.{IsFullWay, full_leaf, LeadsToFullLeaf, in_leaf}
+use Rattle.tsb_tree.specs.Needs.{leaf_with_room}
+use Rattle.tsb_tree.specs.NoRoom.{LeadsToFullLeaf, in_leaf}
 use Rattle.tsb_tree.specs.Outlived.{IsOutdated, outdated_leaf}
 use Rattle.tsb_tree.specs.Plans.{Plans}
 use Rattle.tsb_tree.specs.Refusals.{IsHonest}
+use Rattle.tsb_tree.specs.inner.Uses.{UsesPages}
 use Rattle.tsb_tree.proofs.Columns.{column_shown}
+use Rattle.tsb_tree.proofs.Needing.{leaf_shown, uses_none, read_never_full, read_never_once}
 use Rattle.tsb_tree.proofs.Outliving.{or_else}
-use Rattle.tsb_tree.proofs.Pushing.{can_after, leaf_here, within, above_leaf, pushed_says, filled_here, current_is, standing, pushed_true, pushed_false, stays_false}
-use Rattle.tsb_tree.proofs.Wanting.{if_ok, if_err, no_half, read_wants_none}
+use Rattle.tsb_tree.proofs.Pushing.{can_after, leaf_here, within, above_leaf, pushed_says, filled_here, current_is, standing, pushed_true, pushed_false, stays_false, room_here}
+use Rattle.tsb_tree.proofs.Wanting.{if_ok, if_err, read_wants_none}
 use Rattle.tsb_tree.proofs.planning_column.plan_column.Goals as goal
 
 pub returns-in_err-leaf-clause-honest : goal.returns-in_err-leaf-clause-honest
@@ -78,23 +82,6 @@ returns-in_err-leaf-clause-wants g c s all can =
     let h = read_wants_none _ (g.P.Pages.down c.args.pages.now) c.in_err-leaf.ensures.refused in
     search rules
 
-pub returns-then-branch-clause-full : goal.returns-then-branch-clause-full
-returns-then-branch-clause-full g c s all can some = no_half _ c.in_ok-lay_leaf.ensures.new some
-
-pub returns-clause-full : goal.returns-clause-full
-returns-clause-full g c s all can =
-    let place = c.args.place.now in
-    let v = version_of c.args.entry.now in
-    let of = c.in_ok-leaf.ensures.leaf can.start can.shown can.is.shows in
-    let l = leaf_here s all c.args.place.now can.shown c.requires.level can.is.tells can.stands c.in_ok-leaf.leaf.page c.in_ok-leaf.leaf.image of in
-    let later = can_after g.P.Pages c.args.pages.now c.current_leaf.new.pages g.O.OnceDisk c.args.shelf.now s all place v _ c.in_ok-leaf.ensures.reads can in
-    let no : c.in_ok-push_entry.field-0 ≡ false = search rules in
-    let same : c.push_entry.new.image ≡ c.in_ok-leaf.leaf.image = stays_false TreeError _ _ c.in_ok-push_entry.field-0 no c.in_ok-push_entry.ensures.stays in
-    let full = pushed_false TreeError l.leaf v c.push_entry.new.image c.in_ok-push_entry.field-0 no (c.in_ok-push_entry.ensures.pushed l.leaf l.page (within s all c.args.place.now can.shown c.requires.level can.is.tells can.stands c.in_ok-leaf.leaf.page c.in_ok-leaf.leaf.image of c.args.entry.now.key c.requires.has) (above_leaf s all c.args.place.now can.shown c.requires.level can.is.tells can.stands c.in_ok-leaf.leaf.page c.in_ok-leaf.leaf.image of c.args.entry.now.stamp can.above)) in
-    let filled = filled_here s all c.args.place.now can.shown c.requires.level can.is.tells can.stands c.in_ok-leaf.leaf.page c.in_ok-leaf.leaf.image of v full in
-    let no_room : IsFullWay can.shown v place = full_leaf place c.in_ok-leaf.leaf.page c.in_ok-leaf.leaf.image of filled in
-    if_ok c.plan_splits.result (λ change some. no_room)
-
 pub returns-clause-wants : goal.returns-clause-wants
 returns-clause-wants g c s all can =
     let place = c.args.place.now in
@@ -136,3 +123,69 @@ returns-clause-burns g c s all can =
     let full = pushed_false TreeError l.leaf v c.push_entry.new.image c.in_ok-push_entry.field-0 no (c.in_ok-push_entry.ensures.pushed l.leaf l.page (within s all c.args.place.now can.shown c.requires.level can.is.tells can.stands c.in_ok-leaf.leaf.page c.in_ok-leaf.leaf.image of c.args.entry.now.key c.requires.has) (above_leaf s all c.args.place.now can.shown c.requires.level can.is.tells can.stands c.in_ok-leaf.leaf.page c.in_ok-leaf.leaf.image of c.args.entry.now.stamp can.above)) in
     let filled = filled_here s all c.args.place.now can.shown c.requires.level can.is.tells can.stands c.in_ok-leaf.leaf.page c.in_ok-leaf.leaf.image of v full in
     or_else (λ (out : IsOutdated place c.push_entry.new.image v). outdated_leaf place c.in_ok-leaf.leaf.page c.in_ok-leaf.leaf.image of filled (subst (λ (i : List ℕ). IsOutdated place i v) same out)) c.plan_splits.ensures.burns
+
+pub returns-then-branch-clause-uses : goal.returns-then-branch-clause-uses
+returns-then-branch-clause-uses g c s all can =
+    let place = c.args.place.now in
+    let v = version_of c.args.entry.now in
+    let of = c.in_ok-leaf.ensures.leaf can.start can.shown can.is.shows in
+    let l = leaf_here s all c.args.place.now can.shown c.requires.level can.is.tells can.stands c.in_ok-leaf.leaf.page c.in_ok-leaf.leaf.image of in
+    let yes : c.in_ok-push_entry.field-0 ≡ true = search rules in
+    let pushed = pushed_true TreeError l.leaf v c.push_entry.new.image c.in_ok-push_entry.field-0 yes (c.in_ok-push_entry.ensures.pushed l.leaf l.page (within s all c.args.place.now can.shown c.requires.level can.is.tells can.stands c.in_ok-leaf.leaf.page c.in_ok-leaf.leaf.image of c.args.entry.now.key c.requires.has) (above_leaf s all c.args.place.now can.shown c.requires.level can.is.tells can.stands c.in_ok-leaf.leaf.page c.in_ok-leaf.leaf.image of c.args.entry.now.stamp can.above)) in
+    let room = room_here s all c.args.place.now can.shown c.requires.level can.is.tells can.stands c.in_ok-leaf.leaf.page c.in_ok-leaf.leaf.image of v c.push_entry.new.image pushed in
+    uses_none can.shown v place _ _ _ c.in_ok-lay_leaf.ensures.new (c.in_ok-lay_leaf.ensures.unused ∙ c.next_page.ensures ∙ c.in_ok-leaf.ensures.reads.next)
+    (leaf_with_room place of.versions (leaf_shown can.shown place c.in_ok-leaf.leaf.page c.in_ok-leaf.leaf.image of) room)
+
+pub returns-clause-uses : goal.returns-clause-uses
+returns-clause-uses g c s all can =
+    let place = c.args.place.now in
+    let v = version_of c.args.entry.now in
+    let of = c.in_ok-leaf.ensures.leaf can.start can.shown can.is.shows in
+    let l = leaf_here s all c.args.place.now can.shown c.requires.level can.is.tells can.stands c.in_ok-leaf.leaf.page c.in_ok-leaf.leaf.image of in
+    let no : c.in_ok-push_entry.field-0 ≡ false = search rules in
+    let same : c.push_entry.new.image ≡ c.in_ok-leaf.leaf.image = stays_false TreeError _ _ c.in_ok-push_entry.field-0 no c.in_ok-push_entry.ensures.stays in
+    let full = pushed_false TreeError l.leaf v c.push_entry.new.image c.in_ok-push_entry.field-0 no (c.in_ok-push_entry.ensures.pushed l.leaf l.page (within s all c.args.place.now can.shown c.requires.level can.is.tells can.stands c.in_ok-leaf.leaf.page c.in_ok-leaf.leaf.image of c.args.entry.now.key c.requires.has) (above_leaf s all c.args.place.now can.shown c.requires.level can.is.tells can.stands c.in_ok-leaf.leaf.page c.in_ok-leaf.leaf.image of c.args.entry.now.stamp can.above)) in
+    let filled = filled_here s all c.args.place.now can.shown c.requires.level can.is.tells can.stands c.in_ok-leaf.leaf.page c.in_ok-leaf.leaf.image of v full in
+    let shows = c.in_ok-leaf.ensures.reads.shown can.start can.shown can.is.shows in
+    let at : slice_get can.shown c.in_ok-leaf.leaf.page ≡ Some c.push_entry.new.image = of.at ∙ ap Some (sym same) in
+    let filled' = subst (λ (i : List ℕ). IsFilled place i v) (sym same) filled in
+    subst (λ (n : ℕ). IfOk c.plan_splits.result (λ change. UsesPages can.shown v place n change.unused change.new)) c.in_ok-leaf.ensures.reads.next (c.plan_splits.ensures.uses can.start can.shown shows at filled')
+
+pub returns-clause-wants_pages : goal.returns-clause-wants_pages
+returns-clause-wants_pages g c s all can is =
+    let place = c.args.place.now in
+    let v = version_of c.args.entry.now in
+    let of = c.in_ok-leaf.ensures.leaf can.start can.shown can.is.shows in
+    let l = leaf_here s all c.args.place.now can.shown c.requires.level can.is.tells can.stands c.in_ok-leaf.leaf.page c.in_ok-leaf.leaf.image of in
+    let no : c.in_ok-push_entry.field-0 ≡ false = search rules in
+    let same : c.push_entry.new.image ≡ c.in_ok-leaf.leaf.image = stays_false TreeError _ _ c.in_ok-push_entry.field-0 no c.in_ok-push_entry.ensures.stays in
+    let full = pushed_false TreeError l.leaf v c.push_entry.new.image c.in_ok-push_entry.field-0 no (c.in_ok-push_entry.ensures.pushed l.leaf l.page (within s all c.args.place.now can.shown c.requires.level can.is.tells can.stands c.in_ok-leaf.leaf.page c.in_ok-leaf.leaf.image of c.args.entry.now.key c.requires.has) (above_leaf s all c.args.place.now can.shown c.requires.level can.is.tells can.stands c.in_ok-leaf.leaf.page c.in_ok-leaf.leaf.image of c.args.entry.now.stamp can.above)) in
+    let filled = filled_here s all c.args.place.now can.shown c.requires.level can.is.tells can.stands c.in_ok-leaf.leaf.page c.in_ok-leaf.leaf.image of v full in
+    let shows = c.in_ok-leaf.ensures.reads.shown can.start can.shown can.is.shows in
+    let at : slice_get can.shown c.in_ok-leaf.leaf.page ≡ Some c.push_entry.new.image = of.at ∙ ap Some (sym same) in
+    let filled' = subst (λ (i : List ℕ). IsFilled place i v) (sym same) filled in
+    let wants = c.plan_splits.ensures.wants_pages can.start can.shown shows at filled' is in
+    let few = wants.2 in
+    (wants.0, wants.1, omega (arith, few, c.in_ok-leaf.ensures.reads.homes, c.in_ok-leaf.ensures.reads.next))
+
+pub returns-clause-once : goal.returns-clause-once
+returns-clause-once g c s all can refusal is =
+    let place = c.args.place.now in
+    let v = version_of c.args.entry.now in
+    let of = c.in_ok-leaf.ensures.leaf can.start can.shown can.is.shows in
+    let l = leaf_here s all c.args.place.now can.shown c.requires.level can.is.tells can.stands c.in_ok-leaf.leaf.page c.in_ok-leaf.leaf.image of in
+    let no : c.in_ok-push_entry.field-0 ≡ false = search rules in
+    let same : c.push_entry.new.image ≡ c.in_ok-leaf.leaf.image = stays_false TreeError _ _ c.in_ok-push_entry.field-0 no c.in_ok-push_entry.ensures.stays in
+    let full = pushed_false TreeError l.leaf v c.push_entry.new.image c.in_ok-push_entry.field-0 no (c.in_ok-push_entry.ensures.pushed l.leaf l.page (within s all c.args.place.now can.shown c.requires.level can.is.tells can.stands c.in_ok-leaf.leaf.page c.in_ok-leaf.leaf.image of c.args.entry.now.key c.requires.has) (above_leaf s all c.args.place.now can.shown c.requires.level can.is.tells can.stands c.in_ok-leaf.leaf.page c.in_ok-leaf.leaf.image of c.args.entry.now.stamp can.above)) in
+    let filled = filled_here s all c.args.place.now can.shown c.requires.level can.is.tells can.stands c.in_ok-leaf.leaf.page c.in_ok-leaf.leaf.image of v full in
+    outdated_leaf place c.in_ok-leaf.leaf.page c.in_ok-leaf.leaf.image of filled (subst (λ (i : List ℕ). IsOutdated place i v) same (c.plan_splits.ensures.once refusal is))
+
+pub returns-in_err-leaf-clause-wants_pages : goal.returns-in_err-leaf-clause-wants_pages
+returns-in_err-leaf-clause-wants_pages g c s all can is =
+    let p = err_from_is_err_and c.from_residual.result c.from_residual.ensures.1 in
+    absurd (read_never_full _ (g.P.Pages.down c.args.pages.now) c.in_err-leaf.ensures.refused (cc))
+
+pub returns-in_err-leaf-clause-once : goal.returns-in_err-leaf-clause-once
+returns-in_err-leaf-clause-once g c s all can refusal is =
+    let p = err_from_is_err_and c.from_residual.result c.from_residual.ensures.1 in
+    absurd (read_never_once _ refusal (g.P.Pages.down c.args.pages.now) c.in_err-leaf.ensures.refused (cc))

@@ -1,21 +1,22 @@
-use Rattle.std.proofs.Common.{rules, ◌≡◌, ◌<◌, ◌≤◌, ℕ, Err, Result, IfErr, sym, ◌∙◌, ap, subst, arith}
+use Rattle.std.proofs.Common.{rules, ◌≡◌, ◌<◌, ◌≤◌, ℕ, Err, Result, IfOk, IfErr, sym, ◌∙◌, ap, subst, arith}
+use Rattle.std.proofs.lemmas.Result.{err_from_is_err_and}
 use Rattle.once_store.specs.Shelves.{next_of}
 use Rattle.version_model.specs.Entries.{version_of}
 use Rattle.version_model.specs.Ranges.{high_or}
-use Rattle.version_model.specs.Pages.{Keys, CurrentLeaf}
+use Rattle.version_model.specs.Pages.{Keys}
 use Rattle.version_model.specs.Versions.{Version, Has}
 use Rattle.tsb_tree.specs.declared.change.Change.{Change}
 use Rattle.tsb_tree.specs.declared.error.TreeError.{TreeError}
-use Rattle.tsb_node.specs.Views.{PageSays, says_leaf}
-use Rattle.tsb_tree.specs.Outlived.{HasOutlived}
 use Rattle.tsb_tree.specs.Plans.{Plans}
 use Rattle.tsb_tree.specs.Refusals.{PlanRefusal, ReadRefusal}
-use Rattle.tsb_tree.specs.Shapes.{leaf_in_page}
-use Rattle.tsb_tree.specs.Wholes.{IsAt, keys_of_whole}
+use Rattle.tsb_tree.specs.Wholes.{IsAt}
+use Rattle.tsb_tree.specs.inner.Uses.{UsesPages}
 use Rattle.tsb_tree.proofs.Columns.{is_at, ok_both}
 use Rattle.tsb_tree.proofs.LayingOut.{plans_taken, read_plan, keeps_none}
+use Rattle.tsb_tree.proofs.Needing.{leaf_read, filled_read, leaf_uses, leaf_wants, outdated_read, read_never_full, read_never_once}
 use Rattle.tsb_tree.proofs.Outliving.{or_else}
 use Rattle.tsb_tree.proofs.Pushing.{whole_among, whole_forward}
+use Rattle.tsb_tree.proofs.Wanting.{ok_then}
 use Rattle.tsb_tree.proofs.planning_column.plan_splits.Goals as goal
 
 pub returns-in_err-whole-clause-refused : goal.returns-in_err-whole-clause-refused
@@ -79,11 +80,55 @@ returns-clause-honest g c s all can of filled =
 
 pub returns-clause-burns : goal.returns-clause-burns
 returns-clause-burns g c =
+    or_else (outdated_read c.args.place.now c.args.leaf.now.image (version_of c.args.entry.now) c.in_ok-whole.whole c.in_ok-whole.ensures.keys c.in_ok-whole.ensures.leaf) c.split_column.ensures.burns
+
+pub returns-in_err-column-clause-wants_pages : goal.returns-in_err-column-clause-wants_pages
+returns-in_err-column-clause-wants_pages g c start shown shows at filled is =
+    let p = err_from_is_err_and c.from_residual.result c.from_residual.ensures.1 in
+    absurd (read_never_full _ (g.P.Pages.down c.args.pages.now) c.in_err-column.ensures.refused (cc))
+
+pub returns-in_err-whole-clause-wants_pages : goal.returns-in_err-whole-clause-wants_pages
+returns-in_err-whole-clause-wants_pages g c start shown shows at filled is =
+    let p = err_from_is_err_and c.from_residual-in_err-whole.result c.from_residual-in_err-whole.ensures.1 in
+    absurd (read_never_full _ (g.P.Pages.down c.args.pages.now) (c.in_err-whole.ensures.refused (g.P.Pages.down c.args.pages.now)) (cc))
+
+pub returns-clause-uses : goal.returns-clause-uses
+returns-clause-uses g c start shown shows at filled =
+    let place = c.args.place.now in
+    let v : Version = version_of c.args.entry.now in
     let w = c.in_ok-whole.whole in
-    let said : PageSays c.args.leaf.now.image (CurrentLeaf (keys_of_whole w) w.start w.leaf) = says_leaf (leaf_in_page w) c.in_ok-whole.ensures.leaf in
-    or_else (λ (out : HasOutlived w.leaf (version_of c.args.entry.now)). record {
-      start = w.start;
-      versions = w.leaf;
-      says = subst (λ (k : Keys). PageSays c.args.leaf.now.image (CurrentLeaf k w.start w.leaf)) c.in_ok-whole.ensures.keys said;
-      outlived = out;
-    }) c.split_column.ensures.burns
+    let page = c.in_ok-whole.ensures.leaf in
+    let has = leaf_read shown place w c.args.leaf.now.page _ c.args.leaf.now.image (c.in_ok-column.ensures.shown start shown shows) c.in_ok-whole.ensures.column at page c.in_ok-whole.ensures.keys in
+    let full = filled_read place c.args.leaf.now.image v w filled page in
+    let next_is : c.next_page.result ≡ g.P.Pages.next c.args.pages.now = c.next_page.ensures ∙ c.in_ok-column.ensures.reads.next in
+    subst (λ (n : ℕ). IfOk c.split_column.result (λ change. UsesPages shown v place n change.unused change.new)) next_is
+    (ok_then _ _ c.split_column.result (λ change uses. leaf_uses shown v place w.leaf uses.0 has full uses.1 c.next_page.result change.unused change.new uses.2) c.split_column.ensures.uses)
+
+pub returns-clause-wants_pages : goal.returns-clause-wants_pages
+returns-clause-wants_pages g c start shown shows at filled is =
+    let place = c.args.place.now in
+    let v : Version = version_of c.args.entry.now in
+    let w = c.in_ok-whole.whole in
+    let page = c.in_ok-whole.ensures.leaf in
+    let has = leaf_read shown place w c.args.leaf.now.page _ c.args.leaf.now.image (c.in_ok-column.ensures.shown start shown shows) c.in_ok-whole.ensures.column at page c.in_ok-whole.ensures.keys in
+    let full = filled_read place c.args.leaf.now.image v w filled page in
+    let homes_is : c.home_pages.result ≡ g.P.Pages.homes c.args.pages.now = c.home_pages.ensures ∙ c.in_ok-column.ensures.reads.homes in
+    let next_is : c.next_page.result ≡ g.P.Pages.next c.args.pages.now = c.next_page.ensures ∙ c.in_ok-column.ensures.reads.next in
+    let wants = c.split_column.ensures.wants_pages is in
+    let few = wants.3 in
+    leaf_wants shown v place w.leaf wants.0 has full wants.1 (g.P.Pages.homes c.args.pages.now) (g.P.Pages.next c.args.pages.now) wants.2 (omega (arith, few, homes_is, next_is))
+
+pub returns-in_err-column-clause-once : goal.returns-in_err-column-clause-once
+returns-in_err-column-clause-once g c refusal is =
+    let p = err_from_is_err_and c.from_residual.result c.from_residual.ensures.1 in
+    absurd (read_never_once _ refusal (g.P.Pages.down c.args.pages.now) c.in_err-column.ensures.refused (cc))
+
+pub returns-in_err-whole-clause-once : goal.returns-in_err-whole-clause-once
+returns-in_err-whole-clause-once g c refusal is =
+    let p = err_from_is_err_and c.from_residual-in_err-whole.result c.from_residual-in_err-whole.ensures.1 in
+    absurd (read_never_once _ refusal (g.P.Pages.down c.args.pages.now) (c.in_err-whole.ensures.refused (g.P.Pages.down c.args.pages.now)) (cc))
+
+pub returns-clause-once : goal.returns-clause-once
+returns-clause-once g c refusal is =
+    let w = c.in_ok-whole.whole in
+    outdated_read c.args.place.now c.args.leaf.now.image (version_of c.args.entry.now) w c.in_ok-whole.ensures.keys c.in_ok-whole.ensures.leaf (c.split_column.ensures.once refusal is)

@@ -5,7 +5,7 @@ use Rattle.std.proofs.lemmas.List.Edits.{length-insert}
 use Rattle.version_model.specs.declared.bounds.Bounds.{Bounds}
 use Rattle.tsb_tree.proofs.KeyNodes.{wide_put}
 use Rattle.tsb_tree.proofs.KeyLists.{one_behind}
-use Rattle.tsb_tree.proofs.Wanting.{no_half}
+use Rattle.tsb_tree.proofs.Needing.{half_one, half_two}
 use Rattle.tsb_tree.proofs.putting.put_half.Goals as goal
 
 pub put_one-requires-clause-wide : goal.put_one-requires-clause-wide
@@ -49,11 +49,26 @@ returns-clause-puts c place behind =
 pub returns-clause-laid : goal.returns-clause-laid
 returns-clause-laid c next level lt can = c.in_ok-put_two.ensures.laid c.args.homes next level lt (let room : c.args.change.unused < c.args.homes = omega (arith, c.if-change-homes.false) in room) can
 
-pub returns-then-len-le-MOST_CHILDREN-clause-full : goal.returns-then-len-le-MOST_CHILDREN-clause-full
-returns-then-len-le-MOST_CHILDREN-clause-full c some = no_half _ c.in_ok-put_one.ensures.puts.new some
+pub returns-then-len-le-MOST_CHILDREN-clause-uses : goal.returns-then-len-le-MOST_CHILDREN-clause-uses
+returns-then-len-le-MOST_CHILDREN-clause-uses c =
+    let xs = c.args.node.children.items in
+    let behind = c.in-Some.ensures.behind in
+    let within : suc c.in-Some.place ≤ length xs = (let h = slice_get_within xs c.in-Some.place behind.child behind.at in omega (arith, h)) in
+    let long : length c.in_ok-node.node.children.items ≡ length xs + 1 = ap length c.in_ok-node.ensures.children ∙ length-insert xs (suc c.in-Some.place) c.args.new within in
+    let room : length c.in_ok-node.node.children.items ≤ 338 = omega (arith, c.len.ensures, c.if-len-le-MOST_CHILDREN.true) in
+    half_one _ _ _ _ c.in_ok-put_one.ensures.puts.new c.in_ok-put_one.ensures.puts.unused (omega (arith, long, room))
 
-pub returns-clause-full : goal.returns-clause-full
-returns-clause-full c some =
+pub returns-clause-uses : goal.returns-clause-uses
+returns-clause-uses c =
+    let xs = c.args.node.children.items in
+    let behind = c.in-Some.ensures.behind in
+    let within : suc c.in-Some.place ≤ length xs = (let h = slice_get_within xs c.in-Some.place behind.child behind.at in omega (arith, h)) in
+    let long : length c.in_ok-node.node.children.items ≡ length xs + 1 = ap length c.in_ok-node.ensures.children ∙ length-insert xs (suc c.in-Some.place) c.args.new within in
+    let more : 338 < length c.in_ok-node.node.children.items = omega (arith, c.len.ensures, c.if-len-le-MOST_CHILDREN.false) in
+    half_two _ _ _ _ _ c.in_ok-put_two.ensures.puts.new c.in_ok-put_two.ensures.puts.unused (omega (arith, long, more, c.requires.few))
+
+pub returns-then-change-homes-clause-wants_pages : goal.returns-then-change-homes-clause-wants_pages
+returns-then-change-homes-clause-wants_pages c is =
     let xs = c.args.node.children.items in
     let behind = c.in-Some.ensures.behind in
     let within : suc c.in-Some.place ≤ length xs = (let h = slice_get_within xs c.in-Some.place behind.child behind.at in omega (arith, h)) in

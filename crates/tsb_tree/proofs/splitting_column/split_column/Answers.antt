@@ -1,6 +1,7 @@
 use Rattle.std.proofs.Common.{inl, inr, ap, arith}
 use Rattle.version_model.specs.Versions.{Version}
 use Rattle.tsb_tree.proofs.LayingOut.{can_be_laid}
+use Rattle.tsb_tree.proofs.Needing.{layout_full}
 use Rattle.tsb_tree.proofs.splitting_column.split_column.Goals as goal
 
 pub returns-in-Ok-clause-takes : goal.returns-in-Ok-clause-takes
@@ -15,3 +16,10 @@ returns-in-Ok-clause-laid g c in_page in_current =
 pub returns-in-Err-clause-honest : goal.returns-in-Err-clause-honest
 returns-in-Err-clause-honest g c above forward bounded inside =
     c.in-Err.ensures.honest (λ v h. elim (c.in_ok-grow.ensures.only v h) [ inl old ↦ bounded v old | inr new ↦ omega (arith, inside, ap (λ (x : Version). x.key) new) ])
+
+pub returns-in-Ok-clause-uses : goal.returns-in-Ok-clause-uses
+returns-in-Ok-clause-uses g c = (c.grow.new.whole.leaf, c.in_ok-grow.ensures.stays, c.in-Ok.ensures.uses)
+
+pub returns-in-Err-clause-wants_pages : goal.returns-in-Err-clause-wants_pages
+returns-in-Err-clause-wants_pages g c is =
+    (c.grow.new.whole.leaf, c.in_ok-grow.ensures.stays, c.in-Err.ensures.wants_pages is, layout_full _ _ _ c.in-Err.ensures.refused (cc))
