@@ -1,4 +1,5 @@
 pub mod Catching
+mod Crowded
 pub mod Seen
 pub mod Answering
 pub mod Looking

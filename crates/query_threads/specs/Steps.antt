@@ -33,7 +33,7 @@ pub record IsCounterFull (h : History) (c more : ℕ) : Type 0 where
   pub here : slice_get h.intakes c ≡ Some intake
   pub above : 18446744073709551615 < intake.offered + more
 
--- Why no batch is taken. Of a ring that is full the archive alone tells how full it is.
+-- Why no batch is taken. How full a ring is that is full is said beside it, by IsCrowded.
 abbrev pub IsRefusal : History → ℕ → List Admitted → AdmitError → Type 0
 IsRefusal h c batch admits.NoCollector = IsCollector h c → ⊥
 IsRefusal h c batch admits.BatchTooLarge = 262144 < sum_by entry_octets batch

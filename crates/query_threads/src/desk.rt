@@ -1,12 +1,12 @@
 //! What lies under the lock: the archive, and the writing seat, which knows its past.
-ghost use Rattle.std.specs.Prelude.{◌≡◌, ℕ, ◌+◌, ◌<◌, ◌≤◌, List, [], length, Some, OnOk, IfOk, IfErr, IfSome, IsSome, IsNone, ⊤};
+ghost use Rattle.std.specs.Prelude.{◌≡◌, ℕ, ◌+◌, ◌<◌, ◌≤◌, List, [], length, Some, OnOk, IfOk, IfErr, IfSome, IsSome, IsNone, Err, ⊤};
 ghost use Rattle.std.specs.List.{AllByRecursion};
 ghost use Rattle.route_meaning.specs.History.{IsHistory, applied, settled};
 ghost use Rattle.interleaving_core.specs.Does.{last_moment};
 ghost use Rattle.interleaving_core.specs.Headline.{IsAnswered};
 ghost use Rattle.board.specs.Past.{Past, GoesOnAs, reach};
 ghost use Rattle.board.specs.Views.{View, Within, Reached, IsCaughtUp, IsFrontOf, BeginsView};
-ghost use Rattle.query_threads.specs.Steps.{DoesAdmit, DoesMark, DoesApply, DoesFlush};
+ghost use Rattle.query_threads.specs.Steps.{IsCrowded, DoesAdmit, DoesMark, DoesApply, DoesFlush};
 ghost use Rattle.query_threads.specs.Looks.{IsErrandOn};
 ghost use Rattle.query_threads.specs.Turns.{TurnGives, IsTold};
 ghost use Rattle.query_threads.specs.Seeing.{Sees};
@@ -35,7 +35,7 @@ impl<A: Store, N: Named + OnDisk<A::Disk>> Model for Desk<A, N> {
 
     ghost view = { λ d. d.writer };
 
-    ghost invariant = { λ d. (N.table.words ≡ length d.writer.past.history.intakes + 1) × (IsSome N.disk → A.carries d.archive d.writer.past × IsCaughtUp d.writer × (N.disk ≡ Some (A.disk_of d.archive))) × (IsNone N.disk → ReachesAll d.writer.past.history) };
+    ghost invariant = { λ d. (N.table.words ≡ length d.writer.past.history.intakes + 1) × (IsSome N.disk → A.carries d.archive d.writer.past × IsCaughtUp d.writer × (N.disk ≡ Some (A.disk_of d.archive)) × (N.pages ≡ A.pages d.archive)) × (IsNone N.disk → ReachesAll d.writer.past.history) };
 }
 
 // Raises each word to what the archive tells, which the past of the writing seat reaches.
@@ -84,7 +84,7 @@ impl<A: Store, N: Named + OnDisk<A::Disk>> Desk<A, N> {
     /// An archive with its writing seat, which knows its past and has raised all words.
     pub(crate) fn new(archive: A, writer: Writer<N>) -> Desk<A, N>
         requires words { N.table.words ≡ length writer.past.history.intakes + 1 }
-        requires carried { IsSome N.disk → A.carries archive writer.past × IsCaughtUp writer × (N.disk ≡ Some (A.disk_of archive)) }
+        requires carried { IsSome N.disk → A.carries archive writer.past × IsCaughtUp writer × (N.disk ≡ Some (A.disk_of archive)) × (N.pages ≡ A.pages archive) }
         requires all { IsNone N.disk → ReachesAll writer.past.history }
         ensures { result ≡ writer }
     {
@@ -112,6 +112,7 @@ impl<A: Store, N: Named + OnDisk<A::Disk>> Desk<A, N> {
     ) -> Result<BatchReply, AdmitError>
         ensures begins { BeginsView pass.old pass.new }
         ensures sees { IsSome N.disk → Sees (DoesAdmit collector batch.now result) pass.old pass.new }
+        ensures full { IsSome N.disk → result ≡ Err AdmitError.IntakeFull → IsCrowded N.pages pass.new.past.history collector batch.now }
     {
         self.greet(board, pass);
         let told = self.archive.admit(collector, batch);

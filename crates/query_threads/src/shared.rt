@@ -1,5 +1,5 @@
 //! An archive that threads share, behind one lock, with its board beside it.
-ghost use Rattle.std.specs.Prelude.{◌≡◌, ◌<◌, ◌≤◌, ℕ, suc, List, [], length, Some, OnOk, IfOk, IfErr, IfSome, IsSome, ⊤};
+ghost use Rattle.std.specs.Prelude.{◌≡◌, ◌<◌, ◌≤◌, ℕ, suc, List, [], length, Some, OnOk, IfOk, IfErr, IfSome, IsSome, Err, ⊤};
 ghost use Rattle.std.specs.List.{AllByRecursion};
 ghost use Rattle.route_meaning.specs.History.{IsHistory, applied, settled};
 ghost use Rattle.interleaving_core.specs.Does.{last_moment};
@@ -7,7 +7,7 @@ ghost use Rattle.interleaving_core.specs.Headline.{IsAnswered};
 ghost use Rattle.board.specs.Past.{Past, Among};
 ghost use Rattle.board.specs.Views.{View, Reached, IsCaughtUp, IsFrontOf, BeginsView, with_seen, watermark_of, durable_of};
 ghost use Rattle.board.specs.Opened.{name_of};
-ghost use Rattle.query_threads.specs.Steps.{DoesAdmit, DoesMark, DoesApply, DoesFlush};
+ghost use Rattle.query_threads.specs.Steps.{IsCrowded, DoesAdmit, DoesMark, DoesApply, DoesFlush};
 ghost use Rattle.query_threads.specs.Looks.{IsErrandOn};
 ghost use Rattle.query_threads.specs.Turns.{TurnGives, IsTold, IsAbove};
 ghost use Rattle.query_threads.specs.Seeing.{Sees};
@@ -33,11 +33,14 @@ pub struct Shared<A: Store, N: Named + OnDisk<A::Disk>, G: Gate + Drop> {
 }
 
 impl<A: Store, N: Named + OnDisk<A::Disk>, G: Gate + Drop> Model for Shared<A, N, G> {
+    ghost use Rattle.std.specs.Prelude.{◌≡◌, IsSome};
     ghost use Rattle.query_threads.specs.Sharing.{Sharing};
 
     ghost Value = { Sharing };
 
     ghost view = { λ s. record { collectors = s.board; ring = s.ring } };
+
+    ghost invariant = { λ s. IsSome N.disk → N.pages ≡ s.ring };
 }
 
 /// Blocks of a shared archive that one pass has read. Contracts see the blocks that it keeps.
@@ -95,12 +98,13 @@ impl<A: Store, N: Named + OnDisk<A::Disk>> Reader<A, N> {
 }
 
 impl<A: Store, N: Named + OnDisk<A::Disk>, G: Gate + Drop> Shared<A, N, G> {
-    /// Shares an archive, where this is the board named `N`. Where `N` names a disk, it is the archive's, and the pass knows
-    /// the archive's past.
+    /// Shares an archive, where this is the board named `N`. Where `N` names a disk, it is the archive's, as the pages of its rings
+    /// are, and the pass knows the archive's past.
     pub fn new(opened: Opened, archive: A, gate: G) -> (Shared<A, N, G>, Pass<N>)
         requires named { name_of opened ≡ N.table }
         requires some { 1 ≤ opened.collectors }
         requires disk { IsSome N.disk → N.disk ≡ Some (A.disk_of archive) }
+        requires pages { IsSome N.disk → N.pages ≡ A.pages archive }
         requires carried { IsSome N.disk → (p : Past) × A.carries archive p × (length p.history.intakes ≡ opened.collectors) }
         ensures carried { IsSome N.disk → A.carries archive result.1.past }
         ensures caught_up { IsSome N.disk → IsCaughtUp result.1 }
@@ -173,6 +177,7 @@ impl<A: Store, N: Named + OnDisk<A::Disk>, G: Gate + Drop> Shared<A, N, G> {
     ) -> Result<BatchReply, AdmitError>
         ensures begins { BeginsView pass.old pass.new }
         ensures sees { IsSome N.disk → Sees (DoesAdmit collector batch.now result) pass.old pass.new }
+        ensures full { IsSome N.disk → result ≡ Err AdmitError.IntakeFull → IsCrowded self.now.ring pass.new.past.history collector batch.now }
     {
         self.desk
             .lock(rt)

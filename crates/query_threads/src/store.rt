@@ -18,16 +18,23 @@ use route_model::{Admission, Mark};
 use std::alloc::Global;
 use std::marker::{Brand, PhantomData};
 
-/// What is promised of a shared archive: that it carries a past, with its blocks on this disk. With no disk nothing is
-/// promised of it, as where its devices aren't known to follow their models. Each call of a program picks it.
+/// What is promised of a shared archive: that it carries a past, with its blocks on this disk, and that each of its rings has
+/// so many pages. With no disk nothing is promised of it, as where its devices aren't known to follow their models. Each call
+/// of a program picks it.
 pub trait OnDisk<D> {
+    /// The disk of its blocks, or none.
     ghost disk: { Option D };
+
+    /// The pages of each ring.
+    ghost pages: { ℕ };
 }
 
 impl<D> OnDisk<D> for Brand {
     ghost use Rattle.std.specs.Prelude.{None};
 
     ghost disk = { None };
+
+    ghost pages = { 0 };
 }
 
 /// The name of a board, by `B`, whose archive nothing is promised of.
@@ -43,6 +50,8 @@ impl<B, D> OnDisk<D> for Unpromised<B> {
     ghost use Rattle.std.specs.Prelude.{None};
 
     ghost disk = { None };
+
+    ghost pages = { 0 };
 }
 
 /// An archive, as threads use it.

@@ -1,6 +1,8 @@
-use Rattle.std.proofs.Common.{sym, ◌∙◌, subst}
+use Rattle.std.proofs.Common.{◌≡◌, ℕ, sym, ◌∙◌, subst}
+use Rattle.board.specs.Past.{Past}
 use Rattle.board.specs.Views.{View, IsFrontOf}
-use Rattle.query_threads.specs.Steps.{DoesAdmit}
+use Rattle.query_threads.specs.Steps.{DoesAdmit, IsCrowded}
+use Rattle.query_threads.proofs.Crowded.{still_crowded}
 use Rattle.query_threads.proofs.Seen.{begins_then, sees_step}
 use Rattle.query_threads.proofs.desk.Desk.admit.Goals as goal
 
@@ -12,4 +14,10 @@ returns g c =
       begins = begins_then c.args.pass.now c.greet.new.pass c.greet-2.new.pass c.greet.ensures.begins c.greet-2.ensures.begins;
       sees = λ named. sees_step (DoesAdmit c.args.collector c.args.batch.now c.admit-told.result) c.args.pass.now c.greet.new.pass c.greet-2.new.pass w c.follow.new.writer front
           c.greet.ensures.begins c.follow.ensures.goes_on (c.follow.ensures.fits named) c.greet-2.ensures.past c.greet-2.ensures.begins (c.greet-2.ensures.caught_up named);
+      full = λ named is. (
+          let kept = c.self.invariant.1 named in
+          let here = c.admit-told.ensures.full w.past kept.0 is in
+          let mine = subst (λ (n : ℕ). IsCrowded n w.past.history c.args.collector c.args.batch.now) (sym kept.3) here in
+          let later = still_crowded g.N.OnDisk.pages c.args.collector c.args.batch.now c.admit-told.result w.past.history c.follow.new.writer.past.history (c.follow.ensures.fits named) is mine in
+          subst (λ (q : Past). IsCrowded g.N.OnDisk.pages q.history c.args.collector c.args.batch.now) (sym c.greet-2.ensures.past) later);
     }
