@@ -16,18 +16,24 @@ use Rattle.server.specs.declared.command.Command.TheVariants as commands
 use Rattle.server.specs.Commands.{IsCommandLine}
 use Rattle.server.specs.Lines.{ok_line}
 use Rattle.server.specs.Marks.{MarksAndApplies, IsUnmarked}
-use Rattle.server.specs.Replies.{IsReplyOver, IsRefusedOver, SeesBy}
+use Rattle.server.specs.Replies.{IsReplyOver, IsRefusedOver, IsNotBelow, SeesBy}
+
+-- The line of why there is no reply is written, over what the pass sees then. No question is told above the watermark that is below one which the pass had seen.
+pub record TellsRefusal (promised : Type 0) (collectors : ℕ) (request : Request) (v w : View) (was now : OutputState) : Type 0 where
+  pub why : Unanswered
+  pub refused : IsRefusedOver promised collectors w request why
+  pub not_below : promised → IsNotBelow v request why
+  pub tells : Tells was now (refusal_line (of_unanswered why))
 
 -- the text of a reply over what the pass sees then is written, or the line of a refusal
-abbrev pub TellsReply : Type 0 → ℕ → Request → View → OutputState → OutputState → Type 0
-TellsReply promised collectors request w was now =
-    ((text : List ℕ) × IsReplyOver promised w request text × Tells was now text)
-    ⊎ ((why : Unanswered) × IsRefusedOver promised collectors w request why × Tells was now (refusal_line (of_unanswered why)))
+abbrev pub TellsReply : Type 0 → ℕ → Request → View → View → OutputState → OutputState → Type 0
+TellsReply promised collectors request v w was now =
+    ((text : List ℕ) × IsReplyOver promised w request text × Tells was now text) ⊎ TellsRefusal promised collectors request v w was now
 
 -- a request is answered
 pub record AnswersRequest (promised : Type 0) (collectors : ℕ) (request : Request) (v w : View) (was now : OutputState) : Type 0 where
   pub sees : SeesBy request v w
-  pub tells : TellsReply promised collectors request w was now
+  pub tells : TellsReply promised collectors request v w was now
 
 -- a mark was set and what may be applied was; then the watermark was loaded and its line written
 pub record TellsMarked (promised : Type 0) (collector mark : ℕ) (v w : View) (was now : OutputState) : Type 0 where
