@@ -9,8 +9,8 @@ use std::alloc::Global;
 use std::fs;
 use std::time::Instant;
 
-/// The kinds of questions that are told apart: the third word of a request line.
-const KINDS: [&str; 4] = ["route", "prefix", "peer", "all"];
+/// The kinds of questions that are told apart: the third word of a request line, or its first.
+const KINDS: [&str; 6] = ["route", "prefix", "cover", "peer", "all", "history"];
 
 /// What was asked of a kind. Times are in nanoseconds.
 #[derive(Drop)]
@@ -30,13 +30,21 @@ struct Size {
     replies: u64,
 }
 
-/// What stands behind a question so that it goes on behind the last row of a reply; none where the reply was the last one.
+/// What stands behind a question so that it goes on behind a reply that ended so: behind its last row, or that many events.
+fn behind(alloc: Global, end: &str) -> Result<String> {
+    if end.contains('|') {
+        return Ok(format!(in alloc; " after {}", end.replace(alloc, "|", " ")?)?);
+    }
+    Ok(format!(in alloc; " skip {end}")?)
+}
+
+/// What stands behind a question so that it goes on behind a reply; none where the reply was the last one.
 fn continuation(alloc: Global, reply: &str) -> Result<Option<String>> {
     let Some(end) = reply.lines().last() else {
         bail!("a reply without lines")
     };
     match end.strip_prefix("M|") {
-        Some(row) => Ok(Some(format!(in alloc; " after {}", row.replace(alloc, "|", " ")?)?)),
+        Some(end) => Ok(Some(behind(alloc, end)?)),
         None => Ok(None),
     }
 }
@@ -76,6 +84,11 @@ fn timed<A: RouteArchive>(
     Ok((u64::try_from(spent.as_nanos()).unwrap_or(u64::MAX), size))
 }
 
+/// Whether a question is of this kind.
+fn is_of(question: &str, kind: &str) -> bool {
+    question.split(' ').nth(2) == Some(kind) || question.split(' ').next() == Some(kind)
+}
+
 /// Asks the questions of a kind, each twice.
 fn ask_kind<A: RouteArchive>(
     rt: &HostRuntime,
@@ -91,7 +104,7 @@ fn ask_kind<A: RouteArchive>(
         replies: 0,
     };
     for question in questions.lines() {
-        if question.split(' ').nth(2) == Some(kind) {
+        if is_of(question, kind) {
             let (first, size) = timed(rt, archive, question)?;
             let (again, _) = timed(rt, archive, question)?;
             asked.first.push(first)?;

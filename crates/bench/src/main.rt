@@ -4,6 +4,7 @@
 mod admissions;
 mod asks;
 mod blocks;
+mod clients;
 mod clock;
 mod codec;
 mod framing;
@@ -11,6 +12,7 @@ mod messages;
 mod nodes;
 mod pool;
 mod reading;
+mod tree;
 
 use admissions::Admissions;
 use anyhow::{Context, Result, bail};
@@ -20,7 +22,11 @@ use messages::Messages;
 use reading::{PIECE, count_file};
 use std::alloc::{AllocError, Global};
 use std::env;
+use std::net::{Net, TcpListener, TcpStream};
 use std::process::ExitCode;
+use std::thread::Threads;
+use std::time::Clock;
+use tree::{IMAGES, Load};
 
 fn file<'a>(alloc: Global) -> Arg<'a> {
     Arg::new(alloc, "FILE")
@@ -58,6 +64,33 @@ const WORDS: [(&str, &str); 4] = [
     ("pool", "Times pages that a pool has in memory"),
 ];
 
+/// The command line of `clients`.
+fn clients_line<'a>(alloc: Global) -> Result<Command<'a>, AllocError> {
+    Command::new(alloc, "clients")
+        .about(
+            "Asks a served archive the request lines of a file over connections at once, and times the replies",
+        )
+        .arg(
+            Arg::new(alloc, "ADDRESS")
+                .required(true)
+                .help("Where it listens, as ADDRESS:PORT"),
+        )?
+        .arg(file(alloc).help("A file of request lines"))?
+        .arg(number(alloc, "connections", "How many connections there are"))
+}
+
+/// The command line of `tree`.
+fn tree_line<'a>(alloc: Global) -> Result<Command<'a>, AllocError> {
+    Command::new(alloc, "tree")
+        .about("Times versions that a tree takes, and look-ups, over disks in memory")
+        .arg(number(alloc, "versions", "How many versions are put"))?
+        .arg(number(
+            alloc,
+            "images",
+            "With more images than these a transaction is committed",
+        ))
+}
+
 /// The command line: a word for each measure, and `counts` for all that is counted.
 fn program<'a>(alloc: Global) -> Result<Command<'a>, AllocError> {
     let framing = Command::new(alloc, "framing")
@@ -86,7 +119,9 @@ fn program<'a>(alloc: Global) -> Result<Command<'a>, AllocError> {
         .subcommand(messages)?
         .subcommand(admissions)?
         .subcommand(counts)?
-        .subcommand(asks)?;
+        .subcommand(asks)?
+        .subcommand(clients_line(alloc)?)?
+        .subcommand(tree_line(alloc)?)?;
     for (word, about) in WORDS {
         program = program.subcommand(Command::new(alloc, word).about(about))?;
     }
@@ -131,6 +166,14 @@ fn print_counts(rt: &HostRuntime, paths: &[&str]) -> Result<()> {
     Ok(())
 }
 
+fn print_tree(rt: &HostRuntime, matches: &ArgMatches<'_>) -> Result<()> {
+    let load = Load {
+        versions: number_or(matches, "versions", 10_000)?,
+        images: number_or(matches, "images", IMAGES)?,
+    };
+    tree::measure(rt, load)
+}
+
 /// Does what a word asks for.
 fn measure(rt: &HostRuntime, word: &str, matches: &ArgMatches<'_>) -> Result<()> {
     let path = matches.get_str("FILE").unwrap_or("");
@@ -148,13 +191,32 @@ fn measure(rt: &HostRuntime, word: &str, matches: &ArgMatches<'_>) -> Result<()>
         "nodes" => Ok(nodes::measure_all(rt)?),
         "pool" => Ok(pool::measure_all(rt)?),
         "asks" => asks::print_asks(rt, matches.get_str("DIR").unwrap_or(""), path),
+        "tree" => print_tree(rt, matches),
         "counts" => print_counts(rt, matches.get_strs("FILE").unwrap_or(&[])),
         _ => Ok(codec::measure_all(rt)?),
     }
 }
 
+/// Does what the word `clients` asks for, on threads of this process.
+fn print_clients<H: Threads + Clock + Net<Listener = TcpListener, Stream = TcpStream> + Sync>(
+    rt: &HostRuntime,
+    host: &H,
+    matches: &ArgMatches<'_>,
+) -> Result<()> {
+    clients::print_clients(
+        rt,
+        host,
+        matches.get_str("ADDRESS").unwrap_or(""),
+        matches.get_str("FILE").unwrap_or(""),
+        number_or(matches, "connections", 1)?,
+    )
+}
+
 /// Reads the command line and does what it asks for: the exit status.
-fn run(rt: &HostRuntime) -> Result<u8> {
+fn run<H: Threads + Clock + Net<Listener = TcpListener, Stream = TcpStream> + Sync>(
+    rt: &HostRuntime,
+    host: &H,
+) -> Result<u8> {
     let words = env::args(rt)?.collect::<Vec<String>>(rt.alloc())?;
     let program = program(rt.alloc())?;
     match program.try_get_matches_from(words.as_slice()) {
@@ -162,7 +224,10 @@ fn run(rt: &HostRuntime) -> Result<u8> {
             let Some((word, matches)) = matches.subcommand() else {
                 bail!("a word is wanted")
             };
-            measure(rt, word, matches)?;
+            match word {
+                "clients" => print_clients(rt, host, matches)?,
+                _ => measure(rt, word, matches)?,
+            }
             Ok(0)
         }
         Err(error) => {
@@ -173,7 +238,7 @@ fn run(rt: &HostRuntime) -> Result<u8> {
 }
 
 fn main(rt: HostRuntime) -> ExitCode {
-    match run(&rt) {
+    match run(&rt, &rt) {
         Ok(code) => ExitCode::from(code),
         Err(error) => {
             let _ = eprintln!(rt; "bench: {error:?}");
