@@ -1,7 +1,8 @@
 //! The command line: which words are accepted and as what.
 
-use service::{Checking, CommandError, Creation, Invocation, Loading, Question, command};
+use service::{Checking, CommandError, Creation, Invocation, Loading, Question, Serving, command};
 use std::alloc::Global;
+use std::net::{Ipv4Addr, SocketAddrV4};
 
 /// Words that are those of `create` with the folder a, and the numbers that they say.
 struct Created {
@@ -209,6 +210,75 @@ const ASKED: [(&[&str], &str); 7] = [
     (&["rha", "ask", "--", "a", "check"], "check"),
 ];
 
+/// Words that are those of `serve` with the folder a, and what else they say.
+struct Served {
+    words: &'static [&'static str],
+    address: [u8; 4],
+    port: u16,
+    workers: u8,
+}
+
+const SERVED: [Served; 3] = [
+    Served {
+        words: &[
+            "rha",
+            "serve",
+            "a",
+            "--listen",
+            "127.0.0.1:0",
+            "--workers",
+            "1",
+        ],
+        address: [127, 0, 0, 1],
+        port: 0,
+        workers: 1,
+    },
+    Served {
+        words: &[
+            "rha",
+            "serve",
+            "--workers=16",
+            "--listen=0.0.0.0:65535",
+            "a",
+        ],
+        address: [0, 0, 0, 0],
+        port: 65_535,
+        workers: 16,
+    },
+    Served {
+        words: &[
+            "rha",
+            "serve",
+            "--listen",
+            "255.254.10.9:80",
+            "--workers=7",
+            "--",
+            "a",
+        ],
+        address: [255, 254, 10, 9],
+        port: 80,
+        workers: 7,
+    },
+];
+
+/// Texts that are no address and port.
+const NO_LISTENS: [&str; 14] = [
+    "",
+    ":",
+    "127.0.0.1",
+    "127.0.0.1:",
+    ":80",
+    "127.0.0.1:65536",
+    "127.0.0.1:080",
+    "127.0.0.1:+80",
+    "127.0.0.1:80:80",
+    "127.0.0.01:80",
+    "127.0.1:80",
+    "256.0.0.1:80",
+    "localhost:80",
+    "[::1]:80",
+];
+
 /// Words that are those of `check`, and the folder that they say.
 const CHECKED: [(&[&str], &str); 4] = [
     (&["rha", "check", "a"], "a"),
@@ -249,6 +319,13 @@ fn is_asked(asked: &Question<'_>, line: &str) -> bool {
     asked.folder == "a" && asked.line.as_str() == line
 }
 
+fn is_served(asked: &Serving<'_>, wanted: &Served) -> bool {
+    let address = Ipv4Addr::from_octets(wanted.address);
+    asked.folder == "a"
+        && asked.listen == SocketAddrV4::new(address, wanted.port)
+        && asked.workers == wanted.workers
+}
+
 fn is_of(asked: &Checking<'_>, folder: &str) -> bool {
     asked.folder == folder
 }
@@ -274,6 +351,23 @@ fn is_loading(alloc: Global, wanted: &Loaded) -> bool {
 fn is_question(alloc: Global, words: &[&str], line: &str) -> bool {
     match command(alloc, words) {
         Ok(Invocation::Ask(asked)) => is_asked(&asked, line),
+        _ => false,
+    }
+}
+
+/// Whether the words are those of `serve`, as this.
+fn is_serving(alloc: Global, wanted: &Served) -> bool {
+    match command(alloc, wanted.words) {
+        Ok(Invocation::Serve(asked)) => is_served(&asked, wanted),
+        _ => false,
+    }
+}
+
+/// Whether the text behind `--listen` is refused, with status 1.
+fn is_no_listen(alloc: Global, listen: &str) -> bool {
+    let words = ["rha", "serve", "a", "--listen", listen, "--workers", "1"];
+    match command(alloc, words.as_slice()) {
+        Err(CommandError::BadListen) => CommandError::BadListen.code() == 1,
         _ => false,
     }
 }
@@ -322,6 +416,20 @@ fn words_of_load_are_accepted(rt: HostRuntime) {
 fn words_of_ask_are_accepted(rt: HostRuntime) {
     for (words, line) in &ASKED {
         assert!(rt; is_question(rt.alloc(), words, line), "{line}");
+    }
+}
+
+#[test]
+fn words_of_serve_are_accepted(rt: HostRuntime) {
+    for wanted in &SERVED {
+        assert!(rt; is_serving(rt.alloc(), wanted), "{}", wanted.port);
+    }
+}
+
+#[test]
+fn an_address_and_port_that_are_none_are_refused(rt: HostRuntime) {
+    for listen in &NO_LISTENS {
+        assert!(rt; is_no_listen(rt.alloc(), listen), "{listen}");
     }
 }
 

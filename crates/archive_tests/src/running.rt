@@ -6,10 +6,11 @@ use archive::Archive;
 use route_model::Mark;
 use service::{
     Creation, Input, Loading, Output, Question, Refusal, ask_line, load_file, tell_created,
-    tell_refusal,
+    tell_listening, tell_refusal,
 };
 use std::alloc::Global;
 use std::io::{BufWriter, Write};
+use std::net::{Ipv4Addr, SocketAddrV4};
 use std::test::Fail;
 
 /// A file that is loaded, and a line that is asked behind it: what each writes, and its exit status.
@@ -265,6 +266,26 @@ fn is_creation_told(alloc: Global) -> Result<bool, Fail> {
     )
 }
 
+/// Whether where connections are taken is told, and where it can't be, standard error is.
+fn is_listening_told(alloc: Global) -> Result<bool, Fail> {
+    let bound = SocketAddrV4::new(Ipv4Addr::from_octets([192, 0, 2, 100]), 17_900);
+    let mut out: Vec<u8> = Vec::new(alloc);
+    let mut err: Vec<u8> = Vec::new(alloc);
+    let mut told = Output::new(&mut err);
+    let code = tell_listening(&bound, &mut Output::new(&mut out), &mut told);
+    let mut small = [0u8; 4];
+    let full: &mut [u8] = &mut small;
+    let full = BufWriter::new(alloc, full)?;
+    let failed = tell_listening(&bound, &mut Output::new(full), &mut told);
+    drop(told);
+    Ok(
+        code == 0
+            && out.as_slice() == "listening 192.0.2.100:17900\n".as_bytes()
+            && failed == 1
+            && err.as_slice() == "rha: 29 Outside\n".as_bytes(),
+    )
+}
+
 /// Whether a folder without an archive is told.
 fn is_refusal_told(alloc: Global) -> bool {
     let mut err: Vec<u8> = Vec::new(alloc);
@@ -275,6 +296,7 @@ fn is_refusal_told(alloc: Global) -> bool {
 #[test]
 fn what_stands_before_a_command_is_told(rt: HostRuntime) -> Result<(), Fail> {
     assert!(rt; is_creation_told(rt.alloc())?);
+    assert!(rt; is_listening_told(rt.alloc())?);
     assert!(rt; is_refusal_told(rt.alloc()));
     Ok(())
 }

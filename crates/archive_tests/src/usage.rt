@@ -22,6 +22,7 @@ Commands:
   create  Makes the folder DIR, which isn't there yet, with an empty archive
   load    Loads a file of MRT records as a collector's
   ask     Answers a request line
+  serve   Serves an archive on a socket, until a client asks it to stop
   check   Reads through an archive, and tells the first damage
 
 Options:
@@ -33,6 +34,7 @@ Example:
   rha load a --collector 0 --mark 2024-01-01T00:15:00Z updates.mrt
   rha ask a at 2024-01-01T00:10:00Z prefix 10.0.0.0/8
   rha check a
+  rha serve a --listen 127.0.0.1:17900 --workers 4
 
 `rha COMMAND --help` has the limits of a command, its defaults and its exit statuses.
 
@@ -134,6 +136,39 @@ refused or couldn't be written (told on standard error as `rha: NUMBER NAME`); 2
 accepted.
 ";
 
+const SERVE_HELP: &str = "Serves an archive on a socket, until a client asks it to stop
+
+Usage: rha serve --listen <ADDRESS:PORT> --workers <N> <DIR>
+
+Arguments:
+  <DIR>  The folder of the archive
+
+Options:
+      --listen <ADDRESS:PORT>  The IPv4 address to listen on, and the port, 0 to 65535
+      --workers <N>            How many connections are served at once, 1 to 16
+  -h, --help                   Print help
+
+Prints `listening ADDRESS:PORT` as soon as connections are taken; the system chooses a free port where PORT
+is 0. No other command can open the archive meanwhile: what is to be loaded is fed through a connection. Each
+of N workers serves one connection to its end, and further ones wait: a client that stays connected keeps a
+worker.
+
+A connection sends request lines (`rha ask --help`), of which `watermark` and `durable` wait for nobody, and:
+  mark COLLECTOR M                 raises the collector's mark, applies what may be applied, and tells S|SETTLED
+  feed COLLECTOR N                 what follows is MRT, kept in batches of 1 to 1000 records; then it ends
+  quit                             ok, and it ends
+  stop                             ok, and the server ends once all connections have ended
+A line ends in LF, and has 4096 octets at most with it.
+
+Example:
+  rha serve a --listen 127.0.0.1:17900 --workers 4
+  (echo feed 0 1000; cat updates.mrt) | nc -N 127.0.0.1 17900
+
+Exit status: 0 where a client stopped the server; 1 where the archive can't be opened, the address can't be
+listened on or something else was refused (told on standard error as `rha: NUMBER NAME`); 2 where the command
+line isn't accepted.
+";
+
 const CHECK_HELP: &str = "Reads through an archive, and tells the first damage
 
 Usage: rha check <DIR>
@@ -167,12 +202,15 @@ const LOAD_END: &str =
 
 const ASK_END: &str = "\n\nUsage: rha ask <DIR> <WORD>...\n\nFor more information, try '--help'.\n";
 
+const SERVE_END: &str =
+    "\n\nUsage: rha serve --listen <ADDRESS:PORT> --workers <N> <DIR>\n\nFor more information, try '--help'.\n";
+
 const CHECK_END: &str = "\n\nUsage: rha check <DIR>\n\nFor more information, try '--help'.\n";
 
 const MORE_END: &str = "\n\nFor more information, try '--help'.\n";
 
 /// Help and the version.
-const ASKED_FOR: [Shown; 7] = [
+const ASKED_FOR: [Shown; 8] = [
     Shown {
         words: &["rha", "--help"],
         kind: ErrorKind::DisplayHelp,
@@ -209,6 +247,13 @@ const ASKED_FOR: [Shown; 7] = [
         end: "",
     },
     Shown {
+        words: &["rha", "serve", "--help"],
+        kind: ErrorKind::DisplayHelp,
+        code: 0,
+        text: SERVE_HELP,
+        end: "",
+    },
+    Shown {
         words: &["rha", "check", "--help"],
         kind: ErrorKind::DisplayHelp,
         code: 0,
@@ -225,12 +270,12 @@ const ASKED_FOR: [Shown; 7] = [
 ];
 
 /// Words that aren't accepted.
-const WRONG: [Shown; 13] = [
+const WRONG: [Shown; 15] = [
     Shown {
         words: &["rha"],
         kind: ErrorKind::MissingSubcommand,
         code: 2,
-        text: "error: 'rha' requires a subcommand but one was not provided\n  [subcommands: create, load, ask, check]",
+        text: "error: 'rha' requires a subcommand but one was not provided\n  [subcommands: create, load, ask, serve, check]",
         end: USAGE_END,
     },
     Shown {
@@ -274,6 +319,20 @@ const WRONG: [Shown; 13] = [
         code: 2,
         text: "error: the following required arguments were not provided:\n  <WORD>...",
         end: ASK_END,
+    },
+    Shown {
+        words: &["rha", "serve", "a"],
+        kind: ErrorKind::MissingRequiredArgument,
+        code: 2,
+        text: "error: the following required arguments were not provided:\n  --listen <ADDRESS:PORT>\n  --workers <N>",
+        end: SERVE_END,
+    },
+    Shown {
+        words: &["rha", "serve", "a", "127.0.0.1:0", "--workers=1"],
+        kind: ErrorKind::UnknownArgument,
+        code: 2,
+        text: "error: unexpected argument '127.0.0.1:0' found",
+        end: SERVE_END,
     },
     Shown {
         words: &["rha", "check"],
@@ -335,7 +394,7 @@ const WRONG: [Shown; 13] = [
 ];
 
 /// An option whose number is beyond its limits, or is none, behind words that want it, and what is told of it.
-const BEYOND: [(&[&str], &str); 14] = [
+const BEYOND: [(&[&str], &str); 16] = [
     (
         &["rha", "create", "a", "--collectors=0"],
         "'0' for '--collectors <N>': 0 is not in 1..=16",
@@ -392,6 +451,14 @@ const BEYOND: [(&[&str], &str); 14] = [
         &["rha", "load", "a", "--batch=1001"],
         "'1001' for '--batch <N>': 1001 is not in 1..=1000",
     ),
+    (
+        &["rha", "serve", "a", "--workers=0"],
+        "'0' for '--workers <N>': 0 is not in 1..=16",
+    ),
+    (
+        &["rha", "serve", "a", "--workers=17"],
+        "'17' for '--workers <N>': 17 is not in 1..=16",
+    ),
 ];
 
 /// Whether `clap` tells this of the words, with this kind and status.
@@ -407,7 +474,7 @@ fn is_told(
     };
     let same = match &error {
         CommandError::Usage(told) => told.kind() == kind,
-        CommandError::BadMark | CommandError::OutOfMemory => false,
+        CommandError::BadMark | CommandError::BadListen | CommandError::OutOfMemory => false,
     };
     let shown = format!(in alloc; "{error}")?;
     let text = parts.join(alloc, "")?;

@@ -10,6 +10,7 @@ pub mod Streams
 pub mod Applying
 pub mod Unloading
 pub mod Batching
+pub mod ListenTexts
 pub mod CommandLines
 pub mod Statuses
 pub mod OneRequest

@@ -13,9 +13,11 @@ use Rattle.route_text.specs.MomentText.{IsMarkText}
 use Rattle.service.specs.declared.invocation.Creation.{Creation}
 use Rattle.service.specs.declared.invocation.Loading.{Loading}
 use Rattle.service.specs.declared.invocation.Question.{Question}
+use Rattle.service.specs.declared.invocation.Serving.{Serving}
 use Rattle.service.specs.declared.invocation.Checking.{Checking}
 use Rattle.service.specs.declared.invocation.Invocation.{Invocation}
-use Rattle.service.specs.declared.invocation.Invocation.TheVariants.{Create, Load, Ask, Check}
+use Rattle.service.specs.declared.invocation.Invocation.TheVariants.{Create, Load, Ask, Serve, Check}
+use Rattle.service.specs.Listening.{IsListenText, IsNoListenText}
 
 -- a word with this name, which has to be there
 abbrev pub word_rule : List ℕ → Rule
@@ -48,6 +50,10 @@ mark_rule = record (new_rule (codes "mark")) { long = Some (codes "mark"); value
 -- --resume
 abbrev pub resume_rule : Rule
 resume_rule = record (new_rule (codes "resume")) { long = Some (codes "resume"); action = Some SetTrue }
+
+-- --listen ADDRESS:PORT, which has to be there
+abbrev pub listen_rule : Rule
+listen_rule = record (new_rule (codes "listen")) { long = Some (codes "listen"); value_names = 1; action = Some Set; required = true }
 
 -- WORD..: one word at least, and all that stand behind it
 abbrev pub words_rule : Rule
@@ -82,6 +88,10 @@ loading = with_rule (with_rule (with_rule loading_of_batches mark_rule) resume_r
 abbrev pub question : App
 question = with_rule (of_folder (codes "ask")) words_rule
 
+-- serve DIR --listen ADDRESS:PORT --workers N
+abbrev pub serving : App
+serving = with_rule (with_rule (of_folder (codes "serve")) listen_rule) (number_rule (codes "workers") 1 16)
+
 -- check DIR
 abbrev pub checking : App
 checking = of_folder (codes "check")
@@ -92,7 +102,7 @@ bare_program = on_top (λ s. record s { subcommand_required = true; disable_help
 
 -- the program
 abbrev pub program : App
-program = with_subcommand (with_subcommand (with_subcommand (with_subcommand bare_program creation.top) loading.top) question.top) checking.top
+program = with_subcommand (with_subcommand (with_subcommand (with_subcommand (with_subcommand bare_program creation.top) loading.top) question.top) serving.top) checking.top
 
 -- the words, with one space between two
 abbrev pub spaced : List (List ℕ) → List ℕ
@@ -148,6 +158,12 @@ pub record IsQuestion (rows : List Row) (q : Question) : Type 0 where
   pub folder : q.folder.now ≡ word_in (codes "DIR") rows
   pub line : string_bytes q.line ≡ spaced (unwrap_or (all_of (codes "WORD") rows) [])
 
+-- what is read of the arguments of `serve`
+pub record IsServing (rows : List Row) (s : Serving) : Type 0 where
+  pub folder : s.folder.now ≡ word_in (codes "DIR") rows
+  pub listen : IsListenText (word_in (codes "listen") rows) s.listen
+  pub workers : IsNumber 1 16 (first_of (codes "workers") rows) s.workers
+
 -- what is read of the arguments of `check`
 abbrev pub IsChecking : List Row → Checking → Type 0
 IsChecking rows c = c.folder.now ≡ word_in (codes "DIR") rows
@@ -162,8 +178,13 @@ abbrev pub IsInvocation : List (List ℕ) → Invocation → Type 0
 IsInvocation words (Create c) = (rows : List Row) × AreWordsOf (codes "create") words rows × IsCreation rows c
 IsInvocation words (Load l) = (rows : List Row) × AreWordsOf (codes "load") words rows × IsLoading rows l
 IsInvocation words (Ask q) = (rows : List Row) × AreWordsOf (codes "ask") words rows × IsQuestion rows q
+IsInvocation words (Serve s) = (rows : List Row) × AreWordsOf (codes "serve") words rows × IsServing rows s
 IsInvocation words (Check c) = (rows : List Row) × AreWordsOf (codes "check") words rows × IsChecking rows c
 
 -- the words are accepted as those of `load`, but the text of the mark is that of no mark
 abbrev pub HasBadMark : List (List ℕ) → Type 0
 HasBadMark words = (rows : List Row) × AreWordsOf (codes "load") words rows × IsNoMark (first_of (codes "mark") rows)
+
+-- the words are accepted as those of `serve`, but the text behind `--listen` is that of no address and port
+abbrev pub HasBadListen : List (List ℕ) → Type 0
+HasBadListen words = (rows : List Row) × AreWordsOf (codes "serve") words rows × IsNoListenText (word_in (codes "listen") rows)

@@ -12,6 +12,7 @@ pub mod Carried
 pub mod Resuming
 pub mod Feeds
 pub mod Loads
+pub mod Listening
 pub mod CommandLines
 pub mod RequestLaws
 pub mod Running

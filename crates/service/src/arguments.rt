@@ -4,7 +4,7 @@ ghost use Rattle.std.specs.Prelude.{◌≡◌, IfOk, false, codes};
 ghost use Rattle.clap.specs.Simple.{app_of};
 ghost use Rattle.clap.specs.Walk.{rule_of};
 ghost use Rattle.clap.specs.declared.builder.command.Command.TheViews.{out-Command};
-ghost use Rattle.service.specs.CommandLines.{batch_rule, mark_rule, resume_rule, words_rule, word_rule, number_rule, of_folder, creation_of_rings, creation, loading_of_batches, loading, question, checking, bare_program, program};
+ghost use Rattle.service.specs.CommandLines.{batch_rule, mark_rule, resume_rule, listen_rule, words_rule, word_rule, number_rule, of_folder, creation_of_rings, creation, loading_of_batches, loading, question, serving, checking, bare_program, program};
 
 use crate::help;
 use clap::builder::ValueParser;
@@ -28,6 +28,9 @@ pub(crate) const MAX_SIZE: u64 = 1_000_000_000;
 
 /// The most admissions that a batch of a feed may be told to have, and those that it has where nothing is told.
 pub(crate) const MAX_BATCH: u64 = 1000;
+
+/// The most workers of a server.
+pub(crate) const MAX_WORKERS: u64 = 16;
 
 /// The version of the program.
 const VERSION: &str = "0.3.0";
@@ -96,6 +99,19 @@ fn resume<'a>(alloc: Global) -> Arg<'a>
         .long("resume")
         .help("Goes on behind the records that were offered before")
         .action(ArgAction::SetTrue)
+}
+
+/// `--listen ADDRESS:PORT`, which has to be there.
+fn listen<'a>(alloc: Global) -> Arg<'a>
+    ensures rule { rule_of result ≡ listen_rule }
+    ensures own { result.global ≡ false }
+{
+    Arg::new(alloc, "listen")
+        .long("listen")
+        .value_name("ADDRESS:PORT")
+        .help("The IPv4 address to listen on, and the port, 0 to 65535")
+        .required(true)
+        .action(ArgAction::Set)
 }
 
 fn words<'a>(alloc: Global) -> Arg<'a>
@@ -182,6 +198,18 @@ fn question<'a>(alloc: Global) -> Result<Command<'a>, AllocError>
     of_folder(alloc, "ask", "Answers a request line", help::ASK)?.arg(words(alloc))
 }
 
+/// `serve DIR --listen ADDRESS:PORT --workers N`
+fn serving<'a>(alloc: Global) -> Result<Command<'a>, AllocError>
+    ensures app { IfOk result (λ c. app_of c ≡ serving) }
+    ensures own { IfOk result (λ c. (out-Command c).has_globals ≡ false) }
+{
+    let about = "Serves an archive on a socket, until a client asks it to stop";
+    let workers = "How many connections are served at once, 1 to 16";
+    of_folder(alloc, "serve", about, help::SERVE)?
+        .arg(listen(alloc))?
+        .arg(number(alloc, "workers", "N", workers, 1, MAX_WORKERS))
+}
+
 /// `check DIR`
 fn checking<'a>(alloc: Global) -> Result<Command<'a>, AllocError>
     ensures app { IfOk result (λ c. app_of c ≡ checking) }
@@ -211,5 +239,6 @@ pub(crate) fn program<'a>(alloc: Global) -> Result<Command<'a>, AllocError>
         .subcommand(creation(alloc)?)?
         .subcommand(loading(alloc)?)?
         .subcommand(question(alloc)?)?
+        .subcommand(serving(alloc)?)?
         .subcommand(checking(alloc)?)
 }

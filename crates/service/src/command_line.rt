@@ -8,13 +8,15 @@ ghost use Rattle.clap.specs.Simple.{subcommand_rows_of};
 ghost use Rattle.clap.specs.Walk.{Row, rows_of, first_of, one_of};
 ghost use Rattle.clap.specs.Values.{kind_of};
 ghost use Rattle.clap.specs.declared.error.Error.{Error};
-ghost use Rattle.service.specs.CommandLines.{program, spaced, word_in, IsMarkIf, IsNoMark, IsNumber, IsThere, IsCreation, IsLoading, IsQuestion, IsChecking, IsInvocation, HasBadMark};
-ghost use Rattle.service.specs.inner.Naming.{AsksFor, IsCommand, NamesNoMark};
+ghost use Rattle.service.specs.CommandLines.{program, spaced, word_in, IsMarkIf, IsNoMark, IsNumber, IsThere, IsCreation, IsLoading, IsQuestion, IsServing, IsChecking, IsInvocation, HasBadMark, HasBadListen};
+ghost use Rattle.service.specs.Listening.{IsNoListenText};
+ghost use Rattle.service.specs.inner.Naming.{AsksFor, IsCommand, NamesNoListen, NamesNoMark};
 
 use crate::arguments::{
-    LAST_COLLECTOR, MAX_BATCH, MAX_COLLECTORS, MAX_RING, MAX_SIZE, MIN_RING, program,
+    LAST_COLLECTOR, MAX_BATCH, MAX_COLLECTORS, MAX_RING, MAX_SIZE, MAX_WORKERS, MIN_RING, program,
 };
-use crate::invocation::{Checking, CommandError, Creation, Invocation, Loading, Question};
+use crate::invocation::{Checking, CommandError, Creation, Invocation, Loading, Question, Serving};
+use crate::listening::read_listen;
 use clap::ArgMatches;
 use clap::error::ErrorKind;
 use route_model::Mark;
@@ -117,6 +119,19 @@ fn question_of<'a>(alloc: Global, matches: &ArgMatches<'a>) -> Result<Question<'
     Ok(Question { folder, line })
 }
 
+/// What the arguments of `serve` say.
+fn serving_of<'a>(matches: &ArgMatches<'a>) -> Result<Serving<'a>, BadText>
+    ensures found { IfOk result (IsServing (rows_of (found_of matches.now))) }
+    ensures none { OnErr result (IsNoListenText (word_in (codes "listen") (rows_of (found_of matches.now)))) }
+{
+    let listen = read_listen(word_of(matches, "listen"))?;
+    Ok(Serving {
+        folder: word_of(matches, "DIR"),
+        listen,
+        workers: number_of(matches, "workers", 1, MAX_WORKERS) as u8,
+    })
+}
+
 /// What the arguments of `check` say.
 fn checking_of<'a>(matches: &ArgMatches<'a>) -> Checking<'a>
     ensures found { IsChecking (rows_of (found_of matches.now)) result }
@@ -135,6 +150,7 @@ fn invocation_of<'a>(
     ensures found { IfOk result (AsksFor (subcommand_rows_of matches.now)) }
     ensures used { (e : Error) → result ≡ Err (CommandError.Usage e) → ⊥ }
     ensures bad_mark { result ≡ Err CommandError.BadMark → NamesNoMark (subcommand_rows_of matches.now) }
+    ensures bad_listen { result ≡ Err CommandError.BadListen → NamesNoListen (subcommand_rows_of matches.now) }
 {
     if let Some(matches) = matches.subcommand_matches("create") {
         return Ok(Invocation::Create(creation_of(matches)));
@@ -149,6 +165,12 @@ fn invocation_of<'a>(
         return match question_of(alloc, matches) {
             Ok(question) => Ok(Invocation::Ask(question)),
             Err(_) => Err(CommandError::OutOfMemory),
+        };
+    }
+    if let Some(matches) = matches.subcommand_matches("serve") {
+        return match serving_of(matches) {
+            Ok(serving) => Ok(Invocation::Serve(serving)),
+            Err(BadText) => Err(CommandError::BadListen),
         };
     }
     let Some(matches) = matches.subcommand_matches("check") else {
@@ -173,20 +195,22 @@ fn usage(error: clap::Error) -> CommandError
 /// - `rha create DIR --collectors N --ring P --pages N --blocks N`
 /// - `rha load DIR --collector C [--batch N] [--mark M] [--resume] FILE`
 /// - `rha ask DIR WORD..`
+/// - `rha serve DIR --listen ADDRESS:PORT --workers N`
 /// - `rha check DIR`
 ///
 /// `clap` reads the words, and each number within its limits; the N of `--batch` is 1000 where it isn't there. Then M is
-/// read as a mark, and the WORDs are joined to a line with one space between two; what stands behind the first WORD is a
-/// WORD too, also where it looks like an option.
+/// read as a mark, ADDRESS as an IPv4 address and PORT as a number of at most 65535, and the WORDs are joined to a line
+/// with one space between two; what stands behind the first WORD is a WORD too, also where it looks like an option.
 ///
 /// # Errors
 ///
-/// `Usage` where `clap` doesn't accept the words, or they ask for help. `BadMark` where M is the text of no mark, and
-/// `OutOfMemory` where a growth of memory was refused.
+/// `Usage` where `clap` doesn't accept the words, or they ask for help. `BadMark` where M is the text of no mark,
+/// `BadListen` where ADDRESS:PORT is that of no address and port, and `OutOfMemory` where a growth of memory was refused.
 pub fn command<'a, S: AsStr>(alloc: Global, words: &'a [S]) -> Result<Invocation<'a>, CommandError>
     ensures found { IfOk result (IsInvocation (map S.text words.now)) }
     ensures usage { (e : Error) → result ≡ Err (CommandError.Usage e) → IsAmong (kind_of e) (fault_of program (map S.text words.now)) }
     ensures bad_mark { result ≡ Err CommandError.BadMark → HasBadMark (map S.text words.now) }
+    ensures bad_listen { result ≡ Err CommandError.BadListen → HasBadListen (map S.text words.now) }
 {
     let Ok(program) = program(alloc) else {
         return Err(CommandError::OutOfMemory);

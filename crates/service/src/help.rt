@@ -6,6 +6,7 @@ pub(crate) const PROGRAM: &str = "Example:
   rha load a --collector 0 --mark 2024-01-01T00:15:00Z updates.mrt
   rha ask a at 2024-01-01T00:10:00Z prefix 10.0.0.0/8
   rha check a
+  rha serve a --listen 127.0.0.1:17900 --workers 4
 
 `rha COMMAND --help` has the limits of a command, its defaults and its exit statuses.
 
@@ -67,6 +68,28 @@ Example:
 Exit status: 0 where the line is answered; 1 where it is refused (`X|NUMBER|NAME`), or something else was
 refused or couldn't be written (told on standard error as `rha: NUMBER NAME`); 2 where the command line isn't
 accepted.";
+
+/// Of `serve`.
+pub(crate) const SERVE: &str =
+    "Prints `listening ADDRESS:PORT` as soon as connections are taken; the system chooses a free port where PORT
+is 0. No other command can open the archive meanwhile: what is to be loaded is fed through a connection. Each
+of N workers serves one connection to its end, and further ones wait: a client that stays connected keeps a
+worker.
+
+A connection sends request lines (`rha ask --help`), of which `watermark` and `durable` wait for nobody, and:
+  mark COLLECTOR M                 raises the collector's mark, applies what may be applied, and tells S|SETTLED
+  feed COLLECTOR N                 what follows is MRT, kept in batches of 1 to 1000 records; then it ends
+  quit                             ok, and it ends
+  stop                             ok, and the server ends once all connections have ended
+A line ends in LF, and has 4096 octets at most with it.
+
+Example:
+  rha serve a --listen 127.0.0.1:17900 --workers 4
+  (echo feed 0 1000; cat updates.mrt) | nc -N 127.0.0.1 17900
+
+Exit status: 0 where a client stopped the server; 1 where the archive can't be opened, the address can't be
+listened on or something else was refused (told on standard error as `rha: NUMBER NAME`); 2 where the command
+line isn't accepted.";
 
 /// Of `check`.
 pub(crate) const CHECK: &str =

@@ -6,6 +6,7 @@ ghost use Rattle.clap.specs.declared.error.Error.{Error};
 
 use clap::error::ErrorKind;
 use route_model::Mark;
+use std::net::SocketAddrV4;
 use thiserror::Error;
 
 /// What `create` is given.
@@ -49,6 +50,17 @@ pub struct Question<'a> {
     pub line: String,
 }
 
+/// What `serve` is given.
+#[derive(Debug, Drop)]
+pub struct Serving<'a> {
+    /// The folder of the archive.
+    pub folder: &'a str,
+    /// Where connections are taken. At port 0 the system chooses a free one.
+    pub listen: SocketAddrV4,
+    /// How many connections are served at once, 1 to 16.
+    pub workers: u8,
+}
+
 /// What `check` is given.
 #[derive(Debug, Drop)]
 pub struct Checking<'a> {
@@ -65,6 +77,8 @@ pub enum Invocation<'a> {
     Load(Loading<'a>),
     /// A request line is answered by an archive.
     Ask(Question<'a>),
+    /// An archive is served on a socket.
+    Serve(Serving<'a>),
     /// All that an archive keeps of what is applied is read.
     Check(Checking<'a>),
 }
@@ -78,6 +92,9 @@ pub enum CommandError {
     /// The text behind `--mark` is that of no mark.
     #[error("the text behind --mark is that of no mark")]
     BadMark,
+    /// The text behind `--listen` is that of no IPv4 address and port.
+    #[error("the text behind --listen is that of no address and port")]
+    BadListen,
     /// A growth of memory was refused.
     #[error("out of memory")]
     OutOfMemory,
@@ -90,12 +107,13 @@ impl CommandError {
         ensures help { (e : Error) → self.now ≡ CommandError.Usage e → kind_of e ≡ ErrorKind.DisplayHelp → result ≡ 0 }
         ensures version { (e : Error) → self.now ≡ CommandError.Usage e → kind_of e ≡ ErrorKind.DisplayVersion → result ≡ 0 }
         ensures bad_mark { self.now ≡ CommandError.BadMark → result ≡ 1 }
+        ensures bad_listen { self.now ≡ CommandError.BadListen → result ≡ 1 }
         ensures memory { self.now ≡ CommandError.OutOfMemory → result ≡ 1 }
     {
         match self {
             CommandError::Usage(error) if error.use_stderr() => 2,
             CommandError::Usage(_) => 0,
-            CommandError::BadMark | CommandError::OutOfMemory => 1,
+            CommandError::BadMark | CommandError::BadListen | CommandError::OutOfMemory => 1,
         }
     }
 }

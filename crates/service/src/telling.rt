@@ -100,6 +100,7 @@ pub fn tell_usage<R: Print + Eprint, E: Write>(
     ensures usage { (e : Usage) → error.now ≡ CommandError.Usage e → (kind_of e ≡ UsageKind.DisplayHelp → ⊥) → (kind_of e ≡ UsageKind.DisplayVersion → ⊥) → (result ≡ 2) × (err.new ≡ err.old) }
     ensures shown { (e : Usage) → error.now ≡ CommandError.Usage e → (kind_of e ≡ UsageKind.DisplayHelp) ⊎ (kind_of e ≡ UsageKind.DisplayVersion) → ((result ≡ 0) × (err.new ≡ err.old)) ⊎ ((result ≡ 1) × Tells err.old err.new (error_line Refusal.Outside)) }
     ensures bad_mark { error.now ≡ CommandError.BadMark → (result ≡ 1) × Tells err.old err.new (error_line Refusal.BadText) }
+    ensures bad_listen { error.now ≡ CommandError.BadListen → (result ≡ 1) × Tells err.old err.new (error_line Refusal.BadText) }
     ensures memory { error.now ≡ CommandError.OutOfMemory → (result ≡ 1) × Tells err.old err.new (error_line Refusal.OutOfMemory) }
 {
     match error {
@@ -110,7 +111,7 @@ pub fn tell_usage<R: Print + Eprint, E: Write>(
                 return 1;
             }
         }
-        CommandError::BadMark => write_error(err, &Refusal::BadText),
+        CommandError::BadMark | CommandError::BadListen => write_error(err, &Refusal::BadText),
         CommandError::OutOfMemory => write_error(err, &Refusal::OutOfMemory),
     }
     error.code()

@@ -4,7 +4,7 @@ use Rattle.clap.specs.Built.{AddsSubcommand}
 use Rattle.clap.specs.Simple.{App, app_of, shape_of, with_subcommand}
 use Rattle.clap.specs.declared.builder.command.Command.{Command}
 use Rattle.clap.specs.declared.builder.command.Command.TheViews.{out-Command}
-use Rattle.service.specs.CommandLines.{bare_program, creation, loading, question, checking}
+use Rattle.service.specs.CommandLines.{bare_program, creation, loading, question, serving, checking}
 use Rattle.service.proofs.arguments.program.Goals as goal
 
 -- one more command
@@ -16,4 +16,5 @@ returns c =
     let one = adds _ _ _ bare_program creation c.in_ok-subcommand.ensures c.bare_program.ensures.app c.in_ok-creation.ensures.app c.in_ok-creation.ensures.own in
     let two = adds _ _ _ _ loading c.in_ok-subcommand-2.ensures one c.in_ok-loading.ensures.app c.in_ok-loading.ensures.own in
     let three = adds _ _ _ _ question c.in_ok-subcommand-3.ensures two c.in_ok-question.ensures.app c.in_ok-question.ensures.own in
-    record { app = IfOk-weaker c.subcommand-4.result _ _ (λ r h. adds _ _ r _ checking h three c.in_ok-checking.ensures.app c.in_ok-checking.ensures.own) c.subcommand-4.ensures }
+    let four = adds _ _ _ _ serving c.in_ok-subcommand-4.ensures three c.in_ok-serving.ensures.app c.in_ok-serving.ensures.own in
+    record { app = IfOk-weaker c.subcommand-5.result _ _ (λ r h. adds _ _ r _ checking h four c.in_ok-checking.ensures.app c.in_ok-checking.ensures.own) c.subcommand-5.ensures }

@@ -1,5 +1,5 @@
 use Rattle.std.proofs.lemmas.Result.{IfOk-weaker}
-use Rattle.service.proofs.CommandLines.{IsMet, asked_by, command_met, no_mark_by}
+use Rattle.service.proofs.CommandLines.{IsMet, asked_by, command_met, no_listen_by, no_mark_by}
 use Rattle.service.proofs.command_line.command.Goals as goal
 
 -- src/command_line.rt:195:24
@@ -18,3 +18,7 @@ returns-in-Ok-try_get_matches_from-clause-found g c =
 pub returns-in-Ok-try_get_matches_from-clause-bad_mark :
     goal.returns-in-Ok-try_get_matches_from-clause-bad_mark
 returns-in-Ok-try_get_matches_from-clause-bad_mark g c = λ bad. no_mark_by _ _ _ (record { is = c.in-Ok.ensures.app; accepted = c.in-Ok-try_get_matches_from.ensures.kinds; matches = c.in-Ok-try_get_matches_from.ensures.matches }) (c.invocation_of.ensures.bad_mark bad)
+
+pub returns-in-Ok-try_get_matches_from-clause-bad_listen :
+    goal.returns-in-Ok-try_get_matches_from-clause-bad_listen
+returns-in-Ok-try_get_matches_from-clause-bad_listen g c = λ bad. no_listen_by _ _ _ (record { is = c.in-Ok.ensures.app; accepted = c.in-Ok-try_get_matches_from.ensures.kinds; matches = c.in-Ok-try_get_matches_from.ensures.matches }) (c.invocation_of.ensures.bad_listen bad)
