@@ -59,6 +59,14 @@ impl FileArchive {
         }
     }
 
+    /// The archive on both disks, as threads share it.
+    pub fn into_archive(self) -> Archive<FileErase, FileOnce>
+        ensures same { (h : History) → GoesOn result h ↔ GoesOnWith self h }
+        ensures site { site_of result ≡ site_in self }
+    {
+        self.archive
+    }
+
     /// How many changes are applied: as many as [`RouteArchive::check`] counts. After a failed write or sync, as many as before the call
     /// that failed.
     pub fn applied(&self) -> u64
