@@ -1,0 +1,71 @@
+//! What the threads of a server share beside the archive.
+
+use std::sync::atomic::{AtomicBool, AtomicU64, Ordering};
+
+/// What the threads of a server tell one another.
+#[derive(Drop)]
+pub(crate) struct Signals {
+    /// How many questions were asked.
+    pub(crate) questions: AtomicU64,
+    /// No connection is taken any more.
+    is_stopping: AtomicBool,
+    /// A worker had no memory to serve with.
+    is_short: AtomicBool,
+    /// How many places workers have.
+    places: AtomicU64,
+}
+
+impl Signals {
+    /// Of a server without workers, which takes connections.
+    pub(crate) fn new() -> Signals {
+        Signals {
+            questions: AtomicU64::new(0),
+            is_stopping: AtomicBool::new(false),
+            is_short: AtomicBool::new(false),
+            places: AtomicU64::new(0),
+        }
+    }
+
+    /// Ends the taking of connections.
+    pub(crate) fn stop(&self) {
+        self.is_stopping.store(true, Ordering::SeqCst);
+    }
+
+    /// Whether the taking of connections has ended.
+    pub(crate) fn is_stopping(&self) -> bool {
+        self.is_stopping.load(Ordering::SeqCst)
+    }
+
+    /// Tells that a worker has no memory to serve with.
+    pub(crate) fn lack_memory(&self) {
+        self.is_short.store(true, Ordering::SeqCst);
+    }
+
+    /// Whether a worker had no memory to serve with.
+    pub(crate) fn is_short(&self) -> bool {
+        self.is_short.load(Ordering::SeqCst)
+    }
+
+    /// A place for one more worker.
+    pub(crate) fn place(&self) -> Place<'_> {
+        self.places.fetch_add(1, Ordering::SeqCst);
+        Place { signals: self }
+    }
+
+    /// Whether no worker has a place any more.
+    pub(crate) fn is_left(&self) -> bool {
+        self.places.load(Ordering::SeqCst) == 0
+    }
+}
+
+/// A worker's place. Where it is let go, the worker serves no more, or never began.
+pub(crate) struct Place<'a> {
+    signals: &'a Signals,
+}
+
+impl Drop for Place<'_> {
+    fn drop(self) {
+        self.signals.places.fetch_sub(1, Ordering::SeqCst);
+        let Place { signals: _ } = self;
+    }
+}

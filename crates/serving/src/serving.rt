@@ -1,0 +1,159 @@
+//! A server's life: an archive is shared, served by threads, and handed back.
+
+ghost use Rattle.std.specs.Prelude.{◌≡◌, ◌<◌, ◌≤◌, ⊤, [], length, Err, Some, IsSome, vec_len, vec_capacity};
+ghost use Rattle.board.specs.Opened.{name_of};
+ghost use Rattle.board.specs.Past.{Past, GoesOnAs};
+
+use crate::house::Signals;
+use crate::jobs::{Desk, Job, run_job};
+use crate::keeping::flush_all;
+use board::{Named, Opened, Pass};
+use crossbeam_channel::bounded;
+use log::Log;
+use query_threads::{Gate, OnDisk, Shared, Store, Trouble};
+use std::alloc::{AllocError, Global};
+use std::net::{Net, TcpListener, TcpStream};
+use std::sync::Wait;
+use std::thread;
+use std::thread::Threads;
+use std::time::Clock;
+use thiserror::Error;
+
+/// How many connections wait for a worker, beside those that the system keeps.
+const QUEUE: usize = 16;
+
+/// Why a server ended otherwise than by `stop`, or not all was done at its end. What was acknowledged stays.
+#[derive(Clone, Copy, Debug, PartialEq, Eq, Error)]
+pub enum ServeError {
+    /// There was no memory for its threads.
+    #[error("out of memory")]
+    OutOfMemory,
+    /// What waited couldn't be written home at the end.
+    #[error("{0}")]
+    Trouble(Trouble),
+}
+
+/// What the threads of a server of so many workers do, each with a pass of its own.
+fn jobs_of<'a, A: Store, N: Named + OnDisk<A::Disk>, G: Gate + Drop>(
+    alloc: Global,
+    shared: &Shared<A, N, G>,
+    pass: &mut Pass<N>,
+    signals: &'a Signals,
+    workers: u8,
+) -> Result<Vec<Job<'a, N>>, AllocError> {
+    let (sender, receiver) = bounded(alloc, QUEUE)?;
+    let mut jobs = Vec::new(alloc);
+    for _ in 0..workers {
+        jobs.push(Job::Work(receiver.clone()?, shared.split(pass), signals.place()))?;
+    }
+    jobs.push(Job::Accept(sender))?;
+    jobs.push(Job::Apply(shared.split(pass)))?;
+    jobs.push(Job::Flush(shared.split(pass)))?;
+    Ok(jobs)
+}
+
+/// Runs the threads of a server to their end.
+fn run_threads<
+    A: Store + Send,
+    N: Named + OnDisk<A::Disk> + Send + Sync,
+    G: Gate + Drop + Send + Sync,
+    R: Threads + Wait + Clock + Net<Listener = TcpListener, Stream = TcpStream> + Sync,
+    L: Log + Sync,
+>(
+    desk: &Desk<'_, R, L>,
+    shared: &Shared<A, N, G>,
+    pass: &mut Pass<N>,
+    workers: u8,
+) -> Result<(), AllocError> {
+    let jobs = jobs_of(desk.alloc, shared, pass, desk.signals, workers)?;
+    // Of what a thread does no clause speaks.
+    let run = |job: Job<'_, N>|
+        ensures { ⊤ }
+    { run_job(desk, shared, job) };
+    thread::map_vec(desk.rt, jobs, &run)?;
+    Ok(())
+}
+
+/// Serves, and then writes home what waits.
+fn serve_shared<
+    A: Store + Send,
+    N: Named + OnDisk<A::Disk> + Send + Sync,
+    G: Gate + Drop + Send + Sync,
+    R: Threads + Wait + Clock + Net<Listener = TcpListener, Stream = TcpStream> + Sync,
+    L: Log + Sync,
+>(
+    desk: &Desk<'_, R, L>,
+    shared: &Shared<A, N, G>,
+    pass: &mut Pass<N>,
+    workers: u8,
+) -> Result<(), ServeError> {
+    let ran = run_threads(desk, shared, pass, workers);
+    if let Err(trouble) = flush_all(desk.rt, shared, pass) {
+        return Err(ServeError::Trouble(trouble));
+    }
+    if ran.is_err() || desk.signals.is_short() {
+        return Err(ServeError::OutOfMemory);
+    }
+    Ok(())
+}
+
+/// Hands an archive back that goes on from what a pass knew.
+fn hand_back<A: Store, N: Named + OnDisk<A::Disk>, G: Gate + Drop>(
+    shared: Shared<A, N, G>,
+    mut passes: Vec<Pass<N>>,
+    pass: Pass<N>,
+) -> A
+    requires none { passes.items ≡ [] }
+    requires room { vec_len passes < vec_capacity passes }
+    ensures goes_on { IsSome N.disk → (p : Past) × GoesOnAs pass.past p × A.carries result p }
+{
+    // There is room for it.
+    let _ = passes.push(pass);
+    shared.close(passes)
+}
+
+/// Serves an archive on a socket, by so many workers, until a connection asks it to stop. Connections are taken by one
+/// thread and handed to the workers, each of which serves one to its end before it takes the next; one more thread applies
+/// changes, and one flushes pages. A connection whose socket fails ends with one warning, `29 Outside`. To stop, no
+/// connection is taken any more, those that are open are served to their end, what may be applied is applied, and all pages
+/// are written home. The archive is handed back.
+pub fn serve<
+    A: Store + Send,
+    N: Named + OnDisk<A::Disk> + Send + Sync,
+    G: Gate + Drop + Send + Sync,
+    R: Threads + Wait + Clock + Net<Listener = TcpListener, Stream = TcpStream> + Sync,
+    L: Log + Sync,
+>(
+    rt: &R,
+    alloc: Global,
+    opened: Opened,
+    archive: A,
+    gate: G,
+    listener: &TcpListener,
+    workers: u8,
+    log: &L,
+) -> (A, Result<(), ServeError>)
+    requires named { name_of opened ≡ N.table }
+    requires some { 1 ≤ opened.collectors }
+    requires disk { IsSome N.disk → N.disk ≡ Some (A.disk_of archive) }
+    requires pages { IsSome N.disk → N.pages ≡ A.pages archive }
+    requires carried { IsSome N.disk → (p : Past) × A.carries archive p × (length p.history.intakes ≡ opened.collectors) }
+    ensures carried { IsSome N.disk → (p : Past) × A.carries result.0 p }
+    ensures goes_on { IsSome N.disk → (result.1 ≡ Err ServeError.OutOfMemory → ⊥) → (p : Past) × (q : Past) × A.carries archive p × GoesOnAs p q × A.carries result.0 q }
+{
+    let (shared, mut first): (Shared<A, N, G>, Pass<N>) = Shared::new(opened, archive, gate);
+    let Ok(mut passes) = Vec::with_capacity(alloc, 1) else {
+        return (shared.close(Vec::new(alloc)), Err(ServeError::OutOfMemory));
+    };
+    let mut pass = shared.split(&mut first);
+    let signals = Signals::new();
+    let desk = Desk {
+        rt,
+        alloc,
+        signals: &signals,
+        listener,
+        log,
+    };
+    let ended = serve_shared(&desk, &shared, &mut pass, workers);
+    (hand_back(shared, passes, first), ended)
+}
