@@ -5,15 +5,24 @@
 mod commands;
 mod opening;
 mod refusals;
+mod served;
 
 use crate::commands::{ask, check, create, load};
+use crate::served::serve;
 use service::{Invocation, Output, command, tell_out_of_memory, tell_outside, tell_usage};
 use std::env;
 use std::io::Write;
+use std::net::{Net, TcpListener, TcpStream};
 use std::process::ExitCode;
+use std::sync::Wait;
+use std::thread::Threads;
+use std::time::Clock;
 
-/// Reads the command line and runs its command.
-fn run<E: Write>(rt: &HostRuntime, err: &mut Output<E>) -> u8 {
+/// Reads the command line and runs its command. `host` starts the threads of a server.
+fn run<
+    H: Threads + Wait + Clock + Net<Listener = TcpListener, Stream = TcpStream> + Sync,
+    E: Write,
+>(rt: &HostRuntime, host: &H, err: &mut Output<E>) -> u8 {
     let alloc = rt.alloc();
     let words = match env::args(rt) {
         Ok(words) => words,
@@ -26,6 +35,7 @@ fn run<E: Write>(rt: &HostRuntime, err: &mut Output<E>) -> u8 {
         Ok(Invocation::Create(asked)) => create(rt, &asked, err),
         Ok(Invocation::Load(asked)) => load(rt, &asked, err),
         Ok(Invocation::Ask(asked)) => ask(rt, &asked, err),
+        Ok(Invocation::Serve(asked)) => serve(rt, host, &asked, err),
         Ok(Invocation::Check(asked)) => check(rt, &asked, err),
         Err(error) => tell_usage(rt, &error, err),
     }
@@ -33,5 +43,5 @@ fn run<E: Write>(rt: &HostRuntime, err: &mut Output<E>) -> u8 {
 
 fn main(rt: HostRuntime) -> ExitCode {
     let mut err = Output::new(rt.stderr());
-    ExitCode::from(run(&rt, &mut err))
+    ExitCode::from(run(&rt, &rt, &mut err))
 }

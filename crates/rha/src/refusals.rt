@@ -5,12 +5,14 @@ ghost use Rattle.std.specs.Prelude.{◌≡◌};
 ghost use Rattle.service.specs.Outputs.{Tells};
 ghost use Rattle.service.specs.Refusals.{error_line};
 ghost use Rattle.service.specs.Telling.{TellsOutside};
-ghost use Rattle.rha.specs.inner.Refusals.{of_create, of_open};
+ghost use Rattle.rha.specs.inner.Refusals.{of_create, of_open, of_serve};
 
 use disk_archive::{CreateError, OpenError};
 use disk_files::FileError;
 use file_archive::CreateFault;
+use server::trouble_of;
 use service::{Output, Refusal, tell_out_of_memory, tell_outside, tell_refusal, write_reason};
+use serving::ServeError;
 use std::alloc::Global;
 use std::io::Write;
 
@@ -63,6 +65,18 @@ pub(crate) fn tell_unmade<E: Write>(
         CreateFault::File(why) => tell_no_file(alloc, folder, *why, err),
         CreateFault::Archive(why) => tell_refusal(&refusal_of(*why), err),
     }
+}
+
+/// Tells why a server ended otherwise than a client asked for.
+pub(crate) fn tell_unserved<E: Write>(why: ServeError, err: &mut Output<E>) -> u8
+    ensures code { result ≡ 1 }
+    ensures told { Tells err.old err.new (error_line (of_serve why)) }
+{
+    let refusal = match why {
+        ServeError::OutOfMemory => Refusal::OutOfMemory,
+        ServeError::Trouble(trouble) => Refusal::from(trouble_of(trouble)),
+    };
+    tell_refusal(&refusal, err)
 }
 
 /// The refusal that tells why no archive is written to its files.

@@ -5,6 +5,10 @@ use Rattle.disk_archive.specs.declared.create_error.CreateError.{CreateError}
 use Rattle.disk_archive.specs.declared.create_error.CreateError.TheVariants as creates
 use Rattle.disk_archive.specs.declared.open_error.OpenError.{OpenError}
 use Rattle.disk_archive.specs.declared.open_error.OpenError.TheVariants as opens
+use Rattle.serving.specs.declared.serving.ServeError.{ServeError}
+use Rattle.serving.specs.declared.serving.ServeError.TheVariants as serves
+use Rattle.server.specs.Troubles.{of_shared}
+use Rattle.service.specs.Faults.{of_trouble}
 
 -- why it isn't written to its files
 abbrev pub of_create : CreateError → Refusal
@@ -19,3 +23,8 @@ of_open opens.NotAJournal = refusals.NotAJournal
 of_open (opens.BadSlot page) = refusals.BadNode page
 of_open (opens.BadNode page) = refusals.BadNode page
 of_open opens.OutOfMemory = refusals.OutOfMemory
+
+-- why a server ended that no client stopped
+abbrev pub of_serve : ServeError → Refusal
+of_serve serves.OutOfMemory = refusals.OutOfMemory
+of_serve (serves.Trouble trouble) = of_trouble (of_shared trouble)
