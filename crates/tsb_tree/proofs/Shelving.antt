@@ -14,7 +14,7 @@ use Rattle.version_model.specs.Blocks.{BlockNode}
 use Rattle.tsb_tree.specs.declared.error.TreeError.{TreeError}
 use Rattle.tsb_tree.specs.declared.error.TreeError.TheVariants as errors
 use Rattle.tsb_tree.specs.Refusals.{of_migration}
-use Rattle.tsb_tree.specs.Shelves.{KeepsShelf as TreeKeeps, LeavesShelf, LeavesDisk, SpendsAtMost}
+use Rattle.tsb_tree.specs.Shelves.{KeepsShelf as TreeKeeps, LeavesShelf, LeavesDisk, SpendsAtMost, SpendsOne}
 
 -- nothing was called
 pub leaves_none : {O Pen Seen : Type 0} (device : Ghosts O Pen Seen) (most : ℕ) (s : Shelf O Pen Seen) (F G : Type 0) → (F → ⊥) → (G → ⊥) → LeavesShelf device most s s F G
@@ -169,3 +169,16 @@ says_on device most old new F G blocks leaves honest says = record {
 
 pub honest_on : {O Pen Seen : Type 0} (device : Ghosts O Pen Seen) (most : ℕ) (old new : Shelf O Pen Seen) (F G : Type 0) → LeavesShelf device most old new F G → device.honest (disk_of old) (pen_of old) → device.honest (disk_of new) (pen_of new)
 honest_on device most old new F G leaves honest = honest_then device most old new F G leaves honest
+
+-- one block is spent at most
+pub spends_none : {O Pen Seen : Type 0} (device : Ghosts O Pen Seen) (s : Shelf O Pen Seen) → SpendsOne device s s
+spends_none device s honest = record { spent = []; few = omega arith; tried = λ i _. refl; burnt = λ i _. refl }
+
+pub spends_same : {O Pen Seen : Type 0} (device : Ghosts O Pen Seen) (a b : Shelf O Pen Seen) → b ≡ a → SpendsOne device a b
+spends_same {O} {Pen} {Seen} device a b same = subst (λ (s : Shelf O Pen Seen). SpendsOne device s b) same (spends_none device b)
+
+pub spends_leaves : {O Pen Seen : Type 0} (device : Ghosts O Pen Seen) (a b : Shelf O Pen Seen) (F G : Type 0) → LeavesShelf device 1 a b F G → SpendsOne device a b
+spends_leaves device a b F G leaves honest = (leaves.leaves honest).spends
+
+pub spends_on : {O Pen Seen : Type 0} (device : Ghosts O Pen Seen) (a b c : Shelf O Pen Seen) (F G : Type 0) → b ≡ a → LeavesShelf device 1 b c F G → SpendsOne device a c
+spends_on {O} {Pen} {Seen} device a b c F G same leaves = subst (λ (s : Shelf O Pen Seen). SpendsOne device s c) same (spends_leaves device b c F G leaves)

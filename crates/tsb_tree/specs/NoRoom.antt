@@ -1,10 +1,11 @@
 -- Versions for which a tree has no room.
-use Rattle.std.specs.Prelude.{◌≡◌, ℕ, List}
+use Rattle.std.specs.Prelude.{◌≡◌, ℕ, ◌≤◌, List, length}
 use Rattle.page_tx.specs.declared.error.PageError.TheVariants as pages
 use Rattle.tsb_walk.specs.declared.page_place.PagePlace.{PagePlace}
 use Rattle.tsb_walk.specs.PageWays.{IsLower}
-use Rattle.tsb_walk.specs.Shown.{keys_at}
-use Rattle.version_model.specs.Pages.{all_keys}
+use Rattle.tsb_walk.specs.Shown.{Says, keys_at}
+use Rattle.version_model.specs.declared.part.Part.{Part}
+use Rattle.version_model.specs.Pages.{ColumnNode, all_keys}
 use Rattle.version_model.specs.Versions.{Version}
 use Rattle.tsb_tree.specs.declared.error.TreeError.{TreeError}
 use Rattle.tsb_tree.specs.declared.error.TreeError.TheVariants as errors
@@ -14,6 +15,11 @@ use Rattle.tsb_tree.specs.Read.{IsLeafOf, IsFilled}
 pub data LeadsToFullLeaf (shown : List (List ℕ)) (v : Version) : PagePlace → Type 0 where
   in_leaf : (column : PagePlace) (page : ℕ) (image : List ℕ) → IsLeafOf shown column page image → IsFilled column image v → LeadsToFullLeaf shown v column
   in_child : (place next : PagePlace) → IsLower shown v.key place next → LeadsToFullLeaf shown v next → LeadsToFullLeaf shown v place
+
+-- The version's key leads from a place down to a column whose page has as many parts as one can have.
+pub data LeadsToFullColumn (shown : List (List ℕ)) (v : Version) : PagePlace → Type 0 where
+  full_column : (column : PagePlace) (parts : List Part) (start current : ℕ) → Says shown column.page (ColumnNode (keys_at column) parts start current) → 648 ≤ length parts → LeadsToFullColumn shown v column
+  full_column_below : (place next : PagePlace) → IsLower shown v.key place next → LeadsToFullColumn shown v next → LeadsToFullColumn shown v place
 
 -- the fact holds of the root of a tree: in this page, of this level, with all keys
 abbrev pub AtRoot : (PagePlace → Type 0) → ℕ → ℕ → Type 0

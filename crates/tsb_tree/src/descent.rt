@@ -15,13 +15,13 @@ ghost use Rattle.tsb_walk.specs.PageWays.{IsLower};
 ghost use Rattle.tsb_walk.specs.Shown.{Says, HasKey, keys_at};
 ghost use Rattle.tsb_tree.specs.KeyNodes.{IsWide};
 ghost use Rattle.tsb_tree.specs.InPlace.{IsInPlace};
-ghost use Rattle.tsb_tree.specs.NoRoom.{IsForWant, LeadsToFullLeaf};
+ghost use Rattle.tsb_tree.specs.NoRoom.{IsForWant, LeadsToFullColumn, LeadsToFullLeaf};
 ghost use Rattle.tsb_tree.specs.Outlived.{LeadsToOutdated};
 ghost use Rattle.tsb_tree.specs.Plans.{CanBeLaid, Plans};
 ghost use Rattle.tsb_tree.specs.Puts.{PutsChild};
 ghost use Rattle.tsb_tree.specs.Raises.{HasRoomBehind, RaiseRefusal};
 ghost use Rattle.tsb_tree.specs.Refusals.{IsHonest, PlanRefusal, ReadRefusal};
-ghost use Rattle.tsb_tree.specs.Shelves.{KeepsShelf};
+ghost use Rattle.tsb_tree.specs.Shelves.{KeepsShelf, SpendsOne};
 ghost use Rattle.tsb_tree.specs.Stores.{ReadsAlone};
 ghost use Rattle.tsb_tree.specs.Takers.{CanTake};
 ghost use Rattle.tsb_tree.specs.inner.Uses.{UsesForHalf, UsesPages, WantsPages};
@@ -142,6 +142,7 @@ pub fn plan_under<P: Pages, O: OnceDisk + Drop>(
     ensures refused { IfErr result (PlanRefusal (P.homes pages.old) (P.next pages.old) place.now.level (P.down pages.old)) }
     ensures reads { ReadsAlone P.Pages pages.old pages.new result }
     ensures shelf { KeepsShelf O.OnceDisk 2 shelf.old shelf.new result }
+    ensures one_block { (s : Store) (all : List Version) → (can : CanTake P.Pages pages.old O.OnceDisk shelf.old s all place.now (version_of entry.now)) → SpendsOne O.OnceDisk shelf.old shelf.new ⊎ LeadsToFullColumn can.shown (version_of entry.now) place.now }
 {
     if place.level == 1 {
         return plan_column(pages, shelf, alloc, place, entry);

@@ -11,11 +11,11 @@ ghost use Rattle.version_model.specs.Versions.{Version};
 ghost use Rattle.tsb_tree.specs.Inserted.{PlansTree, TakenIn};
 ghost use Rattle.tsb_tree.specs.InPlace.{IsInPlace, TakesInPlace};
 ghost use Rattle.tsb_tree.specs.Needs.{NeedsLevel, NeedsPages};
-ghost use Rattle.tsb_tree.specs.NoRoom.{AtRoot, IsForWant, LeadsToFullLeaf};
+ghost use Rattle.tsb_tree.specs.NoRoom.{AtRoot, IsForWant, LeadsToFullColumn, LeadsToFullLeaf};
 ghost use Rattle.tsb_tree.specs.Outlived.{LeadsToOutdated};
 ghost use Rattle.tsb_tree.specs.Raises.{TreeCanBeLaid};
 ghost use Rattle.tsb_tree.specs.Refusals.{IsHonest, InsertRefusal};
-ghost use Rattle.tsb_tree.specs.Shelves.{KeepsShelf};
+ghost use Rattle.tsb_tree.specs.Shelves.{KeepsShelf, SpendsOne};
 ghost use Rattle.tsb_tree.specs.Stores.{ReadsAlone};
 ghost use Rattle.tsb_tree.specs.Trees.{TreeShown};
 
@@ -73,6 +73,8 @@ fn planned<P: Pages, O: OnceDisk + Drop>(
         → IfOk result (λ plan. (IsInPlace (P.next pages.old) plan.0 × (shelf.new ≡ shelf.old) × (plan.1.root ≡ place.root) × (plan.1.level ≡ place.level)) ⊎ AtRoot (LeadsToFullLeaf shown (version_of entry.now)) place.root place.level) }
     ensures burns { (start : Start) (shown : List (List ℕ)) (all : List Version) → TreeShown P.Pages pages.old O.OnceDisk shelf.old start shown all place.root place.level place.least → place.least ≤ entry.now.stamp
         → (shelf.new ≡ shelf.old) ⊎ AtRoot (LeadsToOutdated shown (version_of entry.now)) place.root place.level }
+    ensures one_block { (start : Start) (shown : List (List ℕ)) (all : List Version) → TreeShown P.Pages pages.old O.OnceDisk shelf.old start shown all place.root place.level place.least → place.least ≤ entry.now.stamp
+        → SpendsOne O.OnceDisk shelf.old shelf.new ⊎ AtRoot (LeadsToFullColumn shown (version_of entry.now)) place.root place.level }
     ensures grows { (start : Start) (shown : List (List ℕ)) (all : List Version) → TreeShown P.Pages pages.old O.OnceDisk shelf.old start shown all place.root place.level place.least → place.least ≤ entry.now.stamp
         → IfOk result (λ plan. ((plan.1.root ≡ place.root) × (plan.1.level ≡ place.level)) ⊎ ((plan.1.level ≡ suc place.level) × AtRoot (NeedsLevel shown (version_of entry.now)) place.root place.level)) }
     ensures highest { place.level ≡ 7 → result ≡ Err (TreeError.Pages PageError.PagesFull) → P.homes pages.old < P.next pages.old + 8 }
@@ -114,7 +116,8 @@ fn planned<P: Pages, O: OnceDisk + Drop>(
 /// where the tree lies then.
 ///
 /// The stamp must be at least the place's. All images are laid together, behind the last block that is settled, or none. So
-/// after a refusal the tree lies where it lay and stands for the same versions, and no page is set; but up to two blocks may be spent.
+/// after a refusal the tree lies where it lay and stands for the same versions, and no page is set; but a block may be spent, and two
+/// where the column's page has no room for a part more.
 pub fn insert<P: Pages, O: OnceDisk + Drop>(
     pages: &mut P,
     shelf: &mut Shelf<O>,
@@ -146,6 +149,8 @@ pub fn insert<P: Pages, O: OnceDisk + Drop>(
         → IfOk result (λ now. TakesInPlace P.Pages pages.old pages.new shelf.old shelf.new place now ⊎ AtRoot (LeadsToFullLeaf shown (version_of entry.now)) place.root place.level) }
     ensures burns { (start : Start) (shown : List (List ℕ)) (all : List Version) → TreeShown P.Pages pages.old O.OnceDisk shelf.old start shown all place.root place.level place.least
         → (shelf.new ≡ shelf.old) ⊎ AtRoot (LeadsToOutdated shown (version_of entry.now)) place.root place.level }
+    ensures one_block { (start : Start) (shown : List (List ℕ)) (all : List Version) → TreeShown P.Pages pages.old O.OnceDisk shelf.old start shown all place.root place.level place.least
+        → SpendsOne O.OnceDisk shelf.old shelf.new ⊎ AtRoot (LeadsToFullColumn shown (version_of entry.now)) place.root place.level }
     ensures grows { (start : Start) (shown : List (List ℕ)) (all : List Version) → TreeShown P.Pages pages.old O.OnceDisk shelf.old start shown all place.root place.level place.least
         → IfOk result (λ now. ((now.root ≡ place.root) × (now.level ≡ place.level)) ⊎ ((now.level ≡ suc place.level) × AtRoot (NeedsLevel shown (version_of entry.now)) place.root place.level)) }
     ensures highest { place.level ≡ 7 → result ≡ Err (TreeError.Pages PageError.PagesFull) → P.homes pages.old < P.next pages.old + 8 }

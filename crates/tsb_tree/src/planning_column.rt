@@ -8,12 +8,12 @@ ghost use Rattle.version_model.specs.Sizes.{entry_octets};
 ghost use Rattle.version_model.specs.Versions.{Version};
 ghost use Rattle.tsb_walk.specs.Shown.{HasKey};
 ghost use Rattle.tsb_tree.specs.InPlace.{IsInPlace};
-ghost use Rattle.tsb_tree.specs.NoRoom.{IsForWant, LeadsToFullLeaf};
+ghost use Rattle.tsb_tree.specs.NoRoom.{IsForWant, LeadsToFullColumn, LeadsToFullLeaf};
 ghost use Rattle.tsb_tree.specs.Outlived.{IsOutdated, LeadsToOutdated};
 ghost use Rattle.tsb_tree.specs.Plans.{CanBeLaid, Plans};
 ghost use Rattle.tsb_tree.specs.Read.{IsFilled, IsLeafOf};
 ghost use Rattle.tsb_tree.specs.Refusals.{IsHonest, PlanRefusal};
-ghost use Rattle.tsb_tree.specs.Shelves.{KeepsShelf};
+ghost use Rattle.tsb_tree.specs.Shelves.{KeepsShelf, SpendsOne};
 ghost use Rattle.tsb_tree.specs.Stores.{ReadsAlone};
 ghost use Rattle.tsb_tree.specs.Takers.{CanTake};
 ghost use Rattle.tsb_tree.specs.inner.Uses.{UsesPages, WantsPages};
@@ -61,6 +61,7 @@ fn plan_splits<P: Pages, O: OnceDisk + Drop>(
     ensures refused { IfErr result (PlanRefusal (P.homes pages.old) (P.next pages.old) place.now.level (P.down pages.old)) }
     ensures reads { ReadsAlone P.Pages pages.old pages.new result }
     ensures shelf { KeepsShelf O.OnceDisk 2 shelf.old shelf.new result }
+    ensures one_block { (start : Start) (shown : List (List ℕ)) → P.shows pages.old start shown → SpendsOne O.OnceDisk shelf.old shelf.new ⊎ LeadsToFullColumn shown (version_of entry.now) place.now }
 {
     let column = image_of(pages, place.page)?;
     let whole = whole_in(alloc, place, &column, leaf)?;
@@ -105,6 +106,7 @@ pub fn plan_column<P: Pages, O: OnceDisk + Drop>(
     ensures refused { IfErr result (PlanRefusal (P.homes pages.old) (P.next pages.old) place.now.level (P.down pages.old)) }
     ensures reads { ReadsAlone P.Pages pages.old pages.new result }
     ensures shelf { KeepsShelf O.OnceDisk 2 shelf.old shelf.new result }
+    ensures one_block { (s : Store) (all : List Version) → (can : CanTake P.Pages pages.old O.OnceDisk shelf.old s all place.now (version_of entry.now)) → SpendsOne O.OnceDisk shelf.old shelf.new ⊎ LeadsToFullColumn can.shown (version_of entry.now) place.now }
 {
     let mut leaf = current_leaf(pages, place, entry)?;
     if push_entry(&mut leaf.image, leaf.page, entry)? {

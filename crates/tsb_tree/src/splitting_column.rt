@@ -1,5 +1,5 @@
 //! A column takes a version for which its leaf has no room, and is laid out as one or as two.
-ghost use Rattle.std.specs.Prelude.{◌≡◌, ◌+◌, ◌^◌, ◌<◌, ◌≤◌, ◌⊎◌, ◌++◌, ◌∷◌, [], ℕ, Bool, List, Option, IfOk, IfErr, Err, IsErrOf};
+ghost use Rattle.std.specs.Prelude.{◌≡◌, ◌+◌, ◌^◌, ◌<◌, ◌≤◌, ◌⊎◌, ◌++◌, ◌∷◌, [], ℕ, Bool, List, Option, IfOk, IfErr, Err, IsErrOf, length};
 ghost use Rattle.once_store.specs.declared.error.AppendError.{AppendError};
 ghost use Rattle.once_store.specs.Shelves.{disk_of, next_of, pen_of};
 ghost use Rattle.version_model.specs.Blocks.{BlockNode};
@@ -15,7 +15,7 @@ ghost use Rattle.tsb_tree.specs.Outlived.{HasOutlived};
 ghost use Rattle.tsb_tree.specs.Plans.{CanBeLaid};
 ghost use Rattle.tsb_tree.specs.Refusals.{IsHonest, LayoutRefusal, PlanRefusal};
 ghost use Rattle.tsb_tree.specs.Shapes.{IsWhole, leaf_in_page};
-ghost use Rattle.tsb_tree.specs.Shelves.{KeepsShelf};
+ghost use Rattle.tsb_tree.specs.Shelves.{KeepsShelf, SpendsOne};
 ghost use Rattle.tsb_tree.specs.inner.Uses.{UsesForLeaf};
 
 use crate::change::Change;
@@ -103,6 +103,7 @@ pub fn split_column<O: OnceDisk + Drop>(
     ensures refused { (down : Bool) → IfErr result (PlanRefusal unused.homes unused.next 1 down) }
     ensures read { IsErrOf result (TreeError.Pages PageError.Fault) → ⊥ }
     ensures shelf { KeepsShelf O.OnceDisk 2 shelf.old shelf.new result }
+    ensures one_block { (shelf.new ≡ shelf.old) ⊎ (SpendsOne O.OnceDisk shelf.old shelf.new ⊎ (648 ≤ length whole.parts.items)) }
 {
     let mut whole = whole;
     grow(shelf, alloc, leaf, &mut whole, entry)?;

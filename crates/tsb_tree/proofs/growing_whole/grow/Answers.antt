@@ -1,10 +1,12 @@
-use Rattle.std.proofs.Common.{rules, ◌≤◌, List, sym, ap, subst, arith}
+use Rattle.std.proofs.Common.{rules, ◌≤◌, inr, List, length, sym, ap, subst, arith}
 use Rattle.version_model.specs.Entries.{version_of}
 use Rattle.version_model.specs.Shows.{IsFrom}
 use Rattle.version_model.specs.Sizes.{octets}
 use Rattle.version_model.specs.Versions.{Version, Has}
+use Rattle.tsb_tree.specs.declared.whole.Whole.{Whole}
 use Rattle.tsb_tree.specs.Needs.{IsWhatStays}
 use Rattle.tsb_tree.proofs.GrowingWhole.{taken_whole, taken_most, taken_only, taken_stays, taken_on}
+use Rattle.tsb_tree.proofs.Outliving.{or_else}
 use Rattle.tsb_tree.proofs.growing_whole.grow.Goals as goal
 
 pub returns-in_default-clause-takes : goal.returns-in_default-clause-takes
@@ -48,3 +50,9 @@ pub returns-in-Ok-clause-stays : goal.returns-in-Ok-clause-stays
 returns-in-Ok-clause-stays g c =
     let what : IsWhatStays c.take.new.whole.leaf c.args.entry.now.stamp c.in-Some.newer = search rules in
     taken_stays c.args.whole.now c.take.new.whole (version_of c.args.entry.now) c.in_ok-take.ensures.taken c.split_by_time.new.whole.leaf (subst (λ (l : List Version). IsWhatStays c.take.new.whole.leaf c.args.entry.now.stamp l) (sym c.in-Ok.ensures.leaf) what)
+
+pub returns-in-Ok-clause-one_block : goal.returns-in-Ok-clause-one_block
+returns-in-Ok-clause-one_block g c = inr (or_else (λ (full : 648 ≤ length c.take.new.whole.parts.items). subst (λ (w : Whole). 648 ≤ length w.parts.items) c.in_ok-take.ensures.taken full) c.split_by_time.ensures.one_block)
+
+pub returns-in-Err-clause-one_block : goal.returns-in-Err-clause-one_block
+returns-in-Err-clause-one_block g c = inr (or_else (λ (full : 648 ≤ length c.take.new.whole.parts.items). subst (λ (w : Whole). 648 ≤ length w.parts.items) c.in_ok-take.ensures.taken full) c.split_by_time.ensures.one_block)

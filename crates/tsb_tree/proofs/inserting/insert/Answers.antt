@@ -10,7 +10,7 @@ use Rattle.tsb_tree.specs.Refusals.{InsertRefusal}
 use Rattle.tsb_tree.proofs.Wanting.{lay_never_full, lay_wants_none, page_never_high}
 use Rattle.tsb_tree.proofs.Needing.{page_never_once}
 use Rattle.tsb_tree.proofs.Insertion.{as_it_was, taken_in, lay_insert, never_back, lay_reads, not_less}
-use Rattle.tsb_tree.proofs.Shelving.{honest_on}
+use Rattle.tsb_tree.proofs.Shelving.{honest_on, spends_none}
 use Rattle.tsb_tree.proofs.inserting.insert.Goals as goal
 
 pub returns-in_err-change-clause-err : goal.returns-in_err-change-clause-err
@@ -172,3 +172,21 @@ returns-in-Err-clause-wants_pages g c start shown all tree is =
 pub returns-in-Err-clause-once : goal.returns-in-Err-clause-once
 returns-in-Err-clause-once g c start shown all tree refusal is =
     absurd (page_never_once c.in-Err.refusal refusal (let e = c.from.ensures in cc))
+
+pub returns-in_err-change-clause-one_block : goal.returns-in_err-change-clause-one_block
+returns-in_err-change-clause-one_block g c start shown all tree =
+    let later : c.args.place.least ≤ c.args.entry.now.stamp = not_less c.lt.result _ _ c.lt.ensures c.if-lt.false in
+    c.in_err-change.ensures.one_block start shown all tree later
+
+pub returns-in-Ok-clause-one_block : goal.returns-in-Ok-clause-one_block
+returns-in-Ok-clause-one_block g c start shown all tree =
+    let later : c.args.place.least ≤ c.args.entry.now.stamp = not_less c.lt.result _ _ c.lt.ensures c.if-lt.false in
+    c.in_ok-change.ensures.one_block start shown all tree later
+
+pub returns-in-Err-clause-one_block : goal.returns-in-Err-clause-one_block
+returns-in-Err-clause-one_block g c start shown all tree =
+    let later : c.args.place.least ≤ c.args.entry.now.stamp = not_less c.lt.result _ _ c.lt.ensures c.if-lt.false in
+    c.in_ok-change.ensures.one_block start shown all tree later
+
+pub returns-then-lt-clause-one_block : goal.returns-then-lt-clause-one_block
+returns-then-lt-clause-one_block g c start shown all tree = inl (spends_none g.O.OnceDisk c.args.shelf.now)

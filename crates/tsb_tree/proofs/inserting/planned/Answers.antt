@@ -5,7 +5,7 @@ use Rattle.version_model.specs.declared.child.Child.{Child}
 use Rattle.version_model.specs.Entries.{version_of}
 use Rattle.version_model.specs.Ranges.{stamp_end}
 use Rattle.version_model.specs.Versions.{Version}
-use Rattle.tsb_tree.specs.NoRoom.{AtRoot, IsForWant, LeadsToFullLeaf}
+use Rattle.tsb_tree.specs.NoRoom.{AtRoot, IsForWant, LeadsToFullColumn, LeadsToFullLeaf}
 use Rattle.tsb_tree.specs.Outlived.{LeadsToOutdated}
 use Rattle.tsb_tree.specs.Plans.{CanBeLaid}
 use Rattle.tsb_tree.specs.Raises.{TreeCanBeLaid}
@@ -281,3 +281,39 @@ returns-clause-uses g c start shown all tree later =
     let uses = root_so g.P.Pages c.args.pages.now g.O.OnceDisk c.args.shelf.now start shown all root.result place.root place.level place.least v (λ pages at. UsesPages pages v at next change.unused change.new) root.ensures.page root.ensures.level root.ensures.keys tree later c.requires.inside (c.in_ok-change.ensures.uses tree.store all can) in
     let some = subst (λ (o : Option Child). IsSome o) (sym c.in-Some.is) refl in
     tree_grown_uses shown v place.root place.level next change.unused change.new uses some c.in_ok-change-2.change.unused c.in_ok-change-2.ensures.grows.unused
+
+pub returns-in_err-change-clause-one_block : goal.returns-in_err-change-clause-one_block
+returns-in_err-change-clause-one_block g c start shown all tree later =
+    let root = c.root-root in
+    let place = c.args.place in
+    let v : Version = version_of c.args.entry.now in
+    let can = root_can g.P.Pages c.args.pages.now g.O.OnceDisk c.args.shelf.now start shown all root.result place.root place.level place.least v root.ensures.page root.ensures.level root.ensures.keys tree later c.requires.inside in
+    or_else (root_so g.P.Pages c.args.pages.now g.O.OnceDisk c.args.shelf.now start shown all root.result place.root place.level place.least v (λ pages at. LeadsToFullColumn pages v at) root.ensures.page root.ensures.level root.ensures.keys tree later c.requires.inside)
+    (c.in_err-change.ensures.one_block tree.store all can)
+
+pub returns-in_default-clause-one_block : goal.returns-in_default-clause-one_block
+returns-in_default-clause-one_block g c start shown all tree later =
+    let root = c.root-root in
+    let place = c.args.place in
+    let v : Version = version_of c.args.entry.now in
+    let can = root_can g.P.Pages c.args.pages.now g.O.OnceDisk c.args.shelf.now start shown all root.result place.root place.level place.least v root.ensures.page root.ensures.level root.ensures.keys tree later c.requires.inside in
+    or_else (root_so g.P.Pages c.args.pages.now g.O.OnceDisk c.args.shelf.now start shown all root.result place.root place.level place.least v (λ pages at. LeadsToFullColumn pages v at) root.ensures.page root.ensures.level root.ensures.keys tree later c.requires.inside)
+    (c.in_ok-change.ensures.one_block tree.store all can)
+
+pub returns-in_err-change-2-clause-one_block : goal.returns-in_err-change-2-clause-one_block
+returns-in_err-change-2-clause-one_block g c start shown all tree later =
+    let root = c.root-root in
+    let place = c.args.place in
+    let v : Version = version_of c.args.entry.now in
+    let can = root_can g.P.Pages c.args.pages.now g.O.OnceDisk c.args.shelf.now start shown all root.result place.root place.level place.least v root.ensures.page root.ensures.level root.ensures.keys tree later c.requires.inside in
+    or_else (root_so g.P.Pages c.args.pages.now g.O.OnceDisk c.args.shelf.now start shown all root.result place.root place.level place.least v (λ pages at. LeadsToFullColumn pages v at) root.ensures.page root.ensures.level root.ensures.keys tree later c.requires.inside)
+    (c.in_ok-change.ensures.one_block tree.store all can)
+
+pub returns-clause-one_block : goal.returns-clause-one_block
+returns-clause-one_block g c start shown all tree later =
+    let root = c.root-root in
+    let place = c.args.place in
+    let v : Version = version_of c.args.entry.now in
+    let can = root_can g.P.Pages c.args.pages.now g.O.OnceDisk c.args.shelf.now start shown all root.result place.root place.level place.least v root.ensures.page root.ensures.level root.ensures.keys tree later c.requires.inside in
+    or_else (root_so g.P.Pages c.args.pages.now g.O.OnceDisk c.args.shelf.now start shown all root.result place.root place.level place.least v (λ pages at. LeadsToFullColumn pages v at) root.ensures.page root.ensures.level root.ensures.keys tree later c.requires.inside)
+    (c.in_ok-change.ensures.one_block tree.store all can)

@@ -18,6 +18,7 @@ use Rattle.tsb_tree.proofs.Columns.{column_shown}
 use Rattle.tsb_tree.proofs.Needing.{leaf_shown, uses_none, read_never_full, read_never_once}
 use Rattle.tsb_tree.proofs.Outliving.{or_else}
 use Rattle.tsb_tree.proofs.Pushing.{can_after, leaf_here, within, above_leaf, pushed_says, filled_here, current_is, standing, pushed_true, pushed_false, stays_false, room_here}
+use Rattle.tsb_tree.proofs.Shelving.{spends_none}
 use Rattle.tsb_tree.proofs.Wanting.{if_ok, if_err, read_wants_none}
 use Rattle.tsb_tree.proofs.planning_column.plan_column.Goals as goal
 
@@ -189,3 +190,18 @@ pub returns-in_err-leaf-clause-once : goal.returns-in_err-leaf-clause-once
 returns-in_err-leaf-clause-once g c s all can refusal is =
     let p = err_from_is_err_and c.from_residual.result c.from_residual.ensures.1 in
     absurd (read_never_once _ refusal (g.P.Pages.down c.args.pages.now) c.in_err-leaf.ensures.refused (cc))
+
+pub returns-in_err-leaf-clause-one_block : goal.returns-in_err-leaf-clause-one_block
+returns-in_err-leaf-clause-one_block g c s all can = inl (spends_none g.O.OnceDisk c.args.shelf.now)
+
+pub returns-in_err-push_entry-clause-one_block : goal.returns-in_err-push_entry-clause-one_block
+returns-in_err-push_entry-clause-one_block g c s all can = inl (spends_none g.O.OnceDisk c.args.shelf.now)
+
+pub returns-in_err-lay_leaf-clause-one_block : goal.returns-in_err-lay_leaf-clause-one_block
+returns-in_err-lay_leaf-clause-one_block g c s all can = inl (spends_none g.O.OnceDisk c.args.shelf.now)
+
+pub returns-then-branch-clause-one_block : goal.returns-then-branch-clause-one_block
+returns-then-branch-clause-one_block g c s all can = inl (spends_none g.O.OnceDisk c.args.shelf.now)
+
+pub returns-clause-one_block : goal.returns-clause-one_block
+returns-clause-one_block g c s all can = c.plan_splits.ensures.one_block can.start can.shown (c.in_ok-leaf.ensures.reads.shown can.start can.shown can.is.shows)

@@ -1,4 +1,4 @@
-use Rattle.std.proofs.Common.{rules, ◌≡◌, ◌<◌, ◌≤◌, ℕ, Err, Result, IfOk, IfErr, sym, ◌∙◌, ap, subst, arith}
+use Rattle.std.proofs.Common.{rules, ◌≡◌, ◌<◌, ◌≤◌, ℕ, Err, Result, IfOk, IfErr, inl, inr, sym, ◌∙◌, ap, subst, arith}
 use Rattle.std.proofs.lemmas.Result.{err_from_is_err_and}
 use Rattle.once_store.specs.Shelves.{next_of}
 use Rattle.version_model.specs.Entries.{version_of}
@@ -7,15 +7,17 @@ use Rattle.version_model.specs.Pages.{Keys}
 use Rattle.version_model.specs.Versions.{Version, Has}
 use Rattle.tsb_tree.specs.declared.change.Change.{Change}
 use Rattle.tsb_tree.specs.declared.error.TreeError.{TreeError}
+use Rattle.tsb_tree.specs.NoRoom.{full_column}
 use Rattle.tsb_tree.specs.Plans.{Plans}
 use Rattle.tsb_tree.specs.Refusals.{PlanRefusal, ReadRefusal}
 use Rattle.tsb_tree.specs.Wholes.{IsAt}
 use Rattle.tsb_tree.specs.inner.Uses.{UsesPages}
 use Rattle.tsb_tree.proofs.Columns.{is_at, ok_both}
 use Rattle.tsb_tree.proofs.LayingOut.{plans_taken, read_plan, keeps_none}
-use Rattle.tsb_tree.proofs.Needing.{leaf_read, filled_read, leaf_uses, leaf_wants, outdated_read, read_never_full, read_never_once}
+use Rattle.tsb_tree.proofs.Needing.{column_read, leaf_read, filled_read, leaf_uses, leaf_wants, outdated_read, read_never_full, read_never_once}
 use Rattle.tsb_tree.proofs.Outliving.{or_else}
 use Rattle.tsb_tree.proofs.Pushing.{whole_among, whole_forward}
+use Rattle.tsb_tree.proofs.Shelving.{spends_none, spends_same}
 use Rattle.tsb_tree.proofs.Wanting.{ok_then}
 use Rattle.tsb_tree.proofs.planning_column.plan_splits.Goals as goal
 
@@ -132,3 +134,19 @@ pub returns-clause-once : goal.returns-clause-once
 returns-clause-once g c refusal is =
     let w = c.in_ok-whole.whole in
     outdated_read c.args.place.now c.args.leaf.now.image (version_of c.args.entry.now) w c.in_ok-whole.ensures.keys c.in_ok-whole.ensures.leaf (c.split_column.ensures.once refusal is)
+
+pub returns-in_err-column-clause-one_block : goal.returns-in_err-column-clause-one_block
+returns-in_err-column-clause-one_block g c start shown shows = inl (spends_none g.O.OnceDisk c.args.shelf.now)
+
+pub returns-in_err-whole-clause-one_block : goal.returns-in_err-whole-clause-one_block
+returns-in_err-whole-clause-one_block g c start shown shows = inl (spends_none g.O.OnceDisk c.args.shelf.now)
+
+pub returns-clause-one_block : goal.returns-clause-one_block
+returns-clause-one_block g c start shown shows =
+    let place = c.args.place.now in
+    let w = c.in_ok-whole.whole in
+    let says = column_read shown place w c.args.leaf.now.page _ (c.in_ok-column.ensures.shown start shown shows) c.in_ok-whole.ensures.column c.in_ok-whole.ensures.keys in
+    elim c.split_column.ensures.one_block [
+      | inl same ↦ inl (spends_same g.O.OnceDisk c.args.shelf.now c.split_column.new.shelf same)
+      | inr rest ↦ or_else (full_column place w.parts.items w.start c.args.leaf.now.page says) rest
+    ]
