@@ -1,5 +1,5 @@
 -- A stream that is read piece by piece.
-use Rattle.std.proofs.Common.{◌≡◌, ℕ, List, [], ◌++◌, Option, Some, None, Bool, true, false, map, arith, inl, inr, refl, sym, ap, ◌∙◌, subst, append_assoc, append-nil}
+use Rattle.std.proofs.Common.{◌≡◌, ℕ, List, [], ◌++◌, Option, Some, None, Bool, true, false, map, arith, inl, refl, sym, ap, ◌∙◌, subst, append_assoc, append-nil}
 use Rattle.std.specs.Io.KnownBytes.{Consumes, IsAtEnd}
 use Rattle.std.proofs.KnownBytes.{Consumes-nil, Consumes-trans}
 use Rattle.std.proofs.lemmas.List.{map-append}
@@ -11,22 +11,18 @@ use Rattle.mrt_records.specs.Streams.{GainsFrames, EndsOver}
 use Rattle.mrt_records.specs.declared.item.Item.{Item}
 use Rattle.mrt_records.proofs.api.Pieces.{frames_then}
 use Rattle.mrt_records.proofs.api.Streams.{frames_none, part_begins_none, over_begins_none, over-append}
-use Rattle.query_threads.specs.Seeing.{Since}
 use Rattle.service.specs.Feeds.{IsCut, MayGive}
 use Rattle.service.specs.FeedLines.{counts_line}
 use Rattle.service.specs.FeedTexts.{cut_line}
 use Rattle.service.specs.Outputs.{OutputState, Tells}
-use Rattle.service.specs.Refusals.{refusal_line}
-use Rattle.service.specs.Faults.{of_stop}
 use Rattle.service.specs.Turns.{Turn, turns_for, last_turns, feed_turns}
 use Rattle.service.specs.declared.faults.FeedCut.{FeedCut}
 use Rattle.service.specs.declared.faults.FeedCut.TheVariants as cuts
 use Rattle.service.specs.declared.faults.FeedStop.{FeedStop}
 use Rattle.service.specs.declared.faults.FeedStop.TheVariants as stops
-use Rattle.service.specs.declared.intake.End.{End}
 use Rattle.service.specs.declared.intake.End.TheVariants as ends
 use Rattle.service.specs.declared.limits.BatchLimits.{BatchLimits}
-use Rattle.shared_feed.specs.SharedFeeds.{IsReason, IsTakenIn, IsEnd, counts_by}
+use Rattle.shared_feed.specs.SharedFeeds.{IsReason, IsTakenIn, counts_by}
 use Rattle.shared_feed.specs.inner.Feeding.{HasDone, IsBehind, Reads, IsHeld, IsRead, IsReadOut, IsSameFeed, StopsWithin}
 use Rattle.shared_feed.specs.declared.feeding.Feeding.{Feeding}
 use Rattle.shared_feed.proofs.GivingUp.{within_more, stops_behind, means_from}
@@ -240,10 +236,3 @@ all_taken_in promised c limit v bytes held cut old new w u was mid then now out 
       tells = subst (λ (t : List ℕ). Tells then now t) (λ k. cut_line cut ((same.records ∙ b.recorded) k) ++ counts_line (counted k)) told_;
       since = done.since;
     }
-
--- what a pass sees behind a feed goes on from what it saw before
-pub since_feed : (promised : Type 0) (collectors c : ℕ) (limit : BatchLimits) (bytes : List ℕ) (end : End) (v : View) (was : OutputState) (w : View) (now : OutputState) → IsEnd promised collectors c limit bytes end v was w now → Since v w
-since_feed promised collectors c limit bytes ends.Well v was w now e = e.since
-since_feed promised collectors c limit bytes ends.Cut v was w now e = e.1.since
-since_feed promised collectors c limit bytes (ends.Refused why) v was w now (inl up) = up.since
-since_feed promised collectors c limit bytes (ends.Refused why) v was w now (inr none) = inl none.1.same

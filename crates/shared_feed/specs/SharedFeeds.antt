@@ -1,5 +1,5 @@
 -- How a feed into a shared archive ends.
-use Rattle.std.specs.Prelude.{◌≡◌, ◌⊎◌, ◌≤◌, ◌*◌, ⊤, ℕ, min, max, sum_by, List, [], ◌∷◌, ◌++◌, length, Option, Some, None, Result}
+use Rattle.std.specs.Prelude.{◌≡◌, ◌⊎◌, ◌<◌, ◌≤◌, ◌*◌, ⊤, ℕ, min, max, sum_by, List, [], ◌∷◌, ◌++◌, length, Option, Some, None, Result}
 use Rattle.route_model.specs.Admission.{Admitted}
 use Rattle.board.specs.Views.{View}
 use Rattle.interleaving_core.specs.declared.reply.BatchReply.{BatchReply}
@@ -80,8 +80,8 @@ pub record IsOfNone (collectors c : ℕ) (v : View) (was : OutputState) (w : Vie
   pub same : w ≡ v
   pub tells : Tells was now (refusal_line (of_stop stops.NoCollector))
 
--- how a feed of these octets ended, of an archive with so many collectors: all of it was read, or it was cut short, or it was given up for this
+-- How a feed of these octets ended, of an archive with so many collectors: all of it was read, or it was cut short, or it was given up for this. Of a collector that there isn't nothing else is told than that.
 abbrev pub IsEnd : Type 0 → ℕ → ℕ → BatchLimits → List ℕ → End → View → OutputState → View → OutputState → Type 0
-IsEnd promised collectors c limit bytes ends.Well v was w now = IsTakenIn promised c limit bytes None v was w now
-IsEnd promised collectors c limit bytes ends.Cut v was w now = (why : FeedCut) × IsTakenIn promised c limit bytes (Some why) v was w now
-IsEnd promised collectors c limit bytes (ends.Refused why) v was w now = IsGivenUp promised c limit bytes why v was w now ⊎ ((why ≡ stops.NoCollector) × IsOfNone collectors c v was w now)
+IsEnd promised collectors c limit bytes ends.Well v was w now = (c < collectors) × IsTakenIn promised c limit bytes None v was w now
+IsEnd promised collectors c limit bytes ends.Cut v was w now = (c < collectors) × ((why : FeedCut) × IsTakenIn promised c limit bytes (Some why) v was w now)
+IsEnd promised collectors c limit bytes (ends.Refused why) v was w now = ((c < collectors) × IsGivenUp promised c limit bytes why v was w now) ⊎ ((why ≡ stops.NoCollector) × IsOfNone collectors c v was w now)

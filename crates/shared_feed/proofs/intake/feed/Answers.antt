@@ -1,4 +1,4 @@
-use Rattle.std.proofs.Common.{◌≤◌, inl, inr, refl, arith}
+use Rattle.std.proofs.Common.{◌<◌, ◌≤◌, inl, inr, refl, arith}
 use Rattle.std.specs.Prelude.{IsSome}
 use Rattle.service.proofs.Streams.{some_given}
 use Rattle.shared_feed.specs.SharedFeeds.{limits_of}
@@ -14,17 +14,27 @@ returns-then-collector-collectors-clause-ended g c =
 pub returns-in-Ok-None : goal.returns-in-Ok-None
 returns-in-Ok-None g c =
     let fed = rw c.in-Ok-None.field-0-is at c.in-Ok-None.ensures.fed in
-    record { ended = fed; since = fed.2.since }
+    let there : c.args.collector < c.args.shared.now.collectors = omega (arith, c.collectors.ensures, c.if-collector-collectors.false) in
+    record { ended = (fed.0, fed.1, (there, fed.2)); since = fed.2.since }
 
 pub returns-in-Ok-Some : goal.returns-in-Ok-Some
 returns-in-Ok-Some g c =
     let fed = rw c.in-Ok-Some.field-0-is at c.in-Ok-Some.ensures.fed in
-    record { ended = (fed.0, fed.1, (_, fed.2)); since = fed.2.since }
+    let there : c.args.collector < c.args.shared.now.collectors = omega (arith, c.collectors.ensures, c.if-collector-collectors.false) in
+    record { ended = (fed.0, fed.1, (there, (_, fed.2))); since = fed.2.since }
 
 pub returns-in-Err : goal.returns-in-Err
 returns-in-Err g c =
     let up = c.in-Err.ensures.given_up in
+    let there : c.args.collector < c.args.shared.now.collectors = omega (arith, c.collectors.ensures, c.if-collector-collectors.false) in
     record {
-      ended = (up.0, up.1, inl (given_up_told (IsSome g.N.OnDisk.disk) c.args.collector (limits_of c.args.limit c.args.shared.now.ring) c.args.pass.now up.0 c.take_in.new.pass c.args.out.now c.take_in.new.out c.tell_stop-in-Err.new.out c.in-Err.why up.2 c.tell_stop-in-Err.ensures.told));
+      ended = (
+        up.0,
+        up.1,
+        inl (
+          there,
+          given_up_told (IsSome g.N.OnDisk.disk) c.args.collector (limits_of c.args.limit c.args.shared.now.ring) c.args.pass.now up.0 c.take_in.new.pass c.args.out.now c.take_in.new.out c.tell_stop-in-Err.new.out c.in-Err.why up.2 c.tell_stop-in-Err.ensures.told,
+        ),
+      );
       since = up.2.gives_up.since;
     }
