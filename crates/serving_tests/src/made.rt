@@ -1,0 +1,32 @@
+//! An archive on disks in memory, to which nothing was given.
+
+use archive_pages::Settings;
+use disk_archive::Archive;
+use disk_memory::{MemErase, MemOnce};
+use shared_archive::MemStore;
+use std::alloc::Global;
+use std::sync::Arc;
+use std::test::Fail;
+
+/// How many collectors it has.
+pub(crate) const COLLECTORS: u8 = 1;
+
+// The octets of an erasable disk: 265 pages before the home pages; the head, a ring of 16 pages, and 64 pages of the tree.
+const OCTETS: u64 = (265 + 1 + 16 + 64) * 16_384;
+
+// The blocks of a write-once disk.
+const BLOCKS: u64 = 64;
+
+/// An archive to which nothing was given.
+pub(crate) fn empty_store(alloc: Global) -> Result<MemStore, Fail> {
+    let settings = Settings {
+        collectors: COLLECTORS,
+        ring: 16,
+    };
+    let erase = MemErase::new(alloc, OCTETS);
+    let (once, pen) = MemOnce::new(alloc, BLOCKS);
+    match Archive::create(alloc, erase, Arc::new(alloc, once)?, pen, settings) {
+        Ok(archive) => Ok(MemStore { archive }),
+        Err(refused) => Err(refused.error.into()),
+    }
+}

@@ -1,0 +1,157 @@
+//! Clients of a server, which take one step after another over connections of their own.
+
+use std::alloc::Global;
+use std::io::{Read, Write, read_to_string};
+use std::net::{Net, OpenStream, Shutdown, SocketAddr, TcpListener, TcpStream};
+use std::time::Duration;
+use test_octets::octets;
+
+/// How many seconds a client waits for what it is to be told, or for room for what it sends.
+const PATIENCE: u64 = 20;
+
+/// What a client does. Connections have numbers, the first 0.
+#[derive(Drop)]
+pub(crate) enum Step {
+    /// It connects.
+    Connect,
+    /// It sends a text.
+    Send(usize, &'static str),
+    /// It sends octets, which these hexadecimal digits tell.
+    SendOctets(usize, &'static str),
+    /// It sends a text so many times.
+    SendOften(usize, &'static str, usize),
+    /// It sends no more.
+    SendNoMore(usize),
+    /// It is told just this.
+    Hear(usize, &'static str),
+    /// It is told this, and then its connection ends.
+    HearLast(usize, &'static str),
+    /// It goes away, whatever it is told.
+    GoAway(usize),
+}
+
+/// The connections of clients.
+#[derive(Drop)]
+struct Clients {
+    streams: Vec<Option<TcpStream>>,
+}
+
+impl Clients {
+    /// One more connects. None where it can't.
+    fn connect<R: Net<Listener = TcpListener, Stream = TcpStream>>(
+        &mut self,
+        rt: &R,
+        address: SocketAddr,
+    ) -> Option<()> {
+        let stream = TcpStream::connect(rt, address).ok()?;
+        let patience = Some(Duration::from_secs(PATIENCE));
+        stream.set_read_timeout(patience).ok()?;
+        stream.set_write_timeout(patience).ok()?;
+        self.streams.push(Some(stream)).ok()?;
+        Some(())
+    }
+
+    /// The connection of this number, if it is there.
+    fn stream(&self, number: usize) -> Option<&TcpStream> {
+        self.streams.get(number)?.as_ref()
+    }
+
+    /// Sends octets over a connection. None where they can't be sent.
+    fn send(&self, number: usize, octets: &[u8]) -> Option<()> {
+        let stream = self.stream(number)?;
+        (&mut &*stream).write_all(octets).ok()
+    }
+
+    /// Whether the next octets of a connection are this text.
+    fn hears(&self, alloc: Global, number: usize, text: &str) -> Option<bool> {
+        let stream = self.stream(number)?;
+        let mut heard = vec![in alloc; 0u8; text.len()].ok()?;
+        (&mut &*stream).read_exact(&mut heard).ok()?;
+        Some(heard.as_slice() == text.as_bytes())
+    }
+
+    /// Whether all that comes of a connection until it ends is this text.
+    fn hears_last(&self, alloc: Global, number: usize, text: &str) -> Option<bool> {
+        let stream = self.stream(number)?;
+        let heard = read_to_string(alloc, &*stream).ok()?;
+        Some(heard.as_str() == text)
+    }
+
+    /// Lets a connection go.
+    fn go_away(&mut self, number: usize) -> Option<()> {
+        let place = self.streams.get_mut(number)?;
+        *place = None;
+        Some(())
+    }
+}
+
+/// Sends a text so many times.
+fn send_often(clients: &Clients, number: usize, text: &str, times: usize) -> Option<()> {
+    for _ in 0..times {
+        clients.send(number, text.as_bytes())?;
+    }
+    Some(())
+}
+
+/// Takes a step. Whether it went as it has to; none where a socket failed.
+fn take_step<R: Net<Listener = TcpListener, Stream = TcpStream>>(
+    rt: &R,
+    alloc: Global,
+    address: SocketAddr,
+    clients: &mut Clients,
+    step: &Step,
+) -> Option<bool> {
+    match step {
+        Step::Connect => clients.connect(rt, address)?,
+        Step::Send(number, text) => clients.send(*number, text.as_bytes())?,
+        Step::SendOctets(number, digits) => {
+            let told = octets(alloc, digits).ok()?;
+            clients.send(*number, &told)?;
+        }
+        Step::SendOften(number, text, times) => send_often(clients, *number, text, *times)?,
+        Step::SendNoMore(number) => clients.stream(*number)?.shutdown(Shutdown::Write).ok()?,
+        Step::Hear(number, text) => return clients.hears(alloc, *number, text),
+        Step::HearLast(number, text) => {
+            let is_right = clients.hears_last(alloc, *number, text);
+            clients.go_away(*number)?;
+            return is_right;
+        }
+        Step::GoAway(number) => clients.go_away(*number)?,
+    }
+    Some(true)
+}
+
+/// Stops a server whose clients went wrong.
+fn stop<R: Net<Listener = TcpListener, Stream = TcpStream>>(
+    rt: &R,
+    alloc: Global,
+    address: SocketAddr,
+) -> Option<()> {
+    let mut clients = Clients {
+        streams: Vec::new(alloc),
+    };
+    clients.connect(rt, address)?;
+    clients.send(0, b"stop\n")?;
+    clients.hears_last(alloc, 0, "ok\n")?;
+    Some(())
+}
+
+/// How many of the steps went as they have to, before the first that didn't. Then the server is stopped, if it still serves.
+pub(crate) fn count_right<R: Net<Listener = TcpListener, Stream = TcpStream>>(
+    rt: &R,
+    alloc: Global,
+    address: SocketAddr,
+    steps: &[Step],
+) -> usize {
+    let mut clients = Clients {
+        streams: Vec::new(alloc),
+    };
+    for (place, step) in steps.iter().enumerate() {
+        if take_step(rt, alloc, address, &mut clients, step) != Some(true) {
+            drop(clients);
+            let _ = stop(rt, alloc, address);
+            return place;
+        }
+    }
+    steps.len()
+}
