@@ -74,7 +74,7 @@ pub record IsGivenUp (promised : Type 0) (c : ℕ) (limit : BatchLimits) (bytes 
   pub tells : Tells then now (refusal_line (of_stop why))
   pub since : Since v w
 
--- there is no such collector, which was told, and nothing was read
+-- there is no such collector, which alone was told, and the pass sees what it saw
 pub record IsOfNone (collectors c : ℕ) (v : View) (was : OutputState) (w : View) (now : OutputState) : Type 0 where
   pub none : collectors ≤ c
   pub same : w ≡ v
