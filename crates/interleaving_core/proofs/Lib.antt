@@ -13,3 +13,4 @@ pub mod Promised
 pub mod Wholly
 pub mod NextChanges
 pub mod Answered
+pub mod Answering

@@ -20,4 +20,4 @@ pub use query::{Answer, Query};
 pub use reply::{BatchReply, Receipt, Reply, Resume};
 pub use runs::{Ran, run};
 pub use step::{Reach, Step};
-pub use step_laws::{batches_are_one, steps_go_on};
+pub use step_laws::{answers_are_turns, batches_are_one, steps_go_on};
