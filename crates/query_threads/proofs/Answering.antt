@@ -1,5 +1,5 @@
 -- What was answered of a settled moment stays the answer.
-use Rattle.std.proofs.Common.{◌≡◌, ℕ, zero, suc, ◌<◌, ◌≤◌, List, [], ◌∷◌, sym, ◌∙◌, arith, le_refl, zero-le}
+use Rattle.std.proofs.Common.{ℕ, zero, suc, ◌<◌, ◌≤◌, List, [], ◌∷◌, sym, ◌∙◌, arith, le_refl, zero-le}
 use Rattle.std.specs.Prelude.{slice_index}
 use Rattle.route_meaning.specs.History.{History, IsHistory, Begins, applied, settled}
 use Rattle.route_meaning.proofs.api.Front.{settled_stays}
@@ -14,7 +14,6 @@ use Rattle.interleaving_core.specs.Does.{last_moment}
 use Rattle.interleaving_core.specs.Headline.{IsAnswered}
 use Rattle.board.specs.Views.{View, BeginsView, Within, with_number, with_seen}
 use Rattle.query_threads.specs.Asking.{IsSameAnswer}
-use Rattle.query_threads.proofs.Seen.{begins_then}
 
 answered_later : (query : Query) (answer : Answer) (h g : History) → IsHistory h → Begins h g → last_moment query < settled h → IsAnswered (applied h) query answer → IsAnswered (applied g) query answer
 answered_later (Rows q) (RowsTold a) h g right begins low is =

@@ -1,10 +1,10 @@
 -- The words of a board, raised to what a history reaches.
-use Rattle.std.proofs.Common.{◌≡◌, ℕ, zero, suc, ◌+◌, ◌<◌, ◌≤◌, List, [], ◌∷◌, length, refl, sym, ap, ◌∙◌, subst, arith, le_trans, le_refl, zero-le, inl, inr}
+use Rattle.std.proofs.Common.{◌≡◌, ℕ, zero, suc, ◌≤◌, List, [], ◌∷◌, length, refl, ap, arith, zero-le, inl, inr}
 use Rattle.std.specs.List.{AllZip, slice_get}
 use Rattle.std.specs.Prelude.{slice_index}
 use Rattle.std.proofs.lemmas.Bool.{cases_lt}
 use Rattle.route_meaning.specs.History.{Intake, History, GoesOn, floor}
-use Rattle.board.specs.Past.{Past, GoesOnAs, count_in, count_of, reach}
+use Rattle.board.specs.Past.{Past, GoesOnAs, count_in, reach}
 
 none_beyond : (is : List Intake) (c : ℕ) → length is ≤ c → count_in (slice_get is c) ≡ 0
 none_beyond [] c le = refl

@@ -1,6 +1,6 @@
 -- A right history that reaches whatever a word may be: each collector gave as many admissions as are asked for, all at the first moment,
 -- and said that nothing earlier than the last mark follows.
-use Rattle.std.proofs.Common.{◌≡◌, ℕ, zero, suc, ◌<◌, ◌≤◌, min, List, [], ◌∷◌, ◌++◌, map, take, drop, length, replicate, inl, refl, sym, subst, arith, le_refl}
+use Rattle.std.proofs.Common.{◌≡◌, ℕ, zero, suc, ◌<◌, ◌≤◌, List, [], ◌++◌, map, take, length, replicate, inl, refl, sym, subst, arith, le_refl}
 use Rattle.std.specs.List.{AllByRecursion}
 use Rattle.std.specs.Prelude.{slice_get}
 use Rattle.std.proofs.Math.Nat.{le-min}
@@ -11,7 +11,7 @@ use Rattle.route_meaning.specs.Holds.{admitted_time, time_of}
 use Rattle.route_meaning.specs.Merged.{Placed, placed, all_placed, merged, IsRising}
 use Rattle.route_meaning.specs.History.{Intake, History, IsIntake, IsHistory, IsBelowMarks, all_of, bounds, least, settled}
 use Rattle.route_meaning.proofs.api.Sorting.{all_append, all_by_time, all_weaker}
-use Rattle.board.specs.Past.{Past, count_in, count_of}
+use Rattle.board.specs.Past.{Past, count_in}
 use Rattle.query_threads.specs.inner.Unpromised.{ReachesAll}
 
 -- an admission at the first moment, without changes

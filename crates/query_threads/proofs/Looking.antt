@@ -1,5 +1,5 @@
 -- What a look found, and the blocks of a past.
-use Rattle.std.proofs.Common.{◌≡◌, ℕ, List, Option, Some, Result, Ok, Err}
+use Rattle.std.proofs.Common.{ℕ, List, Option, Result, Ok, Err}
 use Rattle.std.specs.Prelude.{OnOk}
 use Rattle.board.specs.Past.{Among}
 use Rattle.query_threads.specs.Looks.{AreSettled, AreTheSettled}

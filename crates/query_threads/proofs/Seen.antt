@@ -1,5 +1,5 @@
 -- What a pass has seen goes on from call to call.
-use Rattle.std.proofs.Common.{◌≡◌, ℕ, ◌≤◌, inl, inr, arith, sym, subst, le_trans}
+use Rattle.std.proofs.Common.{◌≡◌, ℕ, ◌≤◌, inl, inr, sym, subst, le_trans}
 use Rattle.std.specs.Prelude.{slice_index}
 use Rattle.route_meaning.specs.History.{History, settled}
 use Rattle.interleaving_core.specs.declared.query.Query.{Query}

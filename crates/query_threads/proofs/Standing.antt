@@ -1,5 +1,5 @@
 -- The past of an archive of which something is promised, or of one of which nothing is.
-use Rattle.std.proofs.Common.{◌≡◌, ◌∙◌, ◌⊎◌, ℕ, ◌≤◌, Bool, true, false, List, length, Option, sym}
+use Rattle.std.proofs.Common.{◌≡◌, ◌∙◌, ◌⊎◌, ℕ, ◌≤◌, true, false, length, Option, sym}
 use Rattle.std.specs.Prelude.{IsSome, IsNone, is_some}
 use Rattle.std.proofs.lemmas.Bool.{cases_Bool}
 use Rattle.route_meaning.specs.History.{IsHistory}

@@ -1,4 +1,4 @@
-use Rattle.std.proofs.Common.{◌≡◌, ◌∙◌, ◌+◌, ℕ, length, ap, inl, inr, sym}
+use Rattle.std.proofs.Common.{◌∙◌, ◌+◌, ℕ, length, ap, inl, inr, sym}
 use Rattle.board.specs.Past.{Past}
 use Rattle.query_threads.proofs.Catching.{as_many}
 use Rattle.query_threads.proofs.Standing.{never, promised, stays_as}

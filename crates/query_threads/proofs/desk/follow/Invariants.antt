@@ -1,4 +1,3 @@
-use Rattle.std.proofs.Common.{◌≡◌}
 use Rattle.std.specs.Prelude.{IsSome, IsNone}
 use Rattle.query_threads.specs.inner.Unpromised.{ReachesAll}
 use Rattle.query_threads.proofs.desk.follow.Given as goal

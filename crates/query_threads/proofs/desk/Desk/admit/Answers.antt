@@ -1,4 +1,4 @@
-use Rattle.std.proofs.Common.{◌≡◌, ℕ, sym, ◌∙◌, subst}
+use Rattle.std.proofs.Common.{ℕ, sym, ◌∙◌, subst}
 use Rattle.board.specs.Past.{Past}
 use Rattle.board.specs.Views.{View, IsFrontOf}
 use Rattle.query_threads.specs.Steps.{DoesAdmit, IsCrowded}
