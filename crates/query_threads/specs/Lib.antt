@@ -1,3 +1,4 @@
+pub mod Troubles
 pub mod Steps
 pub mod Turns
 pub mod Looks

@@ -1,5 +1,5 @@
 -- What a call on an archive does to its history, and what it tells.
-use Rattle.std.specs.Prelude.{◌≡◌, ◌<◌, ◌≤◌, ◌+◌, ◌*◌, ⊤, ℕ, List, [], length, Some, slice_get, map, sum_by, Result, Ok, Err}
+use Rattle.std.specs.Prelude.{◌≡◌, ◌<◌, ◌+◌, ◌*◌, ℕ, List, [], length, Some, slice_get, sum_by, Result, Ok, Err, IfErr}
 use Rattle.route_model.specs.Admission.{Admitted, admission_octets}
 use Rattle.sequencer.specs.Late.{timely}
 use Rattle.route_meaning.specs.Holds.{admitted_time}
@@ -16,6 +16,7 @@ use Rattle.query_threads.specs.declared.refusal.MarkError.TheVariants as marks
 use Rattle.query_threads.specs.declared.refusal.Step.{Step}
 use Rattle.query_threads.specs.declared.refusal.Step.TheVariants.{Applied, Idle}
 use Rattle.query_threads.specs.declared.refusal.Flush.{Flush}
+use Rattle.query_threads.specs.Troubles.{BlamesNone, IsOutside}
 
 -- how many octets an admission takes in a ring and counts in a batch: 4, and those of its spelling
 abbrev pub entry_octets : Admitted → ℕ
@@ -39,7 +40,7 @@ IsRefusal h c batch admits.NoCollector = IsCollector h c → ⊥
 IsRefusal h c batch admits.BatchTooLarge = 262144 < sum_by entry_octets batch
 IsRefusal h c batch admits.CounterFull = IsCounterFull h c (length batch)
 IsRefusal h c batch admits.IntakeFull = IsCollector h c
-IsRefusal h c batch (admits.Trouble trouble) = ⊤
+IsRefusal h c batch (admits.Trouble trouble) = IsOutside trouble
 
 -- a batch was taken, as the reply tells
 pub record IsTaken (h : History) (c : ℕ) (batch : List Admitted) (reply : BatchReply) (g : History) : Type 0 where
@@ -53,12 +54,12 @@ abbrev pub DoesAdmit : ℕ → List Admitted → Result BatchReply AdmitError �
 DoesAdmit c batch (Ok reply) h g = IsTaken h c batch reply g
 DoesAdmit c batch (Err refusal) h g = (g ≡ h) × IsRefusal h c batch refusal
 
--- the mark is set; or there is no such collector, or its mark is above, and nothing changes
+-- the mark is set; or there is no such collector, or its mark is above, or there was a trouble from outside, and nothing changes
 abbrev pub DoesMark : ℕ → ℕ → Result (Unit {0}) MarkError → History → History → Type 0
 DoesMark c mark (Ok done) h g = IsCollector h c × (g ≡ marked h c mark)
 DoesMark c mark (Err marks.NoCollector) h g = (IsCollector h c → ⊥) × (g ≡ h)
 DoesMark c mark (Err marks.MarkBack) h g = IsMarkAbove h c mark × (g ≡ h)
-DoesMark c mark (Err (marks.Trouble trouble)) h g = g ≡ h
+DoesMark c mark (Err (marks.Trouble trouble)) h g = IsOutside trouble × (g ≡ h)
 
 -- the next change is applied, and perhaps some more
 pub record AppliesSome (h g : History) : Type 0 where
@@ -67,12 +68,12 @@ pub record AppliesSome (h g : History) : Type 0 where
   pub more : ℕ
   pub others : AppliesMore more first g
 
--- the next change was applied at least; or nothing may be applied, or the call failed, and nothing changes
+-- the next change was applied at least; or nothing may be applied, or the call failed and nothing is said to be damaged, and nothing changes
 abbrev pub DoesApply : Result Step Trouble → History → History → Type 0
 DoesApply (Ok Applied) h g = AppliesSome h g
 DoesApply (Ok Idle) h g = NothingToApply h × (g ≡ h)
-DoesApply (Err trouble) h g = g ≡ h
+DoesApply (Err trouble) h g = BlamesNone trouble × (g ≡ h)
 
--- nothing that was said changes
+-- nothing that was said changes, and the call fails only for a trouble from outside
 abbrev pub DoesFlush : Result Flush Trouble → History → History → Type 0
-DoesFlush told h g = g ≡ h
+DoesFlush told h g = IfErr told IsOutside × (g ≡ h)

@@ -1,5 +1,5 @@
 -- What a turn of a question gives.
-use Rattle.std.specs.Prelude.{◌≡◌, ◌≤◌, ⊤, ℕ}
+use Rattle.std.specs.Prelude.{◌≡◌, ◌≤◌, ⊤}
 use Rattle.route_meaning.specs.History.{History, settled}
 use Rattle.interleaving_core.specs.declared.query.Query.{Query}
 use Rattle.interleaving_core.specs.declared.query.Answer.{Answer}
@@ -8,6 +8,7 @@ use Rattle.query_threads.specs.declared.refusal.Turn.{Turn}
 use Rattle.query_threads.specs.declared.refusal.Turn.TheVariants.{Done, Again, Historical}
 use Rattle.query_threads.specs.declared.refusal.AskError.{AskError}
 use Rattle.query_threads.specs.declared.refusal.AskError.TheVariants.{AboveWatermark, Trouble as Troubled}
+use Rattle.query_threads.specs.Troubles.{IsOutside}
 
 -- a fact for each kind of turn
 abbrev pub TurnGives : {E : Type 0} → (E → Type 0) → Type 0 → (Answer → Type 0) → Turn E → Type 0
@@ -15,10 +16,10 @@ TurnGives historical again answered (Done answer) = answered answer
 TurnGives historical again answered Again = again
 TurnGives historical again answered (Historical errand) = historical errand
 
--- a question is refused as above the watermark only where it is, and the watermark is told
+-- a question is refused as above the watermark only where it is, and the watermark is told; else for a trouble from outside
 abbrev pub IsTold : AskError → History → Query → Type 0
 IsTold (AboveWatermark mark) h query = (mark ≡ settled h) × (settled h ≤ last_moment query)
-IsTold (Troubled trouble) h query = ⊤
+IsTold (Troubled trouble) h query = IsOutside trouble
 
 -- the question was refused as above the watermark
 abbrev pub IsAbove : AskError → Type 0

@@ -206,12 +206,13 @@ impl<A: Store, N: Named + OnDisk<A::Disk>> Desk<A, N> {
         }
     }
 
-    /// A reader of this archive's blocks, which keeps none yet.
+    /// A reader of this archive's blocks, which keeps none yet. It is refused for want of memory alone.
     pub fn reader(&self, alloc: Global, capacity: usize) -> Result<A::Reader, Trouble>
         requires some { 1 ≤ capacity }
         requires few { capacity ≤ 1024 }
         ensures disk { IsSome N.disk → IfOk result (λ r. N.disk ≡ Some (A.reads r)) }
         ensures empty { IfOk result (λ r. A.kept r ≡ []) }
+        ensures memory { IfErr result (λ e. e ≡ Trouble.OutOfMemory) }
     {
         self.archive.reader(alloc, capacity)
     }

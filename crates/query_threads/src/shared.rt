@@ -11,6 +11,7 @@ ghost use Rattle.query_threads.specs.Steps.{IsCrowded, DoesAdmit, DoesMark, Does
 ghost use Rattle.query_threads.specs.Looks.{IsErrandOn};
 ghost use Rattle.query_threads.specs.Turns.{TurnGives, IsTold, IsAbove};
 ghost use Rattle.query_threads.specs.Seeing.{Sees};
+ghost use Rattle.query_threads.specs.Troubles.{IsOutside};
 
 use crate::desk::{Desk, catch_up};
 use crate::gate::Gate;
@@ -62,7 +63,7 @@ impl<A: Store, N: OnDisk<A::Disk>> Model for Reader<A, N> {
 }
 
 impl<A: Store, N: Named + OnDisk<A::Disk>> Reader<A, N> {
-    /// A reader that keeps up to so many blocks, 1 to 1,024, and none yet.
+    /// A reader that keeps up to so many blocks, 1 to 1,024, and none yet. It is refused for want of memory alone.
     pub fn new<G: Gate + Drop>(
         rt: &impl Wait,
         alloc: Global,
@@ -72,6 +73,7 @@ impl<A: Store, N: Named + OnDisk<A::Disk>> Reader<A, N> {
         requires some { 1 ≤ capacity }
         requires few { capacity ≤ 1024 }
         ensures empty { IfOk result (λ r. r ≡ []) }
+        ensures memory { IfErr result (λ e. e ≡ Trouble.OutOfMemory) }
     {
         let blocks = shared.desk.lock(rt).reader(alloc, capacity)?;
         Ok(Reader {
@@ -90,6 +92,7 @@ impl<A: Store, N: Named + OnDisk<A::Disk>> Reader<A, N> {
     ) -> Result<(), Trouble>
         requires fits { A.fits errand cursor.old }
         ensures kept { IsSome N.disk → (p : Past) → IfSome N.disk (IsErrandOn (λ e. A.lies e cursor.old) A.honest A.block_count A.known p errand seen.old) → Among self.old p.blocks → Among self.new p.blocks }
+        ensures sound { IsSome N.disk → (p : Past) → IfSome N.disk (IsErrandOn (λ e. A.lies e cursor.old) A.honest A.block_count A.known p errand seen.old) → Among self.old p.blocks → IfErr result IsOutside }
         ensures asks { A.asks cursor.new ≡ A.asks cursor.old }
         ensures gathered { IsSome N.disk → OnOk result ((p : Past) → IfSome N.disk (IsErrandOn (λ e. A.lies e cursor.old) A.honest A.block_count A.known p errand seen.old) → Among self.old p.blocks → A.gathered cursor.new p.history) }
     {

@@ -10,6 +10,7 @@ ghost use Rattle.board.specs.Past.{Past, GoesOnAs, count_of};
 ghost use Rattle.query_threads.specs.Steps.{IsCrowded, DoesAdmit, DoesMark, DoesApply, DoesFlush};
 ghost use Rattle.query_threads.specs.Turns.{TurnGives, IsTold};
 ghost use Rattle.query_threads.specs.Looks.{AreSettled, AreTheSettled, IsErrandOn};
+ghost use Rattle.query_threads.specs.Troubles.{IsOutside};
 
 use crate::refusal::{AdmitError, AskError, Flush, MarkError, Step, Trouble, Turn};
 use board::Named;
@@ -170,15 +171,17 @@ pub trait Store {
         ensures carries { (p : Past) → carries self.old p → carries self.new p }
         ensures honest { (p : Past) → carries self.old p → IfOk result (λ s. honest (disk_of self.old) s) }
         ensures known { (p : Past) → carries self.old p → IfOk result (λ s. AreTheSettled (block_count (disk_of self.old)) (known s) p.blocks) }
+        ensures sound { (p : Past) → carries self.old p → IfErr result IsOutside }
         ensures disk { disk_of self.new ≡ disk_of self.old }
         ensures pages { pages self.new ≡ pages self.old };
 
-    /// A reader that keeps up to so many blocks, 1 to 1,024, and none yet.
+    /// A reader that keeps up to so many blocks, 1 to 1,024, and none yet. It is refused for want of memory alone.
     fn reader(&self, alloc: Global, capacity: usize) -> Result<Self::Reader, Trouble>
         requires some { 1 ≤ capacity }
         requires few { capacity ≤ 1024 }
         ensures disk { IfOk result (λ r. reads r ≡ disk_of self.now) }
-        ensures empty { IfOk result (λ r. kept r ≡ []) };
+        ensures empty { IfOk result (λ r. kept r ≡ []) }
+        ensures memory { IfErr result (λ e. e ≡ Trouble.OutOfMemory) };
 
     /// Reads the blocks of an errand without the archive.
     fn finish(
@@ -190,6 +193,7 @@ pub trait Store {
     ) -> Result<(), Trouble>
         requires fits { fits errand cursor.old }
         ensures kept { (p : Past) → IsErrandOn (λ e. lies e cursor.old) honest block_count known p errand seen.old (reads reader.old) → AreSettled (block_count (reads reader.old)) (known seen.old) (kept reader.old) → AreSettled (block_count (reads reader.old)) (known seen.old) (kept reader.new) }
+        ensures sound { (p : Past) → IsErrandOn (λ e. lies e cursor.old) honest block_count known p errand seen.old (reads reader.old) → AreSettled (block_count (reads reader.old)) (known seen.old) (kept reader.old) → IfErr result IsOutside }
         ensures disk { reads reader.new ≡ reads reader.old }
         ensures asks { asks cursor.new ≡ asks cursor.old }
         ensures gathered { OnOk result ((p : Past) → IsErrandOn (λ e. lies e cursor.old) honest block_count known p errand seen.old (reads reader.old) → AreSettled (block_count (reads reader.old)) (known seen.old) (kept reader.old) → gathered cursor.new p.history) };

@@ -23,13 +23,15 @@ use Rattle.shared_archive.proofs.Blocks.{block_of, entry_of}
 -- why a question isn't answered
 pub not_answered : {R : Type 0} (down : Bool) (h : History) (query : Query) (e : AskError)
     → ((mark : ℕ) → (◌≡◌ {A = Result R AskError} (Err e) (Err (asks.AboveWatermark mark))) ↔ ((down ≡ false) × (mark ≡ settled h) × (settled h ≤ last_moment query)))
+    → ((page : ℕ) → e ≡ asks.BadNode page → ⊥)
+    → ((block : ℕ) → e ≡ asks.Damaged block → ⊥)
     → IsTold (of_ask e) h query
-not_answered down h query asks.NeedsRecovery above = tt
-not_answered down h query (asks.AboveWatermark mark) above = let told = (above mark).0 refl in (told.1, told.2)
-not_answered down h query (asks.BadNode page) above = tt
-not_answered down h query (asks.Damaged block) above = tt
-not_answered down h query asks.Fault above = tt
-not_answered down h query asks.OutOfMemory above = tt
+not_answered down h query asks.NeedsRecovery above sound undamaged = tt
+not_answered down h query (asks.AboveWatermark mark) above sound undamaged = let told = (above mark).0 refl in (told.1, told.2)
+not_answered down h query (asks.BadNode page) above sound undamaged = sound page refl
+not_answered down h query (asks.Damaged block) above sound undamaged = undamaged block refl
+not_answered down h query asks.Fault above sound undamaged = tt
+not_answered down h query asks.OutOfMemory above sound undamaged = tt
 
 -- an errand that lies in settled blocks lies in those of the past, which are these
 pub lies_past : (count : ℕ) (known : ℕ → Option (List ℕ)) (errand : Errand) (c : Cursor) (p : Past) → AreTheSettled count known p.blocks → Lies count known errand c p.history → LiesInPast count errand c p

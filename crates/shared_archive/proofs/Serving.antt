@@ -25,17 +25,24 @@ use Rattle.intake.proofs.Unique.{octets_sum}
 use Rattle.board.specs.Past.{Past, GoesOnAs, count_in, count_of}
 use Rattle.query_threads.specs.Looks.{AreTheSettled}
 use Rattle.query_threads.specs.Steps.{AppliesSome, DoesMark, IsCounterFull as IsCountFull, IsCrowded, IsRefusal, IsTaken}
+use Rattle.query_threads.specs.Troubles.{BlamesNone, IsOutside}
 use Rattle.query_threads.specs.declared.refusal.AdmitError.TheVariants as refusals
+use Rattle.once_store.specs.declared.error.BlockError.{BlockError}
+use Rattle.once_store.specs.declared.error.BlockError.TheVariants as blocks
 use Rattle.disk_archive.specs.declared.archive.Archive.{Archive}
 use Rattle.disk_archive.specs.declared.error.AdmitError.{AdmitError}
 use Rattle.disk_archive.specs.declared.error.AdmitError.TheVariants as admits
 use Rattle.disk_archive.specs.declared.mark_error.MarkError.{MarkError}
 use Rattle.disk_archive.specs.declared.mark_error.MarkError.TheVariants as marks
+use Rattle.disk_archive.specs.declared.apply_error.ApplyError.{ApplyError}
+use Rattle.disk_archive.specs.declared.apply_error.ApplyError.TheVariants as applies
+use Rattle.disk_archive.specs.declared.flush_error.FlushError.{FlushError}
+use Rattle.disk_archive.specs.declared.flush_error.FlushError.TheVariants as flushes
 use Rattle.disk_archive.specs.Archives.{GoesOn, IsHonest, is_down, once_of, once_state, settings_of}
 use Rattle.disk_archive.specs.Limits.{IsCounterFull, IsRingFull}
 use Rattle.disk_archive.specs.Moves.{Moves}
 use Rattle.shared_archive.specs.Carried.{CarriesPast}
-use Rattle.shared_archive.specs.inner.StoreCalls.{of_admit, of_mark}
+use Rattle.shared_archive.specs.inner.StoreCalls.{of_admit, of_apply, of_block, of_flush, of_mark}
 use Rattle.shared_archive.proofs.Blocks.{listed, listed_are}
 
 module _ {E O Pen Seen : Type 0} {erase : EraseGhosts E} {once : OnceGhosts O Pen Seen} (a : Archive E O Pen Seen erase once) (p : Past) (k : CarriesPast a p) where
@@ -109,15 +116,16 @@ pub not_taken : {R : Type 0} (down : Bool) (n : ℕ) (h : History) (c : ℕ) (ba
     → (◌≡◌ {A = Result R AdmitError} (Err e) (Err admits.BatchTooLarge)) ↔ ((down ≡ false) × (c < n) × (262144 < sum_by entry_octets batch))
     → (◌≡◌ {A = Result R AdmitError} (Err e) (Err admits.CounterFull)) ↔ ((down ≡ false) × (sum_by entry_octets batch ≤ 262144) × IsCounterFull h c (length batch))
     → (e ≡ admits.IntakeFull → IsCollector h c)
+    → ((page : ℕ) → e ≡ admits.BadNode page → ⊥)
     → IsRefusal h c batch (of_admit e)
-not_taken down n h c batch admits.NeedsRecovery same none large count full = tt
-not_taken down n h c batch admits.NoCollector same none large count full = let past = (none.0 refl).1 in λ at. omega (arith, at, past, same)
-not_taken down n h c batch admits.BatchTooLarge same none large count full = (large.0 refl).2
-not_taken down n h c batch admits.CounterFull same none large count full = count_full h c (length batch) (count.0 refl).2
-not_taken down n h c batch admits.IntakeFull same none large count full = full refl
-not_taken down n h c batch (admits.BadNode page) same none large count full = tt
-not_taken down n h c batch admits.Fault same none large count full = tt
-not_taken down n h c batch admits.OutOfMemory same none large count full = tt
+not_taken down n h c batch admits.NeedsRecovery same none large count full sound = tt
+not_taken down n h c batch admits.NoCollector same none large count full sound = let past = (none.0 refl).1 in λ at. omega (arith, at, past, same)
+not_taken down n h c batch admits.BatchTooLarge same none large count full sound = (large.0 refl).2
+not_taken down n h c batch admits.CounterFull same none large count full sound = count_full h c (length batch) (count.0 refl).2
+not_taken down n h c batch admits.IntakeFull same none large count full sound = full refl
+not_taken down n h c batch (admits.BadNode page) same none large count full sound = sound page refl
+not_taken down n h c batch admits.Fault same none large count full sound = tt
+not_taken down n h c batch admits.OutOfMemory same none large count full sound = tt
 
 -- a ring is told to be full only by the refusal of this name
 pub only_full : (e : AdmitError) → of_admit e ≡ refusals.IntakeFull → e ≡ admits.IntakeFull
@@ -136,11 +144,11 @@ pub not_marked : {R : Type 0} (down : Bool) (n : ℕ) (h : History) (c mark : �
     → (◌≡◌ {A = Result R MarkError} (Err e) (Err marks.NoCollector)) ↔ ((down ≡ false) × (n ≤ c))
     → (◌≡◌ {A = Result R MarkError} (Err e) (Err marks.MarkBack)) ↔ ((down ≡ false) × IsMarkAbove h c mark)
     → DoesMark c mark (Err (of_mark e)) h h
-not_marked down n h c mark marks.NeedsRecovery same none back = refl
+not_marked down n h c mark marks.NeedsRecovery same none back = (tt, refl)
 not_marked down n h c mark marks.NoCollector same none back = let past = (none.0 refl).1 in ((λ at. omega (arith, at, past, same)), refl)
 not_marked down n h c mark marks.MarkBack same none back = ((back.0 refl).1, refl)
-not_marked down n h c mark marks.Fault same none back = refl
-not_marked down n h c mark marks.OutOfMemory same none back = refl
+not_marked down n h c mark marks.Fault same none back = (tt, refl)
+not_marked down n h c mark marks.OutOfMemory same none back = (tt, refl)
 
 -- ---- applications
 
@@ -149,6 +157,29 @@ moves_some h g m = record { first = m.first; next = m.next; more = m.more; other
 
 pub moves_on : (h g : History) → IsHistory h → Moves h g → Begins h g
 moves_on h g right m = Begins-trans h m.first g (begins_applied h m.first m.next) (goes_more m.more m.first g (right_applied h m.first right m.next) m.others).begins
+
+-- ---- troubles
+
+-- an application that fails blames no page
+pub applying_blames_none : (e : ApplyError) → ((page : ℕ) → e ≡ applies.BadNode page → ⊥) → BlamesNone (of_apply e)
+applying_blames_none applies.NeedsRecovery sound = tt
+applying_blames_none applies.CounterFull sound = tt
+applying_blames_none applies.TooHigh sound = tt
+applying_blames_none applies.PagesFull sound = tt
+applying_blames_none applies.OnceFull sound = tt
+applying_blames_none (applies.BadNode page) sound = sound page refl
+applying_blames_none applies.Fault sound = tt
+applying_blames_none applies.OutOfMemory sound = tt
+
+pub flushing_is_outside : (e : FlushError) → IsOutside (of_flush e)
+flushing_is_outside flushes.NeedsRecovery = tt
+flushing_is_outside flushes.Fault = tt
+
+-- blocks are read in vain only for a reason from outside
+pub reading_is_outside : (e : BlockError) → ((block : ℕ) → e ≡ blocks.Damaged block → ⊥) → IsOutside (of_block e)
+reading_is_outside blocks.Fault sound = tt
+reading_is_outside (blocks.Damaged block) sound = sound block refl
+reading_is_outside blocks.OutOfMemory sound = tt
 
 -- ---- what is told of a collector
 

@@ -7,6 +7,7 @@ ghost use Rattle.interleaving_core.specs.Headline.{IsAnswered};
 ghost use Rattle.board.specs.Past.{Past, count_of};
 ghost use Rattle.query_threads.specs.Looks.{AreSettled, AreTheSettled, IsErrandOn};
 ghost use Rattle.query_threads.specs.Turns.{TurnGives, IsTold};
+ghost use Rattle.query_threads.specs.Troubles.{IsOutside};
 ghost use Rattle.once_store.specs.Readers.{kept_blocks, reader_disk};
 ghost use Rattle.disk_archive.specs.Archives.{once_of};
 ghost use Rattle.disk_archive.specs.Cursors.{IsGathered, asks};
@@ -62,6 +63,7 @@ pub(crate) fn seen<E: EraseDisk + Drop, O: OnceDisk + Drop>(
     ensures carries { (p : Past) → CarriesPast archive.old p → CarriesPast archive.new p }
     ensures honest { (p : Past) → CarriesPast archive.old p → IfOk result (λ s. O.honest_seen (once_of archive.old) s) }
     ensures known { (p : Past) → CarriesPast archive.old p → IfOk result (λ s. AreTheSettled (O.block_count (once_of archive.old)) (O.known s) p.blocks) }
+    ensures sound { (p : Past) → CarriesPast archive.old p → IfErr result IsOutside }
     ensures disk { once_of archive.new ≡ once_of archive.old }
     ensures pages { ring_pages archive.new ≡ ring_pages archive.old }
 {
@@ -71,7 +73,7 @@ pub(crate) fn seen<E: EraseDisk + Drop, O: OnceDisk + Drop>(
     }
 }
 
-/// A reader that keeps up to so many blocks, and none yet.
+/// A reader that keeps up to so many blocks, and none yet. It is refused for want of memory alone.
 pub(crate) fn reader<E: EraseDisk + Drop, O: OnceDisk + Drop>(
     archive: &Archive<E, O>,
     capacity: usize,
@@ -80,6 +82,7 @@ pub(crate) fn reader<E: EraseDisk + Drop, O: OnceDisk + Drop>(
     requires few { capacity ≤ 1024 }
     ensures disk { IfOk result (λ r. reader_disk r ≡ once_of archive.now) }
     ensures empty { IfOk result (λ r. kept_blocks r ≡ []) }
+    ensures memory { IfErr result (λ e. e ≡ Trouble.OutOfMemory) }
 {
     match archive.reader(capacity) {
         Ok(reader) => Ok(reader),
@@ -97,6 +100,7 @@ pub(crate) fn finish<O: OnceDisk + Drop>(
 ) -> Result<(), Trouble>
     requires fits { IsErrandFor cursor.old errand }
     ensures kept { (p : Past) → IsErrandOn (λ e disk past. LiesInPast (O.block_count disk) e cursor.old past) O.honest_seen O.block_count O.known p errand seen.old (reader_disk reader.old) → AreSettled (O.block_count (reader_disk reader.old)) (O.known seen.old) (kept_blocks reader.old) → AreSettled (O.block_count (reader_disk reader.old)) (O.known seen.old) (kept_blocks reader.new) }
+    ensures sound { (p : Past) → IsErrandOn (λ e disk past. LiesInPast (O.block_count disk) e cursor.old past) O.honest_seen O.block_count O.known p errand seen.old (reader_disk reader.old) → AreSettled (O.block_count (reader_disk reader.old)) (O.known seen.old) (kept_blocks reader.old) → IfErr result IsOutside }
     ensures disk { reader_disk reader.new ≡ reader_disk reader.old }
     ensures asks { asks cursor.new ≡ asks cursor.old }
     ensures gathered { OnOk result ((p : Past) → IsErrandOn (λ e disk past. LiesInPast (O.block_count disk) e cursor.old past) O.honest_seen O.block_count O.known p errand seen.old (reader_disk reader.old) → AreSettled (O.block_count (reader_disk reader.old)) (O.known seen.old) (kept_blocks reader.old) → IsGathered cursor.new p.history) }

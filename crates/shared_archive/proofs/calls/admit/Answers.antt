@@ -41,7 +41,8 @@ returns-in-Err-clause-done g c = λ p k.
         refl,
         subst (λ (r : AdmitRefusal). IsRefusal h c.args.collector c.args.batch.now r) (sym c.admit_refusal.ensures.why)
             (not_taken (is_down a) (settings_of a).collectors h c.args.collector c.args.batch.now c.in-Err.refusal (number_of a p k) e.no_collector e.too_large (e.counter_full honest h (λ _. k.goes_on))
-            (λ is. let full = e.intake_full honest h (λ _. k.goes_on) (ap Err is) in slice_get_within h.intakes c.args.collector full.intake full.here)),
+            (λ is. let full = e.intake_full honest h (λ _. k.goes_on) (ap Err is) in slice_get_within h.intakes c.args.collector full.intake full.here)
+            (λ page is. e.undamaged honest h (λ _. k.goes_on) page (ap Err is))),
       ),
     )
 

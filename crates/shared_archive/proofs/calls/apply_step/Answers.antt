@@ -1,8 +1,10 @@
-use Rattle.std.proofs.Common.{◌≡◌, ap, refl, Ok}
+use Rattle.std.proofs.Common.{◌≡◌, ap, refl, subst, sym, Ok, Err}
 use Rattle.disk_archive.specs.Archives.{once_of, once_state}
 use Rattle.route_meaning.proofs.api.Beginning.{Begins-refl}
 use Rattle.shared_archive.proofs.Blocks.{listed}
-use Rattle.shared_archive.proofs.Serving.{honest_of, more_blocks, moves_on, moves_some, on_more_blocks, right_of}
+use Rattle.query_threads.specs.Troubles.{BlamesNone}
+use Rattle.query_threads.specs.declared.refusal.Trouble.{Trouble}
+use Rattle.shared_archive.proofs.Serving.{applying_blames_none, honest_of, more_blocks, moves_on, moves_some, on_more_blocks, right_of}
 use Rattle.shared_archive.proofs.calls.apply_step.Goals as goal
 
 pub returns-in-Ok-Applied-clause-done : goal.returns-in-Ok-Applied-clause-done
@@ -40,5 +42,9 @@ returns-in-Err-clause-done g c = λ p k.
       record { history = h; blocks = listed (g.O.OnceDisk.block_count (once_of z)) (once_state z).settled },
       on_more_blocks a p k z h c.apply_step.ensures.disk (c.apply_step.ensures.grows honest) (Begins-refl h),
       more_blocks a p k z h (c.in-Err.ensures.err h (λ _. k.goes_on) (c.apply_step.ensures.honest.0 honest)),
-      refl,
+      (
+        subst (λ (t : Trouble). BlamesNone t) (sym c.apply_trouble.ensures.why)
+            (applying_blames_none c.in-Err.refusal (λ page is. c.in-Err.ensures.sound honest h (λ _. k.goes_on) page (ap Err is))),
+        refl,
+      ),
     )

@@ -1,6 +1,8 @@
-use Rattle.std.proofs.Common.{refl}
+use Rattle.std.proofs.Common.{refl, subst, sym}
 use Rattle.route_meaning.proofs.api.Beginning.{Begins-refl}
-use Rattle.shared_archive.proofs.Serving.{honest_of, on_same_blocks, same_blocks}
+use Rattle.query_threads.specs.Troubles.{IsOutside}
+use Rattle.query_threads.specs.declared.refusal.Trouble.{Trouble}
+use Rattle.shared_archive.proofs.Serving.{flushing_is_outside, honest_of, on_same_blocks, same_blocks}
 use Rattle.shared_archive.proofs.calls.flush_step.Goals as goal
 
 pub returns-in-Ok-Flushed-clause-done : goal.returns-in-Ok-Flushed-clause-done
@@ -10,7 +12,7 @@ returns-in-Ok-Flushed-clause-done g c = λ p k.
       record { history = p.history; blocks = p.blocks },
       on_same_blocks a p k p.history (Begins-refl p.history),
       same_blocks a p k z p.history c.flush_step.ensures.disk c.flush_step.ensures.blocks (c.flush_step.ensures.holds p.history (λ _. k.goes_on) (c.flush_step.ensures.honest.0 (honest_of a p k))),
-      refl,
+      (tt, refl),
     )
 
 pub returns-in-Ok-Clean-clause-done : goal.returns-in-Ok-Clean-clause-done
@@ -20,7 +22,7 @@ returns-in-Ok-Clean-clause-done g c = λ p k.
       record { history = p.history; blocks = p.blocks },
       on_same_blocks a p k p.history (Begins-refl p.history),
       same_blocks a p k z p.history c.flush_step.ensures.disk c.flush_step.ensures.blocks (c.flush_step.ensures.holds p.history (λ _. k.goes_on) (c.flush_step.ensures.honest.0 (honest_of a p k))),
-      refl,
+      (tt, refl),
     )
 
 pub returns-in-Err-clause-done : goal.returns-in-Err-clause-done
@@ -30,5 +32,5 @@ returns-in-Err-clause-done g c = λ p k.
       record { history = p.history; blocks = p.blocks },
       on_same_blocks a p k p.history (Begins-refl p.history),
       same_blocks a p k z p.history c.flush_step.ensures.disk c.flush_step.ensures.blocks (c.flush_step.ensures.holds p.history (λ _. k.goes_on) (c.flush_step.ensures.honest.0 (honest_of a p k))),
-      refl,
+      (subst (λ (t : Trouble). IsOutside t) (sym c.flush_trouble.ensures.why) (flushing_is_outside c.in-Err.refusal), refl),
     )

@@ -1,4 +1,4 @@
-use Rattle.std.proofs.Common.{Err, subst, sym}
+use Rattle.std.proofs.Common.{Err, ap, subst, sym}
 use Rattle.query_threads.specs.Turns.{IsTold}
 use Rattle.query_threads.specs.declared.refusal.AskError.{AskError as AskRefusal}
 use Rattle.disk_archive.specs.Archives.{is_down, once_of, once_state}
@@ -52,4 +52,5 @@ pub returns-in-Err-clause-told : goal.returns-in-Err-clause-told
 returns-in-Err-clause-told g c = λ p k.
     let a = c.args.archive.now in
     subst (λ (r : AskRefusal). IsTold r p.history (asks c.args.cursor.now)) (sym c.ask_refusal.ensures.why)
-    (not_answered (is_down a) p.history (asks c.args.cursor.now) c.in-Err.refusal (c.in-Err.ensures.above (honest_of a p k) p.history (λ _. k.goes_on)))
+    (not_answered (is_down a) p.history (asks c.args.cursor.now) c.in-Err.refusal (c.in-Err.ensures.above (honest_of a p k) p.history (λ _. k.goes_on))
+    (λ page is. c.in-Err.ensures.sound (honest_of a p k) p.history (λ _. k.goes_on) page (ap Err is)) (λ block is. c.in-Err.ensures.undamaged block (ap Err is)))

@@ -1,10 +1,13 @@
-use Rattle.std.proofs.Common.{◌<◌, ℕ, List, IfSome, inr, sym, ◌∙◌, subst}
+use Rattle.std.proofs.Common.{◌<◌, ℕ, List, Result, IfErr, IfSome, inr, sym, ◌∙◌, subst}
+use Rattle.std.proofs.lemmas.Result.{err_from_is_err_and}
 use Rattle.std.specs.Prelude.{IsSome, ⊤}
 use Rattle.route_meaning.specs.History.{applied, settled}
 use Rattle.interleaving_core.specs.Does.{last_moment}
 use Rattle.interleaving_core.specs.Headline.{IsAnswered}
 use Rattle.board.specs.Past.{IsBlock}
-use Rattle.query_threads.specs.Turns.{TurnGives}
+use Rattle.interleaving_core.specs.declared.query.Answer.{Answer}
+use Rattle.query_threads.specs.declared.refusal.AskError.{AskError}
+use Rattle.query_threads.specs.Turns.{TurnGives, IsTold}
 use Rattle.query_threads.specs.Looks.{IsErrandOn}
 use Rattle.query_threads.proofs.Seen.{since_then}
 use Rattle.query_threads.proofs.shared.Shared.answer_of.Goals as goal
@@ -61,6 +64,17 @@ returns-in_err-finish-in-Historical-clause-reader g c named =
 
 pub returns-in_err-finish-in-Historical-clause-begins : goal.returns-in_err-finish-in-Historical-clause-begins
 returns-in_err-finish-in-Historical-clause-begins g c = since_then c.args.pass.now c.loop.pass c.turn.new.pass c.loop.invariant.since c.turn.ensures.begins
+
+pub returns-in_err-finish-in-Historical-clause-told : goal.returns-in_err-finish-in-Historical-clause-told
+returns-in_err-finish-in-Historical-clause-told g c named =
+    let i = c.loop.invariant in
+    let p = c.turn.new.pass.past in
+    let begins = c.turn.ensures.begins in
+    let told = subst (λ t. TurnGives (λ e. IfSome g.N.OnDisk.disk (IsErrandOn (λ errand. g.A.Store.lies errand c.turn.new.cursor) g.A.Store.honest g.A.Store.block_count g.A.Store.known p e.0 e.1)) (g.A.Store.gathered c.turn.new.cursor p.history) (λ answer. IsAnswered (applied p.history) c.args.query answer) t)
+    c.in-Historical.is (c.in_ok-turn.ensures.gives named (i.gathered named p.history begins.past.begins)) in
+    let outside = c.in_err-finish-in-Historical.ensures.sound named p told (λ n octets is. begins.past.blocks n octets (i.reader named n octets is)) in
+    let why = err_from_is_err_and c.from_residual-in_err-finish-in-Historical.result c.from_residual-in_err-finish-in-Historical.ensures.1 in
+    subst (λ (r : Result Answer AskError). IfErr r (λ e. IsTold e p.history c.args.query)) (sym why.1) (subst (λ (e : AskError). IsTold e p.history c.args.query) (sym why.2) outside)
 
 pub loop-preserved : goal.loop-preserved
 loop-preserved g c =
