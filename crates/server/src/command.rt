@@ -1,6 +1,6 @@
 //! The lines of a connection, read.
 
-ghost use Rattle.std.specs.Prelude.{◌≡◌, ℕ, map, Err, IfOk, OnErr};
+ghost use Rattle.std.specs.Prelude.{◌≡◌, map, Err, IfOk, OnErr};
 ghost use Rattle.server.specs.Commands.{AreOrderWords, IsCommandLine};
 ghost use Rattle.server.specs.declared.command.Command.{Command};
 ghost use Rattle.service.specs.Requests.{words_of};
@@ -8,8 +8,8 @@ ghost use Rattle.service.specs.Requests.{words_of};
 use crate::command_words::{read_feed_words, read_mark_words, read_word};
 use route_model::Mark;
 use route_text::BadText;
-use service::{Request, RequestError, read_request};
-use std::alloc::{AllocError, Global};
+use service::{Request, RequestError, read_request, words_of};
+use std::alloc::Global;
 
 /// What a line of a connection asks.
 #[derive(Clone, Copy, Debug, PartialEq, Eq)]
@@ -25,13 +25,6 @@ pub enum Command {
     Quit,
     /// That the server ends, and the connection with it.
     Stop,
-}
-
-/// What stands before, between and behind the spaces of a line.
-fn words_of(alloc: Global, line: &str) -> Result<Vec<&str>, AllocError>
-    ensures words { IfOk result (λ words. map (λ x. x.now) words.items ≡ words_of line.now) }
-{
-    line.split(' ').collect(alloc)
 }
 
 /// What words order that ask for no answer.

@@ -1,25 +1,14 @@
 //! Words of lines that ask for no answer.
 
-ghost use Rattle.std.specs.Prelude.{◌≡◌, ◌≤◌, ℕ, List, ◌∷◌, [], map, IfOk, OnErr, IfSome, IfNone};
+ghost use Rattle.std.specs.Prelude.{◌≡◌, ℕ, ◌∷◌, [], map, IfOk, OnErr};
 ghost use Rattle.server.specs.Commands.{AreFeedWords, AreMarkWords, IsCollectorText, IsLimitText};
 
 use route_model::Mark;
 use route_text::{BadText, read_mark, read_number};
-
-/// The last number of a collector that a line can name.
-const LAST_COLLECTOR: u64 = 15;
+use service::{LAST_COLLECTOR, words_behind};
 
 /// The most admissions of a batch that a line can ask for.
 const MOST_ADMISSIONS: u64 = 1000;
-
-/// The words behind the first, where that is this one.
-fn words_behind<'a, 'b>(words: &'a [&'b str], word: &str) -> Option<&'a [&'b str]>
-    ensures found { IfSome result (λ behind. map (λ x. x.now) words.now ≡ word.now ∷ map (λ x. x.now) behind.now) }
-    ensures none { IfNone result ((behind : List (List ℕ)) → map (λ x. x.now) words.now ≡ word.now ∷ behind → ⊥) }
-{
-    let (first, behind) = words.split_first()?;
-    if *first == word { Some(behind) } else { None }
-}
 
 /// The number of a collector that a text writes.
 fn read_collector(text: &str) -> Result<u8, BadText>

@@ -10,38 +10,11 @@ ghost use Rattle.server.specs.Replies.{IsAnswerOver, IsReplyOver, IsRefusedOver,
 use crate::troubles::unanswered;
 use archive_calls::Trouble;
 use board::{Named, Pass};
-use interleaving_core::{Answer, Query};
+use interleaving_core::Query;
 use query_threads::{Gate, OnDisk, Reader, Shared, Store};
-use service::{Request, Unanswered, write_answer, write_events};
+use service::{Request, Unanswered, answer_text, skip_of};
 use std::alloc::{AllocError, Global};
 use std::sync::Wait;
-
-/// How many events the question skips.
-fn skip_of(query: &Query) -> u64
-    ensures skip { result ≡ skip_of query.now }
-{
-    match query {
-        Query::Rows(_) => 0,
-        Query::Events(question) => question.skip,
-    }
-}
-
-/// The lines of an answer to a question that skips so many events.
-fn text_of(alloc: Global, skip: u64, answer: &Answer) -> Result<String, AllocError>
-    ensures text { IfOk result (λ text. string_bytes text ≡ reply_text skip answer.now) }
-{
-    let mut text = String::new(alloc);
-    match answer {
-        Answer::Rows(rows) => {
-            write_answer(&mut text, rows)?;
-            Ok(text)
-        }
-        Answer::Events(events) => {
-            write_events(&mut text, skip, events)?;
-            Ok(text)
-        }
-    }
-}
 
 /// The line of a watermark.
 fn watermark_text(alloc: Global, settled: u64) -> Result<String, AllocError>
@@ -79,7 +52,7 @@ fn answer_question<A: Store, N: Named + OnDisk<A::Disk>, G: Gate + Drop>(
         Ok(answer) => answer,
         Err(refusal) => return Err(unanswered(refusal)),
     };
-    match text_of(alloc, skip, &answer) {
+    match answer_text(alloc, skip, &answer) {
         Ok(text) => Ok(text),
         Err(_) => Err(Unanswered::Trouble(Trouble::OutOfMemory)),
     }

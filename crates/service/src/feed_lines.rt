@@ -26,7 +26,7 @@ pub struct FeedCounts {
 
 impl FeedCounts {
     /// Counts what became of a batch.
-    pub(crate) fn count_batch(&mut self, admitted: &BatchReply)
+    pub fn count_batch(&mut self, admitted: &BatchReply)
         ensures admitted { self.new.admitted ≡ capped (self.old.admitted + (admitted.now.receipt.to - admitted.now.receipt.from)) }
         ensures late { self.new.late ≡ capped (self.old.late + length admitted.now.late.items) }
         ensures records { self.new.records ≡ self.old.records }
@@ -39,7 +39,7 @@ impl FeedCounts {
     }
 
     /// Counts a record, and whether it is skipped.
-    pub(crate) fn count_record(&mut self, item: &Item)
+    pub fn count_record(&mut self, item: &Item)
         ensures records { self.new.records ≡ capped (suc self.old.records) }
         ensures skipped { self.new.skipped ≡ capped (self.old.skipped + skips (told item.now ∷ [])) }
         ensures admitted { self.new.admitted ≡ self.old.admitted }

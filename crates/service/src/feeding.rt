@@ -53,7 +53,7 @@ fn is_over(octets: usize, more: usize, most: usize) -> bool
 
 /// Writes what became of a batch, and writes out what is buffered: the batch is durable, and whoever reads the lines may
 /// rely on it from now on, wherever the feed ends.
-fn tell_batch<W: Write>(out: &mut Output<W>, admitted: &BatchReply)
+pub fn tell_batch<W: Write>(out: &mut Output<W>, admitted: &BatchReply)
     ensures lines { Tells out.old out.new (admitted_text admitted.now) }
 {
     write_admitted(out, admitted);
@@ -61,7 +61,7 @@ fn tell_batch<W: Write>(out: &mut Output<W>, admitted: &BatchReply)
 }
 
 /// Writes the line of a refused record at its place, and writes it out: the next record may come late, of a pipe.
-fn tell_refused<W: Write>(out: &mut Output<W>, fault: ResolveFault, place: u64)
+pub fn tell_refused<W: Write>(out: &mut Output<W>, fault: ResolveFault, place: u64)
     ensures line { Tells out.old out.new (refused_record_line (of_record fault) place) }
 {
     write_refused_record(out, &Refusal::from(fault), place);

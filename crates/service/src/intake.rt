@@ -98,7 +98,7 @@ impl Feeding {
 }
 
 /// Why a feed ended before the end of its last record, if it did.
-fn cut_of(framer: &Framer) -> Option<FeedCut>
+pub fn cut_of(framer: &Framer) -> Option<FeedCut>
     ensures cut { IsCut framer.now result }
 {
     match framer.finish() {
@@ -118,7 +118,7 @@ fn tell_cut<W: Write>(cut: &Option<FeedCut>, records: u64, out: &mut Output<W>)
 }
 
 /// Writes how a feed ended, and its counts, and writes them out: what comes next is applying, which may take long.
-fn tell_end<W: Write>(cut: &Option<FeedCut>, counts: &FeedCounts, out: &mut Output<W>)
+pub fn tell_end<W: Write>(cut: &Option<FeedCut>, counts: &FeedCounts, out: &mut Output<W>)
     ensures told { Tells out.old out.new (cut_line cut.now counts.now.records ++ counts_line counts.now) }
 {
     tell_cut(cut, counts.records, out);
@@ -127,7 +127,7 @@ fn tell_end<W: Write>(cut: &Option<FeedCut>, counts: &FeedCounts, out: &mut Outp
 }
 
 /// Writes for what a feed is given up, and writes it out.
-fn tell_stop<W: Write>(why: FeedStop, out: &mut Output<W>)
+pub fn tell_stop<W: Write>(why: FeedStop, out: &mut Output<W>)
     ensures told { Tells out.old out.new (refusal_line (of_stop why)) }
 {
     write_refusal(out, &Refusal::from(why));

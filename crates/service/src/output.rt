@@ -147,7 +147,7 @@ impl<R: Read> Model for Input<R> {
 }
 
 /// One read, done again where a signal interrupts it.
-fn read_through<R: Read>(reader: &mut R, piece: &mut [u8]) -> Result<usize, Error>
+pub fn read_through<R: Read>(reader: &mut R, piece: &mut [u8]) -> Result<usize, Error>
     ensures bound { ReadsAtMost result piece.new }
     ensures bytes { ReadConsumes (R.remaining reader.old) (R.remaining reader.new) result piece.new }
 {

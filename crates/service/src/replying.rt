@@ -16,8 +16,8 @@ use interleaving_core::{Answer, Query};
 use route_text::write_number;
 use std::alloc::{AllocError, Global};
 
-/// How many events the question skips.
-fn skip_of(query: &Query) -> u64
+/// How many events the question skips: none, where it is of a moment.
+pub fn skip_of(query: &Query) -> u64
     ensures skip { result ≡ skip_of query.now }
 {
     match query {
@@ -26,8 +26,8 @@ fn skip_of(query: &Query) -> u64
     }
 }
 
-/// The lines of an answer to a question that skips so many events.
-fn text_of(alloc: Global, skip: u64, answer: &Answer) -> Result<String, AllocError>
+/// The lines of an answer to a question that skips so many events. Memory alone refuses them.
+pub fn answer_text(alloc: Global, skip: u64, answer: &Answer) -> Result<String, AllocError>
     ensures text { IfOk result (λ text. string_bytes text ≡ reply_text skip answer.now) }
 {
     let mut text = String::new(alloc);
@@ -87,7 +87,7 @@ fn answer_question<A: RouteArchive>(
         Ok(answer) => answer,
         Err(refusal) => return Err(unanswered(refusal)),
     };
-    match text_of(alloc, skip, &answer) {
+    match answer_text(alloc, skip, &answer) {
         Ok(text) => Ok(text),
         Err(_) => Err(Unanswered::Trouble(Trouble::OutOfMemory)),
     }

@@ -34,7 +34,7 @@ pub enum RequestError {
 }
 
 /// What stands before, between and behind the spaces of a line.
-fn words_of(alloc: Global, line: &str) -> Result<Vec<&str>, AllocError>
+pub fn words_of(alloc: Global, line: &str) -> Result<Vec<&str>, AllocError>
     ensures words { IfOk result (λ words. map (λ x. x.now) words.items ≡ words_of line.now) }
 {
     line.split(' ').collect(alloc)

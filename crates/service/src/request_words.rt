@@ -10,10 +10,10 @@ use route_model::Peer;
 use route_text::{BadText, read_address, read_number, read_prefix};
 
 /// The last number of a collector that a line can name.
-pub(crate) const LAST_COLLECTOR: u64 = 15;
+pub const LAST_COLLECTOR: u64 = 15;
 
 /// The words behind the first, where that is this one.
-pub(crate) fn words_behind<'a, 'b>(words: &'a [&'b str], word: &str) -> Option<&'a [&'b str]>
+pub fn words_behind<'a, 'b>(words: &'a [&'b str], word: &str) -> Option<&'a [&'b str]>
     ensures found { IfSome result (λ behind. map (λ x. x.now) words.now ≡ word.now ∷ map (λ x. x.now) behind.now) }
     ensures none { IfNone result ((behind : List (List ℕ)) → map (λ x. x.now) words.now ≡ word.now ∷ behind → ⊥) }
 {

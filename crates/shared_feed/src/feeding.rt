@@ -5,25 +5,20 @@ ghost use Rattle.board.specs.Views.{View};
 ghost use Rattle.mrt_records.specs.Values.{Told, told};
 ghost use Rattle.service.specs.Turns.{Turn, Offer, offer_where, wait_unless, is_full, turns_at, waits_after, last_turns};
 ghost use Rattle.service.specs.FeedTexts.{capped};
-ghost use Rattle.service.specs.FeedLines.{admitted_text};
 ghost use Rattle.service.specs.Outputs.{OutputState, Tells};
 ghost use Rattle.service.specs.Refusals.{refused_record_line};
 ghost use Rattle.service.specs.Faults.{of_record};
 ghost use Rattle.service.specs.declared.limits.BatchLimits.{BatchLimits};
 ghost use Rattle.shared_feed.specs.inner.Feeding.{HasDone, IsSameFeed, IsCounted, IsBehind, TakesNext, GivesUp, StopsAmong};
 
-use crate::counting::{count_batch, count_record};
 use crate::making_room::admit_with_room;
 use archive_calls::Trouble;
 use board::{Named, Pass};
-use interleaving_core::BatchReply;
 use mrt_records::Item;
 use query_threads::{Gate, OnDisk, Shared, Store};
 use resolve::{ResolveFault, Resolver};
 use route_model::Admission;
-use service::{
-    BatchLimits, FeedCounts, FeedStop, Output, Refusal, write_admitted, write_refused_record,
-};
+use service::{BatchLimits, FeedCounts, FeedStop, Output, tell_batch, tell_refused};
 use std::alloc::{AllocError, Global};
 use std::io::Write;
 use std::sync::Wait;
@@ -48,23 +43,6 @@ fn is_over(octets: usize, more: usize, most: usize) -> bool
         Some(sum) => sum > most,
         None => true,
     }
-}
-
-/// Writes what became of a batch, and writes out what is buffered: the batch is durable, and whoever reads the lines may
-/// rely on it from now on, wherever the feed ends.
-fn tell_batch<W: Write>(out: &mut Output<W>, reply: &BatchReply)
-    ensures lines { Tells out.old out.new (admitted_text reply.now) }
-{
-    write_admitted(out, reply);
-    out.flush();
-}
-
-/// Writes the line of a refused record at its place, and writes it out: the next record may come late.
-fn tell_refused<W: Write>(out: &mut Output<W>, fault: ResolveFault, place: u64)
-    ensures line { Tells out.old out.new (refused_record_line (of_record fault) place) }
-{
-    write_refused_record(out, &Refusal::from(fault), place);
-    out.flush();
 }
 
 /// What the next record of a feed means.
@@ -121,7 +99,7 @@ impl Feeding {
     {
         let reply = admit_with_room(rt, shared, pass, self.collector, &self.gathered)?;
         tell_batch(out, &reply);
-        count_batch(&mut self.counts, &reply);
+        self.counts.count_batch(&reply);
         self.gathered.clear();
         self.octets = 0;
         Ok(())
@@ -263,7 +241,7 @@ impl Feeding {
         ensures given_up { (c : ℕ) (limit : BatchLimits) (v : View) (records : List Told) (was : OutputState) → IsBehind (IsSome N.disk) c limit v records self.old pass.old was out.old → IfErr result (StopsAmong (IsSome N.disk) c limit v records (item.now ∷ []) pass.new was out.new) }
     {
         let place = self.counts.records;
-        count_record(&mut self.counts, item);
+        self.counts.count_record(item);
         match read_next(alloc, &mut self.resolver, item) {
             Ok(Some(admission)) => self.gather(rt, shared, pass, admission, out),
             Ok(None) => Ok(()),

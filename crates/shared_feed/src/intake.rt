@@ -1,14 +1,10 @@
 //! Feeds into a shared archive: MRT records that are read, resolved and admitted (RFC 6396).
 
-ghost use Rattle.std.specs.Prelude.{◌≡◌, ◌≤◌, ◌++◌, ℕ, List, [], OnOk, IfOk, IfErr, IsSome};
+ghost use Rattle.std.specs.Prelude.{◌≡◌, ◌++◌, ℕ, List, OnOk, IfOk, IfErr, IsSome};
 ghost use Rattle.board.specs.Views.{View};
 ghost use Rattle.query_threads.specs.Seeing.{Since};
-ghost use Rattle.service.specs.FeedLines.{counts_line};
-ghost use Rattle.service.specs.Faults.{of_stop};
-ghost use Rattle.service.specs.FeedTexts.{cut_line};
-ghost use Rattle.service.specs.Feeds.{IsCut, MayGive};
-ghost use Rattle.service.specs.Outputs.{OutputState, Tells};
-ghost use Rattle.service.specs.Refusals.{refusal_line};
+ghost use Rattle.service.specs.Feeds.{MayGive};
+ghost use Rattle.service.specs.Outputs.{OutputState};
 ghost use Rattle.service.specs.declared.limits.BatchLimits.{BatchLimits};
 ghost use Rattle.shared_feed.specs.SharedFeeds.{IsEnd, IsTakenIn, limits_of};
 ghost use Rattle.shared_feed.specs.inner.Feeding.{Reads, IsRead, IsReadOut, StopsWithin};
@@ -19,10 +15,7 @@ use archive_calls::{MAX_BATCH_LEN, Trouble};
 use board::{Named, Pass};
 use mrt_records::{FrameError, Framer};
 use query_threads::{Gate, OnDisk, Shared, Store};
-use service::{
-    BatchLimits, End, FeedCounts, FeedCut, FeedStop, Output, Refusal, write_counts, write_refusal,
-    write_refused_record,
-};
+use service::{BatchLimits, End, FeedCut, FeedStop, Output, cut_of, tell_end, tell_stop};
 use std::alloc::Global;
 use std::io::{Read, Write};
 use std::sync::Wait;
@@ -95,43 +88,6 @@ impl Feeding {
         // No memory holds a count of so many pieces.
         Err(FeedStop::Trouble(Trouble::OutOfMemory))
     }
-}
-
-/// Why a feed ended before the end of its last record, if it did.
-fn cut_of(framer: &Framer) -> Option<FeedCut>
-    ensures cut { IsCut framer.now result }
-{
-    match framer.finish() {
-        Ok(()) => None,
-        Err(FrameError::TooLong) => Some(FeedCut::TooLong),
-        Err(_) => Some(FeedCut::Truncated),
-    }
-}
-
-/// Writes why a feed of so many records is cut short, if it is.
-fn tell_cut<W: Write>(cut: &Option<FeedCut>, records: u64, out: &mut Output<W>)
-    ensures told { Tells out.old out.new (cut_line cut.now records) }
-{
-    if let Some(why) = cut {
-        write_refused_record(out, &Refusal::from(*why), records);
-    }
-}
-
-/// Writes how a feed ended, and its counts, and writes them out.
-fn tell_end<W: Write>(cut: &Option<FeedCut>, counts: &FeedCounts, out: &mut Output<W>)
-    ensures told { Tells out.old out.new (cut_line cut.now counts.now.records ++ counts_line counts.now) }
-{
-    tell_cut(cut, counts.records, out);
-    write_counts(out, counts);
-    out.flush();
-}
-
-/// Writes for what a feed is given up, and writes it out.
-fn tell_stop<W: Write>(why: FeedStop, out: &mut Output<W>)
-    ensures told { Tells out.old out.new (refusal_line (of_stop why)) }
-{
-    write_refusal(out, &Refusal::from(why));
-    out.flush();
 }
 
 /// The most that a batch may have where rings have so many pages.

@@ -1,24 +1,10 @@
 //! Octets that are read of a stream.
 
 ghost use Rattle.std.specs.Prelude.{◌≡◌, ◌<◌, ◌≤◌, length, take, IfSome, Some};
-ghost use Rattle.std.specs.Io.{ReadsAtMost};
-ghost use Rattle.std.specs.Io.KnownBytes.{Consumes, IsAtEnd, ReadConsumes};
+ghost use Rattle.std.specs.Io.KnownBytes.{Consumes, IsAtEnd};
 
-use std::io::{Error, ErrorKind, Read};
-
-/// One read, done again where a signal interrupts it.
-fn read_through<R: Read>(reader: &mut R, piece: &mut [u8]) -> Result<usize, Error>
-    ensures bound { ReadsAtMost result piece.new }
-    ensures bytes { ReadConsumes (R.remaining reader.old) (R.remaining reader.new) result piece.new }
-{
-    for _ in 0..u64::MAX {
-        match reader.read(piece) {
-            Err(error) if error.kind() == ErrorKind::Interrupted => {}
-            ended => return ended,
-        }
-    }
-    reader.read(piece)
-}
+use service::read_through;
+use std::io::Read;
 
 /// Reads some octets into the front of `piece`: how many, or 0 at the end. None where the read failed.
 pub(crate) fn read_some<R: Read>(reader: &mut R, piece: &mut [u8]) -> Option<usize>

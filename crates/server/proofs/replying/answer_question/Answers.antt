@@ -2,9 +2,9 @@ use Rattle.std.proofs.Common.{◌∙◌, ℕ, ap}
 use Rattle.service.specs.AnswerLines.{reply_text}
 use Rattle.server.proofs.replying.answer_question.Goals as goal
 
-pub returns-in-Ok-text_of-clause-answered : goal.returns-in-Ok-text_of-clause-answered
-returns-in-Ok-text_of-clause-answered g c =
-    let told = c.in-Ok-text_of.ensures.text ∙ ap (λ (skip : ℕ). reply_text skip c.in-Ok.answer) c.skip_of-skip.ensures.skip in
+pub returns-in-Ok-answer_text-clause-answered : goal.returns-in-Ok-answer_text-clause-answered
+returns-in-Ok-answer_text-clause-answered g c =
+    let told = c.in-Ok-answer_text.ensures.text ∙ ap (λ (skip : ℕ). reply_text skip c.in-Ok.answer) c.skip_of-skip.ensures.skip in
     record {
       lines = record { answer = c.in-Ok.answer; told = told };
       right = λ named. record {

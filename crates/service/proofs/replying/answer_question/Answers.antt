@@ -16,12 +16,12 @@ pub returns-in-Err-clause-refused : goal.returns-in-Err-clause-refused
 returns-in-Err-clause-refused g c = λ h carried.
     rw c.unanswered.ensures.why (told_above h c.args.query c.in-Err.refusal (c.in-Err.ensures.done h carried))
 
-pub returns-in-Ok-text_of-clause-answered : goal.returns-in-Ok-text_of-clause-answered
-returns-in-Ok-text_of-clause-answered g c = λ h carried.
+pub returns-in-Ok-answer_text-clause-answered : goal.returns-in-Ok-answer_text-clause-answered
+returns-in-Ok-answer_text-clause-answered g c = λ h carried.
     let told = c.in-Ok.ensures.done h carried in
     record {
       answer = c.in-Ok.answer;
       below = told.0;
       answered = told.1;
-      told = c.in-Ok-text_of.ensures.text ∙ ap (λ (skip : ℕ). reply_text skip c.in-Ok.answer) c.skip_of-skip.ensures.skip;
+      told = c.in-Ok-answer_text.ensures.text ∙ ap (λ (skip : ℕ). reply_text skip c.in-Ok.answer) c.skip_of-skip.ensures.skip;
     }

@@ -22,14 +22,14 @@ returns-in-Ok-Some g c = record {
       (c.gather.ensures.gathered (record { octets = b.counted.octets; fit = b.counted.fit; one = b.counted.one; few = b.counted.few }))
       (c.gather.ensures.counted (record { octets = b.counted.octets; fit = b.counted.fit; one = b.counted.one; few = b.counted.few }))
       (c.gather.ensures.done k v (turns_for limit 0 [] b.results) was (length b.results) (record { octets = b.counted.octets; fit = b.counted.fit; one = b.counted.one; few = b.counted.few }) b.collector
-      (done_counted (IsSome g.N.OnDisk.disk) k v (turns_for limit 0 [] b.results) c.args.self.now.counts c.count_record.new.counts c.args.pass.now was _ counts.admitted counts.late counts.refused b.done))
+      (done_counted (IsSome g.N.OnDisk.disk) k v (turns_for limit 0 [] b.results) c.args.self.now.counts c.count_record.new.self c.args.pass.now was _ counts.admitted counts.late counts.refused b.done))
       (same.records ∙ counts.records) (same.skipped ∙ counts.skipped);
   given_up = λ k limit v records was b.
       let counts = c.count_record.ensures in
       let takes = rw c.in-Ok-Some.field-0-is at c.in-Ok-Some.ensures.takes in
       stops_at c.gather.result (IsSome g.N.OnDisk.disk) k limit v records c.args.item.now (Ok (Some c.in-Ok-Some.admission)) c.read_next.new.resolver c.args.self.now c.args.pass.now c.gather.new.pass was _ _ b takes (ok_is_none _)
       (c.gather.ensures.given_up k v (turns_for limit 0 [] b.results) was (length b.results) b.collector (record { octets = b.counted.octets; fit = b.counted.fit; one = b.counted.one; few = b.counted.few })
-      (done_counted (IsSome g.N.OnDisk.disk) k v (turns_for limit 0 [] b.results) c.args.self.now.counts c.count_record.new.counts c.args.pass.now was _ counts.admitted counts.late counts.refused b.done));
+      (done_counted (IsSome g.N.OnDisk.disk) k v (turns_for limit 0 [] b.results) c.args.self.now.counts c.count_record.new.self c.args.pass.now was _ counts.admitted counts.late counts.refused b.done));
 }
 
 pub returns-in-Ok-None : goal.returns-in-Ok-None
@@ -41,8 +41,8 @@ returns-in-Ok-None g c = record {
       behind_more (IsSome g.N.OnDisk.disk) k limit v records r (Ok None) c.read_next.new.resolver c.args.self.now _ c.args.pass.now c.args.pass.now was _ _ b
       refl refl refl takes (ok_is_none None)
       refl (record { octets = b.counted.octets; fit = b.counted.fit; one = b.counted.one; few = b.counted.few })
-      (done_no_more (IsSome g.N.OnDisk.disk) k v (turns_for limit 0 [] b.results) c.count_record.new.counts c.args.pass.now was _
-      (done_counted (IsSome g.N.OnDisk.disk) k v (turns_for limit 0 [] b.results) c.args.self.now.counts c.count_record.new.counts c.args.pass.now was _ counts.admitted counts.late counts.refused b.done))
+      (done_no_more (IsSome g.N.OnDisk.disk) k v (turns_for limit 0 [] b.results) c.count_record.new.self c.args.pass.now was _
+      (done_counted (IsSome g.N.OnDisk.disk) k v (turns_for limit 0 [] b.results) c.args.self.now.counts c.count_record.new.self c.args.pass.now was _ counts.admitted counts.late counts.refused b.done))
       counts.records counts.skipped;
   given_up = λ k limit v records was b. tt;
 }

@@ -1,6 +1,0 @@
--- an interrupted read reads nothing
-use Rattle.std.specs.Io.KnownBytes.{Keeps}
-use Rattle.shared_feed.proofs.reading.read_through.Given as goal
-
-abbrev pub invariant-loop : goal.invariant-loop
-invariant-loop g l = Keeps (g.R.Read.remaining l.initial.reader) (g.R.Read.remaining l.reader)
