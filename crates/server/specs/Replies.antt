@@ -1,6 +1,6 @@
 -- What a shared archive replies to a request, over what a pass sees once it is replied. Where nothing is promised of the archive, as of
 -- one in files, no answer of it is called right.
-use Rattle.std.specs.Prelude.{◌≡◌, ◌⊎◌, ⊤, ℕ, suc, ◌≤◌, List}
+use Rattle.std.specs.Prelude.{◌≡◌, ◌⊎◌, ⊤, ℕ, suc, ◌<◌, ◌≤◌, List}
 use Rattle.route_meaning.specs.History.{settled}
 use Rattle.interleaving_core.specs.declared.query.Query.{Query}
 use Rattle.interleaving_core.specs.declared.query.Answer.{Answer}
@@ -28,6 +28,12 @@ abbrev pub IsReplyOver : Type 0 → View → Request → List ℕ → Type 0
 IsReplyOver promised v (Question query) text = IsAnswerOver promised v query text
 IsReplyOver promised v Watermark text = text ≡ watermark_line (watermark_of v)
 IsReplyOver promised v (Durable collector) text = text ≡ count_line (durable_of v collector)
+
+-- the collector that is asked about, if one is, is one of so many
+abbrev pub NamesOneOf : ℕ → Request → Type 0
+NamesOneOf collectors (Question query) = ⊤
+NamesOneOf collectors Watermark = ⊤
+NamesOneOf collectors (Durable collector) = collector < collectors
 
 -- Why there is no reply, of an archive with so many collectors: the question's last moment isn't below the settled watermark, which is told; there is no such collector; or the archive had another trouble.
 abbrev pub IsRefusedOver : Type 0 → ℕ → View → Request → Unanswered → Type 0

@@ -1,11 +1,11 @@
 //! What a shared archive replies to requests.
 
-ghost use Rattle.std.specs.Prelude.{◌≡◌, ◌≤◌, ℕ, IfOk, IfErr, IfSome, IsNone, IsSome, ◌↔◌, suc, string_bytes};
+ghost use Rattle.std.specs.Prelude.{◌≡◌, ◌<◌, ◌≤◌, ℕ, IfOk, IfErr, OnOk, IfSome, IsNone, IsSome, ◌↔◌, suc, string_bytes};
 ghost use Rattle.board.specs.Past.{Among};
 ghost use Rattle.board.specs.Views.{BeginsView, with_seen, watermark_of, durable_of};
 ghost use Rattle.interleaving_core.specs.Does.{last_moment};
-ghost use Rattle.service.specs.AnswerLines.{skip_of, reply_text, watermark_line, count_line};
-ghost use Rattle.server.specs.Replies.{IsAnswerOver, IsReplyOver, IsRefusedOver, IsNotBelow, SeesBy};
+ghost use Rattle.service.specs.AnswerLines.{watermark_line, count_line};
+ghost use Rattle.server.specs.Replies.{IsAnswerOver, IsReplyOver, NamesOneOf, IsRefusedOver, IsNotBelow, SeesBy};
 
 use crate::troubles::unanswered;
 use archive_calls::Trouble;
@@ -79,6 +79,7 @@ fn load_count<A: Store, N: Named + OnDisk<A::Disk>, G: Gate + Drop>(
     ensures sees { SeesBy (Request.Durable collector) pass.old pass.new }
     ensures past { pass.new.past ≡ pass.old.past }
     ensures none { IsNone result ↔ (shared.now.collectors ≤ collector) }
+    ensures found { IfSome result (λ _. collector < shared.now.collectors) }
 {
     if collector >= shared.collectors() {
         return None;
@@ -111,6 +112,7 @@ fn tell_count<A: Store, N: Named + OnDisk<A::Disk>, G: Gate + Drop>(
     collector: u8,
 ) -> Result<String, Unanswered>
     ensures told { IfOk result (λ text. IsReplyOver (IsSome N.disk) pass.new (Request.Durable collector) (string_bytes text)) }
+    ensures found { OnOk result (collector < shared.now.collectors) }
     ensures refused { IfErr result (IsRefusedOver (IsSome N.disk) shared.now.collectors pass.new (Request.Durable collector)) }
     ensures sees { SeesBy (Request.Durable collector) pass.old pass.new }
     ensures past { pass.new.past ≡ pass.old.past }
@@ -139,6 +141,7 @@ pub fn reply_to<A: Store, N: Named + OnDisk<A::Disk>, G: Gate + Drop>(
     requires reader { IsSome N.disk → Among reader.old pass.old.past.blocks }
     ensures reader { IsSome N.disk → Among reader.new pass.new.past.blocks }
     ensures replied { IfOk result (λ text. IsReplyOver (IsSome N.disk) pass.new request (string_bytes text)) }
+    ensures found { OnOk result (NamesOneOf shared.now.collectors request) }
     ensures refused { IfErr result (IsRefusedOver (IsSome N.disk) shared.now.collectors pass.new request) }
     ensures sees { SeesBy request pass.old pass.new }
     ensures not_refused { IsSome N.disk → IfErr result (IsNotBelow pass.old request) }
