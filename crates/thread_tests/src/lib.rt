@@ -10,6 +10,8 @@ mod chance;
 #[cfg(test)]
 mod eight;
 #[cfg(test)]
+mod gates;
+#[cfg(test)]
 mod held;
 #[cfg(test)]
 mod logs;

@@ -17,6 +17,7 @@ use route_model::{Admission, Mark};
 use shared_archive::MemStore;
 use std::alloc::Global;
 use std::sync::Arc;
+use std::sync::atomic::Ordering;
 
 /// Blocks that are read, the first time, only once a batch was admitted.
 #[derive(Drop)]
@@ -25,7 +26,7 @@ pub(crate) struct ArmedReader {
     signals: Arc<Signals>,
 }
 
-/// An archive on disks in memory, whose readers are armed.
+/// An archive on disks in memory, whose readers are armed, and which counts turns.
 #[derive(Drop)]
 pub(crate) struct ArmedStore {
     pub(crate) inner: MemStore,
@@ -108,6 +109,8 @@ impl Store for ArmedStore {
     }
 
     fn descend(&mut self, cursor: &mut Cursor) -> Result<Turn<Errand>, AskError> {
+        let signals: &Signals = &self.signals;
+        let _before = signals.turns.fetch_add(1, Ordering::SeqCst);
         self.inner.descend(cursor)
     }
 

@@ -1,6 +1,6 @@
 //! What a thread that is held and the thread for which it is held tell each other.
 
-use std::sync::atomic::{AtomicBool, Ordering};
+use std::sync::atomic::{AtomicBool, AtomicU64, Ordering};
 use std::thread;
 
 // How often a thread gives way to others before it gives up, which takes it many seconds.
@@ -15,6 +15,8 @@ pub(crate) struct Signals {
     pub(crate) is_done: AtomicBool,
     /// A thread waited in vain.
     pub(crate) is_late: AtomicBool,
+    /// How many turns of questions were made.
+    pub(crate) turns: AtomicU64,
 }
 
 impl Signals {
@@ -23,6 +25,7 @@ impl Signals {
             is_held: AtomicBool::new(false),
             is_done: AtomicBool::new(false),
             is_late: AtomicBool::new(false),
+            turns: AtomicU64::new(0),
         }
     }
 
