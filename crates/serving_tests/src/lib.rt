@@ -5,12 +5,18 @@
 #[cfg(test)]
 mod clients;
 #[cfg(test)]
+mod held;
+#[cfg(test)]
 mod made;
 #[cfg(test)]
 mod records;
 #[cfg(test)]
 mod scenes;
 #[cfg(test)]
+mod signals;
+#[cfg(test)]
 mod sockets;
 #[cfg(test)]
 mod steps;
+#[cfg(test)]
+mod watched;

@@ -30,3 +30,9 @@ pub(crate) fn empty_store(alloc: Global) -> Result<MemStore, Fail> {
         Err(refused) => Err(refused.error.into()),
     }
 }
+
+/// How many blocks were burnt.
+pub(crate) fn burnt_by(store: MemStore) -> usize {
+    let (_erase, _once, pen) = store.archive.into_disks();
+    pen.settled().len()
+}

@@ -1,9 +1,10 @@
 //! What clients do, and what they are told.
 
-use crate::records::{FRONT, UPDATE};
+use crate::records::{EARLIER, FRONT, LATER, UPDATE};
 use crate::steps::Step;
 use crate::steps::Step::{
-    Connect, GoAway, Hear, HearLast, Send, SendNoMore, SendOctets, SendOften,
+    AskOften, AskUntil, Connect, GoAway, Hear, HearLast, Send, SendNoMore, SendOctets,
+    SendOctetsOften, SendOften,
 };
 
 /// What clients do with a server of an empty archive.
@@ -12,10 +13,21 @@ pub(crate) enum Scene {
     Three,
     Long,
     Cut,
+    Slow,
     Open,
+    Unmarked,
+    Last,
 }
 
-pub(crate) const SCENES: [Scene; 4] = [Scene::Three, Scene::Long, Scene::Cut, Scene::Open];
+pub(crate) const SCENES: [Scene; 7] = [
+    Scene::Three,
+    Scene::Long,
+    Scene::Cut,
+    Scene::Slow,
+    Scene::Open,
+    Scene::Unmarked,
+    Scene::Last,
+];
 
 impl Scene {
     /// What the clients do, one step after another.
@@ -24,7 +36,10 @@ impl Scene {
             Scene::Three => &THREE,
             Scene::Long => &LONG,
             Scene::Cut => &CUT,
+            Scene::Slow => &SLOW,
             Scene::Open => &OPEN,
+            Scene::Unmarked => &UNMARKED,
+            Scene::Last => &LAST,
         }
     }
 
@@ -33,6 +48,9 @@ impl Scene {
         match self {
             Scene::Three => 1,
             Scene::Cut => 2,
+            Scene::Unmarked => 3,
+            Scene::Last => 101,
+            Scene::Slow => 300,
             Scene::Long | Scene::Open => 0,
         }
     }
@@ -40,17 +58,21 @@ impl Scene {
     /// How many sockets of the server failed: that of the client who goes away while it is answered.
     pub(crate) fn warnings(self) -> usize {
         match self {
-            Scene::Cut => 1,
-            Scene::Three | Scene::Long | Scene::Open => 0,
+            Scene::Cut | Scene::Slow => 1,
+            Scene::Three | Scene::Long | Scene::Open | Scene::Unmarked | Scene::Last => 0,
         }
     }
 }
 
 /// Asks which routes to 10.0.0.0/8 stand at 1704067200.
-const QUESTION: &str = "at 1704067200 prefix 10.0.0.0/8\n";
+pub(crate) const QUESTION: &str = "at 1704067200 prefix 10.0.0.0/8\n";
 
 /// What is answered where the UPDATE is applied.
-const ANSWER: &str = "R|0|192.0.2.1|65001|10.0.0.0/8|65001 65002|IGP|192.0.2.1|||NAG||\nE|1\n";
+pub(crate) const ANSWER: &str =
+    "R|0|192.0.2.1|65001|10.0.0.0/8|65001 65002|IGP|192.0.2.1|||NAG||\nE|1\n";
+
+/// Asks what was told of 10.0.0.0/8 at 1704067200: of some hundred records some ten thousand octets are answered.
+const EVENTS: &str = "history 1704067200 1704067200 0 192.0.2.1 65001 10.0.0.0/8\n";
 
 /// A record is fed, asked for, and the server stopped, each by a connection of its own.
 static THREE: [Step; 15] = [
@@ -103,7 +125,7 @@ static LONG: [Step; 23] = [
 ];
 
 /// Connections that are cut in the middle of a line, of a feed and of answers, beside one that goes on.
-static CUT: [Step; 37] = [
+static CUT: [Step; 39] = [
     Connect,
     Send(0, "durable 0\n"),
     Hear(0, "N|0\n"),
@@ -126,6 +148,9 @@ static CUT: [Step; 37] = [
     Hear(3, "B|0|1|1\n"),
     Send(0, "durable 0\n"),
     Hear(0, "N|1\n"),
+    // no lock is held for the feed that is open
+    Send(0, "mark 0 1704067200\n"),
+    Hear(0, "S|1704067200\n"),
     GoAway(3),
     Connect,
     Send(4, "feed 0 1000\n"),
@@ -146,6 +171,24 @@ static CUT: [Step; 37] = [
     HearLast(0, "N|2\nok\n"),
 ];
 
+/// A client reads nothing of its answers, of which sockets keep but a part, and another one is answered all the while.
+static SLOW: [Step; 14] = [
+    Connect,
+    Send(0, "feed 0 1000\n"),
+    SendOctetsOften(0, UPDATE, 300),
+    SendNoMore(0),
+    HearLast(0, "B|0|300|300\nF|300|300|0|0|0\n"),
+    Connect,
+    Send(1, "mark 0 1704067201\n"),
+    Hear(1, "S|1704067201\n"),
+    Connect,
+    SendOften(2, EVENTS, 1000),
+    AskOften(1, "mark 0 1704067201\n", "S|1704067201\n", 100),
+    GoAway(2),
+    Send(1, "stop\n"),
+    HearLast(1, "ok\n"),
+];
+
 /// The server is stopped while another connection is open, which is served to its end.
 static OPEN: [Step; 10] = [
     Connect,
@@ -158,4 +201,40 @@ static OPEN: [Step; 10] = [
     Hear(0, "S|1704067201\n"),
     Send(0, "mark\nquit\n"),
     HearLast(0, "S|1704067201\nok\n"),
+];
+
+/// Records of three seconds are fed, and no mark is set. The last one's time is the mark of the collector, so that the others
+/// are applied, by none but the applier.
+static UNMARKED: [Step; 15] = [
+    Connect,
+    Send(0, "feed 0 1000\n"),
+    SendOctets(0, EARLIER),
+    SendOctets(0, UPDATE),
+    SendOctets(0, LATER),
+    SendNoMore(0),
+    HearLast(0, "B|0|3|3\nF|3|3|0|0|0\n"),
+    Connect,
+    AskUntil(1, "watermark\n", "S|1704067201\n"),
+    Send(1, QUESTION),
+    Hear(1, ANSWER),
+    Send(1, "at 1704067201 prefix 10.0.0.0/8\n"),
+    Hear(1, "X|24|AboveWatermark|1704067201\n"),
+    Send(1, "stop\n"),
+    HearLast(1, "ok\n"),
+];
+
+/// A feed ends behind the stop of the server, so that the most of what it gives is applied at the server's end, and is written
+/// home then.
+static LAST: [Step; 11] = [
+    Connect,
+    Send(0, "durable 0\n"),
+    Hear(0, "N|0\n"),
+    Connect,
+    Send(1, "stop\n"),
+    HearLast(1, "ok\n"),
+    Send(0, "feed 0 1000\n"),
+    SendOctetsOften(0, EARLIER, 100),
+    SendOctets(0, UPDATE),
+    SendNoMore(0),
+    HearLast(0, "B|0|101|101\nF|101|101|0|0|0\n"),
 ];

@@ -3,11 +3,18 @@
 use std::alloc::Global;
 use std::io::{Read, Write, read_to_string};
 use std::net::{Net, OpenStream, Shutdown, SocketAddr, TcpListener, TcpStream};
-use std::time::Duration;
+use std::thread;
+use std::time::{Clock, Duration};
 use test_octets::octets;
 
-/// How many seconds a client waits for what it is to be told, or for room for what it sends.
-const PATIENCE: u64 = 20;
+/// How many seconds a client waits for what it is to be told, or for room for what it sends: more than a question is held.
+const PATIENCE: u64 = 50;
+
+/// How many milliseconds a client rests behind a question that it asks over and over.
+const REST: u64 = 10;
+
+/// How often it asks at most until it is told what it has to be.
+const ASKS: u32 = 4_000;
 
 /// What a client does. Connections have numbers, the first 0.
 #[derive(Drop)]
@@ -18,6 +25,8 @@ pub(crate) enum Step {
     Send(usize, &'static str),
     /// It sends octets, which these hexadecimal digits tell.
     SendOctets(usize, &'static str),
+    /// It sends such octets so many times.
+    SendOctetsOften(usize, &'static str, usize),
     /// It sends a text so many times.
     SendOften(usize, &'static str, usize),
     /// It sends no more.
@@ -26,6 +35,10 @@ pub(crate) enum Step {
     Hear(usize, &'static str),
     /// It is told this, and then its connection ends.
     HearLast(usize, &'static str),
+    /// It sends a line until it is told this; what it is told before is as long.
+    AskUntil(usize, &'static str, &'static str),
+    /// It sends a line so many times, and is told just this each time.
+    AskOften(usize, &'static str, &'static str, usize),
     /// It goes away, whatever it is told.
     GoAway(usize),
 }
@@ -85,16 +98,55 @@ impl Clients {
     }
 }
 
-/// Sends a text so many times.
-fn send_often(clients: &Clients, number: usize, text: &str, times: usize) -> Option<()> {
+/// Sends octets so many times.
+fn send_often(clients: &Clients, number: usize, octets: &[u8], times: usize) -> Option<()> {
     for _ in 0..times {
-        clients.send(number, text.as_bytes())?;
+        clients.send(number, octets)?;
     }
     Some(())
 }
 
+/// Sends a line until what is told is this text. Whether it is in time.
+fn ask_until(
+    clock: &impl Clock,
+    alloc: Global,
+    clients: &Clients,
+    number: usize,
+    line: &str,
+    text: &str,
+) -> Option<bool> {
+    for _ in 0..ASKS {
+        clients.send(number, line.as_bytes())?;
+        if clients.hears(alloc, number, text)? {
+            return Some(true);
+        }
+        thread::sleep(clock, Duration::from_millis(REST));
+    }
+    Some(false)
+}
+
+/// Sends a line so many times. Whether what is told is this text each time.
+fn ask_often(
+    clock: &impl Clock,
+    alloc: Global,
+    clients: &Clients,
+    number: usize,
+    line: &str,
+    text: &str,
+    times: usize,
+) -> Option<bool> {
+    for _ in 0..times {
+        clients.send(number, line.as_bytes())?;
+        if !clients.hears(alloc, number, text)? {
+            return Some(false);
+        }
+        thread::sleep(clock, Duration::from_millis(REST));
+    }
+    Some(true)
+}
+
 /// Takes a step. Whether it went as it has to; none where a socket failed.
-fn take_step<R: Net<Listener = TcpListener, Stream = TcpStream>>(
+fn take_step<R: Net<Listener = TcpListener, Stream = TcpStream> + Clock>(
     rt: &R,
     alloc: Global,
     address: SocketAddr,
@@ -105,16 +157,26 @@ fn take_step<R: Net<Listener = TcpListener, Stream = TcpStream>>(
         Step::Connect => clients.connect(rt, address)?,
         Step::Send(number, text) => clients.send(*number, text.as_bytes())?,
         Step::SendOctets(number, digits) => {
-            let told = octets(alloc, digits).ok()?;
-            clients.send(*number, &told)?;
+            clients.send(*number, &octets(alloc, digits).ok()?)?;
         }
-        Step::SendOften(number, text, times) => send_often(clients, *number, text, *times)?,
+        Step::SendOctetsOften(number, digits, times) => {
+            send_often(clients, *number, &octets(alloc, digits).ok()?, *times)?;
+        }
+        Step::SendOften(number, text, times) => {
+            send_often(clients, *number, text.as_bytes(), *times)?;
+        }
         Step::SendNoMore(number) => clients.stream(*number)?.shutdown(Shutdown::Write).ok()?,
         Step::Hear(number, text) => return clients.hears(alloc, *number, text),
         Step::HearLast(number, text) => {
             let is_right = clients.hears_last(alloc, *number, text);
             clients.go_away(*number)?;
             return is_right;
+        }
+        Step::AskUntil(number, line, text) => {
+            return ask_until(rt, alloc, clients, *number, line, text);
+        }
+        Step::AskOften(number, line, text, times) => {
+            return ask_often(rt, alloc, clients, *number, line, text, *times);
         }
         Step::GoAway(number) => clients.go_away(*number)?,
     }
@@ -137,7 +199,7 @@ fn stop<R: Net<Listener = TcpListener, Stream = TcpStream>>(
 }
 
 /// How many of the steps went as they have to, before the first that didn't. Then the server is stopped, if it still serves.
-pub(crate) fn count_right<R: Net<Listener = TcpListener, Stream = TcpStream>>(
+pub(crate) fn count_right<R: Net<Listener = TcpListener, Stream = TcpStream> + Clock>(
     rt: &R,
     alloc: Global,
     address: SocketAddr,

@@ -1,0 +1,186 @@
+//! A server writes pages home while it serves.
+
+ghost use Rattle.disk_archive.specs.Archives.{once_of};
+ghost use Rattle.disk_archive.specs.Cursors.{IsGathered, asks};
+ghost use Rattle.disk_archive.specs.Descents.{IsErrandFor};
+ghost use Rattle.once_store.specs.Readers.{kept_blocks, reader_disk};
+ghost use Rattle.shared_archive.specs.Carried.{CarriesPast, LiesInPast, gathered_on, right_going, ring_pages};
+
+use crate::made::{COLLECTORS, empty_store};
+use crate::signals::Signals;
+use crate::sockets::serve_store;
+use crate::steps::Step::{Connect, Hear, HearLast, Send};
+use crate::steps::{Step, count_right};
+use board::Opened;
+use disk_archive::{Cursor, Errand};
+use disk_memory::{MemOnce, MemSeen};
+use disk_models::OnceDisk;
+use interleaving_core::{BatchReply, Query};
+use log::sink::Locked;
+use once_store::ShelfReader;
+use query_threads::{
+    AdmitError, AskError, Flush, MarkError, NoGate, Step as Applying, Store, Trouble, Turn,
+};
+use route_model::{Admission, Mark};
+use shared_archive::MemStore;
+use std::alloc::Global;
+use std::marker::Brand;
+use std::net::TcpListener;
+use std::sync::Arc;
+use std::sync::atomic::Ordering;
+use std::test::Fail;
+use std::thread;
+
+/// What is done before pages are waited for, and behind it.
+static MARKED: [Step; 4] = [
+    Connect,
+    Send(0, "mark 0 1704067201\nquit\n"),
+    Hear(0, "S|1704067201\n"),
+    HearLast(0, "ok\n"),
+];
+
+static STOPPED: [Step; 3] = [Connect, Send(0, "stop\n"), HearLast(0, "ok\n")];
+
+/// An archive on disks in memory which tells that no page waits to go home.
+#[derive(Drop)]
+struct WatchedStore {
+    inner: MemStore,
+    signals: Arc<Signals>,
+}
+
+impl Store for WatchedStore {
+    type Disk = MemOnce;
+
+    type Reader = ShelfReader<MemOnce>;
+
+    type Seen = MemSeen;
+
+    type Errand = Errand;
+
+    type Cursor = Cursor;
+
+    ghost carries = { λ store p. CarriesPast store.inner.archive p };
+
+    ghost pages = { λ store. ring_pages store.inner.archive };
+
+    ghost disk_of = { λ store. once_of store.inner.archive };
+
+    ghost block_count = { λ disk. ⟦<MemOnce as OnceDisk>⟧.block_count disk };
+
+    ghost reads = { λ reader. reader_disk reader };
+
+    ghost kept = { λ reader. kept_blocks reader };
+
+    ghost honest = { λ disk seen. ⟦<MemOnce as OnceDisk>⟧.honest_seen disk seen };
+
+    ghost known = { λ seen. ⟦<MemOnce as OnceDisk>⟧.known seen };
+
+    ghost asks = { λ cursor. asks cursor };
+
+    ghost gathered = { λ cursor h. IsGathered cursor h };
+
+    ghost fits = { λ errand cursor. IsErrandFor cursor errand };
+
+    ghost lies = { λ errand cursor disk p. LiesInPast (⟦<MemOnce as OnceDisk>⟧.block_count disk) errand cursor p };
+
+    ghost right = { λ store p carried. right_going store.inner.archive p.history carried.goes_on };
+
+    ghost stays = { λ cursor h g right begins below gathered. gathered_on cursor h g begins gathered };
+
+    fn collectors(&self) -> u8 {
+        self.inner.collectors()
+    }
+
+    fn ring(&self) -> u16 {
+        self.inner.ring()
+    }
+
+    fn settled(&self) -> Mark {
+        self.inner.settled()
+    }
+
+    fn admitted(&self, collector: u8) -> u64 {
+        self.inner.admitted(collector)
+    }
+
+    fn admit(&mut self, collector: u8, batch: &[Admission]) -> Result<BatchReply, AdmitError> {
+        self.inner.admit(collector, batch)
+    }
+
+    fn mark(&mut self, collector: u8, mark: Mark) -> Result<(), MarkError> {
+        self.inner.mark(collector, mark)
+    }
+
+    fn apply_step(&mut self) -> Result<Applying, Trouble> {
+        self.inner.apply_step()
+    }
+
+    fn flush_step(&mut self) -> Result<Flush, Trouble> {
+        let told = self.inner.flush_step();
+        if told == Ok(Flush::Clean) {
+            let signals: &Signals = &self.signals;
+            signals.is_done.store(true, Ordering::SeqCst);
+        }
+        told
+    }
+
+    fn start(alloc: Global, query: &Query) -> Cursor {
+        MemStore::start(alloc, query)
+    }
+
+    fn descend(&mut self, cursor: &mut Cursor) -> Result<Turn<Errand>, AskError> {
+        self.inner.descend(cursor)
+    }
+
+    fn seen(&mut self) -> Result<MemSeen, Trouble> {
+        self.inner.seen()
+    }
+
+    fn reader(&self, alloc: Global, capacity: usize) -> Result<ShelfReader<MemOnce>, Trouble> {
+        self.inner.reader(alloc, capacity)
+    }
+
+    fn finish(
+        reader: &mut ShelfReader<MemOnce>,
+        seen: &mut MemSeen,
+        alloc: Global,
+        errand: Errand,
+        cursor: &mut Cursor,
+    ) -> Result<(), Trouble> {
+        MemStore::finish(reader, seen, alloc, errand, cursor)
+    }
+}
+
+#[test]
+fn pages_go_home_while_a_server_serves(rt: HostRuntime) -> Result<(), Fail> {
+    let alloc = rt.alloc();
+    let listener = TcpListener::bind(&rt, "127.0.0.1:0")?;
+    let address = listener.local_addr()?;
+    let log = Locked::new(rt, Vec::new(alloc));
+    let signals = Arc::new(alloc, Signals::new())?;
+    let seen = signals.clone()?;
+    let store = WatchedStore {
+        inner: empty_store(alloc)?,
+        signals: signals.clone()?,
+    };
+    let clients = thread::spawn(&rt, move || {
+        let signals: &Signals = &seen;
+        let marked = count_right(&rt, alloc, address, &MARKED);
+        signals.is_done.store(false, Ordering::SeqCst);
+        signals.wait_for(&rt, &signals.is_done);
+        let stopped = count_right(&rt, alloc, address, &STOPPED);
+        (marked, stopped)
+    })?;
+    let opened = Opened::new(alloc, COLLECTORS)?;
+    let served = serve_store::<
+        WatchedStore,
+        Brand,
+        NoGate,
+        HostRuntime,
+        Locked<HostRuntime, Vec<u8>>,
+    >(&rt, alloc, opened, store, NoGate, &listener, &log);
+    assert_eq!(rt; clients.join(&rt), (MARKED.len(), STOPPED.len()));
+    assert!(rt; !signals.is_late.load(Ordering::SeqCst));
+    assert!(rt; served.is_some());
+    Ok(())
+}
