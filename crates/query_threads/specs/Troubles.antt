@@ -12,7 +12,7 @@ BlamesNone (DamagedBlock block) = ⊥
 BlamesNone Full = ⊤
 BlamesNone OutOfMemory = ⊤
 
--- a device failed, now or earlier, or memory was refused: nothing is said to be damaged, and nothing to be full
+-- it is told as a device that failed, as an archive that must be opened again, or as want of memory: nothing is said to be damaged, and nothing to be full
 abbrev pub IsOutside : Trouble → Type 0
 IsOutside Fault = ⊤
 IsOutside NeedsRecovery = ⊤
