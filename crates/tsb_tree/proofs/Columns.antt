@@ -36,10 +36,10 @@ module _ (s : Store) (all : List Version) (place : PagePlace) (shown : List (Lis
   column = column_of s.nodes s.limit s.blocks s.next all place.level (keys_at place) place.page level stands
 
   -- a column in memory is the one that stands
-  pub is_at : (w : Whole) (current : ℕ) (octets image : List ℕ) → slice_get shown place.page ≡ Some octets → PageSays octets (column_node w current) → slice_get shown current ≡ Some image → IsLeafPage (leaf_in_page w) image → IsAt s.nodes place.page current w
-  is_at w current octets image at says at_leaf leaf =
+  pub is_at : (w : Whole) (current : ℕ) (image : List ℕ) → Says shown place.page (column_node w current) → slice_get shown current ≡ Some image → IsLeafPage (leaf_in_page w) image → IsAt s.nodes place.page current w
+  is_at w current image says at_leaf leaf =
       let c = column in
-      let said : column_node w current ≡ ColumnNode (keys_at place) c.parts c.start c.current = one_shown shown place.page octets _ _ at says (are place.page _ c.at) in
+      let said : column_node w current ≡ ColumnNode (keys_at place) c.parts c.start c.current = says_one shown place.page _ _ says (are place.page _ c.at) in
       let e : c.current ≡ current = cc in
       let at_current : s.nodes current ≡ Some (CurrentLeaf (keys_at place) c.start c.versions) = ap s.nodes (sym e) ∙ c.at_current in
       let leaf_said : leaf_node w ≡ CurrentLeaf (keys_at place) c.start c.versions = one_shown shown current image _ _ at_leaf (says_leaf (leaf_in_page w) leaf) (are current _ at_current) in

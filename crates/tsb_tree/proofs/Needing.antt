@@ -54,19 +54,18 @@ half_two children next unused new (Some half) some more many = (many, more)
 pub leaf_shown : (shown : List (List ℕ)) (place : PagePlace) (page : ℕ) (image : List ℕ) (of : IsLeafOf shown place page image) → HasLeaf shown place of.versions
 leaf_shown shown place page image of = record { parts = of.parts; start = of.start; page = page; column = of.column; current = record { octets = image; at = of.at; says = of.says } }
 
-pub column_read : (shown : List (List ℕ)) (place : PagePlace) (w : Whole) (current : ℕ) (column : List ℕ) → slice_get shown place.page ≡ Some column → PageSays column (column_node w current) → keys_of_whole w ≡ keys_at place
-    → Says shown place.page (ColumnNode (keys_at place) w.parts.items w.start current)
-column_read shown place w current column at says keys = record { octets = column; at = at; says = subst (λ (k : Keys). PageSays column (ColumnNode k w.parts.items w.start current)) keys says }
+pub column_read : (shown : List (List ℕ)) (place : PagePlace) (w : Whole) (current : ℕ) → Says shown place.page (column_node w current) → keys_of_whole w ≡ keys_at place → Says shown place.page (ColumnNode (keys_at place) w.parts.items w.start current)
+column_read shown place w current says keys = subst (λ (k : Keys). Says shown place.page (ColumnNode k w.parts.items w.start current)) keys says
 
-pub leaf_read : (shown : List (List ℕ)) (place : PagePlace) (w : Whole) (current : ℕ) (column image : List ℕ) → slice_get shown place.page ≡ Some column → PageSays column (column_node w current) → slice_get shown current ≡ Some image → IsLeafPage (leaf_in_page w) image
-    → keys_of_whole w ≡ keys_at place → HasLeaf shown place w.leaf
-leaf_read shown place w current column image at says at_leaf leaf keys =
+pub leaf_read : (shown : List (List ℕ)) (place : PagePlace) (w : Whole) (current : ℕ) (image : List ℕ) → Says shown place.page (column_node w current) → slice_get shown current ≡ Some image → IsLeafPage (leaf_in_page w) image → keys_of_whole w ≡ keys_at place
+    → HasLeaf shown place w.leaf
+leaf_read shown place w current image says at_leaf leaf keys =
     let said : PageSays image (CurrentLeaf (keys_of_whole w) w.start w.leaf) = says_leaf (leaf_in_page w) leaf in
     record {
       parts = w.parts.items;
       start = w.start;
       page = current;
-      column = column_read shown place w current column at says keys;
+      column = column_read shown place w current says keys;
       current = record { octets = image; at = at_leaf; says = subst (λ (k : Keys). PageSays image (CurrentLeaf k w.start w.leaf)) keys said };
     }
 

@@ -30,7 +30,7 @@ use crate::change::Change;
 use crate::error::TreeError;
 use crate::planning_column::plan_column;
 use crate::putting::put_half;
-use crate::reading::{image_of, key_node_in};
+use crate::reading::{key_node_in, see};
 use disk_models::OnceDisk;
 use once_store::Shelf;
 use page_tx::{PageError, Pages};
@@ -66,11 +66,11 @@ fn key_node_at<P: Pages>(pages: &mut P, alloc: Global, n: u64) -> Result<KeyNode
     ensures refused { IfErr result (ReadRefusal (P.down pages.old)) }
     ensures reads { ReadsAlone P.Pages pages.old pages.new result }
 {
-    let image = image_of(pages, n)?;
-    match key_node_in(alloc, &image, n) {
-        Ok(said) => Ok(said),
-        Err(refusal) => Err(refusal),
-    }
+    see(pages, n)?;
+    let Some(page) = pages.page(n) else {
+        unreachable!()
+    };
+    key_node_in(alloc, page, n)
 }
 
 // What is planned for a child of the key node at a place becomes what is planned for the key node: where the child became two, it takes the

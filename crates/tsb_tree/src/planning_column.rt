@@ -22,8 +22,7 @@ use crate::change::Change;
 use crate::current_leaf::{LeafImage, current_leaf};
 use crate::error::TreeError;
 use crate::putting_in_leaf::{lay_leaf, push_entry};
-use crate::reading::image_of;
-use crate::reading_whole::whole_in;
+use crate::reading_whole::whole_at;
 use crate::splitting_column::{Unused, split_column};
 use disk_models::OnceDisk;
 use once_store::Shelf;
@@ -63,8 +62,7 @@ fn plan_splits<P: Pages, O: OnceDisk + Drop>(
     ensures shelf { KeepsShelf O.OnceDisk 2 shelf.old shelf.new result }
     ensures one_block { (start : Start) (shown : List (List ℕ)) → P.shows pages.old start shown → SpendsOne O.OnceDisk shelf.old shelf.new ⊎ LeadsToFullColumn shown (version_of entry.now) place.now }
 {
-    let column = image_of(pages, place.page)?;
-    let whole = whole_in(alloc, place, &column, leaf)?;
+    let whole = whole_at(pages, alloc, place, leaf)?;
     let unused = Unused {
         next: pages.next_page(),
         homes: pages.home_pages(),

@@ -9,7 +9,7 @@ use Rattle.tsb_tree.specs.declared.change.Change.{Change}
 use Rattle.tsb_tree.specs.declared.error.TreeError.{TreeError}
 use Rattle.tsb_tree.specs.NoRoom.{full_column}
 use Rattle.tsb_tree.specs.Plans.{Plans}
-use Rattle.tsb_tree.specs.Refusals.{PlanRefusal, ReadRefusal}
+use Rattle.tsb_tree.specs.Refusals.{IsHonest, PlanRefusal, ReadRefusal}
 use Rattle.tsb_tree.specs.Wholes.{IsAt}
 use Rattle.tsb_tree.specs.inner.Uses.{UsesPages}
 use Rattle.tsb_tree.proofs.Columns.{is_at, ok_both}
@@ -23,16 +23,16 @@ use Rattle.tsb_tree.proofs.planning_column.plan_splits.Goals as goal
 
 pub returns-in_err-whole-clause-refused : goal.returns-in_err-whole-clause-refused
 returns-in_err-whole-clause-refused g c =
-    let h = c.in_err-whole.ensures.refused (g.P.Pages.down c.args.pages.now) in
-    let d : c.from_residual-in_err-whole.result ≡ Err c.in_err-whole.field-0.0 = search rules in
+    let h = c.in_err-whole.ensures.refused in
+    let d : c.from_residual.result ≡ Err c.in_err-whole.field-0.0 = search rules in
     subst (λ (r : Result Change TreeError). IfErr r (PlanRefusal (g.P.Pages.homes c.args.pages.now) (g.P.Pages.next c.args.pages.now) c.args.place.now.level (g.P.Pages.down c.args.pages.now))) (sym d)
     (read_plan (g.P.Pages.homes c.args.pages.now) (g.P.Pages.next c.args.pages.now) c.args.place.now.level (g.P.Pages.down c.args.pages.now) _ h)
 
 pub returns-in_err-whole-clause-shelf : goal.returns-in_err-whole-clause-shelf
 returns-in_err-whole-clause-shelf g c =
-    let h = c.in_err-whole.ensures.refused (g.P.Pages.down c.args.pages.now) in
-    let d : c.from_residual-in_err-whole.result ≡ Err c.in_err-whole.field-0.0 = search rules in
-    keeps_none g.O.OnceDisk c.args.shelf.now c.from_residual-in_err-whole.result (g.P.Pages.down c.args.pages.now)
+    let h = c.in_err-whole.ensures.refused in
+    let d : c.from_residual.result ≡ Err c.in_err-whole.field-0.0 = search rules in
+    keeps_none g.O.OnceDisk c.args.shelf.now c.from_residual.result (g.P.Pages.down c.args.pages.now)
     (subst (λ (r : Result Change TreeError). IfErr r (ReadRefusal (g.P.Pages.down c.args.pages.now))) (sym d) h)
 
 pub returns-clause-refused : goal.returns-clause-refused
@@ -42,8 +42,8 @@ returns-clause-refused g c =
     let homes = c.home_pages.result in
     let next = c.next_page.result in
     let h = c.split_column.ensures.refused down in
-    let homes_is : homes ≡ g.P.Pages.homes c.args.pages.now = c.home_pages.ensures ∙ c.in_ok-column.ensures.reads.homes in
-    let next_is : next ≡ g.P.Pages.next c.args.pages.now = c.next_page.ensures ∙ c.in_ok-column.ensures.reads.next in
+    let homes_is : homes ≡ g.P.Pages.homes c.args.pages.now = c.home_pages.ensures ∙ c.in_ok-whole.ensures.reads.homes in
+    let next_is : next ≡ g.P.Pages.next c.args.pages.now = c.next_page.ensures ∙ c.in_ok-whole.ensures.reads.next in
     subst (λ (m : ℕ). IfErr r (PlanRefusal (g.P.Pages.homes c.args.pages.now) (g.P.Pages.next c.args.pages.now) m down)) (sym c.requires.level)
     (subst (λ (m : ℕ). IfErr r (PlanRefusal (g.P.Pages.homes c.args.pages.now) m 1 down)) next_is (subst (λ (m : ℕ). IfErr r (PlanRefusal m next 1 down)) homes_is h))
 
@@ -54,18 +54,24 @@ returns-clause-plans g c s all can at_leaf =
     let v = version_of c.args.entry.now in
     let w = c.in_ok-whole.whole in
     let homes = g.P.Pages.homes c.args.pages.now in
-    let shown = c.in_ok-column.ensures.shown can.start can.shown can.is.shows in
-    let at : IsAt s.nodes place.page leaf.page w = is_at s all place can.shown c.requires.level can.is.tells can.stands w leaf.page _ _ shown c.in_ok-whole.ensures.column at_leaf c.in_ok-whole.ensures.leaf in
-    let homes_is : c.home_pages.result ≡ homes = c.home_pages.ensures ∙ c.in_ok-column.ensures.reads.homes in
-    let next_is : c.next_page.result ≡ g.P.Pages.next c.args.pages.now = c.next_page.ensures ∙ c.in_ok-column.ensures.reads.next in
+    let says = c.in_ok-whole.ensures.column can.start can.shown can.is.shows in
+    let at : IsAt s.nodes place.page leaf.page w = is_at s all place can.shown c.requires.level can.is.tells can.stands w leaf.page _ says at_leaf c.in_ok-whole.ensures.leaf in
+    let homes_is : c.home_pages.result ≡ homes = c.home_pages.ensures ∙ c.in_ok-whole.ensures.reads.homes in
+    let next_is : c.next_page.result ≡ g.P.Pages.next c.args.pages.now = c.next_page.ensures ∙ c.in_ok-whole.ensures.reads.next in
     let keys_is = c.in_ok-whole.ensures.keys in
     let low : w.low ≤ v.key = omega (arith, ap (λ (k : Keys). k.low) keys_is, c.requires.has.low) in
     let high : v.key < high_or w.high = omega (arith, ap (λ (k : Keys). k.high) keys_is, c.requires.has.high) in
     ok_both _ _ _ c.split_column.result
     (λ change taken inside. subst (λ (m : ℕ). Plans g.O.OnceDisk c.split_column.new.shelf homes s v m place.page change) (sym c.requires.level)
     (plans_taken g.O.OnceDisk c.split_column.new.shelf homes s v place.page leaf.page c.next_page.result (next_of c.args.shelf.now) w change at low high (can.is.limit ∙ sym next_is) can.is.next c.split_column.ensures.shelf.forward
-    c.in_ok-column.ensures.inside c.requires.within (omega (arith, inside, homes_is)) (taken s.blocks can.is.says)))
+    c.in_ok-whole.ensures.inside c.requires.within (omega (arith, inside, homes_is)) (taken s.blocks can.is.says)))
     (c.split_column.ensures.takes can.is.honest) c.split_column.ensures.inside
+
+pub returns-in_err-whole-clause-honest : goal.returns-in_err-whole-clause-honest
+returns-in_err-whole-clause-honest g c s all can of filled =
+    let h = c.in_err-whole.ensures.honest can.start can.shown of.parts of.start of.versions can.is.shows of.column of.says in
+    let d : c.from_residual.result ≡ Err c.in_err-whole.field-0.0 = search rules in
+    subst (λ (r : Result Change TreeError). IsHonest r) (sym d) h
 
 pub returns-clause-honest : goal.returns-clause-honest
 returns-clause-honest g c s all can of filled =
@@ -73,9 +79,9 @@ returns-clause-honest g c s all can of filled =
     let leaf = c.args.leaf.now in
     let v = version_of c.args.entry.now in
     let w = c.in_ok-whole.whole in
-    let shown = c.in_ok-column.ensures.shown can.start can.shown can.is.shows in
+    let says = c.in_ok-whole.ensures.column can.start can.shown can.is.shows in
     let page = c.in_ok-whole.ensures.leaf in
-    let at : IsAt s.nodes place.page leaf.page w = is_at s all place can.shown c.requires.level can.is.tells can.stands w leaf.page _ _ shown c.in_ok-whole.ensures.column of.at page in
+    let at : IsAt s.nodes place.page leaf.page w = is_at s all place can.shown c.requires.level can.is.tells can.stands w leaf.page _ says of.at page in
     let among : (x : Version) → Has w.leaf x → Has all x = whole_among s all place leaf.page leaf.image w v at can.stands page in
     c.split_column.ensures.honest (record { above = λ x h. can.above.above x (among x h) }) (whole_forward s all place leaf.page leaf.image w v at can.stands page can.above c.requires.small filled)
     (λ x h. can.bounded x (among x h)) can.inside
@@ -84,15 +90,10 @@ pub returns-clause-burns : goal.returns-clause-burns
 returns-clause-burns g c =
     or_else (outdated_read c.args.place.now c.args.leaf.now.image (version_of c.args.entry.now) c.in_ok-whole.whole c.in_ok-whole.ensures.keys c.in_ok-whole.ensures.leaf) c.split_column.ensures.burns
 
-pub returns-in_err-column-clause-wants_pages : goal.returns-in_err-column-clause-wants_pages
-returns-in_err-column-clause-wants_pages g c start shown shows at filled is =
-    let p = err_from_is_err_and c.from_residual.result c.from_residual.ensures.1 in
-    absurd (read_never_full _ (g.P.Pages.down c.args.pages.now) c.in_err-column.ensures.refused (cc))
-
 pub returns-in_err-whole-clause-wants_pages : goal.returns-in_err-whole-clause-wants_pages
 returns-in_err-whole-clause-wants_pages g c start shown shows at filled is =
-    let p = err_from_is_err_and c.from_residual-in_err-whole.result c.from_residual-in_err-whole.ensures.1 in
-    absurd (read_never_full _ (g.P.Pages.down c.args.pages.now) (c.in_err-whole.ensures.refused (g.P.Pages.down c.args.pages.now)) (cc))
+    let p = err_from_is_err_and c.from_residual.result c.from_residual.ensures.1 in
+    absurd (read_never_full _ (g.P.Pages.down c.args.pages.now) c.in_err-whole.ensures.refused (cc))
 
 pub returns-clause-uses : goal.returns-clause-uses
 returns-clause-uses g c start shown shows at filled =
@@ -100,9 +101,9 @@ returns-clause-uses g c start shown shows at filled =
     let v : Version = version_of c.args.entry.now in
     let w = c.in_ok-whole.whole in
     let page = c.in_ok-whole.ensures.leaf in
-    let has = leaf_read shown place w c.args.leaf.now.page _ c.args.leaf.now.image (c.in_ok-column.ensures.shown start shown shows) c.in_ok-whole.ensures.column at page c.in_ok-whole.ensures.keys in
+    let has = leaf_read shown place w c.args.leaf.now.page c.args.leaf.now.image (c.in_ok-whole.ensures.column start shown shows) at page c.in_ok-whole.ensures.keys in
     let full = filled_read place c.args.leaf.now.image v w filled page in
-    let next_is : c.next_page.result ≡ g.P.Pages.next c.args.pages.now = c.next_page.ensures ∙ c.in_ok-column.ensures.reads.next in
+    let next_is : c.next_page.result ≡ g.P.Pages.next c.args.pages.now = c.next_page.ensures ∙ c.in_ok-whole.ensures.reads.next in
     subst (λ (n : ℕ). IfOk c.split_column.result (λ change. UsesPages shown v place n change.unused change.new)) next_is
     (ok_then _ _ c.split_column.result (λ change uses. leaf_uses shown v place w.leaf uses.0 has full uses.1 c.next_page.result change.unused change.new uses.2) c.split_column.ensures.uses)
 
@@ -112,31 +113,23 @@ returns-clause-wants_pages g c start shown shows at filled is =
     let v : Version = version_of c.args.entry.now in
     let w = c.in_ok-whole.whole in
     let page = c.in_ok-whole.ensures.leaf in
-    let has = leaf_read shown place w c.args.leaf.now.page _ c.args.leaf.now.image (c.in_ok-column.ensures.shown start shown shows) c.in_ok-whole.ensures.column at page c.in_ok-whole.ensures.keys in
+    let has = leaf_read shown place w c.args.leaf.now.page c.args.leaf.now.image (c.in_ok-whole.ensures.column start shown shows) at page c.in_ok-whole.ensures.keys in
     let full = filled_read place c.args.leaf.now.image v w filled page in
-    let homes_is : c.home_pages.result ≡ g.P.Pages.homes c.args.pages.now = c.home_pages.ensures ∙ c.in_ok-column.ensures.reads.homes in
-    let next_is : c.next_page.result ≡ g.P.Pages.next c.args.pages.now = c.next_page.ensures ∙ c.in_ok-column.ensures.reads.next in
+    let homes_is : c.home_pages.result ≡ g.P.Pages.homes c.args.pages.now = c.home_pages.ensures ∙ c.in_ok-whole.ensures.reads.homes in
+    let next_is : c.next_page.result ≡ g.P.Pages.next c.args.pages.now = c.next_page.ensures ∙ c.in_ok-whole.ensures.reads.next in
     let wants = c.split_column.ensures.wants_pages is in
     let few = wants.3 in
     leaf_wants shown v place w.leaf wants.0 has full wants.1 (g.P.Pages.homes c.args.pages.now) (g.P.Pages.next c.args.pages.now) wants.2 (omega (arith, few, homes_is, next_is))
 
-pub returns-in_err-column-clause-once : goal.returns-in_err-column-clause-once
-returns-in_err-column-clause-once g c refusal is =
-    let p = err_from_is_err_and c.from_residual.result c.from_residual.ensures.1 in
-    absurd (read_never_once _ refusal (g.P.Pages.down c.args.pages.now) c.in_err-column.ensures.refused (cc))
-
 pub returns-in_err-whole-clause-once : goal.returns-in_err-whole-clause-once
 returns-in_err-whole-clause-once g c refusal is =
-    let p = err_from_is_err_and c.from_residual-in_err-whole.result c.from_residual-in_err-whole.ensures.1 in
-    absurd (read_never_once _ refusal (g.P.Pages.down c.args.pages.now) (c.in_err-whole.ensures.refused (g.P.Pages.down c.args.pages.now)) (cc))
+    let p = err_from_is_err_and c.from_residual.result c.from_residual.ensures.1 in
+    absurd (read_never_once _ refusal (g.P.Pages.down c.args.pages.now) c.in_err-whole.ensures.refused (cc))
 
 pub returns-clause-once : goal.returns-clause-once
 returns-clause-once g c refusal is =
     let w = c.in_ok-whole.whole in
     outdated_read c.args.place.now c.args.leaf.now.image (version_of c.args.entry.now) w c.in_ok-whole.ensures.keys c.in_ok-whole.ensures.leaf (c.split_column.ensures.once refusal is)
-
-pub returns-in_err-column-clause-one_block : goal.returns-in_err-column-clause-one_block
-returns-in_err-column-clause-one_block g c start shown shows = inl (spends_none g.O.OnceDisk c.args.shelf.now)
 
 pub returns-in_err-whole-clause-one_block : goal.returns-in_err-whole-clause-one_block
 returns-in_err-whole-clause-one_block g c start shown shows = inl (spends_none g.O.OnceDisk c.args.shelf.now)
@@ -145,7 +138,7 @@ pub returns-clause-one_block : goal.returns-clause-one_block
 returns-clause-one_block g c start shown shows =
     let place = c.args.place.now in
     let w = c.in_ok-whole.whole in
-    let says = column_read shown place w c.args.leaf.now.page _ (c.in_ok-column.ensures.shown start shown shows) c.in_ok-whole.ensures.column c.in_ok-whole.ensures.keys in
+    let says = column_read shown place w c.args.leaf.now.page (c.in_ok-whole.ensures.column start shown shows) c.in_ok-whole.ensures.keys in
     elim c.split_column.ensures.one_block [
       | inl same ↦ inl (spends_same g.O.OnceDisk c.args.shelf.now c.split_column.new.shelf same)
       | inr rest ↦ or_else (full_column place w.parts.items w.start c.args.leaf.now.page says) rest
