@@ -28,3 +28,4 @@ pub mod Beginning
 pub mod Wanting
 pub mod Needing
 pub mod Outliving
+pub mod Excluding

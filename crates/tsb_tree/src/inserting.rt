@@ -77,6 +77,8 @@ fn planned<P: Pages, O: OnceDisk + Drop>(
         → SpendsOne O.OnceDisk shelf.old shelf.new ⊎ AtRoot (LeadsToFullColumn shown (version_of entry.now)) place.root place.level }
     ensures grows { (start : Start) (shown : List (List ℕ)) (all : List Version) → TreeShown P.Pages pages.old O.OnceDisk shelf.old start shown all place.root place.level place.least → place.least ≤ entry.now.stamp
         → IfOk result (λ plan. ((plan.1.root ≡ place.root) × (plan.1.level ≡ place.level)) ⊎ ((plan.1.level ≡ suc place.level) × AtRoot (NeedsLevel shown (version_of entry.now)) place.root place.level)) }
+    ensures rises { (start : Start) (shown : List (List ℕ)) (all : List Version) → TreeShown P.Pages pages.old O.OnceDisk shelf.old start shown all place.root place.level place.least → place.least ≤ entry.now.stamp
+        → AtRoot (NeedsLevel shown (version_of entry.now)) place.root place.level → IfOk result (λ plan. plan.1.level ≡ suc place.level) }
     ensures highest { place.level ≡ 7 → result ≡ Err (TreeError.Pages PageError.PagesFull) → P.homes pages.old < P.next pages.old + 8 }
     ensures laid { IfOk result (λ plan. TreeCanBeLaid (P.homes pages.old) (P.next pages.old) place.level plan.0) }
     ensures images { IfOk result (λ plan. length plan.0.images.items ≤ 2 * plan.1.level + 2) }
@@ -153,6 +155,8 @@ pub fn insert<P: Pages, O: OnceDisk + Drop>(
         → SpendsOne O.OnceDisk shelf.old shelf.new ⊎ AtRoot (LeadsToFullColumn shown (version_of entry.now)) place.root place.level }
     ensures grows { (start : Start) (shown : List (List ℕ)) (all : List Version) → TreeShown P.Pages pages.old O.OnceDisk shelf.old start shown all place.root place.level place.least
         → IfOk result (λ now. ((now.root ≡ place.root) × (now.level ≡ place.level)) ⊎ ((now.level ≡ suc place.level) × AtRoot (NeedsLevel shown (version_of entry.now)) place.root place.level)) }
+    ensures rises { (start : Start) (shown : List (List ℕ)) (all : List Version) → TreeShown P.Pages pages.old O.OnceDisk shelf.old start shown all place.root place.level place.least
+        → AtRoot (NeedsLevel shown (version_of entry.now)) place.root place.level → IfOk result (λ now. now.level ≡ suc place.level) }
     ensures highest { place.level ≡ 7 → result ≡ Err (TreeError.Pages PageError.PagesFull) → P.homes pages.old < P.next pages.old + 8 }
     ensures back { (result ≡ Err TreeError.StampBack) ↔ (entry.now.stamp < place.least) }
     ensures refused { IfErr result (InsertRefusal (P.homes pages.old) (P.next pages.old) (length (P.named pages.old)) place.level (P.down pages.old) place.least entry.now.stamp) }

@@ -141,6 +141,11 @@ returns-in-Ok-clause-grows g c start shown all tree =
     let later : c.args.place.least ≤ c.args.entry.now.stamp = not_less c.lt.result _ _ c.lt.ensures c.if-lt.false in
     c.in_ok-change.ensures.grows start shown all tree later
 
+pub returns-in-Ok-clause-rises : goal.returns-in-Ok-clause-rises
+returns-in-Ok-clause-rises g c start shown all tree needs =
+    let later : c.args.place.least ≤ c.args.entry.now.stamp = not_less c.lt.result _ _ c.lt.ensures c.if-lt.false in
+    c.in_ok-change.ensures.rises start shown all tree later needs
+
 pub returns-in-Err-clause-highest : goal.returns-in-Err-clause-highest
 returns-in-Err-clause-highest g c seven full =
     let homes : g.P.Pages.homes c.planned.new.pages ≡ g.P.Pages.homes c.args.pages.now = c.in_ok-change.ensures.reads.homes in

@@ -10,6 +10,7 @@ use Rattle.tsb_tree.specs.Outlived.{LeadsToOutdated}
 use Rattle.tsb_tree.specs.Plans.{CanBeLaid}
 use Rattle.tsb_tree.specs.Raises.{TreeCanBeLaid}
 use Rattle.tsb_tree.specs.inner.Uses.{UsesPages, WantsPages}
+use Rattle.tsb_tree.proofs.Excluding.{root_stays}
 use Rattle.tsb_tree.proofs.Needing.{tree_wants, tree_same_uses, tree_grown_uses, tree_grown_wants, tree_level, tree_leads, root_full, root_never_once}
 use Rattle.tsb_tree.proofs.Outliving.{or_else}
 use Rattle.tsb_tree.proofs.Wanting.{plan_full, plan_never_high}
@@ -207,6 +208,17 @@ returns-clause-grows g c start shown all tree later =
     let uses = root_so g.P.Pages c.args.pages.now g.O.OnceDisk c.args.shelf.now start shown all root.result place.root place.level place.least v (λ pages at. UsesPages pages v at next change.unused change.new) root.ensures.page root.ensures.level root.ensures.keys tree later c.requires.inside (c.in_ok-change.ensures.uses tree.store all can) in
     let some = subst (λ (o : Option Child). IsSome o) (sym c.in-Some.is) refl in
     inr (omega arith, tree_level shown v place.root place.level next change.unused change.new uses some)
+
+pub returns-in_default-clause-rises : goal.returns-in_default-clause-rises
+returns-in_default-clause-rises g c start shown all tree later needs =
+    let root = c.root-root in
+    let place = c.args.place in
+    let v : Version = version_of c.args.entry.now in
+    let can = root_can g.P.Pages c.args.pages.now g.O.OnceDisk c.args.shelf.now start shown all root.result place.root place.level place.least v root.ensures.page root.ensures.level root.ensures.keys tree later c.requires.inside in
+    let change = c.in_ok-change.change in
+    let next : ℕ = g.P.Pages.next c.args.pages.now in
+    let uses = root_so g.P.Pages c.args.pages.now g.O.OnceDisk c.args.shelf.now start shown all root.result place.root place.level place.least v (λ pages at. UsesPages pages v at next change.unused change.new) root.ensures.page root.ensures.level root.ensures.keys tree later c.requires.inside (c.in_ok-change.ensures.uses tree.store all can) in
+    absurd (root_stays shown v place.root place.level next change.unused change.new c.in_default.is uses needs)
 
 pub returns-in_err-change-clause-highest : goal.returns-in_err-change-clause-highest
 returns-in_err-change-clause-highest g c seven full =
