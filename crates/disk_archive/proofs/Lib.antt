@@ -32,4 +32,5 @@ mod Turning
 mod Staying
 mod Limited
 mod Faults
+mod Failing
 pub mod api

@@ -10,6 +10,7 @@ pub mod Blanks
 pub mod Notes
 pub mod Openings
 pub mod Creations
+pub mod Failures
 pub mod Outcome
 pub mod Checks
 pub mod Cursors

@@ -1,6 +1,6 @@
 //! Why a change isn't applied.
 
-ghost use Rattle.std.specs.Prelude.{◌≡◌, ◌≢◌, ◌<◌, ◌+◌, ℕ, Bool, true};
+ghost use Rattle.std.specs.Prelude.{◌≡◌, ◌≢◌, ◌<◌, ◌+◌, ◌⊎◌, ◌↔◌, ℕ, Bool, true};
 ghost use Rattle.once_store.specs.declared.error.AppendError.TheVariants as appends;
 ghost use Rattle.page_tx.specs.declared.error.PageError.TheVariants as pages;
 ghost use Rattle.disk_archive.specs.declared.apply_error.ApplyError.TheVariants as applies;
@@ -78,6 +78,7 @@ pub(crate) fn of_pages(refusal: PageError) -> ApplyError
     ensures bad { (page : ℕ) → result ≢ ApplyError.BadNode page }
     ensures once { result ≢ ApplyError.OnceFull }
     ensures high { result ≢ ApplyError.TooHigh }
+    ensures fault { (result ≡ ApplyError.Fault) ↔ (refusal ≡ PageError.Fault) }
     ensures limits { (homes next count : ℕ) → (refusal ≡ PageError.PagesFull → homes < next + 9) → LimitRefusal homes next count result }
     ensures refused { (down : Bool) → (refusal ≡ PageError.NeedsRecovery → down ≡ true) → ApplyRefusal down result }
 {
@@ -98,6 +99,7 @@ pub(crate) fn of_tree(refusal: TreeError) -> ApplyError
     ensures bad { (page : ℕ) → result ≡ ApplyError.BadNode page → refusal ≡ TreeError.BadNode page }
     ensures once { result ≡ ApplyError.OnceFull → refusal ≡ TreeError.Once appends.OnceFull }
     ensures high { result ≡ ApplyError.TooHigh → refusal ≡ TreeError.TooHigh }
+    ensures fault { result ≡ ApplyError.Fault → (refusal ≡ TreeError.Pages pages.Fault) ⊎ (refusal ≡ TreeError.Once appends.Fault) }
     ensures limits { (homes next count : ℕ) → (refusal ≡ TreeError.Pages pages.PagesFull → homes < next + 9) → LimitRefusal homes next count result }
     ensures refused { (down : Bool) → (refusal ≡ TreeError.Pages pages.NeedsRecovery → down ≡ true) → ApplyRefusal down result }
 {

@@ -45,9 +45,10 @@ fn begin_from<E: EraseDisk + Drop>(tx: &mut Tx<E>, head: &Head) -> Result<(), Ne
 
 impl<E: EraseDisk + Drop, O: OnceDisk + Drop> Archive<E, O> {
     ghost use Rattle.disk_models.specs.Once.{Grows};
-    ghost use Rattle.disk_archive.specs.Archives.{Carries, GoesOn, Holds, Stands, IsHonest, erase_of, is_down, once_of, once_state, settings_of, site_of};
+    ghost use Rattle.disk_archive.specs.Archives.{Carries, GoesOn, Holds, Stands, IsHonest, erase_of, is_down, once_of, once_state, pen_in, settings_of, site_of};
     ghost use Rattle.disk_archive.specs.Blanks.{NoneBlank, unused_pages};
     ghost use Rattle.disk_archive.specs.Checks.{HasPages, root_in};
+    ghost use Rattle.disk_archive.specs.Failures.{CountsFailures};
     ghost use Rattle.tsb_tree.specs.Opened.{ShowsRoot};
     ghost use Rattle.tsb_tree.specs.Shelves.{SpendsAtMost};
     ghost use Rattle.disk_archive.specs.Sites.{LeftEither};
@@ -61,6 +62,7 @@ impl<E: EraseDisk + Drop, O: OnceDisk + Drop> Archive<E, O> {
         ensures usable { OnOk result (is_down self.old ≡ false) }
         ensures still_usable { OnOk result (is_down self.new ≡ false) }
         ensures falls { is_down self.old ≡ false → is_down self.new ≡ true → result ≡ Err ApplyError.Fault }
+        ensures failed { CountsFailures (E.fault_count (erase_of self.old)) (E.fault_count (erase_of self.new)) (O.pen_fault_count (pen_in self.old)) (O.pen_fault_count (pen_in self.new)) (result ≡ Err ApplyError.Fault) }
         ensures recovery { is_down self.old ≡ true → IsAsBefore self.old self.new }
         ensures told { is_down self.old ≡ true → result ≡ Err ApplyError.NeedsRecovery }
         ensures refused { IfErr result (ApplyRefusal (is_down self.old)) }
@@ -114,6 +116,7 @@ impl<E: EraseDisk + Drop, O: OnceDisk + Drop> Archive<E, O> {
         ensures usable { OnOk result (is_down self.old ≡ false) }
         ensures still_usable { OnOk result (is_down self.new ≡ false) }
         ensures falls { is_down self.old ≡ false → is_down self.new ≡ true → result ≡ Err ApplyError.Fault }
+        ensures failed { CountsFailures (E.fault_count (erase_of self.old)) (E.fault_count (erase_of self.new)) (O.pen_fault_count (pen_in self.old)) (O.pen_fault_count (pen_in self.new)) (result ≡ Err ApplyError.Fault) }
         ensures recovery { (result ≡ Err ApplyError.NeedsRecovery) ↔ (is_down self.old ≡ true) }
         ensures counter_full { IsHonest self.old → (h : History) → Holds self.old h → result ≡ Err ApplyError.CounterFull → sum_by (λ p. length p.item.changes) (applied h) ≡ 18446744073709551615 }
         ensures pages_full { result ≡ Err ApplyError.PagesFull → unused_pages self.old < 9 }

@@ -4,6 +4,7 @@
 ghost use Rattle.std.specs.Prelude.{◌≡◌, ◌≢◌, ◌<◌, ◌≤◌, ◌+◌, ◌*◌, ◌^◌, ◌++◌, ◌∷◌, ◌↔◌, ℕ, List, [], length, min, Some, IfOk, OnOk, OnErr, IfErr, Err, false, IfSome, IfNone, IsTrue, slice_get};
 ghost use Rattle.disk_models.specs.Once.{settled_in};
 ghost use Rattle.once_store.specs.Shelves.{disk_of, next_of, pen_of};
+ghost use Rattle.page_tx.specs.Device.{KeepsDevice};
 ghost use Rattle.page_tx.specs.Start.{Start};
 ghost use Rattle.page_tx.specs.declared.error.PageError.TheVariants as pages_refusals;
 ghost use Rattle.route_model.specs.Admission.{Admitted, IsAdmission};
@@ -24,6 +25,7 @@ ghost use Rattle.archive_pages.specs.Batches.{CanPop, HasLane};
 ghost use Rattle.archive_pages.specs.Carried.{Bears};
 ghost use Rattle.archive_pages.specs.Changes.{next_change};
 ghost use Rattle.archive_pages.specs.Places.{ring_of, tree_low};
+ghost use Rattle.disk_archive.specs.Failures.{CountsFailures};
 ghost use Rattle.disk_archive.specs.Trees.{TreeLies};
 ghost use Rattle.disk_archive.specs.inner.Applications.{ApplyRefusal, KeepsBlocks, LimitRefusal, MovesOn, TakesNext, TreeTakes};
 
@@ -63,6 +65,7 @@ pub(crate) fn front_of<P: Pages>(
     ensures named { P.named pages.new ≡ P.named pages.old }
     ensures down { P.down pages.new ≡ P.down pages.old }
     ensures honest { P.honest pages.old ↔ P.honest pages.new }
+    ensures device { KeepsDevice (P.honest pages.old) (P.honest pages.new) (P.faults pages.old) (P.faults pages.new) (result ≡ Err ApplyError.Fault) }
 {
     let ring = settings.ring(collector, &lane_of(head, collector));
     if !ring.is_within(pages.home_pages()) {
@@ -135,6 +138,7 @@ fn take_version<P: Pages, O: OnceDisk + Drop>(
     ensures homes { P.homes pages.new ≡ P.homes pages.old }
     ensures down { P.down pages.new ≡ P.down pages.old }
     ensures honest { P.honest pages.old ↔ P.honest pages.new }
+    ensures failed { CountsFailures (P.faults pages.old) (P.faults pages.new) (O.pen_fault_count (pen_of shelf.old)) (O.pen_fault_count (pen_of shelf.new)) (result ≡ Err ApplyError.Fault) }
 {
     let least = Stamp::new(head.last.seconds(), head.applied);
     let place = match open(pages, head.root, least) {
@@ -188,6 +192,7 @@ fn take_next<P: Pages, O: OnceDisk + Drop>(
     ensures homes { P.homes pages.new ≡ P.homes pages.old }
     ensures down { P.down pages.new ≡ P.down pages.old }
     ensures honest { P.honest pages.old ↔ P.honest pages.new }
+    ensures failed { CountsFailures (P.faults pages.old) (P.faults pages.new) (O.pen_fault_count (pen_of shelf.old)) (O.pen_fault_count (pen_of shelf.new)) (result ≡ Err ApplyError.Fault) }
 {
     let next = next_version(alloc, head, admission)?;
     match next {
@@ -241,6 +246,7 @@ pub(crate) fn plan_change<P: Pages, O: OnceDisk + Drop>(
     ensures homes { P.homes pages.new ≡ P.homes pages.old }
     ensures down { P.down pages.new ≡ P.down pages.old }
     ensures honest { P.honest pages.old ↔ P.honest pages.new }
+    ensures failed { CountsFailures (P.faults pages.old) (P.faults pages.new) (O.pen_fault_count (pen_of shelf.old)) (O.pen_fault_count (pen_of shelf.new)) (result ≡ Err ApplyError.Fault) }
 {
     if head.applied == u64::MAX {
         return Err(ApplyError::CounterFull);

@@ -4,6 +4,7 @@
 ghost use Rattle.std.specs.Prelude.{◌≡◌, ◌≢◌, ◌<◌, ◌≤◌, ◌+◌, ◌*◌, ◌↔◌, ℕ, List, [], length, min, IfOk, OnOk, OnErr, IfErr, Err, IsTrue, true, false};
 ghost use Rattle.disk_models.specs.Once.{OnceState, settled_in};
 ghost use Rattle.once_store.specs.Shelves.{disk_of, next_of, pen_of};
+ghost use Rattle.page_tx.specs.Device.{KeepsDevice};
 ghost use Rattle.page_tx.specs.Start.{Start};
 ghost use Rattle.route_meaning.specs.History.{History};
 ghost use Rattle.sequencer.specs.Ahead.{behind};
@@ -11,6 +12,7 @@ ghost use Rattle.sequencer.specs.First.{IsNext};
 ghost use Rattle.sequencer.specs.Lanes.{Releases};
 ghost use Rattle.archive_pages.specs.Carried.{Bears};
 ghost use Rattle.tsb_tree.specs.Opened.{ShowsRoot};
+ghost use Rattle.disk_archive.specs.Failures.{CountsFailures, count_after};
 ghost use Rattle.disk_archive.specs.Mirrors.{Mirrors};
 ghost use Rattle.disk_archive.specs.Trees.{TreeLies};
 ghost use Rattle.disk_archive.specs.inner.Applications.{Advances, ApplyRefusal, IsPlan, KeepsBlocks, LimitRefusal, PlansMove, Reached, Reaches};
@@ -90,6 +92,7 @@ fn begin_plan<P: Pages>(
     ensures named { P.named pages.new ≡ P.named pages.old }
     ensures down { P.down pages.new ≡ P.down pages.old }
     ensures honest { P.honest pages.old ↔ P.honest pages.new }
+    ensures device { KeepsDevice (P.honest pages.old) (P.honest pages.new) (P.faults pages.old) (P.faults pages.new) (result ≡ Err ApplyError.Fault) }
 {
     let next = copy_head(alloc, head)?;
     let ahead = sequencer.ahead(alloc)?;
@@ -150,6 +153,7 @@ fn plan_step<P: Pages, O: OnceDisk + Drop>(
     ensures homes { P.homes pages.new ≡ P.homes pages.old }
     ensures down { P.down pages.new ≡ P.down pages.old }
     ensures honest { P.honest pages.old ↔ P.honest pages.new }
+    ensures failed { CountsFailures (P.faults pages.old) (P.faults pages.new) (O.pen_fault_count (pen_of shelf.old)) (O.pen_fault_count (pen_of shelf.new)) (result ≡ Err ApplyError.Fault) }
 {
     let collector = plan.front.collector;
     let whole = plan_change(
@@ -187,6 +191,7 @@ fn find_front<P: Pages>(
     ensures named { P.named pages.new ≡ P.named pages.old }
     ensures down { P.down pages.new ≡ P.down pages.old }
     ensures honest { P.honest pages.old ↔ P.honest pages.new }
+    ensures failed { (more : ℕ) × (P.faults pages.new ≡ count_after (P.faults pages.old) more) }
 {
     if !plan.whole {
         return true;
@@ -214,6 +219,7 @@ fn level_of<P: Pages>(pages: &mut P, head: &Head) -> Option<u8>
     ensures named { P.named pages.new ≡ P.named pages.old }
     ensures down { P.down pages.new ≡ P.down pages.old }
     ensures honest { P.honest pages.old ↔ P.honest pages.new }
+    ensures failed { (more : ℕ) × (P.faults pages.new ≡ count_after (P.faults pages.old) more) }
 {
     let least = Stamp::new(head.last.seconds(), head.applied);
     match open(pages, head.root, least) {
@@ -252,6 +258,7 @@ fn plan_another<P: Pages, O: OnceDisk + Drop>(
     ensures homes { P.homes pages.new ≡ P.homes pages.old }
     ensures down { P.down pages.new ≡ P.down pages.old }
     ensures honest { P.honest pages.old ↔ P.honest pages.new }
+    ensures failed { CountsFailures (P.faults pages.old) (P.faults pages.new) (O.pen_fault_count (pen_of shelf.old)) (O.pen_fault_count (pen_of shelf.new)) ⊥ }
 {
     let Some(level) = level_of(pages, &plan.head) else {
         return false;
@@ -287,6 +294,7 @@ fn plan_more<P: Pages, O: OnceDisk + Drop>(
     ensures homes { P.homes pages.new ≡ P.homes pages.old }
     ensures down { P.down pages.new ≡ P.down pages.old }
     ensures honest { P.honest pages.old ↔ P.honest pages.new }
+    ensures failed { CountsFailures (P.faults pages.old) (P.faults pages.new) (O.pen_fault_count (pen_of shelf.old)) (O.pen_fault_count (pen_of shelf.new)) ⊥ }
 {
     for _ in 0..MORE_CHANGES {
         if !plan_another(alloc, pages, shelf, settings, sequencer, plan) {
@@ -330,6 +338,7 @@ pub(crate) fn plan_changes<P: Pages, O: OnceDisk + Drop>(
     ensures homes { P.homes pages.new ≡ P.homes pages.old }
     ensures down { P.down pages.new ≡ P.down pages.old }
     ensures honest { P.honest pages.old ↔ P.honest pages.new }
+    ensures failed { CountsFailures (P.faults pages.old) (P.faults pages.new) (O.pen_fault_count (pen_of shelf.old)) (O.pen_fault_count (pen_of shelf.new)) (result ≡ Err ApplyError.Fault) }
 {
     let mut plan = begin_plan(alloc, pages, settings, head, sequencer, number)?;
     plan_step(

@@ -1,9 +1,12 @@
-use Rattle.std.proofs.Common.{rules, ◌∷◌, sym, ◌∙◌, ap, subst, slice_get}
+use Rattle.std.proofs.Common.{rules, ◌≡◌, ◌∷◌, sym, ◌∙◌, ap, subst, slice_get, Err}
+use Rattle.page_tx.specs.declared.error.PageError.TheVariants as pages
 use Rattle.archive_head.specs.declared.lane.Lane.{Lane}
 use Rattle.intake.specs.declared.ring.Ring.{Ring}
 use Rattle.intake.specs.Ring.{Holds}
 use Rattle.archive_pages.specs.Places.{ring_of}
 use Rattle.sequencer.proofs.api.Setting.{one_there}
+use Rattle.disk_archive.specs.declared.apply_error.ApplyError.TheVariants as applies
+use Rattle.disk_archive.proofs.Faults.{keeps_none, keeps_told}
 use Rattle.disk_archive.proofs.planning_application.front_of.Goals as goal
 
 pub returns-in-Ok-None-clause-sound : goal.returns-in-Ok-None-clause-sound
@@ -24,3 +27,24 @@ returns-in-Err-Pages-clause-refused g c = c.of_pages.ensures.refused _ (λ e. le
 
 pub returns-in-Err-Pages-clause-limits : goal.returns-in-Err-Pages-clause-limits
 returns-in-Err-Pages-clause-limits g c count = c.of_pages.ensures.limits _ _ count (λ e. let r = c.in-Err-Pages.ensures.refused in absurd (search (rules, e, r)))
+
+-- ---- how often the device failed
+
+pub returns-then-not-is_within-clause-device : goal.returns-then-not-is_within-clause-device
+returns-then-not-is_within-clause-device g c = keeps_none _ _ _ (λ told. cc)
+
+pub returns-in-Ok-Some-clause-device : goal.returns-in-Ok-Some-clause-device
+returns-in-Ok-Some-clause-device g c = keeps_told _ _ _ _ _ _ (λ told. absurd cc) (λ failed. absurd cc) c.front.ensures.same.device
+
+pub returns-in-Ok-None-clause-device : goal.returns-in-Ok-None-clause-device
+returns-in-Ok-None-clause-device g c = keeps_told _ _ _ _ _ _ (λ told. absurd cc) (λ failed. absurd cc) c.front.ensures.same.device
+
+pub returns-in-Err-BadNode-clause-device : goal.returns-in-Err-BadNode-clause-device
+returns-in-Err-BadNode-clause-device g c = keeps_told _ _ _ _ _ _ (λ told. absurd cc) (λ failed. absurd cc) c.front.ensures.same.device
+
+pub returns-in-Err-Pages-clause-device : goal.returns-in-Err-Pages-clause-device
+returns-in-Err-Pages-clause-device g c =
+    keeps_told _ _ _ _ _ _
+    (λ told. (let is : c.of_pages.result ≡ applies.Fault = cc in let e = c.of_pages.ensures.fault.0 is in cc))
+    (λ failed. (let is : c.in-Err-Pages.refusal ≡ pages.Fault = cc in ap Err (c.of_pages.ensures.fault.1 is)))
+    c.front.ensures.same.device

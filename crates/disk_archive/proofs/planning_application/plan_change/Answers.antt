@@ -1,10 +1,13 @@
-use Rattle.std.proofs.Common.{rules, inl, inr, ℕ, suc, length, min, sym, ◌∙◌, ap, arith, true≢false}
+use Rattle.std.proofs.Common.{rules, ◌≡◌, inl, inr, ℕ, suc, length, min, sym, ◌∙◌, ap, arith, true≢false, Err}
 use Rattle.std.proofs.lemmas.Bool.{cases_lt}
 use Rattle.route_meaning.specs.Merged.{placed}
 use Rattle.disk_models.specs.Once.{settled_in}
 use Rattle.once_store.specs.Shelves.{disk_of, pen_of}
 use Rattle.archive_head.specs.Head.{Contents}
 use Rattle.archive_pages.proofs.api.Passing.{Passes}
+use Rattle.disk_archive.specs.declared.apply_error.ApplyError.TheVariants as applies
+use Rattle.disk_archive.proofs.Failing.{counts_none, counts_told}
+use Rattle.disk_archive.proofs.Faults.{one_told}
 use Rattle.disk_archive.proofs.Outcomes.{is_less}
 use Rattle.disk_archive.proofs.Plans.{lane_at}
 use Rattle.disk_archive.proofs.Stepping.{moves_on, kept_passed, last_no_later}
@@ -67,3 +70,21 @@ returns-clause-stays g c part =
 
 pub returns-in_err-place-clause-high : goal.returns-in_err-place-clause-high
 returns-in_err-place-clause-high g c start shown shows told = c.take_next.ensures.high start shown shows (search (rules, told))
+
+-- ---- how often both disks failed
+
+pub returns-then-head-clause-failed : goal.returns-then-head-clause-failed
+returns-then-head-clause-failed g c = counts_none _ _ _ (λ told. absurd cc)
+
+pub returns-then-lt-clause-failed : goal.returns-then-lt-clause-failed
+returns-then-lt-clause-failed g c = counts_none _ _ _ (λ told. absurd cc)
+
+pub returns-in_err-place-clause-failed : goal.returns-in_err-place-clause-failed
+returns-in_err-place-clause-failed g c =
+    let e = c.in_err-place.field-0.0 in
+    let r : c.take_next.result ≡ Err e = search rules in
+    let d : c.from_residual.result ≡ Err e = search rules in
+    counts_told _ _ _ _ _ _ (λ told. r ∙ ap Err (one_told c.from_residual.result e applies.Fault d told)) c.take_next.ensures.failed
+
+pub returns-clause-failed : goal.returns-clause-failed
+returns-clause-failed g c = counts_told _ _ _ _ _ _ (λ told. absurd cc) c.take_next.ensures.failed

@@ -1,4 +1,4 @@
-use Rattle.std.proofs.Common.{sym, subst}
+use Rattle.std.proofs.Common.{rules, sym, subst}
 use Rattle.disk_models.specs.Once.{settled_in}
 use Rattle.once_store.specs.Shelves.{disk_of, pen_of}
 use Rattle.archive_head.specs.Head.{Contents}
@@ -6,6 +6,7 @@ use Rattle.route_meaning.specs.Merged.{placed}
 use Rattle.version_model.specs.Entries.{version_of}
 use Rattle.sequencer.proofs.api.Calls.{if_ok}
 use Rattle.disk_archive.specs.inner.Applications.{TakesNext}
+use Rattle.disk_archive.proofs.Failing.{counts_none}
 use Rattle.disk_archive.proofs.Outcomes.{if_none_at, if_some_at}
 use Rattle.disk_archive.proofs.Stepping.{takes_none, takes_one}
 use Rattle.disk_archive.proofs.planning_application.take_next.Goals as goal
@@ -23,3 +24,11 @@ returns-in-Some-clause-takes g c start shown collector versions shows honest set
     if_ok _ _ c.take_version.result
     (λ place took. takes_one _ settings _ _ c.args.head.now (placed collector c.args.admission.now) place.root place.fresh place.block versions (version_of c.in-Some.entry) shown (if_some_at c.in_ok-next.next c.in-Some.entry _ c.in-Some.is c.in_ok-next.ensures.some collector) took)
     (c.take_version.ensures.takes start shown _ versions shows honest t)
+
+-- ---- how often both disks failed
+
+pub returns-in_err-next-clause-failed : goal.returns-in_err-next-clause-failed
+returns-in_err-next-clause-failed g c = counts_none _ _ _ (λ told. search (rules, told))
+
+pub returns-in-None-clause-failed : goal.returns-in-None-clause-failed
+returns-in-None-clause-failed g c = counts_none _ _ _ (λ told. absurd cc)

@@ -1,4 +1,4 @@
-use Rattle.std.proofs.Common.{◌≡◌, ◌+◌, ◌∷◌, ◌++◌, [], ℕ, length, min, sym, ◌∙◌, ap, subst, arith}
+use Rattle.std.proofs.Common.{◌≡◌, ◌⊎◌, inl, inr, ◌+◌, ◌∷◌, ◌++◌, [], ℕ, length, min, sym, ◌∙◌, ap, subst, arith, Err}
 use Rattle.disk_models.specs.Once.{settled_in}
 use Rattle.once_store.specs.Shelves.{disk_of, next_of, pen_of}
 use Rattle.archive_head.specs.Head.{Contents}
@@ -6,9 +6,14 @@ use Rattle.route_history.specs.Stamps.{stamp_of}
 use Rattle.version_model.specs.Pages.{TreeStands}
 use Rattle.disk_archive.specs.declared.apply_error.ApplyError.TheVariants as applies
 use Rattle.version_model.specs.Entries.{version_of}
+use Rattle.once_store.specs.declared.error.AppendError.TheVariants as appends
+use Rattle.page_tx.specs.declared.error.PageError.TheVariants as pages
+use Rattle.tsb_tree.specs.declared.error.TreeError.TheVariants as trees
 use Rattle.tsb_tree.specs.Opened.{ShowsRoot}
 use Rattle.tsb_tree.specs.Refusals.{BlamesNone, InsertRefusal, ReadRefusal}
 use Rattle.disk_archive.specs.inner.Applications.{TreeTakes}
+use Rattle.disk_archive.proofs.Failing.{counts_none, counts_quiet, counts_read, counts_then, counts_told, counts_tree}
+use Rattle.disk_archive.proofs.Faults.{done_not_told}
 use Rattle.disk_archive.proofs.Keeping.{joined_few}
 use Rattle.disk_archive.proofs.Taking.{shown_at, taken_at}
 use Rattle.disk_archive.proofs.planning_application.take_version.Goals as goal
@@ -94,3 +99,35 @@ returns-in-Err-insert-clause-high g c start shown shows told =
     let level : c.in-Ok.place.level ≡ 7 = subst (InsertRefusal _ _ _ _ _ _ _) (c.of_tree-in-Err-insert.ensures.high (cc told)) c.in-Err-insert.ensures.refused in
     let root = ap (λ (x : Contents). x.root) c.head.view_is in
     subst (λ (n : ℕ). ShowsRoot shown h.root n) level (subst (λ (r : ℕ). ShowsRoot shown r c.in-Ok.place.level) root (c.in-Ok.ensures.level start shown shows))
+
+-- ---- how often both disks failed
+
+pub returns-in-Err-clause-failed : goal.returns-in-Err-clause-failed
+returns-in-Err-clause-failed g c =
+    counts_told _ _ _ _ _ _
+    (λ told. (let is : c.of_tree.result ≡ applies.Fault = cc in elim (c.of_tree.ensures.fault is) [
+      | inl pages ↦ c.in-Err.is ∙ ap Err pages
+      | inr once ↦ absurd (subst (ReadRefusal _) once c.in-Err.ensures.refused)
+    ]))
+    (counts_read c.open.result _ _ _ _ _ c.open.ensures.reads.device)
+
+pub returns-then-place-most_level-clause-failed : goal.returns-then-place-most_level-clause-failed
+returns-then-place-most_level-clause-failed g c =
+    counts_told _ _ _ _ ⊥ _ (λ told. absurd cc)
+    (counts_quiet _ _ _ _ _ _ (done_not_told c.open.result c.in-Ok.place (trees.Pages pages.Fault) c.in-Ok.is) c.open.ensures.reads.device)
+
+pub returns-in-Ok-insert-clause-failed : goal.returns-in-Ok-insert-clause-failed
+returns-in-Ok-insert-clause-failed g c =
+    counts_then _ _ _ _ _ _ ⊥ _ _ (λ told. absurd cc)
+    (counts_quiet _ _ _ _ _ _ (done_not_told c.open.result c.in-Ok.place (trees.Pages pages.Fault) c.in-Ok.is) c.open.ensures.reads.device)
+    (counts_tree g.O.OnceDisk c.insert.result _ _ _ _ c.args.shelf.now c.insert.new.shelf c.insert.ensures.device c.insert.ensures.shelf)
+
+pub returns-in-Err-insert-clause-failed : goal.returns-in-Err-insert-clause-failed
+returns-in-Err-insert-clause-failed g c =
+    counts_then _ _ _ _ _ _ ⊥ _ _
+    (λ told. (let is : c.of_tree-in-Err-insert.result ≡ applies.Fault = cc in elim (c.of_tree-in-Err-insert.ensures.fault is) [
+      | inl pages ↦ inr (inl (c.in-Err-insert.is ∙ ap Err pages))
+      | inr once ↦ inr (inr (c.in-Err-insert.is ∙ ap Err once))
+    ]))
+    (counts_quiet _ _ _ _ _ _ (done_not_told c.open.result c.in-Ok.place (trees.Pages pages.Fault) c.in-Ok.is) c.open.ensures.reads.device)
+    (counts_tree g.O.OnceDisk c.insert.result _ _ _ _ c.args.shelf.now c.insert.new.shelf c.insert.ensures.device c.insert.ensures.shelf)

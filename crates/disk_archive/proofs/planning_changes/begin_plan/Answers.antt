@@ -1,4 +1,4 @@
-use Rattle.std.proofs.Common.{rules, ◌<◌, List, length, sym, ◌∙◌, ap, subst, arith, min}
+use Rattle.std.proofs.Common.{rules, ◌≡◌, ◌<◌, List, length, sym, ◌∙◌, ap, subst, arith, min, Ok, Err}
 use Rattle.disk_models.specs.Once.{settled_in}
 use Rattle.archive_head.specs.Head.{Contents}
 use Rattle.archive_pages.specs.Carried.{Bears}
@@ -7,6 +7,8 @@ use Rattle.sequencer.specs.Lanes.{Waiting}
 use Rattle.sequencer.specs.First.{IsNext}
 use Rattle.disk_archive.specs.Mirrors.{Mirrors}
 use Rattle.disk_archive.specs.Trees.{TreeLies}
+use Rattle.disk_archive.specs.declared.apply_error.ApplyError.TheVariants as applies
+use Rattle.disk_archive.proofs.Faults.{done_not_told, keeps_none, keeps_told, one_told}
 use Rattle.disk_archive.proofs.Reaching.{first_found, first_sound}
 use Rattle.disk_archive.proofs.Limited.{on_told}
 use Rattle.disk_archive.proofs.planning_changes.begin_plan.Goals as goal
@@ -75,3 +77,26 @@ returns-in_err-admission-clause-sound g c count o start shown h shows b m page b
 
 pub returns-in_err-admission-clause-limits : goal.returns-in_err-admission-clause-limits
 returns-in_err-admission-clause-limits g c = on_told c.from_residual-in_err-admission.result c.in_err-admission.field-0.0 _ c.from_residual-in_err-admission.ensures.1 (c.in_err-admission.ensures.limits c.args.head.now.applied)
+
+-- ---- how often the device failed
+
+pub returns-in_err-next-clause-device : goal.returns-in_err-next-clause-device
+returns-in_err-next-clause-device g c = keeps_none _ _ _ (λ told. search (rules, told))
+
+pub returns-in_err-ahead-clause-device : goal.returns-in_err-ahead-clause-device
+returns-in_err-ahead-clause-device g c = keeps_none _ _ _ (λ told. search (rules, told))
+
+pub returns-in_err-admission-clause-device : goal.returns-in_err-admission-clause-device
+returns-in_err-admission-clause-device g c =
+    let e = c.in_err-admission.field-0.0 in
+    let r : c.front_of.result ≡ Err e = search rules in
+    let d : c.from_residual-in_err-admission.result ≡ Err e = search rules in
+    keeps_told _ _ _ _ _ _
+    (λ told. r ∙ ap Err (one_told c.from_residual-in_err-admission.result e applies.Fault d told))
+    (λ failed. d ∙ ap Err (one_told c.front_of.result e applies.Fault r failed))
+    c.front_of.ensures.device
+
+pub returns-clause-device : goal.returns-clause-device
+returns-clause-device g c =
+    let r : c.front_of.result ≡ Ok c.in_ok-admission.admission = search rules in
+    keeps_told _ _ _ _ _ _ (λ told. absurd cc) (λ failed. absurd (done_not_told c.front_of.result c.in_ok-admission.admission applies.Fault r failed)) c.front_of.ensures.device

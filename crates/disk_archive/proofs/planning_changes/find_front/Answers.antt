@@ -1,6 +1,7 @@
-use Rattle.std.proofs.Common.{◌<◌, ℕ, length, min, sym, ◌∙◌, ap, arith}
+use Rattle.std.proofs.Common.{◌<◌, ℕ, length, min, refl, sym, ◌∙◌, ap, arith}
 use Rattle.disk_models.specs.Once.{settled_in}
 use Rattle.sequencer.proofs.api.Behind.{next_in}
+use Rattle.disk_archive.proofs.Failing.{front_more}
 use Rattle.disk_archive.proofs.Reaching.{first_found}
 use Rattle.disk_archive.proofs.planning_changes.find_front.Goals as goal
 
@@ -32,3 +33,17 @@ returns-clause-fits g c block fits =
       count = fits.count;
       hand = λ _. record { next = c.in-Some.ensures.some; inside = (let n = c.requires.lanes in omega (arith, lt, n)); fits = c.in-Ok.ensures.fits };
     }
+
+-- ---- how often the device failed
+
+pub returns-then-not-plan-clause-failed : goal.returns-then-not-plan-clause-failed
+returns-then-not-plan-clause-failed g c = (0, refl)
+
+pub returns-in_default-clause-failed : goal.returns-in_default-clause-failed
+returns-in_default-clause-failed g c = (0, refl)
+
+pub returns-in_default-front_of-clause-failed : goal.returns-in_default-front_of-clause-failed
+returns-in_default-front_of-clause-failed g c = front_more c.front_of.result _ _ _ _ c.front_of.ensures.device
+
+pub returns-clause-failed : goal.returns-clause-failed
+returns-clause-failed g c = front_more c.front_of.result _ _ _ _ c.front_of.ensures.device

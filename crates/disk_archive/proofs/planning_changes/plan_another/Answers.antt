@@ -1,7 +1,8 @@
-use Rattle.std.proofs.Common.{rules, ℕ, sym, subst}
+use Rattle.std.proofs.Common.{rules, ℕ, inl, sym, subst}
 use Rattle.disk_models.specs.Once.{settled_in}
 use Rattle.once_store.specs.Shelves.{disk_of, next_of, pen_of}
 use Rattle.disk_archive.specs.inner.Applications.{IsPlan, Reached}
+use Rattle.disk_archive.proofs.Failing.{counts_then, counts_told, counts_untold}
 use Rattle.disk_archive.proofs.Keeping.{keeps_told}
 use Rattle.disk_archive.proofs.Outcomes.{ok_then, err_then}
 use Rattle.disk_archive.proofs.Reaching.{step_reaches}
@@ -45,3 +46,20 @@ returns-then-not-find_front-clause-fits g c =
     let was = subst (λ (n : ℕ). IsPlan c.args.settings n (P.next c.level_of.new.pages) (next_of c.args.shelf.now) c.args.sequencer.now c.args.plan.now) (sym e.homes)
     (subst (λ (n : ℕ). IsPlan c.args.settings (P.homes c.args.pages.now) n (next_of c.args.shelf.now) c.args.sequencer.now c.args.plan.now) (sym e.next) c.requires.fits) in
     c.find_front.ensures.fits (next_of c.args.shelf.now) was
+
+-- ---- how often both disks failed
+
+pub returns-in_default-clause-failed : goal.returns-in_default-clause-failed
+returns-in_default-clause-failed g c = counts_untold _ _ _ c.level_of.ensures.failed
+
+pub returns-then-not-has_room-clause-failed : goal.returns-then-not-has_room-clause-failed
+returns-then-not-has_room-clause-failed g c = counts_untold _ _ _ c.level_of.ensures.failed
+
+pub returns-then-not-find_front-clause-failed : goal.returns-then-not-find_front-clause-failed
+returns-then-not-find_front-clause-failed g c = counts_then _ _ _ _ _ _ ⊥ ⊥ ⊥ inl (counts_untold _ _ _ c.level_of.ensures.failed) (counts_untold _ _ _ c.find_front.ensures.failed)
+
+pub returns-clause-failed : goal.returns-clause-failed
+returns-clause-failed g c =
+    counts_then _ _ _ _ _ _ ⊥ ⊥ ⊥ inl
+    (counts_then _ _ _ _ _ _ ⊥ ⊥ ⊥ inl (counts_untold _ _ _ c.level_of.ensures.failed) (counts_untold _ _ _ c.find_front.ensures.failed))
+    (counts_told _ _ _ _ _ ⊥ (λ never. absurd never) c.plan_step.ensures.failed)

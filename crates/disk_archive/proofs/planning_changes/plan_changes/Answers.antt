@@ -1,4 +1,4 @@
-use Rattle.std.proofs.Common.{rules, [], ◌∷◌, ℕ, List, length, refl, sym, ◌∙◌, ap, subst, arith}
+use Rattle.std.proofs.Common.{rules, ◌≡◌, inl, inr, [], ◌∷◌, ℕ, List, length, refl, sym, ◌∙◌, ap, subst, arith, Ok, Err}
 use Rattle.std.specs.List.{slice_set}
 use Rattle.disk_models.specs.Once.{settled_in}
 use Rattle.once_store.specs.Shelves.{disk_of, next_of, pen_of}
@@ -7,6 +7,9 @@ use Rattle.archive_head.specs.Head.{Contents, head_octets}
 use Rattle.tsb_tree.specs.Opened.{ShowsRoot}
 use Rattle.archive_pages.specs.Refusals.{HeadRefusal}
 use Rattle.disk_archive.specs.inner.Applications.{Advances, IsPlan, Reached, Reaches}
+use Rattle.disk_archive.specs.declared.apply_error.ApplyError.TheVariants as applies
+use Rattle.disk_archive.proofs.Failing.{counts_front, counts_quiet, counts_then, counts_told}
+use Rattle.disk_archive.proofs.Faults.{done_not_told, one_told}
 use Rattle.disk_archive.proofs.Keeping.{joined_few, keeps_none, keeps_then, keeps_fewer, keeps_told}
 use Rattle.disk_archive.proofs.Reaching.{advances_then, plans_move}
 use Rattle.disk_archive.proofs.Limited.{limits_as, on_told}
@@ -118,3 +121,38 @@ returns-in_err-plan_step-clause-limits g c =
 
 pub returns-clause-limits : goal.returns-clause-limits
 returns-clause-limits g c = c.of_pages.ensures.limits _ _ _ (λ e. absurd (subst (HeadRefusal _) e c.in-Err.ensures.refused))
+
+-- ---- how often both disks failed
+
+pub returns-in_err-plan-clause-failed : goal.returns-in_err-plan-clause-failed
+returns-in_err-plan-clause-failed g c =
+    let e = c.in_err-plan.field-0.0 in
+    let r : c.begin_plan.result ≡ Err e = search rules in
+    let d : c.from_residual.result ≡ Err e = search rules in
+    counts_told _ _ _ _ _ _ (λ told. r ∙ ap Err (one_told c.from_residual.result e applies.Fault d told)) (counts_front c.begin_plan.result _ _ _ _ _ c.begin_plan.ensures.device)
+
+pub returns-in_err-plan_step-clause-failed : goal.returns-in_err-plan_step-clause-failed
+returns-in_err-plan_step-clause-failed g c =
+    let begun : c.begin_plan.result ≡ Ok c.in_ok-plan.plan = search rules in
+    let e = c.in_err-plan_step.field-0.0 in
+    let r : c.plan_step.result ≡ Err e = search rules in
+    let d : c.from_residual-in_err-plan_step.result ≡ Err e = search rules in
+    counts_then _ _ _ _ _ _ ⊥ _ _ (λ told. inr (r ∙ ap Err (one_told c.from_residual-in_err-plan_step.result e applies.Fault d told)))
+    (counts_quiet _ _ _ _ _ _ (done_not_told c.begin_plan.result c.in_ok-plan.plan applies.Fault begun) c.begin_plan.ensures.device)
+    c.plan_step.ensures.failed
+
+pub returns-in-Ok-clause-failed : goal.returns-in-Ok-clause-failed
+returns-in-Ok-clause-failed g c =
+    let begun : c.begin_plan.result ≡ Ok c.in_ok-plan.plan = search rules in
+    counts_then _ _ _ _ _ _ ⊥ ⊥ _ (λ told. absurd cc)
+    (counts_then _ _ _ _ _ _ ⊥ ⊥ ⊥ inl (counts_quiet _ _ _ _ _ _ (done_not_told c.begin_plan.result c.in_ok-plan.plan applies.Fault begun) c.begin_plan.ensures.device)
+    (counts_then _ _ _ _ _ _ ⊥ ⊥ ⊥ inl (counts_told _ _ _ _ _ ⊥ (λ never. absurd never) c.plan_step.ensures.failed) c.plan_more.ensures.failed))
+    (counts_quiet _ _ _ _ _ ⊥ (λ never. never) c.put_head.ensures.device)
+
+pub returns-clause-failed : goal.returns-clause-failed
+returns-clause-failed g c =
+    let begun : c.begin_plan.result ≡ Ok c.in_ok-plan.plan = search rules in
+    counts_then _ _ _ _ _ _ ⊥ ⊥ _ (λ told. (let is : c.of_pages.result ≡ applies.Fault = cc in absurd (subst (HeadRefusal _) (c.of_pages.ensures.fault.0 is) c.in-Err.ensures.refused)))
+    (counts_then _ _ _ _ _ _ ⊥ ⊥ ⊥ inl (counts_quiet _ _ _ _ _ _ (done_not_told c.begin_plan.result c.in_ok-plan.plan applies.Fault begun) c.begin_plan.ensures.device)
+    (counts_then _ _ _ _ _ _ ⊥ ⊥ ⊥ inl (counts_told _ _ _ _ _ ⊥ (λ never. absurd never) c.plan_step.ensures.failed) c.plan_more.ensures.failed))
+    (counts_quiet _ _ _ _ _ ⊥ (λ never. never) c.put_head.ensures.device)

@@ -1,7 +1,8 @@
-use Rattle.std.proofs.Common.{◌*◌, ◌+◌, ℕ, refl, sym, ◌∙◌, ap, subst, arith}
+use Rattle.std.proofs.Common.{◌*◌, ◌+◌, inl, ℕ, refl, sym, ◌∙◌, ap, subst, arith}
 use Rattle.disk_models.specs.Once.{settled_in}
 use Rattle.once_store.specs.Shelves.{pen_of}
 use Rattle.disk_archive.specs.inner.Applications.{Reached, Reaches}
+use Rattle.disk_archive.proofs.Failing.{counts_none, counts_then}
 use Rattle.disk_archive.proofs.Keeping.{keeps_none, keeps_then, keeps_fewer}
 use Rattle.disk_archive.proofs.Reaching.{reaches_same, reaches_then}
 use Rattle.disk_archive.proofs.planning_changes.plan_more.Goals as goal
@@ -16,6 +17,7 @@ loop-init g c = record {
   homes = refl;
   down = refl;
   honest = (λ h. h, λ h. h);
+  failed = counts_none _ _ ⊥ (λ never. never);
 }
 
 pub loop-preserved : goal.loop-preserved
@@ -37,6 +39,7 @@ loop-preserved g c =
       homes = e.homes ∙ i.homes;
       down = e.down ∙ i.down;
       honest = (λ h. e.honest.0 (i.honest.0 h), λ h. i.honest.1 (e.honest.1 h));
+      failed = counts_then _ _ _ _ _ _ ⊥ ⊥ ⊥ inl i.failed e.failed;
     }
 
 pub returns-clause-shelf : goal.returns-clause-shelf
@@ -59,3 +62,6 @@ returns-then-not-plan_another-clause-reaches g c start h honest r =
     subst (λ (n : ℕ). Reaches n c.args.settings (settled_in (g.O.OnceDisk.model (pen_of c.plan_another.new.shelf))) (g.P.Pages.shows c.plan_another.new.pages start) c.args.sequencer.now c.plan_another.new.plan m) disk
     (e.reaches start m (i.shelf.honest.0 honest)
     (subst (λ (n : ℕ). Reached n c.args.settings (settled_in (g.O.OnceDisk.model (pen_of c.loop.shelf))) (g.P.Pages.shows c.loop.pages start) c.args.sequencer.now c.loop.plan m) (sym disk) s)))
+
+pub returns-then-not-plan_another-clause-failed : goal.returns-then-not-plan_another-clause-failed
+returns-then-not-plan_another-clause-failed g c = counts_then _ _ _ _ _ _ ⊥ ⊥ ⊥ inl c.loop.invariant.failed c.plan_another.ensures.failed

@@ -1,4 +1,4 @@
-use Rattle.std.proofs.Common.{rules, ◌≡◌, ℕ, List, min, refl, sym, ◌∙◌, ap, subst, arith}
+use Rattle.std.proofs.Common.{rules, ◌≡◌, ℕ, List, min, refl, sym, ◌∙◌, ap, subst, arith, Err}
 use Rattle.std.specs.List.{slice_get}
 use Rattle.archive_head.specs.Head.{Contents}
 use Rattle.archive_head.specs.declared.lane.Lane.{Lane}
@@ -7,6 +7,9 @@ use Rattle.sequencer.specs.First.{IsNext}
 use Rattle.once_store.specs.Shelves.{next_of}
 use Rattle.disk_archive.specs.declared.planning_changes.Plan.{Plan}
 use Rattle.disk_archive.specs.inner.Applications.{IsPlan}
+use Rattle.disk_archive.specs.declared.apply_error.ApplyError.TheVariants as applies
+use Rattle.disk_archive.proofs.Failing.{counts_told}
+use Rattle.disk_archive.proofs.Faults.{one_told}
 use Rattle.disk_archive.proofs.Outcomes.{on_each_err}
 use Rattle.disk_archive.proofs.Reaching.{advances}
 use Rattle.disk_archive.proofs.planning_changes.plan_step.Goals as goal
@@ -63,3 +66,15 @@ returns-in_err-whole-clause-sound g c most start h honest r page bad =
 
 pub returns-in_err-whole-clause-high : goal.returns-in_err-whole-clause-high
 returns-in_err-whole-clause-high g c start shown shows told = c.plan_change.ensures.high start shown shows (search (rules, told))
+
+-- ---- how often both disks failed
+
+pub returns-in_err-whole-clause-failed : goal.returns-in_err-whole-clause-failed
+returns-in_err-whole-clause-failed g c =
+    let e = c.in_err-whole.field-0.0 in
+    let r : c.plan_change.result ≡ Err e = search rules in
+    let d : c.from_residual.result ≡ Err e = search rules in
+    counts_told _ _ _ _ _ _ (λ told. r ∙ ap Err (one_told c.from_residual.result e applies.Fault d told)) c.plan_change.ensures.failed
+
+pub returns-clause-failed : goal.returns-clause-failed
+returns-clause-failed g c = counts_told _ _ _ _ _ _ (λ told. absurd cc) c.plan_change.ensures.failed

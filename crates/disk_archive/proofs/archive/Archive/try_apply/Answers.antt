@@ -1,9 +1,13 @@
-use Rattle.std.proofs.Common.{rules, inl, inr, refl, ◌∙◌, ap, arith}
-use Rattle.page_journal.specs.Journal.{home_pages, needs_recovery}
+use Rattle.std.proofs.Common.{rules, ◌≡◌, inl, inr, refl, ◌∙◌, ap, arith, Ok, Err}
+use Rattle.page_journal.specs.Journal.{disk_of, home_pages, needs_recovery}
 use Rattle.page_tx.specs.Start.{Start}
+use Rattle.disk_archive.specs.declared.apply_error.ApplyError.TheVariants as applies
+use Rattle.disk_archive.specs.declared.error.CommitError.TheVariants as commits
 use Rattle.disk_archive.specs.Archives.{once_state}
 use Rattle.disk_archive.specs.Mirrors.{Mirrors}
 use Rattle.disk_archive.specs.inner.Applications.{apply_of_commit}
+use Rattle.disk_archive.proofs.Failing.{apply_fault, counts_commit, counts_same, counts_then, counts_told}
+use Rattle.disk_archive.proofs.Faults.{one_told}
 use Rattle.disk_archive.proofs.Fronts.{nothing_is}
 use Rattle.disk_archive.proofs.Outcomes.{on_each_err}
 use Rattle.disk_archive.proofs.Calling.{Ready, start_of, grows_none, unwritten, written, kept}
@@ -163,3 +167,39 @@ returns-in_err-commit-clause-limits g c = on_told c.from_residual-in_err-commit.
 
 pub returns-in_err-head-clause-high : goal.returns-in_err-head-clause-high
 returns-in_err-head-clause-high g c honest pages maps told = c.plan_changes.ensures.high _ pages (c.in_ok-begin_from.ensures.shown honest.0 pages maps) (search (rules, told))
+
+-- ---- how often both disks failed
+
+pub returns-in_err-begin_from-clause-failed : goal.returns-in_err-begin_from-clause-failed
+returns-in_err-begin_from-clause-failed g c =
+    counts_told _ _ _ _ ⊥ _ (λ told. search (rules, told)) (counts_same _ _ _ (ap (λ j. g.E.EraseDisk.fault_count (disk_of j)) c.begin_from.ensures.same))
+
+pub returns-in_default-clause-failed : goal.returns-in_default-clause-failed
+returns-in_default-clause-failed g c =
+    counts_told _ _ _ _ ⊥ _ (λ told. absurd cc) (counts_same _ _ _ (ap (λ j. g.E.EraseDisk.fault_count (disk_of j)) c.begin_from.ensures.same))
+
+pub returns-in_err-head-clause-failed : goal.returns-in_err-head-clause-failed
+returns-in_err-head-clause-failed g c =
+    let e = c.in_err-head.field-0.0 in
+    let r : c.plan_changes.result ≡ Err e = search rules in
+    let d : c.from_residual-in_err-head.result ≡ Err e = search rules in
+    counts_then _ _ _ _ _ _ ⊥ _ _ (λ told. inr (r ∙ ap Err (one_told c.from_residual-in_err-head.result e applies.Fault d told)))
+    (counts_same _ _ _ (ap (λ j. g.E.EraseDisk.fault_count (disk_of j)) c.begin_from.ensures.same))
+    c.plan_changes.ensures.failed
+
+pub returns-in_err-commit-clause-failed : goal.returns-in_err-commit-clause-failed
+returns-in_err-commit-clause-failed g c =
+    let e = c.in_err-commit.field-0.0 in
+    let r : c.commit.result ≡ Err e = search rules in
+    let d : c.from_residual-in_err-commit.result ≡ Err (apply_of_commit e) = search rules in
+    counts_then _ _ _ _ _ _ ⊥ _ _ (λ told. inr (r ∙ ap Err (apply_fault e (one_told c.from_residual-in_err-commit.result (apply_of_commit e) applies.Fault d told))))
+    (counts_then _ _ _ _ _ _ ⊥ ⊥ ⊥ inl (counts_same _ _ _ (ap (λ j. g.E.EraseDisk.fault_count (disk_of j)) c.begin_from.ensures.same))
+    (counts_told _ _ _ _ _ ⊥ (λ never. absurd never) c.plan_changes.ensures.failed))
+    (counts_commit g.E.EraseDisk c.commit.result _ _ _ c.commit.ensures.journal.serves)
+
+pub returns-clause-failed : goal.returns-clause-failed
+returns-clause-failed g c =
+    counts_then _ _ _ _ _ _ ⊥ _ _ (λ told. absurd cc)
+    (counts_then _ _ _ _ _ _ ⊥ ⊥ ⊥ inl (counts_same _ _ _ (ap (λ j. g.E.EraseDisk.fault_count (disk_of j)) c.begin_from.ensures.same))
+    (counts_told _ _ _ _ _ ⊥ (λ never. absurd never) c.plan_changes.ensures.failed))
+    (counts_commit g.E.EraseDisk c.commit.result _ _ _ c.commit.ensures.journal.serves)
