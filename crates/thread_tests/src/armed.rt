@@ -98,7 +98,7 @@ fn armed_store(alloc: Global, signals: &Arc<Signals>, log: &mut Log) -> Result<A
 fn a_batch_is_admitted_while_blocks_are_read(rt: HostRuntime) -> Result<(), Fail> {
     let alloc = rt.alloc();
     let mut before = Log::new(alloc);
-    let signals = Arc::new(alloc, Signals::new())?;
+    let signals = Arc::new(alloc, Signals::new(rt))?;
     let store = armed_store(alloc, &signals, &mut before)?;
     let opened = Opened::new(alloc, COLLECTORS)?;
     let (asked, given, store) = play::<Brand, HostRuntime>(&rt, alloc, opened, store, &signals);

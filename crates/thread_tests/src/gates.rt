@@ -106,14 +106,20 @@ fn play<B: Named, R: Wait>(
     reply
 }
 
+// Signals by which no thread is held.
+fn signals_of(alloc: Global, clock: HostRuntime) -> Result<Arc<Signals>, Fail> {
+    let signals = Arc::new(alloc, Signals::new(clock))?;
+    signals.is_done.store(true, Ordering::SeqCst);
+    Ok(signals)
+}
+
 // What a question of all that was told up to this moment is replied, and how many turns it took. The gate was told as it must be.
 fn reply_to<R: Wait>(
     rt: &R,
     alloc: Global,
+    signals: Arc<Signals>,
     last: u64,
 ) -> Result<(Result<Answer, AskError>, u64), Fail> {
-    let signals = Arc::new(alloc, Signals::new())?;
-    signals.is_done.store(true, Ordering::SeqCst);
     let told = Arc::new(alloc, Told::new())?;
     let gate = CountGate {
         signals: signals.clone()?,
@@ -135,9 +141,11 @@ fn reply_to<R: Wait>(
 #[test]
 fn a_gate_is_told_once_of_a_first_turn_and_once_of_a_reply(rt: HostRuntime) -> Result<(), Fail> {
     let alloc = rt.alloc();
-    let (reply, turns) = reply_to::<HostRuntime>(&rt, alloc, SECOND - 1)?;
+    let signals = signals_of(alloc, rt)?;
+    let (reply, turns) = reply_to::<HostRuntime>(&rt, alloc, signals, SECOND - 1)?;
     assert!(rt; reply.is_ok() && turns > 1);
-    let (reply, turns) = reply_to::<HostRuntime>(&rt, alloc, SECOND)?;
+    let signals = signals_of(alloc, rt)?;
+    let (reply, turns) = reply_to::<HostRuntime>(&rt, alloc, signals, SECOND)?;
     let is_above =
         matches!(&reply, Err(AskError::AboveWatermark(mark)) if *mark == mark_of(SECOND));
     assert!(rt; is_above && turns == 1);

@@ -137,7 +137,7 @@ fn play<B: Named + Send + Sync, R: Threads + Wait + Sync>(
 #[test]
 fn a_question_is_answered_while_another_is_held(rt: HostRuntime) -> Result<(), Fail> {
     let alloc = rt.alloc();
-    let signals = Arc::new(alloc, Signals::new())?;
+    let signals = Arc::new(alloc, Signals::new(rt))?;
     let stand = stand_of(alloc, &signals)?;
     let opened = Opened::new(alloc, COLLECTORS)?;
     assert!(rt; play::<Brand, HostRuntime>(&rt, alloc, opened, stand, &signals)?);

@@ -2,13 +2,18 @@
 
 use std::sync::atomic::{AtomicBool, AtomicU64, Ordering};
 use std::thread;
+use std::time::Duration;
 
-// How often a thread gives way to others before it gives up, which takes it many seconds.
-const LOOKS: u32 = 50_000_000;
+// How often a thread that waits looks, before it gives up.
+const LOOKS: u16 = 1_000;
+
+// How many milliseconds it sleeps behind each look.
+const REST: u64 = 10;
 
 /// Flags that are set once.
 #[derive(Drop)]
 pub(crate) struct Signals {
+    clock: HostRuntime,
     /// A thread is held.
     pub(crate) is_held: AtomicBool,
     /// What it is held for is done.
@@ -20,8 +25,9 @@ pub(crate) struct Signals {
 }
 
 impl Signals {
-    pub(crate) fn new() -> Signals {
+    pub(crate) fn new(clock: HostRuntime) -> Signals {
         Signals {
+            clock,
             is_held: AtomicBool::new(false),
             is_done: AtomicBool::new(false),
             is_late: AtomicBool::new(false),
@@ -29,14 +35,13 @@ impl Signals {
         }
     }
 
-    /// Waits until the flag is set, which is one of these. It counts no time, but how often it gives way
-    /// to others, so that a slow machine is no reason to give up.
+    /// Waits until the flag is set, which is one of these.
     pub(crate) fn wait_for(&self, flag: &AtomicBool) {
         for _ in 0..LOOKS {
             if flag.load(Ordering::SeqCst) {
                 return;
             }
-            thread::yield_now();
+            thread::sleep(&self.clock, Duration::from_millis(REST));
         }
         self.is_late.store(true, Ordering::SeqCst);
     }
