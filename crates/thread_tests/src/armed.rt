@@ -1,10 +1,10 @@
-//! A batch is admitted while another thread reads blocks.
+//! A batch is admitted while another thread is held in its first read of a block.
 
 ghost use Rattle.std.specs.Prelude.{◌≡◌, ◌≤◌};
 ghost use Rattle.board.specs.Opened.{name_of};
 
 use crate::logs::{Asked, Log};
-use crate::made::{COLLECTORS, FIRST, SECOND, announcements, history_of, loaded_store};
+use crate::made::{COLLECTORS, FIRST, SECOND, announcements, history_of};
 use crate::reading::ArmedStore;
 use crate::replay::is_so;
 use crate::signals::Signals;
@@ -88,22 +88,16 @@ fn log_of(mut log: Log, asked: Option<Asked>, given: Option<Batch>) -> Option<Lo
     Some(log)
 }
 
-fn armed_store(alloc: Global, signals: &Arc<Signals>, log: &mut Log) -> Result<ArmedStore, Fail> {
-    let signals = signals.clone()?;
-    let inner = loaded_store(alloc, log)?;
-    Ok(ArmedStore { inner, signals })
-}
-
 #[test]
 fn a_batch_is_admitted_while_blocks_are_read(rt: HostRuntime) -> Result<(), Fail> {
     let alloc = rt.alloc();
     let mut before = Log::new(alloc);
     let signals = Arc::new(alloc, Signals::new(rt))?;
-    let store = armed_store(alloc, &signals, &mut before)?;
+    let store = ArmedStore::loaded(alloc, &signals, &mut before)?;
     let opened = Opened::new(alloc, COLLECTORS)?;
     let (asked, given, store) = play::<Brand, HostRuntime>(&rt, alloc, opened, store, &signals);
     let log = log_of(before, asked, given).ok_or("refused")?;
-    assert!(rt; is_so(alloc, &store.inner, &log)?);
+    assert!(rt; is_so(alloc, &store, &log)?);
     assert!(rt; signals.is_held.load(Ordering::SeqCst));
     assert!(rt; !signals.is_late.load(Ordering::SeqCst));
     Ok(())

@@ -4,7 +4,7 @@ ghost use Rattle.std.specs.Prelude.{◌≡◌, ◌≤◌};
 ghost use Rattle.board.specs.Opened.{name_of};
 
 use crate::logs::Log;
-use crate::made::{COLLECTORS, FIRST, SECOND, history_of, loaded_store, mark_of};
+use crate::made::{COLLECTORS, FIRST, SECOND, history_of, mark_of};
 use crate::reading::ArmedStore;
 use crate::signals::Signals;
 use board::{Named, Opened, Pass};
@@ -125,10 +125,7 @@ fn reply_to<R: Wait>(
         signals: signals.clone()?,
         told: told.clone()?,
     };
-    let store = ArmedStore {
-        inner: loaded_store(alloc, &mut Log::new(alloc))?,
-        signals: signals.clone()?,
-    };
+    let store = ArmedStore::loaded(alloc, &signals, &mut Log::new(alloc))?;
     let opened = Opened::new(alloc, COLLECTORS)?;
     let query = history_of(FIRST, last);
     let reply = play::<Brand, R>(rt, alloc, opened, store, gate, query).ok_or("no memory")?;

@@ -6,6 +6,8 @@ mod answers;
 #[cfg(test)]
 mod armed;
 #[cfg(test)]
+mod armed_disk;
+#[cfg(test)]
 mod chance;
 #[cfg(test)]
 mod eight;

@@ -5,6 +5,7 @@ use crate::logs::Log;
 use archive_pages::Settings;
 use disk_archive::Archive;
 use disk_memory::{MemErase, MemOnce};
+use disk_models::OnceDisk;
 use interleaving_core::Query;
 use query_threads::{Step, Store};
 use route_meaning::{EventsQuestion, RowsQuestion, Select};
@@ -16,6 +17,9 @@ use std::test::Fail;
 
 /// How many collectors each archive has.
 pub(crate) const COLLECTORS: u8 = 2;
+
+/// How many pages each ring has.
+pub(crate) const RING: u16 = 60;
 
 /// As many steps of applying as a test may need.
 pub(crate) const STEPS: u32 = 1_000_000;
@@ -29,11 +33,11 @@ pub(crate) const SECOND: u64 = 1_060;
 /// How many records are given of one prefix, one each second: of so many routes of 800 octets a leaf overflows three times.
 pub(crate) const RECORDS: u8 = 60;
 
-// The octets of an erasable disk: 265 pages before the home pages; the head, two rings of 60 pages, and 400 pages of the tree.
-const OCTETS: u64 = (265 + 1 + 2 * 60 + 400) * 16_384;
+// The octets of an erasable disk: 265 pages before the home pages; the head, the rings, and 400 pages of the tree.
+const OCTETS: u64 = (265 + 1 + COLLECTORS as u64 * RING as u64 + 400) * 16_384;
 
-// The blocks of a write-once disk.
-const BLOCKS: u64 = 20_000;
+/// The blocks of a write-once disk.
+pub(crate) const BLOCKS: u64 = 20_000;
 
 /// The spelling of a route, as docs/FORMATS.md has it, up to the count of its attributes: the path 65001 65002 by IGP, and the next hop
 /// 192.0.2.1.
@@ -41,22 +45,32 @@ const ROUTE: [u8; 19] = [
     0, 0, 1, 2, 2, 0, 0, 0xFD, 0xE9, 0, 0, 0xFD, 0xEA, 4, 0xC0, 0, 2, 1, 0,
 ];
 
-/// An archive to which nothing was given.
-pub(crate) fn empty_store(alloc: Global) -> Result<MemStore, Fail> {
+/// An archive to which nothing was given, with its blocks on this disk.
+pub(crate) fn empty_archive<O: OnceDisk + Drop>(
+    alloc: Global,
+    once: O,
+    pen: O::Pen,
+) -> Result<Archive<MemErase, O>, Fail> {
     let settings = Settings {
         collectors: COLLECTORS,
-        ring: 60,
+        ring: RING,
     };
     let erase = MemErase::new(alloc, OCTETS);
-    let (once, pen) = MemOnce::new(alloc, BLOCKS);
     match Archive::create(alloc, erase, Arc::new(alloc, once)?, pen, settings) {
-        Ok(archive) => Ok(MemStore { archive }),
+        Ok(archive) => Ok(archive),
         Err(refused) => Err(refused.error.into()),
     }
 }
 
-// Gives the first records, and applies them.
-fn load(alloc: Global, store: &mut MemStore, log: &mut Log) -> Result<(), Fail> {
+/// A store to which nothing was given.
+pub(crate) fn empty_store(alloc: Global) -> Result<MemStore, Fail> {
+    let (once, pen) = MemOnce::new(alloc, BLOCKS);
+    let archive = empty_archive(alloc, once, pen)?;
+    Ok(MemStore { archive })
+}
+
+/// Gives the first records, one of each moment from `FIRST` to below `SECOND`, and applies them.
+pub(crate) fn load<S: Store>(alloc: Global, store: &mut S, log: &mut Log) -> Result<(), Fail> {
     let records = announcements(alloc, FIRST, RECORDS).ok_or("no memory")?;
     let reply = store.admit(0, &records)?;
     log.keep(&reply, records).ok_or("no memory")?;
@@ -70,7 +84,7 @@ fn load(alloc: Global, store: &mut MemStore, log: &mut Log) -> Result<(), Fail> 
     Err(Fail::from("not applied"))
 }
 
-/// An archive with a record of each moment from `FIRST` to below `SECOND`, all applied.
+/// A store that the first records were given to.
 pub(crate) fn loaded_store(alloc: Global, log: &mut Log) -> Result<MemStore, Fail> {
     let mut store = empty_store(alloc)?;
     load(alloc, &mut store, log)?;

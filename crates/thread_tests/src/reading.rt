@@ -1,42 +1,89 @@
-//! A store whose first read of blocks waits until a batch is admitted.
+//! A store whose first read of a block is held.
 
-ghost use Rattle.disk_archive.specs.Archives.{once_of};
-ghost use Rattle.disk_archive.specs.Cursors.{IsGathered, asks};
+ghost use Rattle.std.specs.Prelude.{◌≡◌, [], None, IfOk, ⊤};
+ghost use Rattle.disk_archive.specs.Archives.{once_of, settings_of};
+ghost use Rattle.disk_archive.specs.Cursors.{asks};
 ghost use Rattle.disk_archive.specs.Descents.{IsErrandFor};
-ghost use Rattle.once_store.specs.Readers.{kept_blocks, reader_disk};
-ghost use Rattle.shared_archive.specs.Carried.{CarriesPast, LiesInPast, gathered_on, right_going, ring_pages};
+ghost use Rattle.once_store.specs.Readers.{reader_disk};
+ghost use Rattle.query_threads.specs.Turns.{TurnGives};
 
+use crate::armed_disk::ArmedOnce;
+use crate::logs::Log;
+use crate::made::{BLOCKS, empty_archive, load};
 use crate::signals::Signals;
-use disk_archive::{Cursor, Errand};
-use disk_memory::{MemOnce, MemSeen};
-use disk_models::OnceDisk;
+use disk_archive::{
+    AdmitError as Refusal, Archive, AskError as Unanswered, Cursor, Descent, Errand,
+    MarkError as Unmarked, Step as Applying,
+};
+use disk_memory::{MemErase, MemOnce, MemSeen};
 use interleaving_core::{BatchReply, Query};
 use once_store::ShelfReader;
 use query_threads::{AdmitError, AskError, Flush, MarkError, Step, Store, Trouble, Turn};
 use route_model::{Admission, Mark};
-use shared_archive::MemStore;
 use std::alloc::Global;
 use std::sync::Arc;
 use std::sync::atomic::Ordering;
+use std::test::Fail;
 
-/// Blocks that are read, the first time, only once a batch was admitted.
+/// An archive with its blocks on an armed disk, which counts turns. Nothing is promised of it, so that it carries no past, and tells
+/// of most troubles as of a failed device.
 #[derive(Drop)]
-pub(crate) struct ArmedReader {
-    blocks: ShelfReader<MemOnce>,
+pub(crate) struct ArmedStore {
+    archive: Archive<MemErase, ArmedOnce>,
     signals: Arc<Signals>,
 }
 
-/// An archive on disks in memory, whose readers are armed, and which counts turns.
-#[derive(Drop)]
-pub(crate) struct ArmedStore {
-    pub(crate) inner: MemStore,
-    pub(crate) signals: Arc<Signals>,
+impl ArmedStore {
+    /// One that the first records were given to.
+    pub(crate) fn loaded(
+        alloc: Global,
+        signals: &Arc<Signals>,
+        log: &mut Log,
+    ) -> Result<ArmedStore, Fail> {
+        let (disk, pen) = MemOnce::new(alloc, BLOCKS);
+        let once = ArmedOnce {
+            disk,
+            signals: signals.clone()?,
+        };
+        let mut store = ArmedStore {
+            archive: empty_archive(alloc, once, pen)?,
+            signals: signals.clone()?,
+        };
+        load(alloc, &mut store, log)?;
+        Ok(store)
+    }
+}
+
+// Why a question isn't answered.
+fn refusal_of(refusal: Unanswered) -> AskError {
+    match refusal {
+        Unanswered::AboveWatermark(mark) => AskError::AboveWatermark(mark),
+        _ => AskError::Trouble(Trouble::Fault),
+    }
+}
+
+// A turn of a question.
+fn descended(
+    archive: &mut Archive<MemErase, ArmedOnce>,
+    cursor: &mut Cursor,
+) -> Result<Turn<Errand>, AskError>
+    ensures asks { asks cursor.new ≡ asks cursor.old }
+    ensures fits { IfOk result (λ turn. TurnGives (λ errand. IsErrandFor cursor.new errand) ⊤ (λ _. ⊤) turn) }
+    ensures disk { once_of archive.new ≡ once_of archive.old }
+    ensures settings { settings_of archive.new ≡ settings_of archive.old }
+{
+    match archive.descend(cursor) {
+        Ok(Descent::Done(answer)) => Ok(Turn::Done(answer)),
+        Ok(Descent::Again) => Ok(Turn::Again),
+        Ok(Descent::Historical(errand)) => Ok(Turn::Historical(errand)),
+        Err(refusal) => Err(refusal_of(refusal)),
+    }
 }
 
 impl Store for ArmedStore {
-    type Disk = MemOnce;
+    type Disk = ArmedOnce;
 
-    type Reader = ArmedReader;
+    type Reader = ShelfReader<ArmedOnce>;
 
     type Seen = MemSeen;
 
@@ -44,100 +91,119 @@ impl Store for ArmedStore {
 
     type Cursor = Cursor;
 
-    ghost carries = { λ store p. CarriesPast store.inner.archive p };
+    ghost carries = { λ _ _. ⊥ };
 
-    ghost pages = { λ store. ring_pages store.inner.archive };
+    ghost pages = { λ store. (settings_of store.archive).ring };
 
-    ghost disk_of = { λ store. once_of store.inner.archive };
+    ghost disk_of = { λ store. once_of store.archive };
 
-    ghost block_count = { λ disk. ⟦<MemOnce as OnceDisk>⟧.block_count disk };
+    ghost block_count = { λ _. 0 };
 
-    ghost reads = { λ reader. reader_disk reader.blocks };
+    ghost reads = { λ reader. reader_disk reader };
 
-    ghost kept = { λ reader. kept_blocks reader.blocks };
+    ghost kept = { λ _. [] };
 
-    ghost honest = { λ disk seen. ⟦<MemOnce as OnceDisk>⟧.honest_seen disk seen };
+    ghost honest = { λ _ _. ⊥ };
 
-    ghost known = { λ seen. ⟦<MemOnce as OnceDisk>⟧.known seen };
+    ghost known = { λ _ _. None };
 
     ghost asks = { λ cursor. asks cursor };
 
-    ghost gathered = { λ cursor h. IsGathered cursor h };
+    ghost gathered = { λ _ _. Unit {0} };
 
     ghost fits = { λ errand cursor. IsErrandFor cursor errand };
 
-    ghost lies = { λ errand cursor disk p. LiesInPast (⟦<MemOnce as OnceDisk>⟧.block_count disk) errand cursor p };
+    ghost lies = { λ _ _ _ _. ⊥ };
 
-    ghost right = { λ store p carried. right_going store.inner.archive p.history carried.goes_on };
+    ghost right = { λ _ _ carried. absurd carried };
 
-    ghost stays = { λ cursor h g right begins below gathered. gathered_on cursor h g begins gathered };
+    ghost stays = { λ _ _ _ _ _ _ gathered. gathered };
 
     fn collectors(&self) -> u8 {
-        self.inner.collectors()
+        self.archive.collectors()
     }
 
     fn ring(&self) -> u16 {
-        self.inner.ring()
+        self.archive.ring()
     }
 
     fn settled(&self) -> Mark {
-        self.inner.settled()
+        self.archive.settled()
     }
 
     fn admitted(&self, collector: u8) -> u64 {
-        self.inner.admitted(collector)
+        if collector >= self.archive.collectors() {
+            return 0;
+        }
+        self.archive.resume(collector).admitted
     }
 
     fn admit(&mut self, collector: u8, batch: &[Admission]) -> Result<BatchReply, AdmitError> {
-        self.inner.admit(collector, batch)
+        match self.archive.admit(collector, batch) {
+            Ok(reply) => Ok(reply),
+            Err(Refusal::IntakeFull) => Err(AdmitError::IntakeFull),
+            Err(_) => Err(AdmitError::Trouble(Trouble::Fault)),
+        }
     }
 
     fn mark(&mut self, collector: u8, mark: Mark) -> Result<(), MarkError> {
-        self.inner.mark(collector, mark)
+        match self.archive.mark(collector, mark) {
+            Ok(()) => Ok(()),
+            Err(Unmarked::MarkBack) => Err(MarkError::MarkBack),
+            Err(_) => Err(MarkError::Trouble(Trouble::Fault)),
+        }
     }
 
     fn apply_step(&mut self) -> Result<Step, Trouble> {
-        self.inner.apply_step()
+        match self.archive.apply_step() {
+            Ok(Applying::Applied) => Ok(Step::Applied),
+            Ok(Applying::Idle) => Ok(Step::Idle),
+            Err(_) => Err(Trouble::Fault),
+        }
     }
 
     fn flush_step(&mut self) -> Result<Flush, Trouble> {
-        self.inner.flush_step()
+        match self.archive.flush_step() {
+            Ok(disk_archive::Flush::Flushed) => Ok(Flush::Flushed),
+            Ok(disk_archive::Flush::Clean) => Ok(Flush::Clean),
+            Err(_) => Err(Trouble::Fault),
+        }
     }
 
     fn start(alloc: Global, query: &Query) -> Cursor {
-        MemStore::start(alloc, query)
+        Cursor::start(alloc, *query)
     }
 
     fn descend(&mut self, cursor: &mut Cursor) -> Result<Turn<Errand>, AskError> {
         let signals: &Signals = &self.signals;
         let _before = signals.turns.fetch_add(1, Ordering::SeqCst);
-        self.inner.descend(cursor)
+        descended(&mut self.archive, cursor)
     }
 
     fn seen(&mut self) -> Result<MemSeen, Trouble> {
-        self.inner.seen()
+        match self.archive.seen() {
+            Ok(seen) => Ok(seen),
+            Err(_) => Err(Trouble::Fault),
+        }
     }
 
-    fn reader(&self, alloc: Global, capacity: usize) -> Result<ArmedReader, Trouble> {
-        let signals = match self.signals.clone() {
-            Ok(signals) => signals,
-            Err(_) => return Err(Trouble::OutOfMemory),
-        };
-        match self.inner.reader(alloc, capacity) {
-            Ok(blocks) => Ok(ArmedReader { blocks, signals }),
-            Err(trouble) => Err(trouble),
+    fn reader(&self, _alloc: Global, capacity: usize) -> Result<ShelfReader<ArmedOnce>, Trouble> {
+        match self.archive.reader(capacity) {
+            Ok(reader) => Ok(reader),
+            Err(_) => Err(Trouble::OutOfMemory),
         }
     }
 
     fn finish(
-        reader: &mut ArmedReader,
+        reader: &mut ShelfReader<ArmedOnce>,
         seen: &mut MemSeen,
         alloc: Global,
         errand: Errand,
         cursor: &mut Cursor,
     ) -> Result<(), Trouble> {
-        let signals: &Signals = &reader.signals;
-        signals.hold();
-        MemStore::finish(&mut reader.blocks, seen, alloc, errand, cursor)
+        match errand.finish(alloc, reader, seen, cursor) {
+            Ok(()) => Ok(()),
+            Err(_) => Err(Trouble::Fault),
+        }
     }
 }

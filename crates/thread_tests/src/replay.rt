@@ -6,7 +6,6 @@ use crate::made::{COLLECTORS, STEPS, mark_of};
 use archive::Archive as Plain;
 use archive_calls::{RouteArchive, Step};
 use query_threads::Store;
-use shared_archive::MemStore;
 use std::alloc::Global;
 use std::test::Fail;
 
@@ -84,7 +83,7 @@ pub(crate) fn gathered(alloc: Global, logs: Vec<Log>) -> Result<Log, Fail> {
 }
 
 /// Whether what the threads were told is what the plain archive tells of all that they gave, and the store holds that.
-pub(crate) fn is_so(alloc: Global, store: &MemStore, log: &Log) -> Result<bool, Fail> {
+pub(crate) fn is_so<S: Store>(alloc: Global, store: &S, log: &Log) -> Result<bool, Fail> {
     let mut plain = Plain::plain(alloc, COLLECTORS)?;
     for collector in 0..COLLECTORS {
         let count = replay(alloc, &mut plain, &log.given, collector)?;
