@@ -2,7 +2,7 @@
 
 use crate::chance::Chance;
 use crate::logs::{Asked, Given, Log};
-use crate::made::{COLLECTORS, STEPS, draw_batch, draw_query, mark_of};
+use crate::made::{COLLECTORS, RING, STEPS, draw_batch, draw_query, mark_of};
 use crate::team::Done;
 use board::{Named, Pass};
 use interleaving_core::Query;
@@ -157,6 +157,22 @@ impl<B: Named> Hand<B> {
         }
     }
 
+    /// Goes on with a pass that is split off, which sees no less, and asks for the settings.
+    fn look<G: Gate + Drop>(&mut self, stage: &Stage<B, G>, collector: u8) -> Option<()> {
+        if collector >= stage.collectors() {
+            return None;
+        }
+        let settled = stage.watermark(&mut self.pass);
+        let durable = stage.durable(&mut self.pass, collector);
+        self.pass = stage.split(&mut self.pass);
+        let sees_more = settled <= stage.watermark(&mut self.pass)
+            && durable <= stage.durable(&mut self.pass, collector);
+        self.log.expect(sees_more);
+        self.log
+            .expect(stage.collectors() == COLLECTORS && stage.ring() == RING);
+        Some(())
+    }
+
     /// Any one call.
     pub(crate) fn mix<G: Gate + Drop>(
         &mut self,
@@ -166,7 +182,7 @@ impl<B: Named> Hand<B> {
         let collector = self.chance.below(COLLECTORS);
         let seen = stage.watermark(&mut self.pass);
         let soon = seen.saturating_add(u64::from(self.chance.below(8)));
-        match self.chance.below(10) {
+        match self.chance.below(11) {
             0..=2 => {
                 let records = draw_batch(self.alloc, &mut self.chance, collector, soon)?;
                 self.give(rt, stage, collector, records)
@@ -185,6 +201,7 @@ impl<B: Named> Hand<B> {
                 self.log.expect(flushed.is_ok());
                 Some(())
             }
+            8 => self.look(stage, collector),
             _ => self.ask_settled(rt, stage),
         }
     }
