@@ -20,7 +20,7 @@ use std::thread::Threads;
 const THREADS: u64 = 8;
 
 // How many calls each of them makes.
-const CALLS: u16 = 300;
+const CALLS: u16 = 5_000;
 
 fn work<B: Named, G: Gate + Drop>(
     rt: &impl Wait,
