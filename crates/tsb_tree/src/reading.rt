@@ -68,6 +68,7 @@ pub fn column_in(alloc: Global, page: &Page, n: u64) -> Result<ColumnSaid, TreeE
     ensures says { (k : Keys) (parts : List Part) (start current : ℕ) → PageSays page.now (ColumnNode k parts start current)
         → IfOk result (λ said. ColumnNode (keys_between said.bounds) said.parts.items said.current.start said.current.page ≡ ColumnNode k parts start current) × IsHonest result }
     ensures is { IfOk result (λ said. PageSays page.now (ColumnNode (keys_between said.bounds) said.parts.items said.current.start said.current.page)) }
+    ensures bad { (bad : ℕ) → result ≡ Err (TreeError.BadNode bad) → bad ≡ n }
     ensures refused { (down : Bool) → IfErr result (ReadRefusal down) }
     ensures read { IsErrOf result (TreeError.Pages PageError.Fault) → ⊥ }
 {
@@ -81,6 +82,7 @@ pub fn column_in(alloc: Global, page: &Page, n: u64) -> Result<ColumnSaid, TreeE
 pub fn leaf_in(alloc: Global, page: &Page, n: u64) -> Result<(Bounds, Leaf), TreeError>
     ensures leaf { IfOk result (λ said. IsLeafPage (record { bounds = said.0; versions = said.1 }) page.now) }
     ensures honest { (leaf : LeafNode) → IsLeafPage leaf page.now → IsHonest result }
+    ensures bad { (bad : ℕ) → result ≡ Err (TreeError.BadNode bad) → bad ≡ n }
     ensures refused { (down : Bool) → IfErr result (ReadRefusal down) }
     ensures read { IsErrOf result (TreeError.Pages PageError.Fault) → ⊥ }
 {
@@ -99,6 +101,7 @@ pub fn key_node_in(alloc: Global, page: &Page, n: u64) -> Result<KeyNodeSaid, Tr
     ensures says { (level : ℕ) (k : Keys) (children : List Child) → PageSays page.now (KeyNode level k children)
         → IfOk result (λ said. KeyNode said.level (keys_between said.bounds) said.children.items ≡ KeyNode level k children) × IsHonest result }
     ensures is { IfOk result (λ said. PageSays page.now (KeyNode said.level (keys_between said.bounds) said.children.items)) }
+    ensures bad { (bad : ℕ) → result ≡ Err (TreeError.BadNode bad) → bad ≡ n }
     ensures refused { (down : Bool) → IfErr result (ReadRefusal down) }
     ensures read { IsErrOf result (TreeError.Pages PageError.Fault) → ⊥ }
 {
