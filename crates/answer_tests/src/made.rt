@@ -14,10 +14,11 @@ use std::test::Fail;
 // The octets of a page.
 const PAGE: u64 = 16_384;
 
-// The home pages of each tree, and the blocks of each write-once disk.
+// The home pages of each tree.
 const TREE_PAGES: u64 = 300;
 
-const BLOCKS: u64 = 2_048;
+/// The blocks of each write-once disk.
+pub(crate) const BLOCKS: u64 = 2_048;
 
 pub(crate) type Made = Archive<MemErase, MemOnce>;
 
