@@ -25,7 +25,9 @@ struct Heard {
 
 /// Whether a line is the last one of a reply: no row and no event, which are followed by others.
 fn is_last(line: &str) -> bool {
-    !line.starts_with("R|") && !line.starts_with("V|")
+    let is_row = line.starts_with("R|");
+    let is_event = line.starts_with("A|") || line.starts_with("W|") || line.starts_with("D|");
+    !is_row && !is_event
 }
 
 /// Reads the lines of a reply. Tells how many there were, and whether it was a refusal.
