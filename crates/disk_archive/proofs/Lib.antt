@@ -33,4 +33,5 @@ mod Staying
 mod Limited
 mod Faults
 mod Failing
+mod ReadFaults
 pub mod api

@@ -1,5 +1,10 @@
 -- How often the disks of an archive failed in a call.
-use Rattle.std.specs.Prelude.{◌≡◌, ◌<◌, ◌+◌, ℕ, zero, suc, min}
+use Rattle.std.specs.Prelude.{◌≡◌, ◌<◌, ◌+◌, ◌⊎◌, ℕ, zero, suc, min}
+use Rattle.disk_models.specs.declared.erase.EraseDisk.{Ghosts as EraseGhosts}
+use Rattle.disk_models.specs.declared.once.OnceDisk.{Ghosts as OnceGhosts}
+use Rattle.disk_archive.specs.declared.archive.Archive.{Archive}
+use Rattle.disk_archive.specs.Archives.{erase_of, pen_in}
+use Rattle.disk_archive.specs.Creations.{CountsOne}
 
 -- a disk's count of failures after so many more; at the last value of 64 bits it stays
 abbrev pub count_after : ℕ → ℕ → ℕ
@@ -14,3 +19,10 @@ pub record CountsFailures (erase erase' once once' : ℕ) (told : Type 0) : Type
   pub of_erase : erase' ≡ count_after erase erase_failures
   pub of_once : once' ≡ count_after once once_failures
   pub some : told → 0 < erase_failures + once_failures
+
+-- Where a call that only reads told a failure, just one came: the erasable disk counted it, or the pen of the write-once disk, or a look at
+-- that disk, which ended with the call. Where it told none, both disks counted none; what such a look counted isn't said then.
+pub record TellsFailure {E O Pen Seen : Type 0} {erase : EraseGhosts E} {once : OnceGhosts O Pen Seen} (old new : Archive E O Pen Seen erase once) (told : Type 0) : Type 0 where
+  pub quiet : ¬ told → (erase.fault_count (erase_of new) ≡ erase.fault_count (erase_of old)) × (once.pen_fault_count (pen_in new) ≡ once.pen_fault_count (pen_in old))
+  pub counted : told → CountsOne (erase.fault_count (erase_of old)) (erase.fault_count (erase_of new)) (once.pen_fault_count (pen_in old)) (once.pen_fault_count (pen_in new))
+      ⊎ ((erase.fault_count (erase_of new) ≡ erase.fault_count (erase_of old)) × (once.pen_fault_count (pen_in new) ≡ once.pen_fault_count (pen_in old)) × ((seen : Seen) × (once.seen_fault_count seen ≡ 1)))

@@ -13,3 +13,4 @@ pub mod Creating
 pub mod Asking
 pub mod Checking
 pub mod Descending
+pub mod ReadFaults

@@ -15,6 +15,7 @@ ghost use Rattle.version_model.specs.Versions.{Version};
 ghost use Rattle.tsb_walk.specs.Knowing.{ReadsWell};
 ghost use Rattle.tsb_walk.specs.Shown.{AreShown, StandsShown, keys_at};
 ghost use Rattle.disk_archive.specs.inner.Asking.{BlamesNone, HasTree, LookRefusal};
+ghost use Rattle.disk_archive.specs.inner.ReadFaults.{TellsRead};
 
 use crate::archive::Archive;
 use crate::ask_error::{AskError, of_root};
@@ -90,6 +91,7 @@ pub(crate) fn answer_by<P: Pages, O: OnceDisk + Drop>(
     ensures known { O.honest_seen (reader_disk reader.old) seen.old → O.known seen.new ≡ O.known seen.old }
     ensures disk { reader_disk reader.new ≡ reader_disk reader.old }
     ensures capacity { capacity_of reader.new ≡ capacity_of reader.old }
+    ensures failed { TellsRead (P.faults pages.old) (P.faults pages.new) (O.seen_fault_count seen.old) (O.seen_fault_count seen.new) (result ≡ Err AskError.Fault) }
 {
     versions_tell();
     let root = root_of(pages, head)?;
@@ -112,6 +114,7 @@ impl<E: EraseDisk + Drop, O: OnceDisk + Drop> Archive<E, O> {
     ghost use Rattle.disk_archive.specs.Archives.{Carries, Holds, Stands, IsHonest, is_down, once_of, once_state, settings_of, site_of};
     ghost use Rattle.disk_archive.specs.Sites.{LeftCarries, LeftEither};
     ghost use Rattle.disk_archive.specs.Crashes.{Crashes, Lasts};
+    ghost use Rattle.disk_archive.specs.Failures.{TellsFailure};
     ghost use Rattle.disk_archive.specs.inner.Idle.{IsAsBefore};
 
     // Answers a question where the archive carries a history.
@@ -132,6 +135,7 @@ impl<E: EraseDisk + Drop, O: OnceDisk + Drop> Archive<E, O> {
         ensures settings { settings_of self.new ≡ settings_of self.old }
         ensures disk { once_of self.new ≡ once_of self.old }
         ensures blocks { IsHonest self.old → once_state self.new ≡ once_state self.old }
+        ensures failed { TellsFailure self.old self.new (result ≡ Err AskError.Fault) }
     {
         begin(&mut self.tx)?;
         check_settled(&self.sequencer, &query)?;
@@ -152,8 +156,8 @@ impl<E: EraseDisk + Drop, O: OnceDisk + Drop> Archive<E, O> {
     /// events of a span, the first 256 and whether more follow.
     ///
     /// It looks from key to key, or from stamp to stamp, until all is told. Nothing is written; pages and blocks are read, of which the
-    /// pages are kept in the archive's cache and at most 64 blocks for the time of the call. After each outcome the archive holds the
-    /// history that it held.
+    /// pages are kept in the archive's cache and at most 64 blocks for the time of the call. `Fault` is told just where a read, or the look
+    /// at what is settled, failed. After each outcome the archive holds the history that it held.
     pub fn answer(&mut self, query: Query) -> Result<Answer, AskError>
         ensures answered { IfOk result (λ answer. IsHonest self.old → (h : History) → Holds self.old h → IsAnswered (applied h) query answer) }
         ensures below { OnOk result (IsHonest self.old → (h : History) → Holds self.old h → last_moment query < settled h) }
@@ -166,6 +170,7 @@ impl<E: EraseDisk + Drop, O: OnceDisk + Drop> Archive<E, O> {
         ensures recovery { (result ≡ Err AskError.NeedsRecovery) ↔ (is_down self.old ≡ true) }
         ensures sound { IsHonest self.old → (h : History) → Holds self.old h → (page : ℕ) → result ≡ Err (AskError.BadNode page) → ⊥ }
         ensures undamaged { IsHonest self.old → (h : History) → Holds self.old h → (block : ℕ) → result ≡ Err (AskError.Damaged block) → ⊥ }
+        ensures failed { TellsFailure self.old self.new (result ≡ Err AskError.Fault) }
         ensures honest { IsHonest self.old ↔ IsHonest self.new }
         ensures settings { settings_of self.new ≡ settings_of self.old }
         ensures disk { once_of self.new ≡ once_of self.old }

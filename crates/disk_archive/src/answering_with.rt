@@ -19,6 +19,7 @@ impl<E: EraseDisk + Drop, O: OnceDisk + Drop> Archive<E, O> {
     ghost use Rattle.disk_archive.specs.Archives.{Carries, Holds, Stands, IsHonest, is_down, once_of, once_state, settings_of, site_of};
     ghost use Rattle.disk_archive.specs.Sites.{LeftCarries, LeftEither};
     ghost use Rattle.disk_archive.specs.Crashes.{Crashes, Lasts};
+    ghost use Rattle.disk_archive.specs.Failures.{TellsFailure};
     ghost use Rattle.disk_archive.specs.Reading.{ReadsFrom};
     ghost use Rattle.disk_archive.specs.inner.Idle.{IsAsBefore};
 
@@ -47,6 +48,7 @@ impl<E: EraseDisk + Drop, O: OnceDisk + Drop> Archive<E, O> {
         ensures blocks { IsHonest self.old → once_state self.new ≡ once_state self.old }
         ensures reads { (h : History) → Carries self.old h → ReadsFrom self.old reader.old → ReadsFrom self.new reader.new }
         ensures capacity { capacity_of reader.new ≡ capacity_of reader.old }
+        ensures failed { TellsFailure self.old self.new (result ≡ Err AskError.Fault) }
     {
         begin(&mut self.tx)?;
         check_settled(&self.sequencer, &query)?;
@@ -66,6 +68,7 @@ impl<E: EraseDisk + Drop, O: OnceDisk + Drop> Archive<E, O> {
     /// the same blocks read each of them once.
     ///
     /// The reader was got from this archive, however many calls ago, and is used for its blocks alone: what is settled never changes.
+    /// `Fault` is told just where a read, or the look at what is settled, failed.
     pub fn answer_with(
         &mut self,
         reader: &mut ShelfReader<O>,
@@ -84,6 +87,7 @@ impl<E: EraseDisk + Drop, O: OnceDisk + Drop> Archive<E, O> {
         ensures recovery { (result ≡ Err AskError.NeedsRecovery) ↔ (is_down self.old ≡ true) }
         ensures sound { IsHonest self.old → (h : History) → Holds self.old h → ReadsFrom self.old reader.old → (page : ℕ) → result ≡ Err (AskError.BadNode page) → ⊥ }
         ensures undamaged { IsHonest self.old → (h : History) → Holds self.old h → ReadsFrom self.old reader.old → (block : ℕ) → result ≡ Err (AskError.Damaged block) → ⊥ }
+        ensures failed { TellsFailure self.old self.new (result ≡ Err AskError.Fault) }
         ensures honest { IsHonest self.old ↔ IsHonest self.new }
         ensures settings { settings_of self.new ≡ settings_of self.old }
         ensures disk { once_of self.new ≡ once_of self.old }

@@ -1,6 +1,6 @@
 //! Why a check isn't done, or what it found.
 
-ghost use Rattle.std.specs.Prelude.{◌≡◌, ℕ, Bool};
+ghost use Rattle.std.specs.Prelude.{◌≡◌, ◌↔◌, ℕ, Bool};
 ghost use Rattle.disk_archive.specs.declared.check_error.CheckError.TheVariants as checks;
 ghost use Rattle.tsb_tree.specs.Refusals.{ReadRefusal};
 ghost use Rattle.disk_archive.specs.inner.Checking.{CountRefusal};
@@ -79,6 +79,7 @@ pub(crate) fn of_root(refusal: TreeError) -> CheckError
     ensures bad { (page : ℕ) → result ≡ CheckError.BadNode page → refusal ≡ TreeError.BadNode page }
     ensures damaged { (block : ℕ) → result ≡ CheckError.Damaged block → refusal ≡ TreeError.Damaged block }
     ensures refused { (down : Bool) → ReadRefusal down refusal → CountRefusal down result }
+    ensures fault { (result ≡ CheckError.Fault) ↔ (refusal ≡ TreeError.Pages PageError.Fault) }
 {
     match refusal {
         TreeError::BadNode(page) => CheckError::BadNode(page),

@@ -2,6 +2,7 @@
 
 ghost use Rattle.std.specs.Prelude.{◌≡◌, ◌↔◌, ◌<◌, ◌^◌, ℕ, List, length, sum_by, IfOk, IfErr, OnOk, Err, true, false};
 ghost use Rattle.once_store.specs.Readers.{reader_disk};
+ghost use Rattle.page_tx.specs.Device.{KeepsDevice};
 ghost use Rattle.page_tx.specs.Start.{Start};
 ghost use Rattle.route_model.specs.Admission.{Admitted};
 ghost use Rattle.route_meaning.specs.History.{History, applied};
@@ -15,6 +16,7 @@ ghost use Rattle.tsb_walk.specs.Shown.{AreShown};
 ghost use Rattle.disk_archive.specs.Checks.{IsAllRead, IsBadBlock, IsBadPage, IsRootPlace};
 ghost use Rattle.disk_archive.specs.inner.Asking.{HasTree};
 ghost use Rattle.disk_archive.specs.inner.Checking.{CountRefusal, FindsNone};
+ghost use Rattle.disk_archive.specs.inner.ReadFaults.{TellsRead};
 
 use crate::archive::Archive;
 use crate::check_error::{CheckError, of_root};
@@ -43,6 +45,7 @@ fn root_of<P: Pages>(pages: &mut P, root: u64) -> Result<PagePlace, CheckError>
     ensures reads { (start : Start) (shown : List (List ℕ)) → P.shows pages.old start shown → P.shows pages.new start shown }
     ensures homes { P.homes pages.new ≡ P.homes pages.old }
     ensures down { P.down pages.new ≡ P.down pages.old }
+    ensures device { KeepsDevice (P.honest pages.old) (P.honest pages.new) (P.faults pages.old) (P.faults pages.new) (result ≡ Err CheckError.Fault) }
     ensures honest { P.honest pages.old ↔ P.honest pages.new }
 {
     let least = Stamp::new(0, 0);
@@ -72,6 +75,7 @@ fn count_by<P: Pages, O: OnceDisk + Drop>(
     ensures homes { P.homes pages.new ≡ P.homes pages.old }
     ensures down { P.down pages.new ≡ P.down pages.old }
     ensures honest { P.honest pages.old ↔ P.honest pages.new }
+    ensures failed { TellsRead (P.faults pages.old) (P.faults pages.new) (O.seen_fault_count seen.old) (O.seen_fault_count seen.new) (result ≡ Err CheckError.Fault) }
 {
     let root = root_of(pages, head.root)?;
     let count = check(pages, reader, seen, alloc, &root)?;
@@ -86,6 +90,7 @@ impl<E: EraseDisk + Drop, O: OnceDisk + Drop> Archive<E, O> {
     ghost use Rattle.disk_archive.specs.Checks.{HasPages, applied_in, root_in};
     ghost use Rattle.disk_archive.specs.Sites.{LeftCarries, LeftEither};
     ghost use Rattle.disk_archive.specs.Crashes.{Crashes, Lasts};
+    ghost use Rattle.disk_archive.specs.Failures.{TellsFailure};
     ghost use Rattle.disk_archive.specs.inner.Idle.{IsAsBefore};
 
     // Checks the archive where it needn't be opened again.
@@ -108,6 +113,7 @@ impl<E: EraseDisk + Drop, O: OnceDisk + Drop> Archive<E, O> {
         ensures settings { settings_of self.new ≡ settings_of self.old }
         ensures disk { once_of self.new ≡ once_of self.old }
         ensures blocks { IsHonest self.old → once_state self.new ≡ once_state self.old }
+        ensures failed { TellsFailure self.old self.new (result ≡ Err CheckError.Fault) }
     {
         begin(&mut self.tx)?;
         let mut reader = self.shelf.reader(self.alloc, KEPT_BLOCKS)?;
@@ -118,13 +124,14 @@ impl<E: EraseDisk + Drop, O: OnceDisk + Drop> Archive<E, O> {
     /// Reads every page and every block that the tree leads to, and tells how many changes are applied: as many as the tree has
     /// versions. The first page or block that isn't what it is to be is told; page 0, where the head tells another number.
     ///
-    /// Nothing is written. Pages come through the archive's cache, and at most 64 blocks are kept, for the time of the call. After each
-    /// outcome the archive holds the history that it held.
+    /// Nothing is written. Pages come through the archive's cache, and at most 64 blocks are kept, for the time of the call. `Fault` is told
+    /// just where a read, or the look at what is settled, failed. After each outcome the archive holds the history that it held.
     pub fn check(&mut self) -> Result<u64, CheckError>
         ensures counted { IfOk result (λ n. IsHonest self.old → (h : History) → Holds self.old h → n ≡ sum_by (λ p. length p.item.changes) (applied h)) }
         ensures head { IfOk result (λ n. n ≡ applied_in self.old) }
         ensures sound { IsHonest self.old → (h : History) → Holds self.old h → (page : ℕ) → result ≡ Err (CheckError.BadNode page) → ⊥ }
         ensures undamaged { IsHonest self.old → (h : History) → Holds self.old h → (block : ℕ) → result ≡ Err (CheckError.Damaged block) → ⊥ }
+        ensures failed { TellsFailure self.old self.new (result ≡ Err CheckError.Fault) }
         ensures read { IsHonest self.old → (pages : List (List ℕ)) → HasPages self.old pages → IfOk result (IsAllRead pages (once_state self.old).settled (O.block_count (once_of self.old)) (root_in self.old)) }
         ensures bad { IsHonest self.old → (pages : List (List ℕ)) → HasPages self.old pages
             → (page : ℕ) → result ≡ Err (CheckError.BadNode page) → IsBadPage pages (once_state self.old).settled (O.block_count (once_of self.old)) (root_in self.old) (applied_in self.old) page }

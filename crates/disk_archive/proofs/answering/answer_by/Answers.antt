@@ -1,11 +1,14 @@
-use Rattle.std.proofs.Common.{rules, sym, subst, IfErr, Bool}
+use Rattle.std.proofs.Common.{rules, ◌≡◌, ◌∙◌, Bool, Ok, Err, IfErr, ap, refl, sym, subst}
 use Rattle.interleaving_core.specs.Headline.{IsAnswered}
 use Rattle.interleaving_core.specs.declared.query.Query.{Query}
 use Rattle.interleaving_core.specs.declared.query.Answer.TheVariants.{Rows, Events}
 use Rattle.route_history.specs.Blame.{BlamesNone as NodeBlamesNone}
 use Rattle.tsb_walk.specs.AllVersions.{VersionsRefusal}
+use Rattle.disk_archive.specs.declared.ask_error.AskError.TheVariants as refusals
 use Rattle.disk_archive.specs.inner.Asking.{ask_of_node, BlamesNone, LookRefusal}
 use Rattle.disk_archive.proofs.Asking.{tree_read, ask_blames, ask_refused, if_err}
+use Rattle.disk_archive.proofs.Faults.{done_not_told, keeps_told, one_told}
+use Rattle.disk_archive.proofs.ReadFaults.{ask_either, read_done, read_pages, read_refused, read_then}
 use Rattle.disk_archive.proofs.answering.answer_by.Goals as goal
 
 pub returns-in_err-root-clause-blames : goal.returns-in_err-root-clause-blames
@@ -79,3 +82,47 @@ returns-in_err-answer-in-Events-clause-keeps g c ps t =
 
 pub returns-in_err-root-clause-keeps : goal.returns-in_err-root-clause-keeps
 returns-in_err-root-clause-keeps g c ps t = t.well
+
+-- ---- failures
+
+pub returns-in_err-root-clause-failed : goal.returns-in_err-root-clause-failed
+returns-in_err-root-clause-failed g c =
+    let e = c.in_err-root.field-0.0 in
+    let r : c.root_of.result ≡ Err e = search rules in
+    let d : c.from_residual.result ≡ Err e = search rules in
+    read_pages _ _ _ _ _ _ (keeps_told _ _ _ _ _ _
+    (λ told. r ∙ ap Err (one_told c.from_residual.result e refusals.Fault d told))
+    (λ failed. d ∙ ap Err (one_told c.root_of.result e refusals.Fault r failed))
+    c.root_of.ensures.device)
+
+pub returns-in_ok-answer-in-Rows-clause-failed : goal.returns-in_ok-answer-in-Rows-clause-failed
+returns-in_ok-answer-in-Rows-clause-failed g c =
+    let root : c.root_of.result ≡ Ok c.in_ok-root.root = search rules in
+    let first = c.root_of.ensures.device.quiet (done_not_told c.root_of.result c.in_ok-root.root refusals.Fault root) in
+    let r : c.rows.result ≡ Ok c.in_ok-answer-in-Rows.answer = search rules in
+    read_then _ _ _ _ _ _ first (read_done c.rows.result c.in_ok-answer-in-Rows.answer _ _ _ _ _ _ _ r (done_not_told _ _ refusals.Fault refl) c.rows.ensures.same.device c.rows.ensures.quiet c.rows.ensures.counted)
+
+pub returns-in_err-answer-in-Rows-clause-failed : goal.returns-in_err-answer-in-Rows-clause-failed
+returns-in_err-answer-in-Rows-clause-failed g c =
+    let root : c.root_of.result ≡ Ok c.in_ok-root.root = search rules in
+    let first = c.root_of.ensures.device.quiet (done_not_told c.root_of.result c.in_ok-root.root refusals.Fault root) in
+    let e = c.in_err-answer-in-Rows.field-0.0 in
+    let r : c.rows.result ≡ Err e = search rules in
+    let d : c.from_residual-in_err-answer-in-Rows.result ≡ Err (ask_of_node e) = search rules in
+    read_then _ _ _ _ _ _ first (read_refused c.rows.result c.from_residual-in_err-answer-in-Rows.result ask_of_node refusals.Fault e _ _ _ _ _ _ ask_either refl refl r d c.rows.ensures.same.device c.rows.ensures.quiet c.rows.ensures.counted)
+
+pub returns-in_ok-answer-in-Events-clause-failed : goal.returns-in_ok-answer-in-Events-clause-failed
+returns-in_ok-answer-in-Events-clause-failed g c =
+    let root : c.root_of.result ≡ Ok c.in_ok-root.root = search rules in
+    let first = c.root_of.ensures.device.quiet (done_not_told c.root_of.result c.in_ok-root.root refusals.Fault root) in
+    let r : c.events.result ≡ Ok c.in_ok-answer-in-Events.answer = search rules in
+    read_then _ _ _ _ _ _ first (read_done c.events.result c.in_ok-answer-in-Events.answer _ _ _ _ _ _ _ r (done_not_told _ _ refusals.Fault refl) c.events.ensures.same.device c.events.ensures.quiet c.events.ensures.counted)
+
+pub returns-in_err-answer-in-Events-clause-failed : goal.returns-in_err-answer-in-Events-clause-failed
+returns-in_err-answer-in-Events-clause-failed g c =
+    let root : c.root_of.result ≡ Ok c.in_ok-root.root = search rules in
+    let first = c.root_of.ensures.device.quiet (done_not_told c.root_of.result c.in_ok-root.root refusals.Fault root) in
+    let e = c.in_err-answer-in-Events.field-0.0 in
+    let r : c.events.result ≡ Err e = search rules in
+    let d : c.from_residual-in_err-answer-in-Events.result ≡ Err (ask_of_node e) = search rules in
+    read_then _ _ _ _ _ _ first (read_refused c.events.result c.from_residual-in_err-answer-in-Events.result ask_of_node refusals.Fault e _ _ _ _ _ _ ask_either refl refl r d c.events.ensures.same.device c.events.ensures.quiet c.events.ensures.counted)

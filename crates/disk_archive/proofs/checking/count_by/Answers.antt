@@ -1,13 +1,16 @@
-use Rattle.std.proofs.Common.{rules, ◌≡◌, ◌<◌, ◌^◌, ℕ, refl, sym, ◌∙◌, ap, subst, IfErr, length}
+use Rattle.std.proofs.Common.{rules, ◌≡◌, ◌<◌, ◌^◌, ℕ, refl, sym, ◌∙◌, ap, subst, Ok, Err, IfErr, length}
 use Rattle.once_store.specs.Readers.{reader_disk}
 use Rattle.archive_head.specs.Head.{Contents}
 use Rattle.route_history.specs.Kept.{timed}
 use Rattle.version_model.specs.Pages.{TreeStands}
 use Rattle.tsb_tree.specs.Opened.{ShowsRoot}
+use Rattle.disk_archive.specs.declared.check_error.CheckError.TheVariants as checks
 use Rattle.disk_archive.specs.Checks.{IsBadPage, IsRootPlace, no_root, bad_under, other_number}
 use Rattle.disk_archive.specs.inner.Checking.{check_of_node}
 use Rattle.disk_archive.proofs.Asking.{at_root}
 use Rattle.disk_archive.proofs.Counts.{as_many, finds_none, known_of, passed, passed_node, told_is}
+use Rattle.disk_archive.proofs.Faults.{done_not_told, keeps_told, one_told}
+use Rattle.disk_archive.proofs.ReadFaults.{check_either, read_done, read_pages, read_refused, read_then}
 use Rattle.disk_archive.proofs.checking.count_by.Goals as goal
 
 pub returns-in_err-root-clause-finds : goal.returns-in_err-root-clause-finds
@@ -71,3 +74,38 @@ returns-then-count-head-clause-bad g c start shown shows well page is =
     subst (λ (p : ℕ). IsBadPage shown known blocks c.args.head.now.root c.args.head.now.applied p) here
     (other_number c.in_ok-count.count (record { place = c.in_ok-root.root; top = place; read = read })
     (λ e. c.if-count-head.true (e ∙ sym applied)))
+
+-- ---- failures
+
+pub returns-in_err-root-clause-failed : goal.returns-in_err-root-clause-failed
+returns-in_err-root-clause-failed g c =
+    let e = c.in_err-root.field-0.0 in
+    let r : c.root_of.result ≡ Err e = search rules in
+    let d : c.from_residual.result ≡ Err e = search rules in
+    read_pages _ _ _ _ _ _ (keeps_told _ _ _ _ _ _
+    (λ told. r ∙ ap Err (one_told c.from_residual.result e checks.Fault d told))
+    (λ failed. d ∙ ap Err (one_told c.root_of.result e checks.Fault r failed))
+    c.root_of.ensures.device)
+
+pub returns-in_err-count-clause-failed : goal.returns-in_err-count-clause-failed
+returns-in_err-count-clause-failed g c =
+    let root : c.root_of.result ≡ Ok c.in_ok-root.root = search rules in
+    let first = c.root_of.ensures.device.quiet (done_not_told c.root_of.result c.in_ok-root.root checks.Fault root) in
+    let e = c.in_err-count.field-0.0 in
+    let r : c.check.result ≡ Err e = search rules in
+    let d : c.from_residual-in_err-count.result ≡ Err (check_of_node e) = search rules in
+    read_then _ _ _ _ _ _ first (read_refused c.check.result c.from_residual-in_err-count.result check_of_node checks.Fault e _ _ _ _ _ _ check_either refl refl r d c.check.ensures.pages.device c.check.ensures.quiet c.check.ensures.once)
+
+pub returns-then-count-head-clause-failed : goal.returns-then-count-head-clause-failed
+returns-then-count-head-clause-failed g c =
+    let root : c.root_of.result ≡ Ok c.in_ok-root.root = search rules in
+    let first = c.root_of.ensures.device.quiet (done_not_told c.root_of.result c.in_ok-root.root checks.Fault root) in
+    let r : c.check.result ≡ Ok c.in_ok-count.count = search rules in
+    read_then _ _ _ _ _ _ first (read_done c.check.result c.in_ok-count.count _ _ _ _ _ _ _ r (λ told. cc) c.check.ensures.pages.device c.check.ensures.quiet c.check.ensures.once)
+
+pub returns-clause-failed : goal.returns-clause-failed
+returns-clause-failed g c =
+    let root : c.root_of.result ≡ Ok c.in_ok-root.root = search rules in
+    let first = c.root_of.ensures.device.quiet (done_not_told c.root_of.result c.in_ok-root.root checks.Fault root) in
+    let r : c.check.result ≡ Ok c.in_ok-count.count = search rules in
+    read_then _ _ _ _ _ _ first (read_done c.check.result c.in_ok-count.count _ _ _ _ _ _ _ r (done_not_told _ _ checks.Fault refl) c.check.ensures.pages.device c.check.ensures.quiet c.check.ensures.once)

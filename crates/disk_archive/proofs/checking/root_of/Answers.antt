@@ -1,8 +1,11 @@
 use Rattle.std.proofs.Common.{◌≡◌, ℕ, sym, ◌∙◌, ap, subst, Err}
+use Rattle.page_tx.specs.declared.error.PageError.TheVariants as pages
 use Rattle.tsb_tree.specs.declared.error.TreeError.{TreeError}
+use Rattle.tsb_tree.specs.declared.error.TreeError.TheVariants as trees
 use Rattle.version_model.specs.Pages.{TreeStands}
 use Rattle.disk_archive.specs.declared.check_error.CheckError.TheVariants as checks
 use Rattle.disk_archive.proofs.Counts.{root_finds}
+use Rattle.disk_archive.proofs.Faults.{keeps_told}
 use Rattle.disk_archive.proofs.checking.root_of.Goals as goal
 
 pub of_root-requires : goal.of_root-requires
@@ -29,3 +32,13 @@ pub returns-in-Err-clause-bad : goal.returns-in-Err-clause-bad
 returns-in-Err-clause-bad g c start shown shows page is =
     let same : c.of_root.result ≡ checks.BadNode page = cc in
     c.in-Err.ensures.bad start shown shows page (ap (λ (e : TreeError). Err e) (c.of_root.ensures.bad page same))
+
+pub returns-in-Ok-clause-device : goal.returns-in-Ok-clause-device
+returns-in-Ok-clause-device g c = keeps_told _ _ _ _ _ _ (λ told. absurd (cc)) (λ failed. absurd (cc)) c.open.ensures.reads.device
+
+pub returns-in-Err-clause-device : goal.returns-in-Err-clause-device
+returns-in-Err-clause-device g c =
+    keeps_told _ _ _ _ _ _
+    (λ told. (let is : c.of_root.result ≡ checks.Fault = cc in c.in-Err.is ∙ ap Err (c.of_root.ensures.fault.0 is)))
+    (λ failed. (let is : c.in-Err.refusal ≡ trees.Pages pages.Fault = cc in ap Err (c.of_root.ensures.fault.1 is)))
+    c.open.ensures.reads.device

@@ -1,4 +1,4 @@
-use Rattle.std.proofs.Common.{ℕ, List, Option, refl, sym, ◌∙◌, ap, subst, true≢false, IfOk}
+use Rattle.std.proofs.Common.{rules, ◌≡◌, ℕ, List, Option, refl, sym, ◌∙◌, ap, subst, true≢false, Err, IfOk, IsOk, IsErr}
 use Rattle.disk_models.specs.Once.{OnceState, Grows}
 use Rattle.once_store.specs.Shelves.{pen_of}
 use Rattle.page_journal.specs.Journal.{home_pages, note_of}
@@ -8,12 +8,15 @@ use Rattle.page_tx.specs.Tx.{pool_of}
 use Rattle.route_meaning.specs.History.{applied}
 use Rattle.route_history.specs.Stamps.{stamp_of}
 use Rattle.archive_pages.specs.Places.{tree_low}
+use Rattle.disk_archive.specs.declared.check_error.CheckError.TheVariants as checks
 use Rattle.disk_archive.specs.Archives.{erase_state, once_of, once_state}
 use Rattle.disk_archive.specs.Checks.{IsAllRead, IsBadBlock, IsBadPage}
 use Rattle.disk_archive.specs.inner.Asking.{HasTree}
 use Rattle.disk_archive.proofs.Calling.{Ready, start_of, grows_none, unwritten, kept}
 use Rattle.disk_archive.proofs.Asking.{rises_applied, lies_known, reads_well}
 use Rattle.disk_archive.proofs.Counts.{at_disk}
+use Rattle.disk_archive.proofs.Faults.{keeps_same, one_told}
+use Rattle.disk_archive.proofs.ReadFaults.{check_memory_no_fault, check_need_no_fault, fails_none, fails_pen, fails_read, read_then}
 use Rattle.disk_archive.proofs.archive.Archive.try_check.Goals as goal
 
 pub returns-in_err-begin-clause-carries : goal.returns-in_err-begin-clause-carries
@@ -137,3 +140,31 @@ returns-in_err-seen-clause-blocks g c honest = c.seen.ensures.same honest.1
 
 pub returns-clause-blocks : goal.returns-clause-blocks
 returns-clause-blocks g c honest = c.seen.ensures.same honest.1
+
+-- ---- failures
+
+pub returns-in_err-begin-clause-failed : goal.returns-in_err-begin-clause-failed
+returns-in_err-begin-clause-failed g c =
+    let same = (keeps_same g.E.EraseDisk _ _ c.begin.ensures.same).quiet (λ f. f) in
+    let d : c.from_residual.result ≡ Err checks.NeedsRecovery = search rules in
+    fails_none _ _ _ same refl (λ told. check_need_no_fault (one_told c.from_residual.result checks.NeedsRecovery checks.Fault d told))
+
+pub returns-in_err-reader-clause-failed : goal.returns-in_err-reader-clause-failed
+returns-in_err-reader-clause-failed g c =
+    let same = (keeps_same g.E.EraseDisk _ _ c.begin.ensures.same).quiet (λ f. f) in
+    let d : c.from_residual-in_err-reader.result ≡ Err checks.OutOfMemory = search rules in
+    fails_none _ _ _ same refl (λ told. check_memory_no_fault (one_told c.from_residual-in_err-reader.result checks.OutOfMemory checks.Fault d told))
+
+pub returns-in_err-seen-clause-failed : goal.returns-in_err-seen-clause-failed
+returns-in_err-seen-clause-failed g c =
+    let same = (keeps_same g.E.EraseDisk _ _ c.begin.ensures.same).quiet (λ f. f) in
+    let failed : IsErr c.seen.result = search rules in
+    let d : c.from_residual-in_err-seen.result ≡ Err checks.Fault = search rules in
+    fails_pen _ _ _ same (c.seen.ensures.counts.counted failed) d
+
+pub returns-clause-failed : goal.returns-clause-failed
+returns-clause-failed g c =
+    let same = (keeps_same g.E.EraseDisk _ _ c.begin.ensures.same).quiet (λ f. f) in
+    let looked : IsOk c.seen.result = search rules in
+    fails_read _ _ c.in_ok-seen.seen c.count_by.new.seen _ _ (λ told. told) (λ failed. failed)
+    (c.seen.ensures.counts.quiet looked) c.in_ok-seen.ensures.fresh (read_then _ _ _ _ _ _ same c.count_by.ensures.failed)

@@ -1,0 +1,114 @@
+-- Whether a call that only reads tells a failure.
+use Rattle.std.proofs.Common.{◌≡◌, ◌+◌, ◌⊎◌, inl, inr, ℕ, min, refl, ◌∙◌, ap, subst, arith, Result, Ok, Err}
+use Rattle.disk_models.specs.declared.erase.EraseDisk.{Ghosts as EraseGhosts}
+use Rattle.disk_models.specs.declared.once.OnceDisk.{Ghosts as OnceGhosts}
+use Rattle.page_tx.specs.Device.{KeepsDevice}
+use Rattle.tsb_walk.specs.declared.error.NodeError.{NodeError}
+use Rattle.tsb_walk.specs.declared.error.NodeError.TheVariants as nodes
+use Rattle.disk_archive.specs.declared.archive.Archive.{Archive}
+use Rattle.disk_archive.specs.declared.ask_error.AskError.TheVariants as asks
+use Rattle.disk_archive.specs.declared.check_error.CheckError.TheVariants as checks
+use Rattle.disk_archive.specs.Archives.{erase_of, pen_in}
+use Rattle.disk_archive.specs.Failures.{TellsFailure}
+use Rattle.disk_archive.specs.inner.Asking.{ask_of_node}
+use Rattle.disk_archive.specs.inner.Checking.{check_of_node}
+use Rattle.disk_archive.specs.inner.ReadFaults.{TellsRead}
+use Rattle.disk_archive.proofs.Faults.{done_not_told, one_told}
+
+-- ---- pages and blocks
+
+-- pages alone are read
+pub read_pages : (x y : Type 0) (p p' l : ℕ) (told : Type 0) → KeepsDevice x y p p' told → TellsRead p p' l l told
+read_pages x y p p' l told k = record { quiet = λ never. (k.quiet never, refl); counted = λ t. inl (k.counted t, refl) }
+
+-- pages are read without a failure, and then more
+pub read_then : (p p' p'' l l' : ℕ) (told : Type 0) → p' ≡ p → TellsRead p' p'' l l' told → TellsRead p p'' l l' told
+read_then p p' p'' l l' told same t = subst (λ (n : ℕ). TellsRead n p'' l l' told) same t
+
+not_both : {X : Type 0} (r : Result X NodeError) → r ≡ Err nodes.Fault → r ≡ Err nodes.OnceFault → ⊥
+not_both r page once = let same : nodes.Fault ≡ nodes.OnceFault = one_told r nodes.Fault nodes.OnceFault page once in cc
+
+-- a failed read of a page or of a block is told, each in its way
+read_both : {X : Type 0} (r : Result X NodeError) (told x y : Type 0) (p p' l l' : ℕ) → (told → (r ≡ Err nodes.Fault) ⊎ (r ≡ Err nodes.OnceFault)) → (r ≡ Err nodes.Fault → told) → (r ≡ Err nodes.OnceFault → told)
+    → KeepsDevice x y p p' (r ≡ Err nodes.Fault) → ((r ≡ Err nodes.OnceFault → ⊥) → l' ≡ l) → (r ≡ Err nodes.OnceFault → l' ≡ min (l + 1) 18446744073709551615) → TellsRead p p' l l' told
+read_both r told x y p p' l l' which of_page of_once k quiet counted = record {
+  quiet = λ never. (k.quiet (λ f. never (of_page f)), quiet (λ f. never (of_once f)));
+  counted = λ t. elim (which t) [
+    | inl f ↦ inl (k.counted f, quiet (λ o. not_both r f o))
+    | inr o ↦ inr (k.quiet (λ f. not_both r f o), counted o)
+  ];
+}
+
+-- all is read
+pub read_done : {X : Type 0} (r : Result X NodeError) (v : X) (told x y : Type 0) (p p' l l' : ℕ) → r ≡ Ok v → (told → ⊥)
+    → KeepsDevice x y p p' (r ≡ Err nodes.Fault) → ((r ≡ Err nodes.OnceFault → ⊥) → l' ≡ l) → (r ≡ Err nodes.OnceFault → l' ≡ min (l + 1) 18446744073709551615) → TellsRead p p' l l' told
+read_done r v told x y p p' l l' is never k quiet counted =
+    read_both r told x y p p' l l' (λ t. absurd (never t)) (λ f. absurd (done_not_told r v nodes.Fault is f)) (λ o. absurd (done_not_told r v nodes.OnceFault is o)) k quiet counted
+
+-- a refusal of a look is passed on, and both failures are told as one
+pub read_refused : {X Y F : Type 0} (r : Result X NodeError) (s : Result Y F) (f : NodeError → F) (fault : F) (e : NodeError) (x y : Type 0) (p p' l l' : ℕ)
+    → ((d : NodeError) → f d ≡ fault → (d ≡ nodes.Fault) ⊎ (d ≡ nodes.OnceFault)) → f nodes.Fault ≡ fault → f nodes.OnceFault ≡ fault → r ≡ Err e → s ≡ Err (f e)
+    → KeepsDevice x y p p' (r ≡ Err nodes.Fault) → ((r ≡ Err nodes.OnceFault → ⊥) → l' ≡ l) → (r ≡ Err nodes.OnceFault → l' ≡ min (l + 1) 18446744073709551615) → TellsRead p p' l l' (s ≡ Err fault)
+read_refused {F = F} r s f fault e x y p p' l l' which page once was is k quiet counted =
+    read_both r (s ≡ Err fault) x y p p' l l'
+    (λ t. elim (which e (one_told s (f e) fault is t)) [
+      | inl a ↦ inl (was ∙ ap (λ (d : NodeError). Err d) a)
+      | inr b ↦ inr (was ∙ ap (λ (d : NodeError). Err d) b)
+    ])
+    (λ t. is ∙ ap (λ (z : F). Err z) (ap f (one_told r e nodes.Fault was t) ∙ page))
+    (λ t. is ∙ ap (λ (z : F). Err z) (ap f (one_told r e nodes.OnceFault was t) ∙ once))
+    k quiet counted
+
+pub ask_either : (e : NodeError) → ask_of_node e ≡ asks.Fault → (e ≡ nodes.Fault) ⊎ (e ≡ nodes.OnceFault)
+ask_either (nodes.BadNode page) is = absurd cc
+ask_either (nodes.Damaged block) is = absurd cc
+ask_either nodes.Fault is = inl refl
+ask_either nodes.OnceFault is = inr refl
+ask_either nodes.NeedsRecovery is = absurd cc
+ask_either nodes.OutOfMemory is = absurd cc
+
+pub check_either : (e : NodeError) → check_of_node e ≡ checks.Fault → (e ≡ nodes.Fault) ⊎ (e ≡ nodes.OnceFault)
+check_either (nodes.BadNode page) is = absurd cc
+check_either (nodes.Damaged block) is = absurd cc
+check_either nodes.Fault is = inl refl
+check_either nodes.OnceFault is = inr refl
+check_either nodes.NeedsRecovery is = absurd cc
+check_either nodes.OutOfMemory is = absurd cc
+
+-- ---- refusals that are no failure of a device
+
+pub memory_no_fault : asks.OutOfMemory ≡ asks.Fault → ⊥
+memory_no_fault is = cc
+
+pub check_need_no_fault : checks.NeedsRecovery ≡ checks.Fault → ⊥
+check_need_no_fault is = cc
+
+pub check_memory_no_fault : checks.OutOfMemory ≡ checks.Fault → ⊥
+check_memory_no_fault is = cc
+
+-- ---- calls of an archive
+
+-- neither disk failed, and no failure is told
+pub fails_none : {E O Pen Seen : Type 0} {erase : EraseGhosts E} {once : OnceGhosts O Pen Seen} (a z : Archive E O Pen Seen erase once) (told : Type 0)
+    → erase.fault_count (erase_of z) ≡ erase.fault_count (erase_of a) → once.pen_fault_count (pen_in z) ≡ once.pen_fault_count (pen_in a) → (told → ⊥) → TellsFailure a z told
+fails_none a z told erase_is pen_is never = record { quiet = λ _. (erase_is, pen_is); counted = λ t. absurd (never t) }
+
+-- the look at what is settled failed
+pub fails_pen : {E O Pen Seen : Type 0} {erase : EraseGhosts E} {once : OnceGhosts O Pen Seen} (a z : Archive E O Pen Seen erase once) (told : Type 0)
+    → erase.fault_count (erase_of z) ≡ erase.fault_count (erase_of a) → once.pen_fault_count (pen_in z) ≡ min (once.pen_fault_count (pen_in a) + 1) 18446744073709551615 → told → TellsFailure a z told
+fails_pen a z told erase_is pen_is t = record { quiet = λ never. absurd (never t); counted = λ _. inl (inr (erase_is, pen_is)) }
+
+just_one : (before after : ℕ) → before ≡ 0 → after ≡ min (before + 1) 18446744073709551615 → after ≡ 1
+just_one before after none more = omega (arith, none, more)
+
+-- pages are read, and blocks by a new look
+pub fails_read : {E O Pen Seen : Type 0} {erase : EraseGhosts E} {once : OnceGhosts O Pen Seen} (a z : Archive E O Pen Seen erase once) (seen seen' : Seen) (failed told : Type 0) → (told → failed) → (failed → told)
+    → once.pen_fault_count (pen_in z) ≡ once.pen_fault_count (pen_in a) → once.seen_fault_count seen ≡ 0
+    → TellsRead (erase.fault_count (erase_of a)) (erase.fault_count (erase_of z)) (once.seen_fault_count seen) (once.seen_fault_count seen') failed → TellsFailure a z told
+fails_read {once = once} a z seen seen' failed told fore back pen_is fresh read = record {
+  quiet = λ never. ((read.quiet (λ f. never (back f))).0, pen_is);
+  counted = λ t. elim (read.counted (fore t)) [
+    | inl page ↦ inl (inl (page.0, pen_is))
+    | inr block ↦ inr (block.0, pen_is, (seen', just_one (once.seen_fault_count seen) (once.seen_fault_count seen') fresh block.1))
+  ];
+}
