@@ -1,5 +1,5 @@
 -- Whether a call that only reads tells a failure.
-use Rattle.std.proofs.Common.{◌≡◌, ◌+◌, ◌⊎◌, inl, inr, ℕ, min, refl, ◌∙◌, ap, subst, arith, Result, Ok, Err}
+use Rattle.std.proofs.Common.{◌≡◌, ◌+◌, ◌⊎◌, inl, inr, ℕ, min, refl, sym, ◌∙◌, ap, subst, arith, Result, Ok, Err}
 use Rattle.disk_models.specs.declared.erase.EraseDisk.{Ghosts as EraseGhosts}
 use Rattle.disk_models.specs.declared.once.OnceDisk.{Ghosts as OnceGhosts}
 use Rattle.page_tx.specs.Device.{KeepsDevice}
@@ -8,7 +8,7 @@ use Rattle.tsb_walk.specs.declared.error.NodeError.TheVariants as nodes
 use Rattle.disk_archive.specs.declared.archive.Archive.{Archive}
 use Rattle.disk_archive.specs.declared.ask_error.AskError.TheVariants as asks
 use Rattle.disk_archive.specs.declared.check_error.CheckError.TheVariants as checks
-use Rattle.disk_archive.specs.Archives.{erase_of, pen_in}
+use Rattle.disk_archive.specs.Archives.{IsHonest, erase_of, once_of, pen_in}
 use Rattle.disk_archive.specs.Failures.{TellsFailure}
 use Rattle.disk_archive.specs.inner.Asking.{ask_of_node}
 use Rattle.disk_archive.specs.inner.Checking.{check_of_node}
@@ -89,26 +89,30 @@ check_memory_no_fault is = cc
 -- ---- calls of an archive
 
 -- neither disk failed, and no failure is told
-pub fails_none : {E O Pen Seen : Type 0} {erase : EraseGhosts E} {once : OnceGhosts O Pen Seen} (a z : Archive E O Pen Seen erase once) (told : Type 0)
-    → erase.fault_count (erase_of z) ≡ erase.fault_count (erase_of a) → once.pen_fault_count (pen_in z) ≡ once.pen_fault_count (pen_in a) → (told → ⊥) → TellsFailure a z told
-fails_none a z told erase_is pen_is never = record { quiet = λ _. (erase_is, pen_is); counted = λ t. absurd (never t) }
+pub fails_none : {E O Pen Seen : Type 0} {erase : EraseGhosts E} {once : OnceGhosts O Pen Seen} (a z : Archive E O Pen Seen erase once) (disk : O) (told : Type 0)
+    → erase.fault_count (erase_of z) ≡ erase.fault_count (erase_of a) → once.pen_fault_count (pen_in z) ≡ once.pen_fault_count (pen_in a) → (told → ⊥) → TellsFailure a z disk told
+fails_none a z disk told erase_is pen_is never = record { quiet = λ _. (erase_is, pen_is); counted = λ t. absurd (never t) }
 
 -- the look at what is settled failed
-pub fails_pen : {E O Pen Seen : Type 0} {erase : EraseGhosts E} {once : OnceGhosts O Pen Seen} (a z : Archive E O Pen Seen erase once) (told : Type 0)
-    → erase.fault_count (erase_of z) ≡ erase.fault_count (erase_of a) → once.pen_fault_count (pen_in z) ≡ min (once.pen_fault_count (pen_in a) + 1) 18446744073709551615 → told → TellsFailure a z told
-fails_pen a z told erase_is pen_is t = record { quiet = λ never. absurd (never t); counted = λ _. inl (inr (erase_is, pen_is)) }
+pub fails_pen : {E O Pen Seen : Type 0} {erase : EraseGhosts E} {once : OnceGhosts O Pen Seen} (a z : Archive E O Pen Seen erase once) (disk : O) (told : Type 0)
+    → erase.fault_count (erase_of z) ≡ erase.fault_count (erase_of a) → once.pen_fault_count (pen_in z) ≡ min (once.pen_fault_count (pen_in a) + 1) 18446744073709551615 → told → TellsFailure a z disk told
+fails_pen a z disk told erase_is pen_is t = record { quiet = λ never. absurd (never t); counted = λ _. inl (inr (erase_is, pen_is)) }
 
 just_one : (before after : ℕ) → before ≡ 0 → after ≡ min (before + 1) 18446744073709551615 → after ≡ 1
 just_one before after none more = omega (arith, none, more)
 
+-- a look at a disk stays one, by whichever name the disk goes
+pub look_stays : {O Pen Seen : Type 0} (device : OnceGhosts O Pen Seen) (reader disk : O) (seen seen' : Seen) → reader ≡ disk → device.honest_seen disk seen → (device.honest_seen reader seen → device.honest_seen reader seen') → device.honest_seen disk seen'
+look_stays {O} device reader disk seen seen' same was stays = subst (λ (d : O). device.honest_seen d seen') same (stays (subst (λ (d : O). device.honest_seen d seen) (sym same) was))
+
 -- pages are read, and blocks by a new look
-pub fails_read : {E O Pen Seen : Type 0} {erase : EraseGhosts E} {once : OnceGhosts O Pen Seen} (a z : Archive E O Pen Seen erase once) (seen seen' : Seen) (failed told : Type 0) → (told → failed) → (failed → told)
-    → once.pen_fault_count (pen_in z) ≡ once.pen_fault_count (pen_in a) → once.seen_fault_count seen ≡ 0
-    → TellsRead (erase.fault_count (erase_of a)) (erase.fault_count (erase_of z)) (once.seen_fault_count seen) (once.seen_fault_count seen') failed → TellsFailure a z told
-fails_read {once = once} a z seen seen' failed told fore back pen_is fresh read = record {
-  quiet = λ never. ((read.quiet (λ f. never (back f))).0, pen_is);
-  counted = λ t. elim (read.counted (fore t)) [
+pub fails_read : {E O Pen Seen : Type 0} {erase : EraseGhosts E} {once : OnceGhosts O Pen Seen} (a z : Archive E O Pen Seen erase once) (disk : O) (seen seen' : Seen) (failed told : Type 0) → (told → failed) → (failed → told)
+    → once.pen_fault_count (pen_in z) ≡ once.pen_fault_count (pen_in a) → once.seen_fault_count seen ≡ 0 → (IsHonest a → disk ≡ once_of a → once.honest_seen disk seen')
+    → TellsRead (erase.fault_count (erase_of a)) (erase.fault_count (erase_of z)) (once.seen_fault_count seen) (once.seen_fault_count seen') failed → TellsFailure a z disk told
+fails_read {once = once} a z disk seen seen' failed told fore back pen_is fresh looks t = record {
+  quiet = λ never. ((t.quiet (λ f. never (back f))).0, pen_is);
+  counted = λ is. elim (t.counted (fore is)) [
     | inl page ↦ inl (inl (page.0, pen_is))
-    | inr block ↦ inr (block.0, pen_is, (seen', just_one (once.seen_fault_count seen) (once.seen_fault_count seen') fresh block.1))
+    | inr block ↦ inr (block.0, pen_is, (seen', just_one (once.seen_fault_count seen) (once.seen_fault_count seen') fresh block.1, looks))
   ];
 }

@@ -1,7 +1,7 @@
 //! Questions are answered by a reader that goes on keeping the blocks that it read.
 
 ghost use Rattle.std.specs.Prelude.{◌≡◌, ◌↔◌, ◌<◌, ◌≤◌, ℕ, IfOk, IfErr, OnOk, Err, true, false};
-ghost use Rattle.once_store.specs.Readers.{capacity_of};
+ghost use Rattle.once_store.specs.Readers.{capacity_of, reader_disk};
 ghost use Rattle.route_meaning.specs.History.{History, applied, settled};
 ghost use Rattle.interleaving_core.specs.Does.{last_moment};
 ghost use Rattle.interleaving_core.specs.Headline.{IsAnswered};
@@ -48,7 +48,7 @@ impl<E: EraseDisk + Drop, O: OnceDisk + Drop> Archive<E, O> {
         ensures blocks { IsHonest self.old → once_state self.new ≡ once_state self.old }
         ensures reads { (h : History) → Carries self.old h → ReadsFrom self.old reader.old → ReadsFrom self.new reader.new }
         ensures capacity { capacity_of reader.new ≡ capacity_of reader.old }
-        ensures failed { TellsFailure self.old self.new (result ≡ Err AskError.Fault) }
+        ensures failed { TellsFailure self.old self.new (reader_disk reader.old) (result ≡ Err AskError.Fault) }
     {
         begin(&mut self.tx)?;
         check_settled(&self.sequencer, &query)?;
@@ -87,7 +87,7 @@ impl<E: EraseDisk + Drop, O: OnceDisk + Drop> Archive<E, O> {
         ensures recovery { (result ≡ Err AskError.NeedsRecovery) ↔ (is_down self.old ≡ true) }
         ensures sound { IsHonest self.old → (h : History) → Holds self.old h → ReadsFrom self.old reader.old → (page : ℕ) → result ≡ Err (AskError.BadNode page) → ⊥ }
         ensures undamaged { IsHonest self.old → (h : History) → Holds self.old h → ReadsFrom self.old reader.old → (block : ℕ) → result ≡ Err (AskError.Damaged block) → ⊥ }
-        ensures failed { TellsFailure self.old self.new (result ≡ Err AskError.Fault) }
+        ensures failed { TellsFailure self.old self.new (reader_disk reader.old) (result ≡ Err AskError.Fault) }
         ensures honest { IsHonest self.old ↔ IsHonest self.new }
         ensures settings { settings_of self.new ≡ settings_of self.old }
         ensures disk { once_of self.new ≡ once_of self.old }

@@ -75,6 +75,7 @@ fn count_by<P: Pages, O: OnceDisk + Drop>(
     ensures homes { P.homes pages.new ≡ P.homes pages.old }
     ensures down { P.down pages.new ≡ P.down pages.old }
     ensures honest { P.honest pages.old ↔ P.honest pages.new }
+    ensures look { O.honest_seen (reader_disk reader.old) seen.old → O.honest_seen (reader_disk reader.old) seen.new }
     ensures failed { TellsRead (P.faults pages.old) (P.faults pages.new) (O.seen_fault_count seen.old) (O.seen_fault_count seen.new) (result ≡ Err CheckError.Fault) }
 {
     let root = root_of(pages, head.root)?;
@@ -113,7 +114,7 @@ impl<E: EraseDisk + Drop, O: OnceDisk + Drop> Archive<E, O> {
         ensures settings { settings_of self.new ≡ settings_of self.old }
         ensures disk { once_of self.new ≡ once_of self.old }
         ensures blocks { IsHonest self.old → once_state self.new ≡ once_state self.old }
-        ensures failed { TellsFailure self.old self.new (result ≡ Err CheckError.Fault) }
+        ensures failed { TellsFailure self.old self.new (once_of self.old) (result ≡ Err CheckError.Fault) }
     {
         begin(&mut self.tx)?;
         let mut reader = self.shelf.reader(self.alloc, KEPT_BLOCKS)?;
@@ -131,7 +132,7 @@ impl<E: EraseDisk + Drop, O: OnceDisk + Drop> Archive<E, O> {
         ensures head { IfOk result (λ n. n ≡ applied_in self.old) }
         ensures sound { IsHonest self.old → (h : History) → Holds self.old h → (page : ℕ) → result ≡ Err (CheckError.BadNode page) → ⊥ }
         ensures undamaged { IsHonest self.old → (h : History) → Holds self.old h → (block : ℕ) → result ≡ Err (CheckError.Damaged block) → ⊥ }
-        ensures failed { TellsFailure self.old self.new (result ≡ Err CheckError.Fault) }
+        ensures failed { TellsFailure self.old self.new (once_of self.old) (result ≡ Err CheckError.Fault) }
         ensures read { IsHonest self.old → (pages : List (List ℕ)) → HasPages self.old pages → IfOk result (IsAllRead pages (once_state self.old).settled (O.block_count (once_of self.old)) (root_in self.old)) }
         ensures bad { IsHonest self.old → (pages : List (List ℕ)) → HasPages self.old pages
             → (page : ℕ) → result ≡ Err (CheckError.BadNode page) → IsBadPage pages (once_state self.old).settled (O.block_count (once_of self.old)) (root_in self.old) (applied_in self.old) page }

@@ -14,7 +14,7 @@ use Rattle.disk_archive.proofs.Mirroring.{mirror_settled}
 use Rattle.disk_archive.proofs.Calling.{Ready, start_of, grows_none, unwritten, kept}
 use Rattle.disk_archive.proofs.Asking.{rises_applied, lies_known, reads_well, above_told}
 use Rattle.disk_archive.proofs.Faults.{above_no_fault, done_not_told, keeps_same, need_no_fault, one_told}
-use Rattle.disk_archive.proofs.ReadFaults.{fails_none, fails_pen, fails_read, memory_no_fault, read_then}
+use Rattle.disk_archive.proofs.ReadFaults.{fails_none, fails_pen, fails_read, look_stays, memory_no_fault, read_then}
 use Rattle.disk_archive.proofs.archive.Archive.try_answer.Goals as goal
 
 pub returns-in_err-begin-clause-carries : goal.returns-in_err-begin-clause-carries
@@ -232,7 +232,7 @@ pub returns-in_err-begin-clause-failed : goal.returns-in_err-begin-clause-failed
 returns-in_err-begin-clause-failed g c =
     let same = (keeps_same g.E.EraseDisk _ _ c.begin.ensures.same).quiet (λ f. f) in
     let d : c.from_residual.result ≡ Err asks.NeedsRecovery = search rules in
-    fails_none _ _ _ same refl (λ told. need_no_fault (one_told c.from_residual.result asks.NeedsRecovery asks.Fault d told))
+    fails_none _ _ _ _ same refl (λ told. need_no_fault (one_told c.from_residual.result asks.NeedsRecovery asks.Fault d told))
 
 pub returns-in_err-check_settled-clause-failed : goal.returns-in_err-check_settled-clause-failed
 returns-in_err-check_settled-clause-failed g c =
@@ -240,20 +240,20 @@ returns-in_err-check_settled-clause-failed g c =
     let above = c.in_err-check_settled.ensures.above in
     let e = c.in_err-check_settled.field-0.0 in
     let d : c.from_residual-in_err-check_settled.result ≡ Err e = search rules in
-    fails_none _ _ _ same refl (λ told. above_no_fault e _ above.0 (one_told c.from_residual-in_err-check_settled.result e asks.Fault d told))
+    fails_none _ _ _ _ same refl (λ told. above_no_fault e _ above.0 (one_told c.from_residual-in_err-check_settled.result e asks.Fault d told))
 
 pub returns-in_err-reader-clause-failed : goal.returns-in_err-reader-clause-failed
 returns-in_err-reader-clause-failed g c =
     let same = (keeps_same g.E.EraseDisk _ _ c.begin.ensures.same).quiet (λ f. f) in
     let d : c.from_residual-in_err-reader.result ≡ Err asks.OutOfMemory = search rules in
-    fails_none _ _ _ same refl (λ told. memory_no_fault (one_told c.from_residual-in_err-reader.result asks.OutOfMemory asks.Fault d told))
+    fails_none _ _ _ _ same refl (λ told. memory_no_fault (one_told c.from_residual-in_err-reader.result asks.OutOfMemory asks.Fault d told))
 
 pub returns-in_err-seen-clause-failed : goal.returns-in_err-seen-clause-failed
 returns-in_err-seen-clause-failed g c =
     let same = (keeps_same g.E.EraseDisk _ _ c.begin.ensures.same).quiet (λ f. f) in
     let failed : IsErr c.seen.result = search rules in
     let d : c.from_residual-in_err-seen.result ≡ Err asks.Fault = search rules in
-    fails_pen _ _ _ same (c.seen.ensures.counts.counted failed) d
+    fails_pen _ _ _ _ same (c.seen.ensures.counts.counted failed) d
 
 pub returns-in_err-answer-clause-failed : goal.returns-in_err-answer-clause-failed
 returns-in_err-answer-clause-failed g c =
@@ -262,17 +262,17 @@ returns-in_err-answer-clause-failed g c =
     let e = c.in_err-answer.field-0.0 in
     let r : c.answer_by.result ≡ Err e = search rules in
     let d : c.from_residual-in_err-answer.result ≡ Err e = search rules in
-    fails_read _ _ c.in_ok-seen.seen c.answer_by.new.seen _ _
+    fails_read _ _ _ c.in_ok-seen.seen c.answer_by.new.seen _ _
     (λ told. r ∙ ap Err (one_told c.from_residual-in_err-answer.result e asks.Fault d told))
     (λ failed. d ∙ ap Err (one_told c.answer_by.result e asks.Fault r failed))
-    (c.seen.ensures.counts.quiet looked) c.in_ok-seen.ensures.fresh (read_then _ _ _ _ _ _ same c.answer_by.ensures.failed)
+    (c.seen.ensures.counts.quiet looked) c.in_ok-seen.ensures.fresh (λ honest _. look_stays g.O.OnceDisk _ _ c.in_ok-seen.seen c.answer_by.new.seen c.in_ok-reader.ensures.disk (c.in_ok-seen.ensures.seen honest.1) c.answer_by.ensures.look) (read_then _ _ _ _ _ _ same c.answer_by.ensures.failed)
 
 pub returns-clause-failed : goal.returns-clause-failed
 returns-clause-failed g c =
     let same = (keeps_same g.E.EraseDisk _ _ c.begin.ensures.same).quiet (λ f. f) in
     let looked : IsOk c.seen.result = search rules in
     let r : c.answer_by.result ≡ Ok c.in_ok-answer.answer = search rules in
-    fails_read _ _ c.in_ok-seen.seen c.answer_by.new.seen _ _
+    fails_read _ _ _ c.in_ok-seen.seen c.answer_by.new.seen _ _
     (λ told. absurd (done_not_told _ _ asks.Fault refl told))
     (λ failed. absurd (done_not_told c.answer_by.result c.in_ok-answer.answer asks.Fault r failed))
-    (c.seen.ensures.counts.quiet looked) c.in_ok-seen.ensures.fresh (read_then _ _ _ _ _ _ same c.answer_by.ensures.failed)
+    (c.seen.ensures.counts.quiet looked) c.in_ok-seen.ensures.fresh (λ honest _. look_stays g.O.OnceDisk _ _ c.in_ok-seen.seen c.answer_by.new.seen c.in_ok-reader.ensures.disk (c.in_ok-seen.ensures.seen honest.1) c.answer_by.ensures.look) (read_then _ _ _ _ _ _ same c.answer_by.ensures.failed)

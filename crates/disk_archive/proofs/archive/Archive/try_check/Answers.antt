@@ -16,7 +16,7 @@ use Rattle.disk_archive.proofs.Calling.{Ready, start_of, grows_none, unwritten, 
 use Rattle.disk_archive.proofs.Asking.{rises_applied, lies_known, reads_well}
 use Rattle.disk_archive.proofs.Counts.{at_disk}
 use Rattle.disk_archive.proofs.Faults.{keeps_same, one_told}
-use Rattle.disk_archive.proofs.ReadFaults.{check_memory_no_fault, check_need_no_fault, fails_none, fails_pen, fails_read, read_then}
+use Rattle.disk_archive.proofs.ReadFaults.{check_memory_no_fault, check_need_no_fault, fails_none, fails_pen, fails_read, look_stays, read_then}
 use Rattle.disk_archive.proofs.archive.Archive.try_check.Goals as goal
 
 pub returns-in_err-begin-clause-carries : goal.returns-in_err-begin-clause-carries
@@ -147,24 +147,24 @@ pub returns-in_err-begin-clause-failed : goal.returns-in_err-begin-clause-failed
 returns-in_err-begin-clause-failed g c =
     let same = (keeps_same g.E.EraseDisk _ _ c.begin.ensures.same).quiet (λ f. f) in
     let d : c.from_residual.result ≡ Err checks.NeedsRecovery = search rules in
-    fails_none _ _ _ same refl (λ told. check_need_no_fault (one_told c.from_residual.result checks.NeedsRecovery checks.Fault d told))
+    fails_none _ _ _ _ same refl (λ told. check_need_no_fault (one_told c.from_residual.result checks.NeedsRecovery checks.Fault d told))
 
 pub returns-in_err-reader-clause-failed : goal.returns-in_err-reader-clause-failed
 returns-in_err-reader-clause-failed g c =
     let same = (keeps_same g.E.EraseDisk _ _ c.begin.ensures.same).quiet (λ f. f) in
     let d : c.from_residual-in_err-reader.result ≡ Err checks.OutOfMemory = search rules in
-    fails_none _ _ _ same refl (λ told. check_memory_no_fault (one_told c.from_residual-in_err-reader.result checks.OutOfMemory checks.Fault d told))
+    fails_none _ _ _ _ same refl (λ told. check_memory_no_fault (one_told c.from_residual-in_err-reader.result checks.OutOfMemory checks.Fault d told))
 
 pub returns-in_err-seen-clause-failed : goal.returns-in_err-seen-clause-failed
 returns-in_err-seen-clause-failed g c =
     let same = (keeps_same g.E.EraseDisk _ _ c.begin.ensures.same).quiet (λ f. f) in
     let failed : IsErr c.seen.result = search rules in
     let d : c.from_residual-in_err-seen.result ≡ Err checks.Fault = search rules in
-    fails_pen _ _ _ same (c.seen.ensures.counts.counted failed) d
+    fails_pen _ _ _ _ same (c.seen.ensures.counts.counted failed) d
 
 pub returns-clause-failed : goal.returns-clause-failed
 returns-clause-failed g c =
     let same = (keeps_same g.E.EraseDisk _ _ c.begin.ensures.same).quiet (λ f. f) in
     let looked : IsOk c.seen.result = search rules in
-    fails_read _ _ c.in_ok-seen.seen c.count_by.new.seen _ _ (λ told. told) (λ failed. failed)
-    (c.seen.ensures.counts.quiet looked) c.in_ok-seen.ensures.fresh (read_then _ _ _ _ _ _ same c.count_by.ensures.failed)
+    fails_read _ _ _ c.in_ok-seen.seen c.count_by.new.seen _ _ (λ told. told) (λ failed. failed)
+    (c.seen.ensures.counts.quiet looked) c.in_ok-seen.ensures.fresh (λ honest _. look_stays g.O.OnceDisk _ _ c.in_ok-seen.seen c.count_by.new.seen c.in_ok-reader.ensures.disk (c.in_ok-seen.ensures.seen honest.1) c.count_by.ensures.look) (read_then _ _ _ _ _ _ same c.count_by.ensures.failed)
