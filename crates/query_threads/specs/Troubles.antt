@@ -1,7 +1,13 @@
--- Which troubles come to calls on an archive that carries a past.
+-- Which troubles come to calls on an archive that carries a past, and what is so of the one that a call tells.
 use Rattle.std.specs.Prelude.{⊤}
 use Rattle.query_threads.specs.declared.refusal.Trouble.{Trouble}
 use Rattle.query_threads.specs.declared.refusal.Trouble.TheVariants.{Fault, NeedsRecovery, DamagedPage, DamagedBlock, Full, OutOfMemory}
+use Rattle.query_threads.specs.declared.refusal.AdmitError.{AdmitError}
+use Rattle.query_threads.specs.declared.refusal.AdmitError.TheVariants as admits
+use Rattle.query_threads.specs.declared.refusal.MarkError.{MarkError}
+use Rattle.query_threads.specs.declared.refusal.MarkError.TheVariants as marks
+use Rattle.query_threads.specs.declared.refusal.AskError.{AskError}
+use Rattle.query_threads.specs.declared.refusal.AskError.TheVariants as asks
 
 -- no page and no block is said to be damaged
 abbrev pub BlamesNone : Trouble → Type 0
@@ -20,3 +26,22 @@ IsOutside (DamagedPage page) = ⊥
 IsOutside (DamagedBlock block) = ⊥
 IsOutside Full = ⊥
 IsOutside OutOfMemory = ⊤
+
+-- where a batch isn't taken for a trouble, this is so of it
+abbrev pub OnAdmitTrouble : (Trouble → Type 0) → AdmitError → Type 0
+OnAdmitTrouble so admits.NoCollector = ⊤
+OnAdmitTrouble so admits.BatchTooLarge = ⊤
+OnAdmitTrouble so admits.CounterFull = ⊤
+OnAdmitTrouble so admits.IntakeFull = ⊤
+OnAdmitTrouble so (admits.Trouble trouble) = so trouble
+
+-- where a mark isn't set for a trouble, this is so of it
+abbrev pub OnMarkTrouble : (Trouble → Type 0) → MarkError → Type 0
+OnMarkTrouble so marks.NoCollector = ⊤
+OnMarkTrouble so marks.MarkBack = ⊤
+OnMarkTrouble so (marks.Trouble trouble) = so trouble
+
+-- where a question isn't answered for a trouble, this is so of it
+abbrev pub OnAskTrouble : (Trouble → Type 0) → AskError → Type 0
+OnAskTrouble so (asks.AboveWatermark mark) = ⊤
+OnAskTrouble so (asks.Trouble trouble) = so trouble

@@ -7,10 +7,12 @@ ghost use Rattle.interleaving_core.specs.Does.{last_moment};
 ghost use Rattle.interleaving_core.specs.Headline.{IsAnswered};
 ghost use Rattle.interleaving_core.specs.Steps.{IsCollector};
 ghost use Rattle.board.specs.Past.{Past, GoesOnAs, count_of};
+ghost use Rattle.query_threads.specs.declared.refusal.Trouble.{Trouble};
+ghost use Rattle.query_threads.specs.declared.refusal.Flush.{Flush};
 ghost use Rattle.query_threads.specs.Steps.{IsCrowded, DoesAdmit, DoesMark, DoesApply, DoesFlush};
 ghost use Rattle.query_threads.specs.Turns.{TurnGives, IsTold};
 ghost use Rattle.query_threads.specs.Looks.{AreSettled, AreTheSettled, IsErrandOn};
-ghost use Rattle.query_threads.specs.Troubles.{IsOutside};
+ghost use Rattle.query_threads.specs.Troubles.{IsOutside, OnAdmitTrouble, OnMarkTrouble, OnAskTrouble};
 
 use crate::refusal::{AdmitError, AskError, Flush, MarkError, Step, Trouble, Turn};
 use board::Named;
@@ -109,6 +111,15 @@ pub trait Store {
     /// With the blocks of this past, on this disk, finishing the errand gathers what comes next.
     ghost lies: { Self.Errand → Self.Cursor → Self.Disk → Past → Type 0 };
 
+    /// A call told this trouble, of the archive as it was and as the call left it.
+    ghost tells: { Self → Trouble → Self → Type 0 };
+
+    /// A step of flushing did this, with the archive as it was and as the step left it.
+    ghost flushes: { Self → Flush → Self → Type 0 };
+
+    /// Blocks were read in vain with this look, for this trouble.
+    ghost misses: { Self.Seen → Trouble → Self.Seen → Type 0 };
+
     /// How many collectors there are.
     fn collectors(&self) -> u8
         ensures collectors { (p : Past) → carries self.now p → result ≡ length p.history.intakes };
@@ -129,24 +140,29 @@ pub trait Store {
     fn admit(&mut self, collector: u8, batch: &[Admission]) -> Result<BatchReply, AdmitError>
         ensures done { (p : Past) → carries self.old p → (q : Past) × GoesOnAs p q × carries self.new q × DoesAdmit collector batch.now result p.history q.history }
         ensures full { (p : Past) → carries self.old p → result ≡ Err AdmitError.IntakeFull → IsCrowded (pages self.old) p.history collector batch.now }
+        ensures trouble { IfErr result (OnAdmitTrouble (λ t. tells self.old t self.new)) }
         ensures disk { disk_of self.new ≡ disk_of self.old }
         ensures pages { pages self.new ≡ pages self.old };
 
     /// Raises the mark of a collector.
     fn mark(&mut self, collector: u8, mark: Mark) -> Result<(), MarkError>
         ensures done { (p : Past) → carries self.old p → (q : Past) × GoesOnAs p q × carries self.new q × DoesMark collector mark result p.history q.history }
+        ensures trouble { IfErr result (OnMarkTrouble (λ t. tells self.old t self.new)) }
         ensures disk { disk_of self.new ≡ disk_of self.old }
         ensures pages { pages self.new ≡ pages self.old };
 
     /// Applies the next change, and perhaps some more.
     fn apply_step(&mut self) -> Result<Step, Trouble>
         ensures done { (p : Past) → carries self.old p → (q : Past) × GoesOnAs p q × carries self.new q × DoesApply result p.history q.history }
+        ensures trouble { IfErr result (λ t. tells self.old t self.new) }
         ensures disk { disk_of self.new ≡ disk_of self.old }
         ensures pages { pages self.new ≡ pages self.old };
 
     /// Writes a page home that waits.
     fn flush_step(&mut self) -> Result<Flush, Trouble>
         ensures done { (p : Past) → carries self.old p → (q : Past) × GoesOnAs p q × carries self.new q × DoesFlush result p.history q.history }
+        ensures flushes { IfOk result (λ step. flushes self.old step self.new) }
+        ensures trouble { IfErr result (λ t. tells self.old t self.new) }
         ensures disk { disk_of self.new ≡ disk_of self.old }
         ensures pages { pages self.new ≡ pages self.old };
 
@@ -163,6 +179,7 @@ pub trait Store {
         ensures settled { (p : Past) → carries self.old p → OnOk result (last_moment (asks cursor.old) < settled p.history) }
         ensures gives { (p : Past) → carries self.old p → gathered cursor.old p.history → IfOk result (λ turn. TurnGives (λ errand. lies errand cursor.new (disk_of self.old) p) (gathered cursor.new p.history) (λ answer. IsAnswered (applied p.history) (asks cursor.old) answer) turn) }
         ensures told { (p : Past) → carries self.old p → IfErr result (λ e. IsTold e p.history (asks cursor.old)) }
+        ensures trouble { IfErr result (OnAskTrouble (λ t. tells self.old t self.new)) }
         ensures disk { disk_of self.new ≡ disk_of self.old }
         ensures pages { pages self.new ≡ pages self.old };
 
@@ -172,6 +189,7 @@ pub trait Store {
         ensures honest { (p : Past) → carries self.old p → IfOk result (λ s. honest (disk_of self.old) s) }
         ensures known { (p : Past) → carries self.old p → IfOk result (λ s. AreTheSettled (block_count (disk_of self.old)) (known s) p.blocks) }
         ensures sound { (p : Past) → carries self.old p → IfErr result IsOutside }
+        ensures trouble { IfErr result (λ t. tells self.old t self.new) }
         ensures disk { disk_of self.new ≡ disk_of self.old }
         ensures pages { pages self.new ≡ pages self.old };
 
@@ -194,6 +212,7 @@ pub trait Store {
         requires fits { fits errand cursor.old }
         ensures kept { (p : Past) → IsErrandOn (λ e. lies e cursor.old) honest block_count known p errand seen.old (reads reader.old) → AreSettled (block_count (reads reader.old)) (known seen.old) (kept reader.old) → AreSettled (block_count (reads reader.old)) (known seen.old) (kept reader.new) }
         ensures sound { (p : Past) → IsErrandOn (λ e. lies e cursor.old) honest block_count known p errand seen.old (reads reader.old) → AreSettled (block_count (reads reader.old)) (known seen.old) (kept reader.old) → IfErr result IsOutside }
+        ensures trouble { IfErr result (λ t. misses seen.old t seen.new) }
         ensures disk { reads reader.new ≡ reads reader.old }
         ensures asks { asks cursor.new ≡ asks cursor.old }
         ensures gathered { OnOk result ((p : Past) → IsErrandOn (λ e. lies e cursor.old) honest block_count known p errand seen.old (reads reader.old) → AreSettled (block_count (reads reader.old)) (known seen.old) (kept reader.old) → gathered cursor.new p.history) };

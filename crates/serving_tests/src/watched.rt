@@ -5,6 +5,7 @@ ghost use Rattle.disk_archive.specs.Cursors.{IsGathered, asks};
 ghost use Rattle.disk_archive.specs.Descents.{IsErrandFor};
 ghost use Rattle.once_store.specs.Readers.{kept_blocks, reader_disk};
 ghost use Rattle.shared_archive.specs.Carried.{CarriesPast, LiesInPast, gathered_on, right_going, ring_pages};
+ghost use Rattle.shared_archive.specs.Told.{Flushes, Misses, Tells};
 
 use crate::made::{COLLECTORS, empty_store};
 use crate::signals::Signals;
@@ -86,6 +87,12 @@ impl Store for WatchedStore {
     ghost right = { λ store p carried. right_going store.inner.archive p.history carried.goes_on };
 
     ghost stays = { λ cursor h g right begins below gathered. gathered_on cursor h g begins gathered };
+
+    ghost tells = { λ store trouble then. Tells store.inner.archive trouble then.inner.archive };
+
+    ghost flushes = { λ store step then. Flushes store.inner.archive step then.inner.archive };
+
+    ghost misses = { λ seen trouble then. Misses ⟦<MemOnce as OnceDisk>⟧ seen trouble then };
 
     fn collectors(&self) -> u8 {
         self.inner.collectors()

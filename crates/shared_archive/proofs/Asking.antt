@@ -1,5 +1,5 @@
 -- Questions over a past, and their errands.
-use Rattle.std.proofs.Common.{◌≡◌, ◌∙◌, ◌↔◌, ◌<◌, ◌≤◌, ℕ, Bool, true, false, List, Option, Some, Result, Err, refl, sym, ap, subst}
+use Rattle.std.proofs.Common.{◌≡◌, ◌∙◌, ◌↔◌, ◌<◌, ◌≤◌, ℕ, Bool, false, List, Option, Result, Err, refl, sym, ap, subst}
 use Rattle.disk_models.specs.declared.once.OnceDisk.{Ghosts}
 use Rattle.once_store.specs.declared.reader.ShelfReader.{ShelfReader}
 use Rattle.once_store.specs.Readers.{kept_blocks, reader_disk}
@@ -8,7 +8,7 @@ use Rattle.interleaving_core.specs.declared.query.Query.{Query}
 use Rattle.interleaving_core.specs.Does.{last_moment}
 use Rattle.tsb_walk.specs.Inside.{KeepsInside}
 use Rattle.tsb_walk.specs.Knowing.{ReadsWell}
-use Rattle.board.specs.Past.{Past, IsBlock}
+use Rattle.board.specs.Past.{Past}
 use Rattle.query_threads.specs.Looks.{AreSettled, AreTheSettled}
 use Rattle.query_threads.specs.Turns.{IsTold}
 use Rattle.disk_archive.specs.declared.ask_error.AskError.{AskError}

@@ -1,10 +1,10 @@
 -- Settled blocks as a list, and as what a look or a reader has.
-use Rattle.std.proofs.Common.{◌≡◌, ◌∙◌, ◌↔◌, ◌⊎◌, ◌<◌, ℕ, zero, suc, List, [], ◌∷◌, Option, Some, None, Contains, inl, inr, ⊎_elim, refl, sym, ap, subst, arith}
+use Rattle.std.proofs.Common.{◌≡◌, ◌∙◌, ◌↔◌, ◌<◌, ℕ, zero, suc, List, [], ◌∷◌, Option, Some, None, Contains, inl, inr, ⊎_elim, refl, sym, ap, subst, arith}
 use Rattle.std.proofs.lemmas.Bool.{cases_lt}
 use Rattle.std.proofs.lemmas.Option.{same_Some}
 use Rattle.lru.proofs.Splits.{Contains-head, Contains-tail, Contains-cons, Contains-nil}
 use Rattle.board.specs.Past.{IsBlock}
-use Rattle.query_threads.specs.Looks.{IsSettled, AreSettled, AreTheSettled}
+use Rattle.query_threads.specs.Looks.{IsSettled, AreTheSettled}
 
 -- a block with its number, where there is one, before others
 abbrev pub with_block : ℕ → Option (List ℕ) → List (ℕ × List ℕ) → List (ℕ × List ℕ)

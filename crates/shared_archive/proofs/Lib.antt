@@ -1,3 +1,4 @@
 mod Blocks
 mod Serving
 mod Asking
+mod Telling

@@ -1,5 +1,5 @@
 -- What calls do to a past that an archive carries.
-use Rattle.std.proofs.Common.{◌≡◌, ◌∙◌, ◌↔◌, ◌<◌, ◌≤◌, ◌+◌, ◌*◌, ℕ, Bool, true, false, List, [], length, map, sum_by, Option, Some, None, Ok, Err, Result, inl, inr, refl, sym, ap, subst, arith, ⊎_elim}
+use Rattle.std.proofs.Common.{◌≡◌, ◌∙◌, ◌↔◌, ◌<◌, ◌≤◌, ◌+◌, ◌*◌, ℕ, Bool, false, List, [], length, map, sum_by, Option, Some, None, Err, Result, refl, sym, ap, subst, arith, ⊎_elim}
 use Rattle.std.specs.List.{slice_get}
 use Rattle.std.specs.Option.{option_map}
 use Rattle.std.proofs.lemmas.Bool.{cases_lt}
@@ -11,8 +11,8 @@ use Rattle.route_model.specs.Admission.{Admitted}
 use Rattle.sequencer.specs.Late.{timely}
 use Rattle.route_meaning.specs.Holds.{admitted_time}
 use Rattle.route_meaning.specs.Merged.{part}
-use Rattle.route_meaning.specs.History.{History, Intake, IsHistory, Begins, settled, waiting}
-use Rattle.route_meaning.proofs.api.Beginning.{Begins-refl, Begins-trans}
+use Rattle.route_meaning.specs.History.{History, Intake, IsHistory, Begins, waiting}
+use Rattle.route_meaning.proofs.api.Beginning.{Begins-trans}
 use Rattle.interleaving_core.specs.declared.reply.BatchReply.{BatchReply}
 use Rattle.interleaving_core.specs.declared.reply.Resume.{Resume}
 use Rattle.interleaving_core.specs.Does.{IsReply}
@@ -38,7 +38,7 @@ use Rattle.disk_archive.specs.declared.apply_error.ApplyError.{ApplyError}
 use Rattle.disk_archive.specs.declared.apply_error.ApplyError.TheVariants as applies
 use Rattle.disk_archive.specs.declared.flush_error.FlushError.{FlushError}
 use Rattle.disk_archive.specs.declared.flush_error.FlushError.TheVariants as flushes
-use Rattle.disk_archive.specs.Archives.{GoesOn, IsHonest, is_down, once_of, once_state, settings_of}
+use Rattle.disk_archive.specs.Archives.{GoesOn, IsHonest, once_of, once_state, settings_of}
 use Rattle.disk_archive.specs.Limits.{IsCounterFull, IsRingFull}
 use Rattle.disk_archive.specs.Moves.{Moves}
 use Rattle.shared_archive.specs.Carried.{CarriesPast}

@@ -1,10 +1,12 @@
 //! Calls that change an archive, by what they do to its past.
 
-ghost use Rattle.std.specs.Prelude.{◌≡◌, Err};
+ghost use Rattle.std.specs.Prelude.{◌≡◌, Err, IfErr, IfOk};
 ghost use Rattle.board.specs.Past.{Past, GoesOnAs};
 ghost use Rattle.query_threads.specs.Steps.{IsCrowded, DoesAdmit, DoesMark, DoesApply, DoesFlush};
+ghost use Rattle.query_threads.specs.Troubles.{OnAdmitTrouble, OnMarkTrouble};
 ghost use Rattle.disk_archive.specs.Archives.{once_of};
 ghost use Rattle.shared_archive.specs.Carried.{CarriesPast, ring_pages};
+ghost use Rattle.shared_archive.specs.Told.{Flushes, Tells};
 
 use crate::refusals::{admit_refusal, apply_trouble, flush_trouble, mark_refusal};
 use disk_archive::Archive;
@@ -21,6 +23,7 @@ pub(crate) fn admit<E: EraseDisk + Drop, O: OnceDisk + Drop>(
 ) -> Result<BatchReply, AdmitError>
     ensures done { (p : Past) → CarriesPast archive.old p → (q : Past) × GoesOnAs p q × CarriesPast archive.new q × DoesAdmit collector batch.now result p.history q.history }
     ensures full { (p : Past) → CarriesPast archive.old p → result ≡ Err AdmitError.IntakeFull → IsCrowded (ring_pages archive.old) p.history collector batch.now }
+    ensures trouble { IfErr result (OnAdmitTrouble (λ t. Tells archive.old t archive.new)) }
     ensures disk { once_of archive.new ≡ once_of archive.old }
     ensures pages { ring_pages archive.new ≡ ring_pages archive.old }
 {
@@ -37,6 +40,7 @@ pub(crate) fn mark<E: EraseDisk + Drop, O: OnceDisk + Drop>(
     mark: Mark,
 ) -> Result<(), MarkError>
     ensures done { (p : Past) → CarriesPast archive.old p → (q : Past) × GoesOnAs p q × CarriesPast archive.new q × DoesMark collector mark result p.history q.history }
+    ensures trouble { IfErr result (OnMarkTrouble (λ t. Tells archive.old t archive.new)) }
     ensures disk { once_of archive.new ≡ once_of archive.old }
     ensures pages { ring_pages archive.new ≡ ring_pages archive.old }
 {
@@ -51,6 +55,7 @@ pub(crate) fn apply_step<E: EraseDisk + Drop, O: OnceDisk + Drop>(
     archive: &mut Archive<E, O>,
 ) -> Result<Step, Trouble>
     ensures done { (p : Past) → CarriesPast archive.old p → (q : Past) × GoesOnAs p q × CarriesPast archive.new q × DoesApply result p.history q.history }
+    ensures trouble { IfErr result (λ t. Tells archive.old t archive.new) }
     ensures disk { once_of archive.new ≡ once_of archive.old }
     ensures pages { ring_pages archive.new ≡ ring_pages archive.old }
 {
@@ -66,6 +71,8 @@ pub(crate) fn flush_step<E: EraseDisk + Drop, O: OnceDisk + Drop>(
     archive: &mut Archive<E, O>,
 ) -> Result<Flush, Trouble>
     ensures done { (p : Past) → CarriesPast archive.old p → (q : Past) × GoesOnAs p q × CarriesPast archive.new q × DoesFlush result p.history q.history }
+    ensures flushes { IfOk result (λ step. Flushes archive.old step archive.new) }
+    ensures trouble { IfErr result (λ t. Tells archive.old t archive.new) }
     ensures disk { once_of archive.new ≡ once_of archive.old }
     ensures pages { ring_pages archive.new ≡ ring_pages archive.old }
 {

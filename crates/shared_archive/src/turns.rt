@@ -7,12 +7,13 @@ ghost use Rattle.interleaving_core.specs.Headline.{IsAnswered};
 ghost use Rattle.board.specs.Past.{Past, count_of};
 ghost use Rattle.query_threads.specs.Looks.{AreSettled, AreTheSettled, IsErrandOn};
 ghost use Rattle.query_threads.specs.Turns.{TurnGives, IsTold};
-ghost use Rattle.query_threads.specs.Troubles.{IsOutside};
+ghost use Rattle.query_threads.specs.Troubles.{IsOutside, OnAskTrouble};
 ghost use Rattle.once_store.specs.Readers.{kept_blocks, reader_disk};
 ghost use Rattle.disk_archive.specs.Archives.{once_of};
 ghost use Rattle.disk_archive.specs.Cursors.{IsGathered, asks};
 ghost use Rattle.disk_archive.specs.Descents.{IsErrandFor};
 ghost use Rattle.shared_archive.specs.Carried.{CarriesPast, LiesInPast, ring_pages};
+ghost use Rattle.shared_archive.specs.Told.{Misses, Tells};
 
 use crate::refusals::{ask_refusal, block_trouble};
 use disk_archive::{Archive, Cursor, Descent, Errand};
@@ -45,6 +46,7 @@ pub(crate) fn descend<E: EraseDisk + Drop, O: OnceDisk + Drop>(
     ensures settled { (p : Past) → CarriesPast archive.old p → OnOk result (last_moment (asks cursor.old) < settled p.history) }
     ensures gives { (p : Past) → CarriesPast archive.old p → IsGathered cursor.old p.history → IfOk result (λ turn. TurnGives (λ errand. LiesInPast (O.block_count (once_of archive.old)) errand cursor.new p) (IsGathered cursor.new p.history) (λ answer. IsAnswered (applied p.history) (asks cursor.old) answer) turn) }
     ensures told { (p : Past) → CarriesPast archive.old p → IfErr result (λ e. IsTold e p.history (asks cursor.old)) }
+    ensures trouble { IfErr result (OnAskTrouble (λ t. Tells archive.old t archive.new)) }
     ensures disk { once_of archive.new ≡ once_of archive.old }
     ensures pages { ring_pages archive.new ≡ ring_pages archive.old }
 {
@@ -64,6 +66,7 @@ pub(crate) fn seen<E: EraseDisk + Drop, O: OnceDisk + Drop>(
     ensures honest { (p : Past) → CarriesPast archive.old p → IfOk result (λ s. O.honest_seen (once_of archive.old) s) }
     ensures known { (p : Past) → CarriesPast archive.old p → IfOk result (λ s. AreTheSettled (O.block_count (once_of archive.old)) (O.known s) p.blocks) }
     ensures sound { (p : Past) → CarriesPast archive.old p → IfErr result IsOutside }
+    ensures trouble { IfErr result (λ t. Tells archive.old t archive.new) }
     ensures disk { once_of archive.new ≡ once_of archive.old }
     ensures pages { ring_pages archive.new ≡ ring_pages archive.old }
 {
@@ -101,6 +104,7 @@ pub(crate) fn finish<O: OnceDisk + Drop>(
     requires fits { IsErrandFor cursor.old errand }
     ensures kept { (p : Past) → IsErrandOn (λ e disk past. LiesInPast (O.block_count disk) e cursor.old past) O.honest_seen O.block_count O.known p errand seen.old (reader_disk reader.old) → AreSettled (O.block_count (reader_disk reader.old)) (O.known seen.old) (kept_blocks reader.old) → AreSettled (O.block_count (reader_disk reader.old)) (O.known seen.old) (kept_blocks reader.new) }
     ensures sound { (p : Past) → IsErrandOn (λ e disk past. LiesInPast (O.block_count disk) e cursor.old past) O.honest_seen O.block_count O.known p errand seen.old (reader_disk reader.old) → AreSettled (O.block_count (reader_disk reader.old)) (O.known seen.old) (kept_blocks reader.old) → IfErr result IsOutside }
+    ensures trouble { IfErr result (λ t. Misses O.OnceDisk seen.old t seen.new) }
     ensures disk { reader_disk reader.new ≡ reader_disk reader.old }
     ensures asks { asks cursor.new ≡ asks cursor.old }
     ensures gathered { OnOk result ((p : Past) → IsErrandOn (λ e disk past. LiesInPast (O.block_count disk) e cursor.old past) O.honest_seen O.block_count O.known p errand seen.old (reader_disk reader.old) → AreSettled (O.block_count (reader_disk reader.old)) (O.known seen.old) (kept_blocks reader.old) → IsGathered cursor.new p.history) }

@@ -119,6 +119,12 @@ impl Store for ArmedStore {
 
     ghost stays = { λ _ _ _ _ _ _ gathered. gathered };
 
+    ghost tells = { λ _ _ _. ⊤ };
+
+    ghost flushes = { λ _ _ _. ⊤ };
+
+    ghost misses = { λ _ _ _. ⊤ };
+
     fn collectors(&self) -> u8 {
         self.archive.collectors()
     }

@@ -1,14 +1,15 @@
-use Rattle.std.proofs.Common.{rules, ◌≡◌, ◌∙◌, ap, length, refl, subst, sym, Ok, Err}
+use Rattle.std.proofs.Common.{rules, ◌∙◌, ap, length, refl, subst, sym, Err}
 use Rattle.std.proofs.lemmas.Option.{slice_get_within}
 use Rattle.interleaving_core.specs.Steps.{given}
 use Rattle.interleaving_core.proofs.api.Right.{begins_given}
 use Rattle.route_meaning.proofs.api.Beginning.{Begins-refl}
 use Rattle.query_threads.specs.Steps.{IsRefusal}
 use Rattle.query_threads.specs.declared.refusal.AdmitError.{AdmitError as AdmitRefusal}
-use Rattle.disk_archive.specs.declared.error.AdmitError.{AdmitError}
-use Rattle.disk_archive.specs.declared.error.AdmitError.TheVariants as admits
 use Rattle.disk_archive.specs.Archives.{is_down, settings_of}
 use Rattle.shared_archive.proofs.Serving.{crowded, here, honest_of, not_taken, number_of, on_same_blocks, only_full, same_blocks, taken}
+use Rattle.query_threads.specs.Troubles.{OnAdmitTrouble}
+use Rattle.shared_archive.specs.Told.{Tells}
+use Rattle.shared_archive.proofs.Telling.{admit_tells}
 use Rattle.shared_archive.proofs.calls.admit.Goals as goal
 
 pub returns-in-Ok-clause-done : goal.returns-in-Ok-clause-done
@@ -52,3 +53,10 @@ returns-in-Err-clause-full g c = λ p k told.
     let h = p.history in
     let full = only_full c.in-Err.refusal (sym c.admit_refusal.ensures.why ∙ (let t = told in search (rules, t))) in
     crowded a h c.args.collector c.args.batch.now (c.in-Err.ensures.intake_full (honest_of a p k) h (λ _. k.goes_on) (ap Err full))
+
+pub returns-in-Err-clause-trouble : goal.returns-in-Err-clause-trouble
+returns-in-Err-clause-trouble g c =
+    let a = c.args.archive.now in
+    let e = c.in-Err.ensures in
+    subst (λ (r : AdmitRefusal). OnAdmitTrouble (λ t. Tells a t c.admit.new.self) r) (sym c.admit_refusal.ensures.why)
+    (admit_tells a c.admit.new.self c.in-Err.refusal e.recovery e.counted (λ honest h holds page is. e.undamaged honest h holds page (ap Err is)))

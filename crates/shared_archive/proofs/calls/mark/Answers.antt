@@ -1,4 +1,4 @@
-use Rattle.std.proofs.Common.{◌≡◌, length, refl, subst, sym, Ok, Err}
+use Rattle.std.proofs.Common.{length, refl, subst, sym, Err}
 use Rattle.interleaving_core.specs.Steps.{marked}
 use Rattle.interleaving_core.proofs.api.GoingOn.{begins_marked}
 use Rattle.route_meaning.proofs.api.Beginning.{Begins-refl}
@@ -6,6 +6,9 @@ use Rattle.query_threads.specs.Steps.{DoesMark}
 use Rattle.query_threads.specs.declared.refusal.MarkError.{MarkError as MarkRefusal}
 use Rattle.disk_archive.specs.Archives.{is_down, settings_of}
 use Rattle.shared_archive.proofs.Serving.{here, honest_of, not_marked, number_of, on_same_blocks, same_blocks}
+use Rattle.query_threads.specs.Troubles.{OnMarkTrouble}
+use Rattle.shared_archive.specs.Told.{Tells}
+use Rattle.shared_archive.proofs.Telling.{mark_tells}
 use Rattle.shared_archive.proofs.calls.mark.Goals as goal
 
 pub returns-in-Ok-clause-done : goal.returns-in-Ok-clause-done
@@ -35,3 +38,9 @@ returns-in-Err-clause-done g c = λ p k.
       subst (λ (r : MarkRefusal). DoesMark c.args.collector c.args.mark (Err r) h h) (sym c.mark_refusal.ensures.why)
           (not_marked (is_down a) (settings_of a).collectors h c.args.collector c.args.mark c.in-Err.refusal (number_of a p k) e.no_collector (e.mark_back honest h (λ _. k.goes_on))),
     )
+
+pub returns-in-Err-clause-trouble : goal.returns-in-Err-clause-trouble
+returns-in-Err-clause-trouble g c =
+    let a = c.args.archive.now in
+    let e = c.in-Err.ensures in
+    subst (λ (r : MarkRefusal). OnMarkTrouble (λ t. Tells a t c.mark.new.self) r) (sym c.mark_refusal.ensures.why) (mark_tells a c.mark.new.self c.in-Err.refusal e.recovery e.counted)

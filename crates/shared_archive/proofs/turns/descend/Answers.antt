@@ -7,6 +7,9 @@ use Rattle.disk_archive.specs.Descents.{Descends, GoesFurther}
 use Rattle.disk_archive.specs.declared.descending.Descent.{Descent}
 use Rattle.shared_archive.proofs.Asking.{lies_past, not_answered}
 use Rattle.shared_archive.proofs.Serving.{honest_of, same_blocks}
+use Rattle.query_threads.specs.Troubles.{OnAskTrouble}
+use Rattle.shared_archive.specs.Told.{Tells}
+use Rattle.shared_archive.proofs.Telling.{ask_tells}
 use Rattle.shared_archive.proofs.turns.descend.Goals as goal
 
 pub returns-in-Ok-Done-clause-carries : goal.returns-in-Ok-Done-clause-carries
@@ -54,3 +57,10 @@ returns-in-Err-clause-told g c = λ p k.
     subst (λ (r : AskRefusal). IsTold r p.history (asks c.args.cursor.now)) (sym c.ask_refusal.ensures.why)
     (not_answered (is_down a) p.history (asks c.args.cursor.now) c.in-Err.refusal (c.in-Err.ensures.above (honest_of a p k) p.history (λ _. k.goes_on))
     (λ page is. c.in-Err.ensures.sound (honest_of a p k) p.history (λ _. k.goes_on) page (ap Err is)) (λ block is. c.in-Err.ensures.undamaged block (ap Err is)))
+
+pub returns-in-Err-clause-trouble : goal.returns-in-Err-clause-trouble
+returns-in-Err-clause-trouble g c =
+    let a = c.args.archive.now in
+    let e = c.in-Err.ensures in
+    subst (λ (r : AskRefusal). OnAskTrouble (λ t. Tells a t c.descend.new.self) r) (sym c.ask_refusal.ensures.why)
+    (ask_tells a c.descend.new.self c.in-Err.refusal e.recovery e.counted (λ honest h holds page is. e.sound honest h holds page (ap Err is)) (λ block is. e.undamaged block (ap Err is)))

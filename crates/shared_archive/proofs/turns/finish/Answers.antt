@@ -3,6 +3,8 @@ use Rattle.query_threads.specs.Troubles.{IsOutside}
 use Rattle.query_threads.specs.declared.refusal.Trouble.{Trouble}
 use Rattle.shared_archive.proofs.Asking.{keeps_inside, lies_known, settled_still}
 use Rattle.shared_archive.proofs.Serving.{reading_is_outside}
+use Rattle.shared_archive.specs.Told.{Misses}
+use Rattle.shared_archive.proofs.Telling.{block_misses}
 use Rattle.shared_archive.proofs.turns.finish.Goals as goal
 
 pub returns-in-Ok-clause-kept : goal.returns-in-Ok-clause-kept
@@ -24,3 +26,7 @@ pub returns-in-Err-clause-sound : goal.returns-in-Err-clause-sound
 returns-in-Err-clause-sound g c p on kept =
     let l = lies_known g.O.OnceDisk c.args.reader.now c.args.seen.now c.args.errand c.args.cursor.now p kept on.follows on.stands on.found in
     subst (λ (t : Trouble). IsOutside t) (sym c.block_trouble.ensures.why) (reading_is_outside c.in-Err.refusal (λ block is. c.in-Err.ensures.undamaged p.history l block (ap Err is)))
+
+pub returns-in-Err-clause-trouble : goal.returns-in-Err-clause-trouble
+returns-in-Err-clause-trouble g c =
+    subst (λ (t : Trouble). Misses g.O.OnceDisk c.args.seen.now t c.finish.new.seen) (sym c.block_trouble.ensures.why) (block_misses g.O.OnceDisk c.args.seen.now c.finish.new.seen c.in-Err.refusal c.in-Err.ensures.quiet c.in-Err.ensures.counted)

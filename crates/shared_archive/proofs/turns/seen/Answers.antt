@@ -2,6 +2,7 @@ use Rattle.shared_archive.proofs.Serving.{honest_of, same_blocks}
 use Rattle.disk_archive.specs.Archives.{once_of}
 use Rattle.query_threads.specs.Looks.{AreTheSettled}
 use Rattle.std.proofs.Common.{ℕ, List, Option, subst, sym}
+use Rattle.std.proofs.Common.{inr, refl}
 use Rattle.shared_archive.proofs.turns.seen.Goals as goal
 
 pub returns-in-Ok-clause-carries : goal.returns-in-Ok-clause-carries
@@ -19,3 +20,6 @@ returns-in-Ok-clause-honest g c = λ p k. c.in-Ok.ensures.seen (honest_of c.args
 
 pub returns-in-Ok-clause-known : goal.returns-in-Ok-clause-known
 returns-in-Ok-clause-known g c = λ p k. subst (λ (known : ℕ → Option (List ℕ)). AreTheSettled (g.O.OnceDisk.block_count (once_of c.args.archive.now)) known p.blocks) (sym (c.in-Ok.ensures.known (honest_of c.args.archive.now p k))) k.blocks
+
+pub returns-in-Err-clause-trouble : goal.returns-in-Err-clause-trouble
+returns-in-Err-clause-trouble g c = inr (0, c.in-Err.ensures.counts.counted refl)

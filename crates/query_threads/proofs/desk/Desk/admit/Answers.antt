@@ -1,15 +1,21 @@
 use Rattle.std.proofs.Common.{ℕ, sym, ◌∙◌, subst}
+use Rattle.std.specs.Prelude.{IsSome}
 use Rattle.board.specs.Past.{Past}
 use Rattle.board.specs.Views.{View, IsFrontOf}
 use Rattle.query_threads.specs.Steps.{DoesAdmit, IsCrowded}
 use Rattle.query_threads.proofs.Crowded.{still_crowded}
 use Rattle.query_threads.proofs.Seen.{begins_then, sees_step}
+use Rattle.query_threads.proofs.Telling.{admit_comes}
 use Rattle.query_threads.proofs.desk.Desk.admit.Goals as goal
 
 pub returns : goal.returns
 returns g c =
     let w = c.self.inside.writer in
     let front = subst (λ (v : View). IsFrontOf v.past c.args.pass.now) (sym (c.self.view_is ∙ c.greet.ensures.same)) c.greet.ensures.front in
+    let archive = c.self.inside.archive in
+    let then = c.admit-told.new.self in
+    let before : IsSome g.N.OnDisk.disk → (p : Past) × g.A.Store.carries archive p × IsFrontOf p c.args.pass.now = λ named. (w.past, (c.self.invariant.1 named).0, front) in
+    let after = λ (named : IsSome g.N.OnDisk.disk). subst (λ (q : Past). g.A.Store.carries then q) (sym c.greet-2.ensures.past) (c.follow.ensures.carried named) in
     record {
       begins = begins_then c.args.pass.now c.greet.new.pass c.greet-2.new.pass c.greet.ensures.begins c.greet-2.ensures.begins;
       sees = λ named. sees_step (DoesAdmit c.args.collector c.args.batch.now c.admit-told.result) c.args.pass.now c.greet.new.pass c.greet-2.new.pass w c.follow.new.writer front
@@ -20,4 +26,5 @@ returns g c =
           let mine = subst (λ (n : ℕ). IsCrowded n w.past.history c.args.collector c.args.batch.now) (sym kept.3) here in
           let later = still_crowded g.N.OnDisk.pages c.args.collector c.args.batch.now c.admit-told.result w.past.history c.follow.new.writer.past.history (c.follow.ensures.fits named) is mine in
           subst (λ (q : Past). IsCrowded g.N.OnDisk.pages q.history c.args.collector c.args.batch.now) (sym c.greet-2.ensures.past) later);
+      trouble = admit_comes (IsSome g.N.OnDisk.disk) g.A.Store.carries c.args.pass.now c.greet-2.new.pass archive then before after g.A.Store.tells c.admit-told.result c.admit-told.ensures.trouble;
     }

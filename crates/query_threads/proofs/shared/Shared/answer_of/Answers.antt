@@ -1,4 +1,4 @@
-use Rattle.std.proofs.Common.{◌<◌, ℕ, List, Result, IfErr, IfSome, inr, sym, ◌∙◌, subst}
+use Rattle.std.proofs.Common.{◌<◌, ◌⊎◌, ℕ, List, Result, IfErr, IfSome, inl, inr, sym, ◌∙◌, subst}
 use Rattle.std.proofs.lemmas.Result.{err_from_is_err_and}
 use Rattle.std.specs.Prelude.{IsSome, ⊤}
 use Rattle.route_meaning.specs.History.{applied, settled}
@@ -7,9 +7,13 @@ use Rattle.interleaving_core.specs.Headline.{IsAnswered}
 use Rattle.board.specs.Past.{IsBlock}
 use Rattle.interleaving_core.specs.declared.query.Answer.{Answer}
 use Rattle.query_threads.specs.declared.refusal.AskError.{AskError}
+use Rattle.query_threads.specs.declared.refusal.Trouble.{Trouble}
+use Rattle.query_threads.specs.Seeing.{ComesOf, IsMissed}
+use Rattle.query_threads.specs.Troubles.{OnAskTrouble}
 use Rattle.query_threads.specs.Turns.{TurnGives, IsTold}
 use Rattle.query_threads.specs.Looks.{IsErrandOn}
 use Rattle.query_threads.proofs.Seen.{since_then}
+use Rattle.query_threads.proofs.Telling.{ask_trouble, comes_since}
 use Rattle.query_threads.proofs.shared.Shared.answer_of.Goals as goal
 
 pub returns-in_err-turn-clause-reader : goal.returns-in_err-turn-clause-reader
@@ -17,6 +21,16 @@ returns-in_err-turn-clause-reader g c named n octets is = c.turn.ensures.begins.
 
 pub returns-in_err-turn-clause-begins : goal.returns-in_err-turn-clause-begins
 returns-in_err-turn-clause-begins g c = since_then c.args.pass.now c.loop.pass c.turn.new.pass c.loop.invariant.since c.turn.ensures.begins
+
+pub returns-in_err-turn-clause-trouble : goal.returns-in_err-turn-clause-trouble
+returns-in_err-turn-clause-trouble g c =
+    let w = c.turn.new.pass in
+    let promised = IsSome g.N.OnDisk.disk in
+    let why = err_from_is_err_and c.from_residual.result c.from_residual.ensures.1 in
+    let P = λ (t : Trouble). ComesOf promised g.A.Store.carries (λ a b. g.A.Store.tells a t b) c.loop.pass w in
+    let Q = λ (t : Trouble). ComesOf promised g.A.Store.carries (λ a b. g.A.Store.tells a t b) c.args.pass.now w ⊎ IsMissed (λ a b. g.A.Store.misses a t b) in
+    let told = ask_trouble P Q (λ t is. inl (comes_since promised g.A.Store.carries (λ a b. g.A.Store.tells a t b) c.args.pass.now c.loop.pass w c.loop.invariant.since is)) c.in_err-turn.field-0.0 c.in_err-turn.ensures.trouble in
+    subst (λ (r : Result Answer AskError). IfErr r (OnAskTrouble Q)) (sym why.1) (subst (λ (e : AskError). OnAskTrouble Q e) (sym why.2) told)
 
 pub returns-in-Done-clause-reader : goal.returns-in-Done-clause-reader
 returns-in-Done-clause-reader g c named n octets is = c.turn.ensures.begins.past.blocks n octets (c.loop.invariant.reader named n octets is)

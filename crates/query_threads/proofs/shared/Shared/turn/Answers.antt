@@ -1,18 +1,14 @@
-use Rattle.std.proofs.Common.{◌≤◌, ◌<◌, Result, Ok, Err, IfErr, IfOk, IfSome, OnOk, ◌∙◌, subst}
+use Rattle.std.proofs.Common.{◌≤◌, ◌<◌, IfErr, IfOk, IfSome, OnOk, ◌∙◌, subst}
+use Rattle.std.proofs.lemmas.Result.{IfErr-weaker}
 use Rattle.route_meaning.specs.History.{applied, settled}
 use Rattle.interleaving_core.specs.declared.query.Query.{Query}
 use Rattle.interleaving_core.specs.Does.{last_moment}
 use Rattle.interleaving_core.specs.Headline.{IsAnswered}
 use Rattle.board.specs.Views.{watermark_of}
-use Rattle.query_threads.specs.declared.refusal.AskError.{AskError}
 use Rattle.query_threads.specs.Turns.{TurnGives, IsTold, IsAbove}
 use Rattle.query_threads.specs.Looks.{IsErrandOn}
 use Rattle.query_threads.proofs.Seen.{told_low}
 use Rattle.query_threads.proofs.shared.Shared.turn.Goals as goal
-
-each_err : {T : Type 0} (r : Result T AskError) (P Q : AskError → Type 0) → IfErr r P → ((e : AskError) → P e → Q e) → IfErr r Q
-each_err (Ok x) P Q is f = tt
-each_err (Err e) P Q is f = f e is
 
 pub returns-clause-asks : goal.returns-clause-asks
 returns-clause-asks g c = c.turn-told.ensures.asks ∙ c.requires.asks
@@ -33,4 +29,4 @@ pub returns-clause-not_refused : goal.returns-clause-not_refused
 returns-clause-not_refused g c named =
     let h = c.turn-told.new.pass.past.history in
     let told = subst (λ (q : Query). IfErr c.turn-told.result (λ e. IsTold e h q)) c.requires.asks (c.turn-told.ensures.told named) in
-    each_err c.turn-told.result (λ e. IsTold e h c.args.query.now) (λ e. IsAbove e → watermark_of c.args.pass.now ≤ last_moment c.args.query.now) told (λ e t above. told_low e h c.args.query.now (watermark_of c.args.pass.now) t (c.turn-told.ensures.reached 0) above)
+    IfErr-weaker c.turn-told.result (λ e. IsTold e h c.args.query.now) (λ e. IsAbove e → watermark_of c.args.pass.now ≤ last_moment c.args.query.now) (λ e t above. told_low e h c.args.query.now (watermark_of c.args.pass.now) t (c.turn-told.ensures.reached 0) above) told

@@ -1,0 +1,107 @@
+-- Which trouble a call tells, by the refusal of the archive.
+use Rattle.std.proofs.Common.{◌≡◌, ◌⊎◌, ◌↔◌, ◌<◌, ◌+◌, ℕ, suc, zero, true, List, length, sum_by, Err, Result, inl, inr, refl, arith, min}
+use Rattle.disk_models.specs.declared.erase.EraseDisk.{Ghosts as EraseGhosts}
+use Rattle.disk_models.specs.declared.once.OnceDisk.{Ghosts as OnceGhosts}
+use Rattle.route_meaning.specs.History.{History, applied}
+use Rattle.once_store.specs.declared.error.BlockError.{BlockError}
+use Rattle.once_store.specs.declared.error.BlockError.TheVariants as blocks
+use Rattle.tsb_tree.specs.Opened.{ShowsRoot}
+use Rattle.query_threads.specs.Troubles.{OnAdmitTrouble, OnMarkTrouble, OnAskTrouble}
+use Rattle.disk_archive.specs.declared.archive.Archive.{Archive}
+use Rattle.disk_archive.specs.declared.error.AdmitError.{AdmitError}
+use Rattle.disk_archive.specs.declared.error.AdmitError.TheVariants as admits
+use Rattle.disk_archive.specs.declared.mark_error.MarkError.{MarkError}
+use Rattle.disk_archive.specs.declared.mark_error.MarkError.TheVariants as marks
+use Rattle.disk_archive.specs.declared.apply_error.ApplyError.{ApplyError}
+use Rattle.disk_archive.specs.declared.apply_error.ApplyError.TheVariants as applies
+use Rattle.disk_archive.specs.declared.flush_error.FlushError.{FlushError}
+use Rattle.disk_archive.specs.declared.flush_error.FlushError.TheVariants as flushes
+use Rattle.disk_archive.specs.declared.ask_error.AskError.{AskError}
+use Rattle.disk_archive.specs.declared.ask_error.AskError.TheVariants as asks
+use Rattle.disk_archive.specs.Archives.{Holds, IsHonest, erase_of, is_down, pen_in}
+use Rattle.disk_archive.specs.Blanks.{NoneBlank, unused_pages}
+use Rattle.disk_archive.specs.Checks.{HasPages, root_in}
+use Rattle.disk_archive.specs.Failures.{CountsFailures, count_after}
+use Rattle.shared_archive.specs.Told.{Failed, Misses, Tells}
+use Rattle.shared_archive.specs.inner.StoreCalls.{of_admit, of_apply, of_ask, of_block, of_flush, of_mark}
+
+-- one of both disks counted a failure
+failed : (erase erase' once once' : ℕ) (told : Type 0) → told → CountsFailures erase erase' once once' told → Failed erase erase' ⊎ Failed once once'
+failed erase erase' once once' told is f = of f.erase_failures f.once_failures f.of_erase f.of_once (f.some is)
+  where
+    of : (n k : ℕ) → erase' ≡ count_after erase n → once' ≡ count_after once k → 0 < n + k → Failed erase erase' ⊎ Failed once once'
+    of (suc n) k e o some = inl (n, e)
+    of zero (suc k) e o some = inr (k, o)
+    of zero zero e o some = absurd (omega (arith, some))
+
+module _ {E O Pen Seen : Type 0} {erase : EraseGhosts E} {once : OnceGhosts O Pen Seen} (a b : Archive E O Pen Seen erase once) where
+  pub admit_tells : {R : Type 0} (e : AdmitError)
+      → ((◌≡◌ {A = Result R AdmitError} (Err e) (Err admits.NeedsRecovery)) ↔ (is_down a ≡ true))
+      → ((◌≡◌ {A = Result R AdmitError} (Err e) (Err admits.Fault)) → erase.fault_count (erase_of b) ≡ min (erase.fault_count (erase_of a) + 1) 18446744073709551615)
+      → (IsHonest a → (h : History) → Holds a h → (page : ℕ) → e ≡ admits.BadNode page → ⊥)
+      → OnAdmitTrouble (λ t. Tells a t b) (of_admit e)
+  admit_tells admits.NeedsRecovery down counted sound = down.0 refl
+  admit_tells admits.NoCollector down counted sound = tt
+  admit_tells admits.BatchTooLarge down counted sound = tt
+  admit_tells admits.CounterFull down counted sound = tt
+  admit_tells admits.IntakeFull down counted sound = tt
+  admit_tells (admits.BadNode page) down counted sound = λ honest h holds. sound honest h holds page refl
+  admit_tells admits.Fault down counted sound = inl (0, counted refl)
+  admit_tells admits.OutOfMemory down counted sound = tt
+
+  pub mark_tells : {R : Type 0} (e : MarkError)
+      → ((◌≡◌ {A = Result R MarkError} (Err e) (Err marks.NeedsRecovery)) ↔ (is_down a ≡ true))
+      → ((◌≡◌ {A = Result R MarkError} (Err e) (Err marks.Fault)) → erase.fault_count (erase_of b) ≡ min (erase.fault_count (erase_of a) + 1) 18446744073709551615)
+      → OnMarkTrouble (λ t. Tells a t b) (of_mark e)
+  mark_tells marks.NeedsRecovery down counted = down.0 refl
+  mark_tells marks.NoCollector down counted = tt
+  mark_tells marks.MarkBack down counted = tt
+  mark_tells marks.Fault down counted = inl (0, counted refl)
+  mark_tells marks.OutOfMemory down counted = tt
+
+  pub apply_tells : {R : Type 0} (e : ApplyError)
+      → ((◌≡◌ {A = Result R ApplyError} (Err e) (Err applies.NeedsRecovery)) ↔ (is_down a ≡ true))
+      → CountsFailures (erase.fault_count (erase_of a)) (erase.fault_count (erase_of b)) (once.pen_fault_count (pen_in a)) (once.pen_fault_count (pen_in b)) (◌≡◌ {A = Result R ApplyError} (Err e) (Err applies.Fault))
+      → (IsHonest a → (h : History) → Holds a h → e ≡ applies.CounterFull → sum_by (λ p. length p.item.changes) (applied h) ≡ 18446744073709551615)
+      → (e ≡ applies.PagesFull → unused_pages a < 9)
+      → (IsHonest a → (pages : List (List ℕ)) → HasPages a pages → e ≡ applies.TooHigh → ShowsRoot pages (root_in a) 7)
+      → (IsHonest a → e ≡ applies.OnceFull → NoneBlank b)
+      → (IsHonest a → (h : History) → Holds a h → (page : ℕ) → e ≡ applies.BadNode page → ⊥)
+      → Tells a (of_apply e) b
+  apply_tells applies.NeedsRecovery down counted counter few high full sound = down.0 refl
+  apply_tells applies.CounterFull down counted counter few high full sound = inl (λ honest h holds. counter honest h holds refl)
+  apply_tells applies.TooHigh down counted counter few high full sound = inr (inr (inl (λ honest pages has. high honest pages has refl)))
+  apply_tells applies.PagesFull down counted counter few high full sound = inr (inl (few refl))
+  apply_tells applies.OnceFull down counted counter few high full sound = inr (inr (inr (λ honest. full honest refl)))
+  apply_tells (applies.BadNode page) down counted counter few high full sound = λ honest h holds. sound honest h holds page refl
+  apply_tells applies.Fault down counted counter few high full sound = failed _ _ _ _ _ refl counted
+  apply_tells applies.OutOfMemory down counted counter few high full sound = tt
+
+  pub flush_tells : {R : Type 0} (e : FlushError)
+      → ((◌≡◌ {A = Result R FlushError} (Err e) (Err flushes.NeedsRecovery)) ↔ (is_down a ≡ true))
+      → ((◌≡◌ {A = Result R FlushError} (Err e) (Err flushes.Fault)) → erase.fault_count (erase_of b) ≡ min (erase.fault_count (erase_of a) + 1) 18446744073709551615)
+      → Tells a (of_flush e) b
+  flush_tells flushes.NeedsRecovery down counted = down.0 refl
+  flush_tells flushes.Fault down counted = inl (0, counted refl)
+
+  pub ask_tells : {R : Type 0} (e : AskError)
+      → ((◌≡◌ {A = Result R AskError} (Err e) (Err asks.NeedsRecovery)) ↔ (is_down a ≡ true))
+      → ((◌≡◌ {A = Result R AskError} (Err e) (Err asks.Fault)) → erase.fault_count (erase_of b) ≡ min (erase.fault_count (erase_of a) + 1) 18446744073709551615)
+      → (IsHonest a → (h : History) → Holds a h → (page : ℕ) → e ≡ asks.BadNode page → ⊥)
+      → ((block : ℕ) → e ≡ asks.Damaged block → ⊥)
+      → OnAskTrouble (λ t. Tells a t b) (of_ask e)
+  ask_tells asks.NeedsRecovery down counted sound undamaged = down.0 refl
+  ask_tells (asks.AboveWatermark mark) down counted sound undamaged = tt
+  ask_tells (asks.BadNode page) down counted sound undamaged = λ honest h holds. sound honest h holds page refl
+  ask_tells (asks.Damaged block) down counted sound undamaged = undamaged block refl
+  ask_tells asks.Fault down counted sound undamaged = inl (0, counted refl)
+  ask_tells asks.OutOfMemory down counted sound undamaged = tt
+
+-- a look counts the reads that fail, and no others
+pub block_misses : {R O Pen Seen : Type 0} (once : OnceGhosts O Pen Seen) (seen then : Seen) (e : BlockError)
+    → ((◌≡◌ {A = Result R BlockError} (Err e) (Err blocks.Fault) → ⊥) → once.seen_fault_count then ≡ once.seen_fault_count seen)
+    → (◌≡◌ {A = Result R BlockError} (Err e) (Err blocks.Fault) → once.seen_fault_count then ≡ min (once.seen_fault_count seen + 1) 18446744073709551615)
+    → Misses once seen (of_block e) then
+block_misses once seen then blocks.Fault quiet counted = counted refl
+block_misses once seen then (blocks.Damaged block) quiet counted = quiet (λ e. cc)
+block_misses once seen then blocks.OutOfMemory quiet counted = quiet (λ e. cc)
