@@ -64,21 +64,24 @@ fn a_step_ends_below_the_lowest_mark(rt: HostRuntime) -> Result<(), Fail> {
     Ok(())
 }
 
+// A tree of level 1 has room for another change while 25 pages or fewer are held as images. All changes of one prefix name the one leaf
+// and the column above it, and 700 of them split that leaf three times.
 #[test]
-fn many_changes_take_few_steps(rt: HostRuntime) -> Result<(), Fail> {
+fn all_changes_of_a_prefix_take_one_step(rt: HostRuntime) -> Result<(), Fail> {
     let alloc = rt.alloc();
     let settings = Settings {
         collectors: 1,
         ring: 9,
     };
-    let mut archive = made(alloc, settings)?;
-    archive.admit(0, &vectors(alloc, 100, 0)?)?;
-    archive.mark(0, mark_at(1_704_067_201))?;
-    let count = steps(&mut archive)?;
-    assert!(rt; count > 0 && count <= 10);
-    let mut archive = MemArchive { archive };
-    let told = answer(alloc, &mut archive, "at 1704067200 prefix 10.0.0.0/8")?;
-    assert!(rt; told.as_slice() == LINES.as_bytes());
+    for count in [100, 700] {
+        let mut archive = made(alloc, settings)?;
+        archive.admit(0, &vectors(alloc, count, 0)?)?;
+        archive.mark(0, mark_at(1_704_067_201))?;
+        assert_eq!(rt; steps(&mut archive)?, 1, "{count}");
+        let mut archive = MemArchive { archive };
+        let told = answer(alloc, &mut archive, "at 1704067200 prefix 10.0.0.0/8")?;
+        assert!(rt; told.as_slice() == LINES.as_bytes(), "{count}");
+    }
     Ok(())
 }
 

@@ -1,7 +1,8 @@
 //! Lines that are asked of an archive.
 
 use archive_calls::RouteArchive;
-use service::{Output, Status, ask};
+use interleaving_core::Query;
+use service::{Output, Request, Status, ask, read_request};
 use std::alloc::Global;
 use std::test::Fail;
 
@@ -18,5 +19,13 @@ pub(crate) fn answer<A: RouteArchive>(
     match ask(alloc, archive, line, &mut lines, &mut refusals) {
         Status::Done => Ok(out),
         _ => Err(Fail::from("no answer")),
+    }
+}
+
+/// The question of a line.
+pub(crate) fn query_of(alloc: Global, line: &str) -> Result<Query, Fail> {
+    match read_request(alloc, line)? {
+        Request::Question(query) => Ok(query),
+        _ => Err(Fail::from("no question")),
     }
 }

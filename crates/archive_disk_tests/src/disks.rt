@@ -2,7 +2,8 @@
 
 use crate::made::Made;
 use disk_archive::{Archive, OpenError, Refused};
-use disk_memory::{Failure, MemErase, MemOnce, MemPen, OnceFailure, Torn, crash_both};
+use disk_memory::{Call, Failure, MemErase, MemOnce, MemPen, OnceFailure, Torn, crash_both};
+use disk_models::{EraseDisk, OnceDisk};
 use std::alloc::{AllocError, Global};
 use std::sync::Arc;
 use std::test::Fail;
@@ -43,6 +44,13 @@ fn choice(alloc: Global, crash: u8) -> Result<Vec<Torn>, AllocError> {
     Ok(choice)
 }
 
+/// How many writes and syncs were made of an erasable disk.
+#[derive(Clone, Copy)]
+pub(crate) struct Calls {
+    pub(crate) writes: u64,
+    pub(crate) syncs: u64,
+}
+
 /// Both disks, with the pen of the write-once one.
 #[derive(Drop)]
 pub(crate) struct Both {
@@ -80,6 +88,31 @@ impl Both {
     ) -> Result<(), AllocError> {
         self.pen.set_script(vec![in alloc; failure]?);
         Ok(())
+    }
+
+    /// How many writes and syncs these disks have more than what they were before.
+    pub(crate) fn calls_since(&self, before: &Both) -> Calls {
+        let mut calls = Calls {
+            writes: 0,
+            syncs: 0,
+        };
+        for call in self.erase.calls().iter().skip(before.erase.calls().len()) {
+            match call {
+                Call::Write(_) => calls.writes = calls.writes.saturating_add(1),
+                Call::Sync => calls.syncs = calls.syncs.saturating_add(1),
+            }
+        }
+        calls
+    }
+
+    /// Whether the erasable disk failed since a crash.
+    pub(crate) fn erase_failed(&self) -> bool {
+        self.erase.faults() > 0
+    }
+
+    /// Whether the write-once disk failed since a crash.
+    pub(crate) fn once_failed(&self) -> bool {
+        MemOnce::pen_faults(&self.pen) > 0
     }
 }
 

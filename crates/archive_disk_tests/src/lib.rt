@@ -16,6 +16,8 @@ mod created;
 #[cfg(test)]
 mod disks;
 #[cfg(test)]
+mod drawn;
+#[cfg(test)]
 mod failing;
 #[cfg(test)]
 mod full_rings;
@@ -26,6 +28,10 @@ mod made;
 #[cfg(test)]
 mod mixed;
 #[cfg(test)]
+mod model;
+#[cfg(test)]
 mod opened;
 #[cfg(test)]
 mod served;
+#[cfg(test)]
+mod told;

@@ -1,0 +1,112 @@
+//! Calls of two collectors, and failures of both disks, drawn as if by chance.
+
+use crate::disks::{Calls, KINDS, torn};
+use crate::made::{large_route, mark_at, peer_of};
+use disk_memory::{Failure, OnceFailure};
+use interleaving_core::Step;
+use route_model::{Address, Admission, Change, Moment, Prefix};
+use std::alloc::Global;
+use std::test::Fail;
+
+/// Numbers that look like chance, each made of the one before (Knuth's MMIX).
+#[derive(Drop)]
+pub(crate) struct Chance {
+    last: u64,
+}
+
+impl Chance {
+    pub(crate) fn new(seed: u64) -> Chance {
+        Chance { last: seed }
+    }
+
+    /// The next number, below an end of at most 256.
+    pub(crate) fn below(&mut self, end: u8) -> u8 {
+        self.last = self
+            .last
+            .wrapping_mul(6_364_136_223_846_793_005)
+            .wrapping_add(1_442_695_040_888_963_407);
+        ((self.last >> 33) % u64::from(end.max(1))) as u8
+    }
+}
+
+fn draw_change(alloc: Global, chance: &mut Chance, collector: u8) -> Result<Change, Fail> {
+    let peer = peer_of(collector);
+    let prefix = Prefix::containing(Address::V4([10, chance.below(4), 0, 0]), 16);
+    Ok(match chance.below(8) {
+        0 => Change::Down(peer),
+        1 => Change::Withdraw(peer, prefix),
+        number => Change::Announce(peer, prefix, large_route(alloc, number)?),
+    })
+}
+
+// One or two records of one or two changes each. Some are late.
+fn draw_batch(
+    alloc: Global,
+    chance: &mut Chance,
+    collector: u8,
+    now: u32,
+) -> Result<Vec<Admission>, Fail> {
+    let mut batch = Vec::new(alloc);
+    for _ in 0..=chance.below(2) {
+        let mut changes = vec![in alloc; draw_change(alloc, chance, collector)?]?;
+        if chance.below(3) == 0 {
+            changes.push(draw_change(alloc, chance, collector)?)?;
+        }
+        let time = now.saturating_sub(u32::from(chance.below(4)));
+        batch.push(Admission::new(Moment::from(time), changes)?)?;
+    }
+    Ok(batch)
+}
+
+/// The call of this number of an archive of two collectors, as a step of the pure machine.
+pub(crate) fn draw_call(alloc: Global, chance: &mut Chance, number: u32) -> Result<Step, Fail> {
+    let now = number.saturating_add(100);
+    let collector = chance.below(2);
+    Ok(match chance.below(8) {
+        0 | 1 => Step::Admit(collector, draw_batch(alloc, chance, collector, now)?),
+        2 | 3 => Step::Mark(
+            collector,
+            mark_at(now.saturating_sub(u32::from(chance.below(4)))),
+        ),
+        4 => Step::Flush,
+        _ => Step::Apply(0),
+    })
+}
+
+/// A failure of the erasable disk, where an opening makes so many calls of it: mostly at one of the next calls behind those.
+pub(crate) fn draw_failure(
+    alloc: Global,
+    chance: &mut Chance,
+    opening: Calls,
+) -> Result<Failure, Fail> {
+    let kind = chance.below(KINDS);
+    Ok(match chance.below(8) {
+        0 => Failure::Read(u64::from(chance.below(40))),
+        1 => Failure::Write(u64::from(chance.below(8)), torn(alloc, kind)?),
+        2 | 3 => Failure::Sync(opening.syncs.saturating_add(u64::from(chance.below(6)))),
+        _ => {
+            let number = opening.writes.saturating_add(u64::from(chance.below(20)));
+            Failure::Write(number, torn(alloc, kind)?)
+        }
+    })
+}
+
+/// Failures of the write-once disk: at a call of one kind and at the next one of that kind. A step of applying tells only of a failure at
+/// its first change, which the second one may meet then.
+pub(crate) fn draw_once_failures(
+    alloc: Global,
+    chance: &mut Chance,
+) -> Result<Vec<OnceFailure>, Fail> {
+    let call = chance.below(4);
+    let first = u64::from(chance.below(2));
+    let mut failures = Vec::new(alloc);
+    for number in [first, first.saturating_add(1)] {
+        failures.push(match call {
+            0 => OnceFailure::Settle(number),
+            // An opening looks for a blank block once at least.
+            1 => OnceFailure::Blank(number.saturating_add(1)),
+            _ => OnceFailure::Burn(number, torn(alloc, chance.below(KINDS))?),
+        })?;
+    }
+    Ok(failures)
+}

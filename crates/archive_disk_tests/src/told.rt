@@ -1,0 +1,104 @@
+//! What an archive's calls and the pure machine's steps tell, and what an archive tells of itself.
+
+use archive_calls as calls;
+use archive_calls::{AdmitError, MarkError, RouteArchive, Trouble};
+use interleaving_core::{BatchReply, Reply, Resume, Step};
+use route_model::{Admission, Mark};
+
+/// What a call or a step tells.
+#[derive(Clone, Copy, Debug, PartialEq, Eq)]
+pub(crate) enum Told {
+    /// How many records were offered until now, the numbers from which and to below which they are admitted, and how many are late.
+    Taken(u64, u64, u64, usize),
+    Marked,
+    MarkBack,
+    Applied,
+    Idle,
+    Flushed,
+    Crashed,
+    Recovered,
+    /// A device failed.
+    Stopped,
+    /// Something else was the matter.
+    Refused,
+}
+
+/// What an archive tells of itself, and how many changes are applied.
+#[derive(Clone, Copy, Debug, PartialEq, Eq)]
+pub(crate) struct State {
+    pub(crate) first: Option<Resume>,
+    pub(crate) second: Option<Resume>,
+    pub(crate) settled: Mark,
+    pub(crate) applied: u64,
+}
+
+pub(crate) fn state_of<A: RouteArchive>(archive: &A, applied: u64) -> State {
+    State {
+        first: archive.resume(0),
+        second: archive.resume(1),
+        settled: archive.settled(),
+        applied,
+    }
+}
+
+fn told_of_batch(reply: &BatchReply) -> Told {
+    let receipt = reply.receipt;
+    Told::Taken(reply.offered, receipt.from, receipt.to, reply.late.len())
+}
+
+/// What a reply of the pure machine tells.
+pub(crate) fn told_of(reply: &Reply) -> Told {
+    match reply {
+        Reply::Taken(batch) => told_of_batch(batch),
+        Reply::Marked => Told::Marked,
+        Reply::MarkBack => Told::MarkBack,
+        Reply::Applied => Told::Applied,
+        Reply::Idle => Told::Idle,
+        Reply::Flushed => Told::Flushed,
+        Reply::Crashed => Told::Crashed,
+        Reply::Recovered => Told::Recovered,
+        _ => Told::Refused,
+    }
+}
+
+fn trouble_told(trouble: Trouble) -> Told {
+    match trouble {
+        Trouble::Fault => Told::Stopped,
+        _ => Told::Refused,
+    }
+}
+
+fn admit<A: RouteArchive>(archive: &mut A, collector: u8, batch: &[Admission]) -> Told {
+    match archive.admit(collector, batch) {
+        Ok(reply) => told_of_batch(&reply),
+        Err(AdmitError::Trouble(trouble)) => trouble_told(trouble),
+        Err(_) => Told::Refused,
+    }
+}
+
+fn mark<A: RouteArchive>(archive: &mut A, collector: u8, mark: Mark) -> Told {
+    match archive.mark(collector, mark) {
+        Ok(()) => Told::Marked,
+        Err(MarkError::MarkBack) => Told::MarkBack,
+        Err(MarkError::Trouble(trouble)) => trouble_told(trouble),
+        Err(MarkError::NoCollector) => Told::Refused,
+    }
+}
+
+/// Makes the call that a step is of.
+pub(crate) fn make<A: RouteArchive>(archive: &mut A, step: &Step) -> Told {
+    match step {
+        Step::Admit(collector, batch) => admit(archive, *collector, batch),
+        Step::Mark(collector, seconds) => mark(archive, *collector, *seconds),
+        Step::Apply(_) => match archive.apply_step() {
+            Ok(calls::Step::Applied) => Told::Applied,
+            Ok(calls::Step::Idle) => Told::Idle,
+            Err(trouble) => trouble_told(trouble),
+        },
+        Step::Flush => match archive.flush_step() {
+            Ok(_) => Told::Flushed,
+            Err(trouble) => trouble_told(trouble),
+        },
+        _ => Told::Refused,
+    }
+}
