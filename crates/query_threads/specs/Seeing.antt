@@ -1,8 +1,9 @@
 -- What a pass has seen before a call and after it.
-use Rattle.std.specs.Prelude.{◌≡◌, ◌⊎◌}
+use Rattle.std.specs.Prelude.{◌≡◌, ◌⊎◌, ℕ, List, Option, Some, IfSome, IsSome}
 use Rattle.route_meaning.specs.History.{History}
 use Rattle.board.specs.Past.{Past, GoesOnAs}
 use Rattle.board.specs.Views.{View, IsFrontOf, IsCaughtUp, BeginsView}
+use Rattle.query_threads.specs.Looks.{AreTheSettled}
 
 -- The call was made on a past that the view before begins. It took that past's history to the one of the view after, as the
 -- relation says, and the numbers seen then are at least those of that history.
@@ -18,17 +19,20 @@ pub record Sees (does : History → History → Type 0) (old new : View) : Type 
 abbrev pub Since : View → View → Type 0
 Since old new = (new ≡ old) ⊎ BeginsView old new
 
--- What a call told was told of an archive as it was and as the call left it. Where something is promised of the archive, it had carried a
--- past that the view before begins, and carries that of the view after.
-pub record ComesOf {A : Type 0} (promised : Type 0) (carries : A → Past → Type 0) (told : A → A → Type 0) (old new : View) : Type 0 where
+-- What a call told, or did, was so of an archive as it was and as the call left it. Where a disk is named, the archive was on it and had
+-- carried a past that the view before begins; it carries that of the view after, which goes on from there.
+pub record ComesOf {A D : Type 0} (disk : Option D) (disk_of : A → D) (carries : A → Past → Type 0) (does : A → A → Type 0) (old new : View) : Type 0 where
   pub was : A
   pub is : A
-  pub tells : told was is
-  pub before : promised → (p : Past) × carries was p × IsFrontOf p old
-  pub after : promised → carries is new.past
+  pub done : does was is
+  pub on : IsSome disk → disk ≡ Some (disk_of was)
+  pub before : IsSome disk → (p : Past) × carries was p × IsFrontOf p old × GoesOnAs p new.past
+  pub after : IsSome disk → carries is new.past
 
--- blocks were read in vain for a trouble, with some look
-pub record IsMissed {S : Type 0} (misses : S → S → Type 0) : Type 0 where
+-- Blocks were read in vain with a look, as it was and as it is then. Where a disk is named, the look was one at it, and had found just these
+-- blocks settled.
+pub record IsMissed {S D : Type 0} (disk : Option D) (honest : D → S → Type 0) (count : D → ℕ) (known : S → ℕ → Option (List ℕ)) (blocks : List (ℕ × List ℕ)) (misses : S → S → Type 0) : Type 0 where
   pub was : S
   pub is : S
   pub missed : misses was is
+  pub of : IfSome disk (λ d. honest d was × AreTheSettled (count d) (known was) blocks)

@@ -114,7 +114,7 @@ impl<A: Store, N: Named + OnDisk<A::Disk>> Desk<A, N> {
         ensures begins { BeginsView pass.old pass.new }
         ensures sees { IsSome N.disk → Sees (DoesAdmit collector batch.now result) pass.old pass.new }
         ensures full { IsSome N.disk → result ≡ Err AdmitError.IntakeFull → IsCrowded N.pages pass.new.past.history collector batch.now }
-        ensures trouble { IfErr result (OnAdmitTrouble (λ t. ComesOf (IsSome N.disk) A.carries (λ a b. A.tells a t b) pass.old pass.new)) }
+        ensures trouble { IfErr result (OnAdmitTrouble (λ t. ComesOf N.disk A.disk_of A.carries (λ a b. A.tells a t b) pass.old pass.new)) }
     {
         self.greet(board, pass);
         let told = self.archive.admit(collector, batch);
@@ -138,7 +138,7 @@ impl<A: Store, N: Named + OnDisk<A::Disk>> Desk<A, N> {
     ) -> Result<(), MarkError>
         ensures begins { BeginsView pass.old pass.new }
         ensures sees { IsSome N.disk → Sees (DoesMark collector mark result) pass.old pass.new }
-        ensures trouble { IfErr result (OnMarkTrouble (λ t. ComesOf (IsSome N.disk) A.carries (λ a b. A.tells a t b) pass.old pass.new)) }
+        ensures trouble { IfErr result (OnMarkTrouble (λ t. ComesOf N.disk A.disk_of A.carries (λ a b. A.tells a t b) pass.old pass.new)) }
     {
         self.greet(board, pass);
         let told = self.archive.mark(collector, mark);
@@ -156,7 +156,7 @@ impl<A: Store, N: Named + OnDisk<A::Disk>> Desk<A, N> {
     pub fn apply(&mut self, board: &Board<N>, pass: &mut Pass<N>) -> Result<Step, Trouble>
         ensures begins { BeginsView pass.old pass.new }
         ensures sees { IsSome N.disk → Sees (DoesApply result) pass.old pass.new }
-        ensures trouble { IfErr result (λ t. ComesOf (IsSome N.disk) A.carries (λ a b. A.tells a t b) pass.old pass.new) }
+        ensures trouble { IfErr result (λ t. ComesOf N.disk A.disk_of A.carries (λ a b. A.tells a t b) pass.old pass.new) }
     {
         self.greet(board, pass);
         let told = self.archive.apply_step();
@@ -169,8 +169,8 @@ impl<A: Store, N: Named + OnDisk<A::Disk>> Desk<A, N> {
     pub fn flush(&mut self, board: &Board<N>, pass: &mut Pass<N>) -> Result<Flush, Trouble>
         ensures begins { BeginsView pass.old pass.new }
         ensures sees { IsSome N.disk → Sees (DoesFlush result) pass.old pass.new }
-        ensures flushes { IfOk result (λ step. ComesOf (IsSome N.disk) A.carries (λ a b. A.flushes a step b) pass.old pass.new) }
-        ensures trouble { IfErr result (λ t. ComesOf (IsSome N.disk) A.carries (λ a b. A.tells a t b) pass.old pass.new) }
+        ensures flushes { IfOk result (λ step. ComesOf N.disk A.disk_of A.carries (λ a b. A.flushes a step b) pass.old pass.new) }
+        ensures trouble { IfErr result (λ t. ComesOf N.disk A.disk_of A.carries (λ a b. A.tells a t b) pass.old pass.new) }
     {
         self.greet(board, pass);
         let told = self.archive.flush_step();
@@ -200,7 +200,7 @@ impl<A: Store, N: Named + OnDisk<A::Disk>> Desk<A, N> {
         ensures settled { IsSome N.disk → OnOk result (last_moment (A.asks cursor.old) < settled pass.new.past.history) }
         ensures gives { IsSome N.disk → A.gathered cursor.old pass.new.past.history → IfOk result (λ turn. TurnGives (λ e. IfSome N.disk (IsErrandOn (λ errand. A.lies errand cursor.new) A.honest A.block_count A.known pass.new.past e.0 e.1)) (A.gathered cursor.new pass.new.past.history) (λ answer. IsAnswered (applied pass.new.past.history) (A.asks cursor.old) answer) turn) }
         ensures told { IsSome N.disk → IfErr result (λ e. IsTold e pass.new.past.history (A.asks cursor.old)) }
-        ensures trouble { IfErr result (OnAskTrouble (λ t. ComesOf (IsSome N.disk) A.carries (λ a b. A.tells a t b) pass.old pass.new)) }
+        ensures trouble { IfErr result (OnAskTrouble (λ t. ComesOf N.disk A.disk_of A.carries (λ a b. A.tells a t b) pass.old pass.new)) }
     {
         self.greet(board, pass);
         match self.archive.descend(cursor)? {

@@ -21,7 +21,7 @@ pub enum Trouble {
     /// A block isn't what was put there.
     #[error("block {0} is damaged")]
     DamagedBlock(u64),
-    /// No page or no block is left.
+    /// There is no room: no page or no block is left, the tree can have no level more, or so many changes can't be counted.
     #[error("the archive is full")]
     Full,
     /// A growth was refused.

@@ -182,7 +182,7 @@ impl<A: Store, N: Named + OnDisk<A::Disk>, G: Gate + Drop> Shared<A, N, G> {
         ensures begins { BeginsView pass.old pass.new }
         ensures sees { IsSome N.disk → Sees (DoesAdmit collector batch.now result) pass.old pass.new }
         ensures full { IsSome N.disk → result ≡ Err AdmitError.IntakeFull → IsCrowded self.now.ring pass.new.past.history collector batch.now }
-        ensures trouble { IfErr result (OnAdmitTrouble (λ t. ComesOf (IsSome N.disk) A.carries (λ a b. A.tells a t b) pass.old pass.new)) }
+        ensures trouble { IfErr result (OnAdmitTrouble (λ t. ComesOf N.disk A.disk_of A.carries (λ a b. A.tells a t b) pass.old pass.new)) }
     {
         self.desk
             .lock(rt)
@@ -199,7 +199,7 @@ impl<A: Store, N: Named + OnDisk<A::Disk>, G: Gate + Drop> Shared<A, N, G> {
     ) -> Result<(), MarkError>
         ensures begins { BeginsView pass.old pass.new }
         ensures sees { IsSome N.disk → Sees (DoesMark collector mark result) pass.old pass.new }
-        ensures trouble { IfErr result (OnMarkTrouble (λ t. ComesOf (IsSome N.disk) A.carries (λ a b. A.tells a t b) pass.old pass.new)) }
+        ensures trouble { IfErr result (OnMarkTrouble (λ t. ComesOf N.disk A.disk_of A.carries (λ a b. A.tells a t b) pass.old pass.new)) }
     {
         self.desk.lock(rt).mark(&self.board, pass, collector, mark)
     }
@@ -208,7 +208,7 @@ impl<A: Store, N: Named + OnDisk<A::Disk>, G: Gate + Drop> Shared<A, N, G> {
     pub fn apply(&self, rt: &impl Wait, pass: &mut Pass<N>) -> Result<Step, Trouble>
         ensures begins { BeginsView pass.old pass.new }
         ensures sees { IsSome N.disk → Sees (DoesApply result) pass.old pass.new }
-        ensures trouble { IfErr result (λ t. ComesOf (IsSome N.disk) A.carries (λ a b. A.tells a t b) pass.old pass.new) }
+        ensures trouble { IfErr result (λ t. ComesOf N.disk A.disk_of A.carries (λ a b. A.tells a t b) pass.old pass.new) }
     {
         self.desk.lock(rt).apply(&self.board, pass)
     }
@@ -217,8 +217,8 @@ impl<A: Store, N: Named + OnDisk<A::Disk>, G: Gate + Drop> Shared<A, N, G> {
     pub fn flush(&self, rt: &impl Wait, pass: &mut Pass<N>) -> Result<Flush, Trouble>
         ensures begins { BeginsView pass.old pass.new }
         ensures sees { IsSome N.disk → Sees (DoesFlush result) pass.old pass.new }
-        ensures flushes { IfOk result (λ step. ComesOf (IsSome N.disk) A.carries (λ a b. A.flushes a step b) pass.old pass.new) }
-        ensures trouble { IfErr result (λ t. ComesOf (IsSome N.disk) A.carries (λ a b. A.tells a t b) pass.old pass.new) }
+        ensures flushes { IfOk result (λ step. ComesOf N.disk A.disk_of A.carries (λ a b. A.flushes a step b) pass.old pass.new) }
+        ensures trouble { IfErr result (λ t. ComesOf N.disk A.disk_of A.carries (λ a b. A.tells a t b) pass.old pass.new) }
     {
         self.desk.lock(rt).flush(&self.board, pass)
     }
@@ -247,7 +247,7 @@ impl<A: Store, N: Named + OnDisk<A::Disk>, G: Gate + Drop> Shared<A, N, G> {
         ensures settled { IsSome N.disk → OnOk result (last_moment query.now < settled pass.new.past.history) }
         ensures gives { IsSome N.disk → A.gathered cursor.old pass.new.past.history → IfOk result (λ turn. TurnGives (λ e. IfSome N.disk (IsErrandOn (λ errand. A.lies errand cursor.new) A.honest A.block_count A.known pass.new.past e.0 e.1)) (A.gathered cursor.new pass.new.past.history) (λ answer. IsAnswered (applied pass.new.past.history) query.now answer) turn) }
         ensures told { IsSome N.disk → IfErr result (λ e. IsTold e pass.new.past.history query.now) }
-        ensures trouble { IfErr result (OnAskTrouble (λ t. ComesOf (IsSome N.disk) A.carries (λ a b. A.tells a t b) pass.old pass.new)) }
+        ensures trouble { IfErr result (OnAskTrouble (λ t. ComesOf N.disk A.disk_of A.carries (λ a b. A.tells a t b) pass.old pass.new)) }
         ensures not_refused { IsSome N.disk → IfErr result (λ e. IsAbove e → watermark_of pass.old ≤ last_moment query.now) }
     {
         let told = self.desk.lock(rt).turn(&self.board, pass, cursor);
@@ -270,7 +270,7 @@ impl<A: Store, N: Named + OnDisk<A::Disk>, G: Gate + Drop> Shared<A, N, G> {
         ensures answer { IsSome N.disk → IfOk result (λ answer. IsAnswered (applied pass.new.past.history) query answer) }
         ensures settled { IsSome N.disk → OnOk result (last_moment query < settled pass.new.past.history) }
         ensures told { IsSome N.disk → IfErr result (λ e. IsTold e pass.new.past.history query) }
-        ensures trouble { IfErr result (OnAskTrouble (λ t. ComesOf (IsSome N.disk) A.carries (λ a b. A.tells a t b) pass.old pass.new ⊎ IsMissed (λ a b. A.misses a t b))) }
+        ensures trouble { IfErr result (OnAskTrouble (λ t. ComesOf N.disk A.disk_of A.carries (λ a b. A.tells a t b) pass.old pass.new ⊎ IsMissed N.disk A.honest A.block_count A.known pass.new.past.blocks (λ a b. A.misses a t b))) }
         ensures not_refused { IsSome N.disk → IfErr result (λ e. IsAbove e → watermark_of pass.old ≤ last_moment query) }
     {
         let mut cursor = A::start(reader.alloc, &query);
@@ -307,7 +307,7 @@ impl<A: Store, N: Named + OnDisk<A::Disk>, G: Gate + Drop> Shared<A, N, G> {
         ensures answer { IsSome N.disk → IfOk result (λ answer. IsAnswered (applied pass.new.past.history) query answer) }
         ensures settled { IsSome N.disk → OnOk result (last_moment query < settled pass.new.past.history) }
         ensures told { IsSome N.disk → IfErr result (λ e. IsTold e pass.new.past.history query) }
-        ensures trouble { IfErr result (OnAskTrouble (λ t. ComesOf (IsSome N.disk) A.carries (λ a b. A.tells a t b) pass.old pass.new ⊎ IsMissed (λ a b. A.misses a t b))) }
+        ensures trouble { IfErr result (OnAskTrouble (λ t. ComesOf N.disk A.disk_of A.carries (λ a b. A.tells a t b) pass.old pass.new ⊎ IsMissed N.disk A.honest A.block_count A.known pass.new.past.blocks (λ a b. A.misses a t b))) }
         ensures not_refused { IsSome N.disk → IfErr result (λ e. IsAbove e → watermark_of pass.old ≤ last_moment query) }
     {
         let told = self.answer_of(rt, pass, reader, request, query);

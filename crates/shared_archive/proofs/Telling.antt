@@ -1,5 +1,5 @@
 -- Which trouble a call tells, by the refusal of the archive.
-use Rattle.std.proofs.Common.{◌≡◌, ◌⊎◌, ◌↔◌, ◌<◌, ◌+◌, ℕ, suc, zero, true, List, length, sum_by, Err, Result, inl, inr, refl, arith, min}
+use Rattle.std.proofs.Common.{◌≡◌, ◌∙◌, ◌⊎◌, ◌↔◌, ◌<◌, ◌+◌, ℕ, suc, zero, Bool, true, false, List, length, sum_by, Err, Result, inl, inr, refl, sym, arith, min, ⊎_elim}
 use Rattle.disk_models.specs.declared.erase.EraseDisk.{Ghosts as EraseGhosts}
 use Rattle.disk_models.specs.declared.once.OnceDisk.{Ghosts as OnceGhosts}
 use Rattle.route_meaning.specs.History.{History, applied}
@@ -18,11 +18,11 @@ use Rattle.disk_archive.specs.declared.flush_error.FlushError.{FlushError}
 use Rattle.disk_archive.specs.declared.flush_error.FlushError.TheVariants as flushes
 use Rattle.disk_archive.specs.declared.ask_error.AskError.{AskError}
 use Rattle.disk_archive.specs.declared.ask_error.AskError.TheVariants as asks
-use Rattle.disk_archive.specs.Archives.{Holds, IsHonest, erase_of, is_down, pen_in}
+use Rattle.disk_archive.specs.Archives.{GoesOn, Holds, IsHonest, erase_of, is_down, pen_in}
 use Rattle.disk_archive.specs.Blanks.{NoneBlank, unused_pages}
 use Rattle.disk_archive.specs.Checks.{HasPages, root_in}
 use Rattle.disk_archive.specs.Failures.{CountsFailures, count_after}
-use Rattle.shared_archive.specs.Told.{Failed, Misses, Tells}
+use Rattle.shared_archive.specs.Told.{Failed, Misses, StaysUp, Tells}
 use Rattle.shared_archive.specs.inner.StoreCalls.{of_admit, of_apply, of_ask, of_block, of_flush, of_mark}
 
 -- one of both disks counted a failure
@@ -34,48 +34,71 @@ failed erase erase' once once' told is f = of f.erase_failures f.once_failures f
     of zero (suc k) e o some = inr (k, o)
     of zero zero e o some = absurd (omega (arith, some))
 
+same_Err : {R X : Type 0} {e k : X} → ◌≡◌ {A = Result R X} (Err e) (Err k) → e ≡ k
+same_Err is = cc
+
+-- an archive that needn't be opened again, and that no failure takes down, needn't be afterwards
+up : (down down' : Bool) → (down ≡ true → ⊥) → (down ≡ false → down' ≡ true → ⊥) → (down ≡ false) × (down' ≡ false)
+up true down' isnt falls = absurd (isnt refl)
+up false true isnt falls = absurd (falls refl refl)
+up false false isnt falls = (refl, refl)
+
 module _ {E O Pen Seen : Type 0} {erase : EraseGhosts E} {once : OnceGhosts O Pen Seen} (a b : Archive E O Pen Seen erase once) where
+  -- it needn't be opened again where this refusal, which isn't so by recovery or by a failure, is told
+  stays_up : {R X : Type 0} (e need fault : X) → ((◌≡◌ {A = Result R X} (Err e) (Err need)) ↔ (is_down a ≡ true)) → (is_down a ≡ false → is_down b ≡ true → ◌≡◌ {A = Result R X} (Err e) (Err fault)) → (e ≡ need → ⊥) → (e ≡ fault → ⊥) → StaysUp a b
+  stays_up e need fault down falls isnt quiet = up (is_down a) (is_down b) (λ is. isnt (same_Err (down.1 is))) (λ l r. quiet (same_Err (falls l r)))
+
+  turned : is_down a ≡ false → is_down b ≡ true → is_down b ≡ is_down a → ⊥
+  turned l r same = let both : true ≡ false = sym r ∙ (same ∙ l) in absurd cc
+
+  -- an archive that goes on with a history is on disks that follow their models
+  honest_going : (h : History) → GoesOn a h → IsHonest a
+  honest_going h = ⊎_elim (λ carries. carries.honest) (λ waits. waits.honest)
+
   pub admit_tells : {R : Type 0} (e : AdmitError)
       → ((◌≡◌ {A = Result R AdmitError} (Err e) (Err admits.NeedsRecovery)) ↔ (is_down a ≡ true))
       → ((◌≡◌ {A = Result R AdmitError} (Err e) (Err admits.Fault)) → erase.fault_count (erase_of b) ≡ min (erase.fault_count (erase_of a) + 1) 18446744073709551615)
+      → (is_down a ≡ false → is_down b ≡ true → ◌≡◌ {A = Result R AdmitError} (Err e) (Err admits.Fault))
       → (IsHonest a → (h : History) → Holds a h → (page : ℕ) → e ≡ admits.BadNode page → ⊥)
       → OnAdmitTrouble (λ t. Tells a t b) (of_admit e)
-  admit_tells admits.NeedsRecovery down counted sound = down.0 refl
-  admit_tells admits.NoCollector down counted sound = tt
-  admit_tells admits.BatchTooLarge down counted sound = tt
-  admit_tells admits.CounterFull down counted sound = tt
-  admit_tells admits.IntakeFull down counted sound = tt
-  admit_tells (admits.BadNode page) down counted sound = λ honest h holds. sound honest h holds page refl
-  admit_tells admits.Fault down counted sound = inl (0, counted refl)
-  admit_tells admits.OutOfMemory down counted sound = tt
+  admit_tells admits.NeedsRecovery down counted falls sound = down.0 refl
+  admit_tells admits.NoCollector down counted falls sound = tt
+  admit_tells admits.BatchTooLarge down counted falls sound = tt
+  admit_tells admits.CounterFull down counted falls sound = tt
+  admit_tells admits.IntakeFull down counted falls sound = tt
+  admit_tells (admits.BadNode page) down counted falls sound = (stays_up (admits.BadNode page) admits.NeedsRecovery admits.Fault down falls (λ i. cc) (λ i. cc), λ h on. sound (honest_going h on) h (λ _. on) page refl)
+  admit_tells admits.Fault down counted falls sound = inl (0, counted refl)
+  admit_tells admits.OutOfMemory down counted falls sound = stays_up admits.OutOfMemory admits.NeedsRecovery admits.Fault down falls (λ i. cc) (λ i. cc)
 
   pub mark_tells : {R : Type 0} (e : MarkError)
       → ((◌≡◌ {A = Result R MarkError} (Err e) (Err marks.NeedsRecovery)) ↔ (is_down a ≡ true))
       → ((◌≡◌ {A = Result R MarkError} (Err e) (Err marks.Fault)) → erase.fault_count (erase_of b) ≡ min (erase.fault_count (erase_of a) + 1) 18446744073709551615)
+      → (is_down a ≡ false → is_down b ≡ true → ◌≡◌ {A = Result R MarkError} (Err e) (Err marks.Fault))
       → OnMarkTrouble (λ t. Tells a t b) (of_mark e)
-  mark_tells marks.NeedsRecovery down counted = down.0 refl
-  mark_tells marks.NoCollector down counted = tt
-  mark_tells marks.MarkBack down counted = tt
-  mark_tells marks.Fault down counted = inl (0, counted refl)
-  mark_tells marks.OutOfMemory down counted = tt
+  mark_tells marks.NeedsRecovery down counted falls = down.0 refl
+  mark_tells marks.NoCollector down counted falls = tt
+  mark_tells marks.MarkBack down counted falls = tt
+  mark_tells marks.Fault down counted falls = inl (0, counted refl)
+  mark_tells marks.OutOfMemory down counted falls = stays_up marks.OutOfMemory marks.NeedsRecovery marks.Fault down falls (λ i. cc) (λ i. cc)
 
   pub apply_tells : {R : Type 0} (e : ApplyError)
       → ((◌≡◌ {A = Result R ApplyError} (Err e) (Err applies.NeedsRecovery)) ↔ (is_down a ≡ true))
       → CountsFailures (erase.fault_count (erase_of a)) (erase.fault_count (erase_of b)) (once.pen_fault_count (pen_in a)) (once.pen_fault_count (pen_in b)) (◌≡◌ {A = Result R ApplyError} (Err e) (Err applies.Fault))
+      → (is_down a ≡ false → is_down b ≡ true → ◌≡◌ {A = Result R ApplyError} (Err e) (Err applies.Fault))
       → (IsHonest a → (h : History) → Holds a h → e ≡ applies.CounterFull → sum_by (λ p. length p.item.changes) (applied h) ≡ 18446744073709551615)
       → (e ≡ applies.PagesFull → unused_pages a < 9)
       → (IsHonest a → (pages : List (List ℕ)) → HasPages a pages → e ≡ applies.TooHigh → ShowsRoot pages (root_in a) 7)
       → (IsHonest a → e ≡ applies.OnceFull → NoneBlank b)
       → (IsHonest a → (h : History) → Holds a h → (page : ℕ) → e ≡ applies.BadNode page → ⊥)
       → Tells a (of_apply e) b
-  apply_tells applies.NeedsRecovery down counted counter few high full sound = down.0 refl
-  apply_tells applies.CounterFull down counted counter few high full sound = inl (λ honest h holds. counter honest h holds refl)
-  apply_tells applies.TooHigh down counted counter few high full sound = inr (inr (inl (λ honest pages has. high honest pages has refl)))
-  apply_tells applies.PagesFull down counted counter few high full sound = inr (inl (few refl))
-  apply_tells applies.OnceFull down counted counter few high full sound = inr (inr (inr (λ honest. full honest refl)))
-  apply_tells (applies.BadNode page) down counted counter few high full sound = λ honest h holds. sound honest h holds page refl
-  apply_tells applies.Fault down counted counter few high full sound = failed _ _ _ _ _ refl counted
-  apply_tells applies.OutOfMemory down counted counter few high full sound = tt
+  apply_tells applies.NeedsRecovery down counted falls counter few high full sound = down.0 refl
+  apply_tells applies.CounterFull down counted falls counter few high full sound = (stays_up applies.CounterFull applies.NeedsRecovery applies.Fault down falls (λ i. cc) (λ i. cc), inl (λ h on. counter (honest_going h on) h (λ _. on) refl))
+  apply_tells applies.TooHigh down counted falls counter few high full sound = (stays_up applies.TooHigh applies.NeedsRecovery applies.Fault down falls (λ i. cc) (λ i. cc), inr (inr (inl (λ honest pages has. high honest pages has refl))))
+  apply_tells applies.PagesFull down counted falls counter few high full sound = (stays_up applies.PagesFull applies.NeedsRecovery applies.Fault down falls (λ i. cc) (λ i. cc), inr (inl (few refl)))
+  apply_tells applies.OnceFull down counted falls counter few high full sound = (stays_up applies.OnceFull applies.NeedsRecovery applies.Fault down falls (λ i. cc) (λ i. cc), inr (inr (inr (λ honest. full honest refl))))
+  apply_tells (applies.BadNode page) down counted falls counter few high full sound = (stays_up (applies.BadNode page) applies.NeedsRecovery applies.Fault down falls (λ i. cc) (λ i. cc), λ h on. sound (honest_going h on) h (λ _. on) page refl)
+  apply_tells applies.Fault down counted falls counter few high full sound = failed _ _ _ _ _ refl counted
+  apply_tells applies.OutOfMemory down counted falls counter few high full sound = stays_up applies.OutOfMemory applies.NeedsRecovery applies.Fault down falls (λ i. cc) (λ i. cc)
 
   pub flush_tells : {R : Type 0} (e : FlushError)
       → ((◌≡◌ {A = Result R FlushError} (Err e) (Err flushes.NeedsRecovery)) ↔ (is_down a ≡ true))
@@ -87,15 +110,16 @@ module _ {E O Pen Seen : Type 0} {erase : EraseGhosts E} {once : OnceGhosts O Pe
   pub ask_tells : {R : Type 0} (e : AskError)
       → ((◌≡◌ {A = Result R AskError} (Err e) (Err asks.NeedsRecovery)) ↔ (is_down a ≡ true))
       → ((◌≡◌ {A = Result R AskError} (Err e) (Err asks.Fault)) → erase.fault_count (erase_of b) ≡ min (erase.fault_count (erase_of a) + 1) 18446744073709551615)
+      → is_down b ≡ is_down a
       → (IsHonest a → (h : History) → Holds a h → (page : ℕ) → e ≡ asks.BadNode page → ⊥)
       → ((block : ℕ) → e ≡ asks.Damaged block → ⊥)
       → OnAskTrouble (λ t. Tells a t b) (of_ask e)
-  ask_tells asks.NeedsRecovery down counted sound undamaged = down.0 refl
-  ask_tells (asks.AboveWatermark mark) down counted sound undamaged = tt
-  ask_tells (asks.BadNode page) down counted sound undamaged = λ honest h holds. sound honest h holds page refl
-  ask_tells (asks.Damaged block) down counted sound undamaged = undamaged block refl
-  ask_tells asks.Fault down counted sound undamaged = inl (0, counted refl)
-  ask_tells asks.OutOfMemory down counted sound undamaged = tt
+  ask_tells asks.NeedsRecovery down counted same sound undamaged = down.0 refl
+  ask_tells (asks.AboveWatermark mark) down counted same sound undamaged = tt
+  ask_tells (asks.BadNode page) down counted same sound undamaged = (stays_up (asks.BadNode page) asks.NeedsRecovery asks.Fault down (λ l r. absurd (turned l r same)) (λ i. cc) (λ i. cc), λ h on. sound (honest_going h on) h (λ _. on) page refl)
+  ask_tells (asks.Damaged block) down counted same sound undamaged = undamaged block refl
+  ask_tells asks.Fault down counted same sound undamaged = inl (0, counted refl)
+  ask_tells asks.OutOfMemory down counted same sound undamaged = stays_up asks.OutOfMemory asks.NeedsRecovery asks.Fault down (λ l r. absurd (turned l r same)) (λ i. cc) (λ i. cc)
 
 -- a look counts the reads that fail, and no others
 pub block_misses : {R O Pen Seen : Type 0} (once : OnceGhosts O Pen Seen) (seen then : Seen) (e : BlockError)

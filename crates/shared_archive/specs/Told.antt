@@ -1,5 +1,5 @@
 -- What is known of an archive on disks of which a call told a trouble, or that flushed.
-use Rattle.std.specs.Prelude.{◌≡◌, ◌<◌, ◌⊎◌, ◌+◌, ⊤, ℕ, suc, List, [], length, min, sum_by, true}
+use Rattle.std.specs.Prelude.{◌≡◌, ◌<◌, ◌⊎◌, ◌+◌, ℕ, suc, List, [], length, min, sum_by, true, false}
 use Rattle.disk_models.specs.declared.erase.EraseDisk.{Ghosts as EraseGhosts}
 use Rattle.disk_models.specs.declared.once.OnceDisk.{Ghosts as OnceGhosts}
 use Rattle.route_meaning.specs.History.{History, applied}
@@ -9,43 +9,47 @@ use Rattle.query_threads.specs.declared.refusal.Trouble.TheVariants.{Fault, Need
 use Rattle.query_threads.specs.declared.refusal.Flush.{Flush}
 use Rattle.query_threads.specs.declared.refusal.Flush.TheVariants.{Flushed, Clean}
 use Rattle.disk_archive.specs.declared.archive.Archive.{Archive}
-use Rattle.disk_archive.specs.Archives.{Holds, IsHonest, erase_of, is_down, pen_in}
+use Rattle.disk_archive.specs.Archives.{GoesOn, IsHonest, erase_of, is_down, pen_in}
 use Rattle.disk_archive.specs.Blanks.{NoneBlank, unused_pages}
 use Rattle.disk_archive.specs.Checks.{HasPages, root_in}
 use Rattle.disk_archive.specs.Failures.{count_after}
 use Rattle.disk_archive.specs.Homes.{IsHomed, closed_in, dirty_pages}
 
--- a disk's count of failures rose
+-- a disk's count of failures rose, or stands at its last value
 abbrev pub Failed : ℕ → ℕ → Type 0
 Failed before after = (more : ℕ) × (after ≡ count_after before (suc more))
 
--- a change isn't applied for want of room: as many changes are applied as can be counted, or there are few pages that were never used, or
--- the tree has as many levels as it may have, or no block is blank any more
+-- the archive needn't be opened again, as it was and as it is then
+abbrev pub StaysUp : {E O Pen Seen : Type 0} {erase : EraseGhosts E} {once : OnceGhosts O Pen Seen} → Archive E O Pen Seen erase once → Archive E O Pen Seen erase once → Type 0
+StaysUp a b = (is_down a ≡ false) × (is_down b ≡ false)
+
+-- a change isn't applied for want of room: as many changes are applied as can be counted, or fewer than nine pages were never used, or the
+-- tree has as many levels as it may have, or no block is blank any more
 abbrev pub IsFull : {E O Pen Seen : Type 0} {erase : EraseGhosts E} {once : OnceGhosts O Pen Seen} → Archive E O Pen Seen erase once → Archive E O Pen Seen erase once → Type 0
 IsFull a b =
-    (IsHonest a → (h : History) → Holds a h → sum_by (λ p. length p.item.changes) (applied h) ≡ 18446744073709551615)
+    ((h : History) → GoesOn a h → sum_by (λ p. length p.item.changes) (applied h) ≡ 18446744073709551615)
     ⊎ (unused_pages a < 9)
     ⊎ (IsHonest a → (pages : List (List ℕ)) → HasPages a pages → ShowsRoot pages (root_in a) 7)
     ⊎ (IsHonest a → NoneBlank b)
 
 -- A call told this trouble, of the archive as it was and as the call left it: one of its disks counted a failure; it had to be opened
--- again; a page is damaged, which none is where it holds a history; or there was no room. No call on it alone blames a block, and of
--- memory nothing is known.
+-- again; or it needn't be, before or after, and a page is damaged, which none is where it goes on with a history, or there was no room, or
+-- memory was wanting. No call on it alone blames a block.
 abbrev pub Tells : {E O Pen Seen : Type 0} {erase : EraseGhosts E} {once : OnceGhosts O Pen Seen} → Archive E O Pen Seen erase once → Trouble → Archive E O Pen Seen erase once → Type 0
 Tells {erase = erase} {once = once} a Fault b = Failed (erase.fault_count (erase_of a)) (erase.fault_count (erase_of b)) ⊎ Failed (once.pen_fault_count (pen_in a)) (once.pen_fault_count (pen_in b))
 Tells a NeedsRecovery b = is_down a ≡ true
-Tells a (DamagedPage page) b = IsHonest a → (h : History) → Holds a h → ⊥
+Tells a (DamagedPage page) b = StaysUp a b × ((h : History) → GoesOn a h → ⊥)
 Tells a (DamagedBlock block) b = ⊥
-Tells a Full b = IsFull a b
-Tells a OutOfMemory b = ⊤
+Tells a Full b = StaysUp a b × IsFull a b
+Tells a OutOfMemory b = StaysUp a b
 
 -- a step of flushing took the page home that had waited for longest; or no page had waited, and the whole journal is free
 abbrev pub Flushes : {E O Pen Seen : Type 0} {erase : EraseGhosts E} {once : OnceGhosts O Pen Seen} → Archive E O Pen Seen erase once → Flush → Archive E O Pen Seen erase once → Type 0
 Flushes a Flushed b = IsHomed (dirty_pages a) (dirty_pages b)
 Flushes a Clean b = (dirty_pages a ≡ []) × (dirty_pages b ≡ []) × (closed_in b ≡ 8)
 
--- Blocks were read in vain with a look, as it was and as it is then: a read failed, which the look counted; or a block is damaged, or memory
--- was wanting, and no read failed.
+-- Blocks were read in vain with a look, as it was and as it is then: a read failed, which the look counted, unless it counts no more; or a
+-- block is damaged, or memory was wanting, and no read failed.
 abbrev pub Misses : {O Pen Seen : Type 0} → OnceGhosts O Pen Seen → Seen → Trouble → Seen → Type 0
 Misses once seen Fault then = once.seen_fault_count then ≡ min (once.seen_fault_count seen + 1) 18446744073709551615
 Misses once seen NeedsRecovery then = ⊥

@@ -59,4 +59,4 @@ returns-in-Err-clause-trouble g c =
     let a = c.args.archive.now in
     let e = c.in-Err.ensures in
     subst (λ (r : AdmitRefusal). OnAdmitTrouble (λ t. Tells a t c.admit.new.self) r) (sym c.admit_refusal.ensures.why)
-    (admit_tells a c.admit.new.self c.in-Err.refusal e.recovery e.counted (λ honest h holds page is. e.undamaged honest h holds page (ap Err is)))
+    (admit_tells a c.admit.new.self c.in-Err.refusal e.recovery e.counted e.falls (λ honest h holds page is. e.undamaged honest h holds page (ap Err is)))

@@ -56,5 +56,5 @@ returns-in-Err-clause-trouble g c =
     let a = c.args.archive.now in
     let e = c.in-Err.ensures in
     subst (λ (t : Trouble). Tells a t c.apply_step.new.self) (sym c.apply_trouble.ensures.why)
-    (apply_tells a c.apply_step.new.self c.in-Err.refusal e.recovery e.failed (λ honest h holds is. e.counter_full honest h holds (ap Err is)) (λ is. e.pages_full (ap Err is))
+    (apply_tells a c.apply_step.new.self c.in-Err.refusal e.recovery e.failed e.falls (λ honest h holds is. e.counter_full honest h holds (ap Err is)) (λ is. e.pages_full (ap Err is))
     (λ honest pages has is. e.too_high honest pages has (ap Err is)) (λ honest is. e.full honest (ap Err is)) (λ honest h holds page is. e.sound honest h holds page (ap Err is)))

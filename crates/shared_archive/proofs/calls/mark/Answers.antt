@@ -43,4 +43,4 @@ pub returns-in-Err-clause-trouble : goal.returns-in-Err-clause-trouble
 returns-in-Err-clause-trouble g c =
     let a = c.args.archive.now in
     let e = c.in-Err.ensures in
-    subst (λ (r : MarkRefusal). OnMarkTrouble (λ t. Tells a t c.mark.new.self) r) (sym c.mark_refusal.ensures.why) (mark_tells a c.mark.new.self c.in-Err.refusal e.recovery e.counted)
+    subst (λ (r : MarkRefusal). OnMarkTrouble (λ t. Tells a t c.mark.new.self) r) (sym c.mark_refusal.ensures.why) (mark_tells a c.mark.new.self c.in-Err.refusal e.recovery e.counted e.falls)

@@ -63,4 +63,4 @@ returns-in-Err-clause-trouble g c =
     let a = c.args.archive.now in
     let e = c.in-Err.ensures in
     subst (λ (r : AskRefusal). OnAskTrouble (λ t. Tells a t c.descend.new.self) r) (sym c.ask_refusal.ensures.why)
-    (ask_tells a c.descend.new.self c.in-Err.refusal e.recovery e.counted (λ honest h holds page is. e.sound honest h holds page (ap Err is)) (λ block is. e.undamaged block (ap Err is)))
+    (ask_tells a c.descend.new.self c.in-Err.refusal e.recovery e.counted e.down (λ honest h holds page is. e.sound honest h holds page (ap Err is)) (λ block is. e.undamaged block (ap Err is)))

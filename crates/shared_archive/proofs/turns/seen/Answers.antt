@@ -1,8 +1,7 @@
 use Rattle.shared_archive.proofs.Serving.{honest_of, same_blocks}
 use Rattle.disk_archive.specs.Archives.{once_of}
 use Rattle.query_threads.specs.Looks.{AreTheSettled}
-use Rattle.std.proofs.Common.{ℕ, List, Option, subst, sym}
-use Rattle.std.proofs.Common.{inr, refl}
+use Rattle.std.proofs.Common.{ℕ, List, Option, inr, refl, subst, sym}
 use Rattle.shared_archive.proofs.turns.seen.Goals as goal
 
 pub returns-in-Ok-clause-carries : goal.returns-in-Ok-clause-carries

@@ -1,6 +1,6 @@
 use Rattle.std.proofs.Common.{ℕ, sym, ◌∙◌, subst}
 use Rattle.std.specs.Prelude.{IsSome}
-use Rattle.board.specs.Past.{Past}
+use Rattle.board.specs.Past.{Past, GoesOnAs}
 use Rattle.board.specs.Views.{View, IsFrontOf}
 use Rattle.query_threads.specs.Steps.{DoesAdmit, IsCrowded}
 use Rattle.query_threads.proofs.Crowded.{still_crowded}
@@ -14,7 +14,7 @@ returns g c =
     let front = subst (λ (v : View). IsFrontOf v.past c.args.pass.now) (sym (c.self.view_is ∙ c.greet.ensures.same)) c.greet.ensures.front in
     let archive = c.self.inside.archive in
     let then = c.admit-told.new.self in
-    let before : IsSome g.N.OnDisk.disk → (p : Past) × g.A.Store.carries archive p × IsFrontOf p c.args.pass.now = λ named. (w.past, (c.self.invariant.1 named).0, front) in
+    let before : IsSome g.N.OnDisk.disk → (p : Past) × g.A.Store.carries archive p × IsFrontOf p c.args.pass.now × GoesOnAs p c.greet-2.new.pass.past = λ named. (w.past, (c.self.invariant.1 named).0, front, subst (λ (q : Past). GoesOnAs w.past q) (sym c.greet-2.ensures.past) c.follow.ensures.goes_on) in
     let after = λ (named : IsSome g.N.OnDisk.disk). subst (λ (q : Past). g.A.Store.carries then q) (sym c.greet-2.ensures.past) (c.follow.ensures.carried named) in
     record {
       begins = begins_then c.args.pass.now c.greet.new.pass c.greet-2.new.pass c.greet.ensures.begins c.greet-2.ensures.begins;
@@ -26,5 +26,5 @@ returns g c =
           let mine = subst (λ (n : ℕ). IsCrowded n w.past.history c.args.collector c.args.batch.now) (sym kept.3) here in
           let later = still_crowded g.N.OnDisk.pages c.args.collector c.args.batch.now c.admit-told.result w.past.history c.follow.new.writer.past.history (c.follow.ensures.fits named) is mine in
           subst (λ (q : Past). IsCrowded g.N.OnDisk.pages q.history c.args.collector c.args.batch.now) (sym c.greet-2.ensures.past) later);
-      trouble = admit_comes (IsSome g.N.OnDisk.disk) g.A.Store.carries c.args.pass.now c.greet-2.new.pass archive then before after g.A.Store.tells c.admit-told.result c.admit-told.ensures.trouble;
+      trouble = admit_comes g.N.OnDisk.disk g.A.Store.disk_of g.A.Store.carries c.args.pass.now c.greet-2.new.pass archive then (λ named. (c.self.invariant.1 named).2) before after g.A.Store.tells c.admit-told.result c.admit-told.ensures.trouble;
     }

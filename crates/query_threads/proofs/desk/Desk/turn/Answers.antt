@@ -1,10 +1,19 @@
-use Rattle.std.proofs.Common.{◌≡◌, Some, IfSome, sym, ap, ◌∙◌, subst}
+use Rattle.std.proofs.Common.{◌≡◌, Some, IfSome, IfErr, Result, sym, ap, ◌∙◌, subst}
+use Rattle.std.proofs.lemmas.Result.{err_from_is_err_and}
+use Rattle.std.specs.Prelude.{IsSome}
 use Rattle.route_meaning.specs.History.{applied}
 use Rattle.interleaving_core.specs.Headline.{IsAnswered}
-use Rattle.board.specs.Past.{Past}
-use Rattle.board.specs.Views.{View}
+use Rattle.board.specs.Past.{Past, GoesOnAs}
+use Rattle.board.specs.Views.{View, IsFrontOf}
 use Rattle.query_threads.specs.Turns.{TurnGives}
 use Rattle.query_threads.specs.Looks.{IsErrandOn}
+use Rattle.query_threads.specs.Seeing.{ComesOf}
+use Rattle.query_threads.specs.Troubles.{OnAskTrouble}
+use Rattle.query_threads.specs.declared.refusal.AskError.{AskError}
+use Rattle.query_threads.specs.declared.refusal.Trouble.{Trouble}
+use Rattle.query_threads.specs.declared.refusal.Turn.{Turn}
+use Rattle.query_threads.proofs.Standing.{stays_as}
+use Rattle.query_threads.proofs.Telling.{ask_trouble, comes_of}
 use Rattle.query_threads.proofs.desk.Desk.turn.Goals as goal
 
 pub returns-in_ok-seen-in-Historical-clause-gives : goal.returns-in_ok-seen-in-Historical-clause-gives
@@ -23,3 +32,37 @@ returns-in_ok-seen-in-Historical-clause-gives g c named gathered =
       found = c.in_ok-seen-in-Historical.ensures.known p later;
     } in
     subst (λ o. IfSome o (IsErrandOn (λ errand. g.A.Store.lies errand c.descend.new.cursor) g.A.Store.honest g.A.Store.block_count g.A.Store.known p c.in-Historical.errand c.in_ok-seen-in-Historical.seen)) (sym then) on
+
+pub returns-in_err-answer-clause-trouble : goal.returns-in_err-answer-clause-trouble
+returns-in_err-answer-clause-trouble g c =
+    let v = c.greet.new.pass in
+    let p = v.past in
+    let is : c.self.inside.writer.past ≡ p = ap (λ (k : View). k.past) (c.self.view_is ∙ c.greet.ensures.same) ∙ sym c.greet.ensures.past in
+    let archive = c.self.inside.archive in
+    let carried = λ (named : IsSome g.N.OnDisk.disk). subst (λ (x : Past). g.A.Store.carries archive x) is (c.self.invariant.1 named).0 in
+    let front = subst (λ (x : Past). IsFrontOf x c.args.pass.now) (sym c.greet.ensures.past) c.greet.ensures.front in
+    let then = c.descend.new.self in
+    let before : IsSome g.N.OnDisk.disk → (q : Past) × g.A.Store.carries archive q × IsFrontOf q c.args.pass.now × GoesOnAs q p = λ named. (p, carried named, front, stays_as p (g.met.A.Store.right archive p (carried named))) in
+    let Q = λ (t : Trouble). ComesOf g.N.OnDisk.disk g.A.Store.disk_of g.A.Store.carries (λ a b. g.A.Store.tells a t b) c.args.pass.now v in
+    let told = ask_trouble (λ t. g.A.Store.tells archive t then) Q
+    (λ t. comes_of g.N.OnDisk.disk g.A.Store.disk_of g.A.Store.carries c.args.pass.now v archive then (λ named. (c.self.invariant.1 named).2) before (λ named. c.descend.ensures.carries p (carried named)) (λ a b. g.A.Store.tells a t b))
+    c.in_err-answer.field-0.0 c.in_err-answer.ensures.trouble in
+    let why = err_from_is_err_and c.from_residual.result c.from_residual.ensures.1 in
+    subst (λ (r : Result (Turn (g.row.A-Errand.Denot × g.row.A-Seen.Denot)) AskError). IfErr r (OnAskTrouble Q)) (sym why.1) (subst (λ (e : AskError). OnAskTrouble Q e) (sym why.2) told)
+
+pub returns-in_err-seen-in-Historical-clause-trouble : goal.returns-in_err-seen-in-Historical-clause-trouble
+returns-in_err-seen-in-Historical-clause-trouble g c =
+    let v = c.greet.new.pass in
+    let p = v.past in
+    let is : c.self.inside.writer.past ≡ p = ap (λ (k : View). k.past) (c.self.view_is ∙ c.greet.ensures.same) ∙ sym c.greet.ensures.past in
+    let archive = c.self.inside.archive in
+    let carried = λ (named : IsSome g.N.OnDisk.disk). subst (λ (x : Past). g.A.Store.carries archive x) is (c.self.invariant.1 named).0 in
+    let front = subst (λ (x : Past). IsFrontOf x c.args.pass.now) (sym c.greet.ensures.past) c.greet.ensures.front in
+    let then = c.descend.new.self in
+    let last = c.seen.new.self in
+    let later = λ (named : IsSome g.N.OnDisk.disk). c.descend.ensures.carries p (carried named) in
+    let before : IsSome g.N.OnDisk.disk → (q : Past) × g.A.Store.carries then q × IsFrontOf q c.args.pass.now × GoesOnAs q p = λ named. (p, later named, front, stays_as p (g.met.A.Store.right archive p (carried named))) in
+    let Q = λ (t : Trouble). ComesOf g.N.OnDisk.disk g.A.Store.disk_of g.A.Store.carries (λ a b. g.A.Store.tells a t b) c.args.pass.now v in
+    let told = comes_of g.N.OnDisk.disk g.A.Store.disk_of g.A.Store.carries c.args.pass.now v then last (λ named. (c.self.invariant.1 named).2 ∙ ap Some (sym c.descend.ensures.disk)) before (λ named. c.seen.ensures.carries p (later named)) (λ a b. g.A.Store.tells a c.in_err-seen-in-Historical.field-0.0 b) c.in_err-seen-in-Historical.ensures.trouble in
+    let why = err_from_is_err_and c.from_residual-in_err-seen-in-Historical.result c.from_residual-in_err-seen-in-Historical.ensures.1 in
+    subst (λ (r : Result (Turn (g.row.A-Errand.Denot × g.row.A-Seen.Denot)) AskError). IfErr r (OnAskTrouble Q)) (sym why.1) (subst (λ (e : AskError). OnAskTrouble Q e) (sym why.2) told)

@@ -13,7 +13,7 @@ use Rattle.query_threads.specs.Troubles.{OnAskTrouble}
 use Rattle.query_threads.specs.Turns.{TurnGives, IsTold}
 use Rattle.query_threads.specs.Looks.{IsErrandOn}
 use Rattle.query_threads.proofs.Seen.{since_then}
-use Rattle.query_threads.proofs.Telling.{ask_trouble, comes_since}
+use Rattle.query_threads.proofs.Telling.{ask_trouble, comes_since, look_at}
 use Rattle.query_threads.proofs.shared.Shared.answer_of.Goals as goal
 
 pub returns-in_err-turn-clause-reader : goal.returns-in_err-turn-clause-reader
@@ -25,11 +25,10 @@ returns-in_err-turn-clause-begins g c = since_then c.args.pass.now c.loop.pass c
 pub returns-in_err-turn-clause-trouble : goal.returns-in_err-turn-clause-trouble
 returns-in_err-turn-clause-trouble g c =
     let w = c.turn.new.pass in
-    let promised = IsSome g.N.OnDisk.disk in
     let why = err_from_is_err_and c.from_residual.result c.from_residual.ensures.1 in
-    let P = λ (t : Trouble). ComesOf promised g.A.Store.carries (λ a b. g.A.Store.tells a t b) c.loop.pass w in
-    let Q = λ (t : Trouble). ComesOf promised g.A.Store.carries (λ a b. g.A.Store.tells a t b) c.args.pass.now w ⊎ IsMissed (λ a b. g.A.Store.misses a t b) in
-    let told = ask_trouble P Q (λ t is. inl (comes_since promised g.A.Store.carries (λ a b. g.A.Store.tells a t b) c.args.pass.now c.loop.pass w c.loop.invariant.since is)) c.in_err-turn.field-0.0 c.in_err-turn.ensures.trouble in
+    let P = λ (t : Trouble). ComesOf g.N.OnDisk.disk g.A.Store.disk_of g.A.Store.carries (λ a b. g.A.Store.tells a t b) c.loop.pass w in
+    let Q = λ (t : Trouble). ComesOf g.N.OnDisk.disk g.A.Store.disk_of g.A.Store.carries (λ a b. g.A.Store.tells a t b) c.args.pass.now w ⊎ IsMissed g.N.OnDisk.disk g.A.Store.honest g.A.Store.block_count g.A.Store.known w.past.blocks (λ a b. g.A.Store.misses a t b) in
+    let told = ask_trouble P Q (λ t is. inl (comes_since g.N.OnDisk.disk g.A.Store.disk_of g.A.Store.carries (λ a b. g.A.Store.tells a t b) c.args.pass.now c.loop.pass w c.loop.invariant.since is)) c.in_err-turn.field-0.0 c.in_err-turn.ensures.trouble in
     subst (λ (r : Result Answer AskError). IfErr r (OnAskTrouble Q)) (sym why.1) (subst (λ (e : AskError). OnAskTrouble Q e) (sym why.2) told)
 
 pub returns-in-Done-clause-reader : goal.returns-in-Done-clause-reader
@@ -89,6 +88,19 @@ returns-in_err-finish-in-Historical-clause-told g c named =
     let outside = c.in_err-finish-in-Historical.ensures.sound named p told (λ n octets is. begins.past.blocks n octets (i.reader named n octets is)) in
     let why = err_from_is_err_and c.from_residual-in_err-finish-in-Historical.result c.from_residual-in_err-finish-in-Historical.ensures.1 in
     subst (λ (r : Result Answer AskError). IfErr r (λ e. IsTold e p.history c.args.query)) (sym why.1) (subst (λ (e : AskError). IsTold e p.history c.args.query) (sym why.2) outside)
+
+pub returns-in_err-finish-in-Historical-clause-trouble : goal.returns-in_err-finish-in-Historical-clause-trouble
+returns-in_err-finish-in-Historical-clause-trouble g c =
+    let i = c.loop.invariant in
+    let w = c.turn.new.pass in
+    let begins = c.turn.ensures.begins in
+    let told = λ (named : IsSome g.N.OnDisk.disk). subst (λ t. TurnGives (λ e. IfSome g.N.OnDisk.disk (IsErrandOn (λ errand. g.A.Store.lies errand c.turn.new.cursor) g.A.Store.honest g.A.Store.block_count g.A.Store.known w.past e.0 e.1)) (g.A.Store.gathered c.turn.new.cursor w.past.history) (λ answer. IsAnswered (applied w.past.history) c.args.query answer) t)
+    c.in-Historical.is (c.in_ok-turn.ensures.gives named (i.gathered named w.past.history begins.past.begins)) in
+    let look = look_at g.N.OnDisk.disk (λ errand. g.A.Store.lies errand c.turn.new.cursor) g.A.Store.honest g.A.Store.block_count g.A.Store.known w.past c.in-Historical.errand c.in-Historical.seen told in
+    let why = err_from_is_err_and c.from_residual-in_err-finish-in-Historical.result c.from_residual-in_err-finish-in-Historical.ensures.1 in
+    let Q = λ (t : Trouble). ComesOf g.N.OnDisk.disk g.A.Store.disk_of g.A.Store.carries (λ a b. g.A.Store.tells a t b) c.args.pass.now w ⊎ IsMissed g.N.OnDisk.disk g.A.Store.honest g.A.Store.block_count g.A.Store.known w.past.blocks (λ a b. g.A.Store.misses a t b) in
+    let missed = inr (record { was = c.in-Historical.seen; is = c.finish.new.seen; missed = c.in_err-finish-in-Historical.ensures.trouble; of = look }) in
+    subst (λ (r : Result Answer AskError). IfErr r (OnAskTrouble Q)) (sym why.1) (subst (λ (e : AskError). OnAskTrouble Q e) (sym why.2) missed)
 
 pub loop-preserved : goal.loop-preserved
 loop-preserved g c =
