@@ -19,7 +19,7 @@ impl Chance {
         Chance { last: seed }
     }
 
-    /// The next number, below an end of at most 256.
+    /// The next number, below an end of at least 1.
     pub(crate) fn below(&mut self, end: u8) -> u8 {
         self.last = self
             .last
