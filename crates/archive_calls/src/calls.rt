@@ -9,6 +9,7 @@ use crate::refusal::{AdmitError, AskError, MarkError, Trouble};
 use crate::told::{Flush, Step};
 use interleaving_core::{Answer, BatchReply, Query, Resume};
 use route_model::{Admission, Mark};
+use std::alloc::Global;
 
 /// An archive with one owner: it takes batches and marks, applies them step by step, and answers questions.
 pub trait RouteArchive {
@@ -74,6 +75,12 @@ pub trait RouteArchive {
         ensures done { (h : History) → carries self.old h → DoesCheck result h }
         ensures carries { (h : History) → carries self.old h → carries self.new h }
         ensures most { most self.new ≡ most self.old };
+
+    /// Which call on a device failed first, and why, in words for a person: of what they are no clause speaks. None where none failed,
+    /// where it isn't known, or where there is no memory for the words.
+    fn failure(&self, _alloc: Global) -> Option<String> {
+        None
+    }
 
     /// A history that is carried is right.
     ghost right: { (archive : Self) (h : History) → carries archive h → IsHistory h };

@@ -22,39 +22,67 @@ struct Change {
     name: &'static str,
     place: u64,
     at: u64,
+    /// The bits of the octet that are turned.
+    bits: u8,
     found: CheckError,
 }
 
 /// Octets of home pages. The tree begins behind the head and the ring: its root on page 10 is a column, whose leaf is on page 11.
-const PAGES: [Change; 5] = [
+const PAGES: [Change; 8] = [
     Change {
         name: "the root is of no kind of node",
         place: 10,
         at: 0,
+        bits: 0x40,
         found: CheckError::BadNode(10),
     },
     Change {
         name: "a part of the column is of no kind",
         place: 10,
         at: 136,
+        bits: 0x40,
         found: CheckError::BadNode(10),
     },
     Change {
         name: "the leaf is of no kind of node",
         place: 11,
         at: 0,
+        bits: 0x40,
         found: CheckError::BadNode(11),
     },
     Change {
         name: "the last octet of the leaf isn't zero",
         place: 11,
         at: 16_383,
+        bits: 0x40,
         found: CheckError::BadNode(11),
     },
     Change {
         name: "the head counts another number of changes",
         place: 0,
         at: 7,
+        bits: 0x40,
+        found: CheckError::BadNode(0),
+    },
+    Change {
+        name: "a part of the column names a block that was never burnt",
+        place: 10,
+        at: 144,
+        bits: 0x40,
+        found: CheckError::BadNode(10),
+    },
+    Change {
+        name: "the head calls the leaf's page unused",
+        place: 0,
+        at: 31,
+        bits: 0x07,
+        found: CheckError::BadNode(0),
+    },
+    Change {
+        name: "the head calls the third block untried",
+        place: 0,
+        at: 39,
+        bits: 0x01,
         found: CheckError::BadNode(0),
     },
 ];
@@ -65,24 +93,28 @@ const BLOCKS: [Change; 4] = [
         name: "the first octet of the oldest block",
         place: 0,
         at: 0,
+        bits: 0x40,
         found: CheckError::Damaged(0),
     },
     Change {
         name: "a route in the oldest block",
         place: 0,
         at: 200,
+        bits: 0x40,
         found: CheckError::Damaged(0),
     },
     Change {
         name: "an octet in the middle of the second block",
         place: 1,
         at: 8_000,
+        bits: 0x40,
         found: CheckError::Damaged(1),
     },
     Change {
         name: "the last octet of the digest of the third block",
         place: 2,
         at: 16_383,
+        bits: 0x40,
         found: CheckError::Damaged(2),
     },
 ];
@@ -136,20 +168,20 @@ fn change_page(alloc: Global, disk: &mut MemErase, change: &Change) -> Result<()
     }
     let mut octet = vec![in alloc; 0u8; 1]?;
     disk.read(at, &mut octet)?;
-    octet[0] ^= 0x40;
+    octet[0] ^= change.bits;
     disk.write_at(at, &octet)?;
     disk.sync()?;
     Ok(())
 }
 
 /// The same block, but for the octet that is changed.
-fn changed_block(alloc: Global, block: &Block, at: u64) -> Result<Block, Fail> {
-    if at >= 16_384 {
+fn changed_block(alloc: Global, block: &Block, change: &Change) -> Result<Block, Fail> {
+    if change.at >= 16_384 {
         return Err(Fail::from("no such octet"));
     }
     let mut changed = Block::from_slice(alloc, block.octets())?;
-    let at = at as usize;
-    let octet = block.octets()[at] ^ 0x40;
+    let at = change.at as usize;
+    let octet = block.octets()[at] ^ change.bits;
     changed.put(at, &[octet]);
     Ok(changed)
 }
@@ -169,7 +201,7 @@ fn burnt_anew(alloc: Global, pen: &MemPen, change: &Change) -> Result<(MemOnce, 
     for was in pen.settled() {
         let number = was.number();
         if number == change.place {
-            let changed = changed_block(alloc, was.block(), change.at)?;
+            let changed = changed_block(alloc, was.block(), change)?;
             burn(&disk, &mut anew, number, &changed)?;
         } else {
             burn(&disk, &mut anew, number, was.block())?;

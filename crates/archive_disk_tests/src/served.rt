@@ -55,7 +55,7 @@ fn a_record_is_loaded_its_route_is_answered_and_it_is_counted(rt: HostRuntime) -
     );
     let line = "at 1704067200 prefix 10.0.0.0/8";
     let asked = ask(alloc, &mut archive, line, &mut lines, &mut refusals);
-    let checked = check(&mut archive, &mut lines, &mut refusals);
+    let checked = check(alloc, &mut archive, &mut lines, &mut refusals);
     assert_eq!(rt; loaded, Status::Done);
     assert_eq!(rt; asked, Status::Done);
     assert_eq!(rt; checked, Status::Done);

@@ -1,6 +1,6 @@
 //! What is told of a check of an archive: that all is well, or the first damage.
 
-use crate::feeds::load_marked;
+use crate::feeds::{UNBUFFERED, UNWRITTEN, load_marked};
 use crate::samples::{EMPTY, SESSION_DOWN, TWO_PREFIXES, UPDATE, stream};
 use archive::Archive;
 use archive_calls::{AdmitError, AskError, Flush, MarkError, RouteArchive, Step, Trouble};
@@ -85,6 +85,7 @@ fn check_of<A: RouteArchive>(alloc: Global, archive: &mut A) -> Checked {
     let mut out = Vec::new(alloc);
     let mut err = Vec::new(alloc);
     let status = check(
+        alloc,
         archive,
         &mut Output::new(&mut out),
         &mut Output::new(&mut err),
@@ -162,12 +163,13 @@ fn nothing_is_told_where_nothing_can_be_written(rt: HostRuntime) -> Result<(), F
     let full: &mut [u8] = &mut small;
     let mut err = Vec::new(rt.alloc());
     let status = check(
+        rt.alloc(),
         &mut archive,
         &mut Output::new(full),
         &mut Output::new(&mut err),
     );
     assert!(rt; status == Status::Failed);
-    assert!(rt; err.as_slice() == "rha: 29 Outside\n".as_bytes());
+    assert!(rt; err.as_slice() == UNWRITTEN.as_bytes());
     Ok(())
 }
 
@@ -179,7 +181,7 @@ fn run_to<A: RouteArchive, W: Write + Drop>(
 ) -> (Vec<u8>, u8) {
     let mut err = Vec::new(alloc);
     let mut told = Output::new(&mut err);
-    let code = check_archive(archive, &mut Output::new(out), &mut told);
+    let code = check_archive(alloc, archive, &mut Output::new(out), &mut told);
     drop(told);
     (err, code)
 }
@@ -218,6 +220,6 @@ fn a_check_that_cannot_be_written_out_is_told_once(rt: HostRuntime) -> Result<()
     let full: &mut [u8] = &mut small;
     let (err, code) = run_to(alloc, &mut archive, BufWriter::new(alloc, full)?);
     assert!(rt; code == 1);
-    assert!(rt; err.as_slice() == "rha: 29 Outside\n".as_bytes());
+    assert!(rt; err.as_slice() == UNBUFFERED.as_bytes());
     Ok(())
 }

@@ -8,7 +8,7 @@ use archive::{Answer, Archive, Query, Turn};
 use route_meaning::{RowsQuestion, Select};
 use route_model::{Mark, Moment};
 use service::{
-    End, FeedStop, Input, LoadSettings, Output, Status, ask, feed, load, reply, tell_failures,
+    End, FeedStop, Input, LoadSettings, Output, Status, ask, feed, load, reply, tell_lost,
     tell_outside, write_answer,
 };
 use std::alloc::Global;
@@ -101,6 +101,13 @@ fn ask_to<W: Write>(
     let status = ask(alloc, archive, line, out, &mut Output::new(&mut err));
     (err, status)
 }
+
+/// What standard error shows where standard output takes no more.
+pub(crate) const UNWRITTEN: &str = "rha: 29 Outside: standard output: write: write zero\n";
+
+/// The same where what is written is kept in a buffer first.
+pub(crate) const UNBUFFERED: &str =
+    "rha: 29 Outside: standard output: write: failed to write the buffered data\n";
 
 pub(crate) fn ask_line(alloc: Global, archive: &mut Archive, line: &str) -> Told {
     let mut out = Vec::new(alloc);
@@ -659,7 +666,7 @@ fn is_failed(alloc: Global) -> Result<bool, Fail> {
     Ok(
         end == End::Refused(FeedStop::Outside)
             && loaded == Status::Failed
-            && told.as_slice() == "rha: 29 Outside\n".as_bytes()
+            && told.as_slice() == UNWRITTEN.as_bytes()
             && asked == Status::Failed
             && untold.is_empty(),
     )
@@ -670,27 +677,28 @@ fn is_too_long(alloc: Global) -> Result<bool, Fail> {
     let mut small = [0u8; 4];
     let full: &mut [u8] = &mut small;
     let (told, asked) = ask_to(alloc, &mut loaded(alloc)?, QUESTION, &mut Output::new(full));
-    Ok(asked == Status::Failed && told.as_slice() == "rha: 29 Outside\n".as_bytes())
+    Ok(asked == Status::Failed && told.as_slice() == UNWRITTEN.as_bytes())
 }
 
-/// Whether the system's reasons are told behind a refusal: of a file that isn't there, of one that can't be read on, and
-/// of a standard output that takes no more.
+/// Whether standard error has the system's reasons: of a file that isn't there, and of one that can't be read on.
 fn are_reasons_told(alloc: Global) -> Result<bool, Fail> {
     let mut archive = Archive::plain(alloc, 1)?;
     let mut file = Input::new(Failing { octets: &[] });
-    let mut small = [0u8; 4];
-    let full: &mut [u8] = &mut small;
-    let mut full = Output::new(full);
-    feed_to(alloc, &mut archive, 0, &mut file, &mut full);
+    let mut lines: Vec<u8> = Vec::new(alloc);
+    feed_to(
+        alloc,
+        &mut archive,
+        0,
+        &mut file,
+        &mut Output::new(&mut lines),
+    );
     let missing = Error::from(ErrorKind::NotFound);
     let mut err: Vec<u8> = Vec::new(alloc);
     let mut told = Output::new(&mut err);
-    let code = tell_outside(alloc, &mut told, "a.mrt", &missing);
-    tell_failures(alloc, "a.mrt", &file, &full, &mut told);
-    let lines = "rha: 29 Outside
-rha: a.mrt: entity not found
-rha: a.mrt: broken pipe
-rha: standard output: write zero
+    let code = tell_outside(alloc, &mut told, "a.mrt", "open", &missing);
+    tell_lost(alloc, "a.mrt", &file, &mut told);
+    let lines = "rha: 29 Outside: a.mrt: open: entity not found
+rha: 29 Outside: a.mrt: read: broken pipe
 ";
     Ok(code == 1 && err.as_slice() == lines.as_bytes())
 }

@@ -117,7 +117,7 @@ S|7
 X|28|BadRequest
 X|14|TooLong|8
 rha: 12 BadText
-rha: --mark: none
+rha: 12 BadText: --mark is none
 ";
 
 /// Writes each of the lines once.
@@ -135,7 +135,7 @@ fn write_all(told: &mut Output<&mut Vec<u8>>, admitted: &Admitted) {
     write_refusal(told, &Refusal::BadRequest);
     write_refused_record(told, &Refusal::TooLong, 8);
     write_error(told, &Refusal::BadText);
-    write_reason(told, "--mark", "none");
+    write_reason(told, &Refusal::BadText, "--mark is none");
 }
 
 /// A batch of three records, of which the second came late.

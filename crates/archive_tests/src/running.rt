@@ -1,6 +1,6 @@
 //! Commands as the program runs them over an archive: what is written, what is written out when, and the exit status.
 
-use crate::feeds::{ANSWER, QUESTION};
+use crate::feeds::{ANSWER, QUESTION, UNBUFFERED};
 use crate::samples::{EARLIER, LONG_PREFIX, UPDATE, cut_stream, stream};
 use archive::Archive;
 use route_model::Mark;
@@ -216,7 +216,7 @@ fn is_load_told(alloc: Global, archive: &mut Archive, octets: &[u8]) -> Result<b
     let full: &mut [u8] = &mut small;
     let out = BufWriter::new(alloc, full)?;
     let (err, code) = load_to(alloc, archive, &loading(0, false), octets, out);
-    Ok(code == 1 && err.as_slice() == "rha: 29 Outside\n".as_bytes())
+    Ok(code == 1 && err.as_slice() == UNBUFFERED.as_bytes())
 }
 
 /// The same of a question, whose answer has more octets.
@@ -224,7 +224,7 @@ fn is_answer_told(alloc: Global, archive: &mut Archive) -> Result<bool, Fail> {
     let mut small = [0u8; 4];
     let full: &mut [u8] = &mut small;
     let (err, code) = ask_to(alloc, archive, "watermark", BufWriter::new(alloc, full)?)?;
-    Ok(code == 1 && err.as_slice() == "rha: 29 Outside\n".as_bytes())
+    Ok(code == 1 && err.as_slice() == UNBUFFERED.as_bytes())
 }
 
 #[test]
@@ -252,17 +252,17 @@ fn is_creation_told(alloc: Global) -> Result<bool, Fail> {
     let mut out: Vec<u8> = Vec::new(alloc);
     let mut err: Vec<u8> = Vec::new(alloc);
     let mut told = Output::new(&mut err);
-    let code = tell_created(&MADE, &mut Output::new(&mut out), &mut told);
+    let code = tell_created(alloc, &MADE, &mut Output::new(&mut out), &mut told);
     let mut small = [0u8; 4];
     let full: &mut [u8] = &mut small;
     let full = BufWriter::new(alloc, full)?;
-    let failed = tell_created(&MADE, &mut Output::new(full), &mut told);
+    let failed = tell_created(alloc, &MADE, &mut Output::new(full), &mut told);
     drop(told);
     Ok(
         code == 0
             && out.as_slice() == "created 1 16 64 65\n".as_bytes()
             && failed == 1
-            && err.as_slice() == "rha: 29 Outside\n".as_bytes(),
+            && err.as_slice() == UNBUFFERED.as_bytes(),
     )
 }
 
@@ -272,17 +272,17 @@ fn is_listening_told(alloc: Global) -> Result<bool, Fail> {
     let mut out: Vec<u8> = Vec::new(alloc);
     let mut err: Vec<u8> = Vec::new(alloc);
     let mut told = Output::new(&mut err);
-    let code = tell_listening(&bound, &mut Output::new(&mut out), &mut told);
+    let code = tell_listening(alloc, &bound, &mut Output::new(&mut out), &mut told);
     let mut small = [0u8; 4];
     let full: &mut [u8] = &mut small;
     let full = BufWriter::new(alloc, full)?;
-    let failed = tell_listening(&bound, &mut Output::new(full), &mut told);
+    let failed = tell_listening(alloc, &bound, &mut Output::new(full), &mut told);
     drop(told);
     Ok(
         code == 0
             && out.as_slice() == "listening 192.0.2.100:17900\n".as_bytes()
             && failed == 1
-            && err.as_slice() == "rha: 29 Outside\n".as_bytes(),
+            && err.as_slice() == UNBUFFERED.as_bytes(),
     )
 }
 

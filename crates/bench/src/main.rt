@@ -1,18 +1,12 @@
-//! Programs that measure the crates: a word for each. What they count of a file can be compared with other readers.
+//! Programs that measure the crates, a word for each. What they count of a file can be compared with other readers.
 #![tactic(auto)]
 
 mod admissions;
 mod asks;
-mod blocks;
 mod clients;
-mod clock;
-mod codec;
 mod framing;
 mod messages;
-mod nodes;
-mod pool;
 mod reading;
-mod tree;
 
 use admissions::Admissions;
 use anyhow::{Context, Result, bail};
@@ -26,104 +20,151 @@ use std::net::{Net, TcpListener, TcpStream};
 use std::process::ExitCode;
 use std::thread::Threads;
 use std::time::Clock;
-use tree::{IMAGES, Load};
 
-fn file<'a>(alloc: Global) -> Arg<'a> {
-    Arg::new(alloc, "FILE")
-        .help("An MRT file")
-        .required(true)
-        .action(ArgAction::Set)
+/// What an argument of a measure is.
+#[derive(Clone, Copy)]
+enum Kind {
+    /// One word, which must be there.
+    One,
+    /// One word or more.
+    Some,
+    /// An option with a number.
+    Number,
 }
 
-fn folder<'a>(alloc: Global) -> Arg<'a> {
-    Arg::new(alloc, "DIR")
-        .help("The folder of an archive")
-        .required(true)
-        .action(ArgAction::Set)
+/// An argument of a measure.
+struct Argument {
+    name: &'static str,
+    help: &'static str,
+    kind: Kind,
 }
 
-fn number<'a>(alloc: Global, name: &'a str, help: &'a str) -> Arg<'a> {
-    Arg::new(alloc, name)
-        .long(name)
-        .value_name("N")
-        .help(help)
-        .action(ArgAction::Set)
+/// A measure.
+struct Measure {
+    word: &'static str,
+    about: &'static str,
+    arguments: &'static [Argument],
 }
 
-/// The words of measures that read no file.
-const WORDS: [(&str, &str); 4] = [
-    ("codec", "Times encoding and decoding of admissions"),
-    (
-        "blocks",
-        "Times blocks with digests, over the write-once disk in memory",
-    ),
-    (
-        "nodes",
-        "Times looks into pages of nodes, and changes of them",
-    ),
-    ("pool", "Times pages that a pool has in memory"),
+const MEASURES: [Measure; 6] = [
+    Measure {
+        word: "framing",
+        about: "Frames a file, and counts its items by kind",
+        arguments: &[
+            Argument {
+                name: "FILE",
+                help: "An MRT file",
+                kind: Kind::One,
+            },
+            Argument {
+                name: "piece",
+                help: "Octets that are read at once",
+                kind: Kind::Number,
+            },
+        ],
+    },
+    Measure {
+        word: "messages",
+        about: "Frames a file, and reads its messages and the routes of its RIB entries",
+        arguments: &[
+            Argument {
+                name: "FILE",
+                help: "An MRT file",
+                kind: Kind::One,
+            },
+            Argument {
+                name: "times",
+                help: "How often each is read",
+                kind: Kind::Number,
+            },
+        ],
+    },
+    Measure {
+        word: "admissions",
+        about: "Frames a file, and resolves its records",
+        arguments: &[Argument {
+            name: "FILE",
+            help: "An MRT file",
+            kind: Kind::One,
+        }],
+    },
+    Measure {
+        word: "counts",
+        about: "Prints what the three measures above count, of each file",
+        arguments: &[Argument {
+            name: "FILE",
+            help: "An MRT file",
+            kind: Kind::Some,
+        }],
+    },
+    Measure {
+        word: "asks",
+        about: "Asks an archive the request lines of a file, and times the answers",
+        arguments: &[
+            Argument {
+                name: "DIR",
+                help: "The folder of an archive",
+                kind: Kind::One,
+            },
+            Argument {
+                name: "FILE",
+                help: "A file of request lines",
+                kind: Kind::One,
+            },
+        ],
+    },
+    Measure {
+        word: "clients",
+        about: "Asks a served archive the request lines of a file over connections at once, and times the replies",
+        arguments: &[
+            Argument {
+                name: "ADDRESS",
+                help: "Where it listens, as ADDRESS:PORT",
+                kind: Kind::One,
+            },
+            Argument {
+                name: "FILE",
+                help: "A file of request lines",
+                kind: Kind::One,
+            },
+            Argument {
+                name: "connections",
+                help: "How many connections there are",
+                kind: Kind::Number,
+            },
+        ],
+    },
 ];
 
-/// The command line of `clients`.
-fn clients_line<'a>(alloc: Global) -> Result<Command<'a>, AllocError> {
-    Command::new(alloc, "clients")
-        .about(
-            "Asks a served archive the request lines of a file over connections at once, and times the replies",
-        )
-        .arg(
-            Arg::new(alloc, "ADDRESS")
-                .required(true)
-                .help("Where it listens, as ADDRESS:PORT"),
-        )?
-        .arg(file(alloc).help("A file of request lines"))?
-        .arg(number(alloc, "connections", "How many connections there are"))
+/// An argument, as the command line has it.
+fn arg_of<'a>(alloc: Global, it: &Argument) -> Arg<'a> {
+    let arg = Arg::new(alloc, it.name)
+        .help(it.help)
+        .action(ArgAction::Set);
+    match it.kind {
+        Kind::One => arg.required(true),
+        Kind::Some => arg.required(true).num_args(1..),
+        Kind::Number => arg.long(it.name).value_name("N"),
+    }
 }
 
-/// The command line of `tree`.
-fn tree_line<'a>(alloc: Global) -> Result<Command<'a>, AllocError> {
-    Command::new(alloc, "tree")
-        .about("Times versions that a tree takes, and look-ups, over disks in memory")
-        .arg(number(alloc, "versions", "How many versions are put"))?
-        .arg(number(
-            alloc,
-            "images",
-            "With more images than these a transaction is committed",
-        ))
+/// The command line of a measure.
+fn command<'a>(alloc: Global, measure: &Measure) -> Result<Command<'a>, AllocError> {
+    let mut command = Command::new(alloc, measure.word).about(measure.about);
+    for it in measure.arguments {
+        command = command.arg(arg_of(alloc, it))?;
+    }
+    Ok(command)
 }
 
-/// The command line: a word for each measure, and `counts` for all that is counted.
+/// The command line: a word for each measure.
 fn program<'a>(alloc: Global) -> Result<Command<'a>, AllocError> {
-    let framing = Command::new(alloc, "framing")
-        .about("Frames a file, and counts its items by kind")
-        .arg(file(alloc))?
-        .arg(number(alloc, "piece", "Octets that are read at once"))?;
-    let messages = Command::new(alloc, "messages")
-        .about("Frames a file, and reads its messages and the routes of its RIB entries")
-        .arg(file(alloc))?
-        .arg(number(alloc, "times", "How often each is read"))?;
-    let admissions = Command::new(alloc, "admissions")
-        .about("Frames a file, and resolves its records")
-        .arg(file(alloc))?;
-    let counts = Command::new(alloc, "counts")
-        .about("Prints what the three words above count, of each file")
-        .arg(file(alloc).num_args(1..))?;
-    let asks = Command::new(alloc, "asks")
-        .about("Asks an archive the request lines of a file, and times the answers")
-        .arg(folder(alloc))?
-        .arg(file(alloc).help("A file of request lines"))?;
     let mut program = Command::new(alloc, "bench")
         .about("Measures the crates of rha")
         .subcommand_required(true)
-        .disable_help_subcommand(true)
-        .subcommand(framing)?
-        .subcommand(messages)?
-        .subcommand(admissions)?
-        .subcommand(counts)?
-        .subcommand(asks)?
-        .subcommand(clients_line(alloc)?)?
-        .subcommand(tree_line(alloc)?)?;
-    for (word, about) in WORDS {
-        program = program.subcommand(Command::new(alloc, word).about(about))?;
+        .disable_help_subcommand(true);
+    for measure in &MEASURES {
+        program = program.subcommand(command(alloc, measure)?)?;
     }
     Ok(program)
 }
@@ -166,16 +207,8 @@ fn print_counts(rt: &HostRuntime, paths: &[&str]) -> Result<()> {
     Ok(())
 }
 
-fn print_tree(rt: &HostRuntime, matches: &ArgMatches<'_>) -> Result<()> {
-    let load = Load {
-        versions: number_or(matches, "versions", 10_000)?,
-        images: number_or(matches, "images", IMAGES)?,
-    };
-    tree::measure(rt, load)
-}
-
 /// Does what a word asks for.
-fn measure(rt: &HostRuntime, word: &str, matches: &ArgMatches<'_>) -> Result<()> {
+fn perform(rt: &HostRuntime, word: &str, matches: &ArgMatches<'_>) -> Result<()> {
     let path = matches.get_str("FILE").unwrap_or("");
     match word {
         "framing" => {
@@ -187,13 +220,8 @@ fn measure(rt: &HostRuntime, word: &str, matches: &ArgMatches<'_>) -> Result<()>
         }
         "messages" => print_messages(rt, path, number_or(matches, "times", 1)?),
         "admissions" => print_admissions(rt, path),
-        "blocks" => Ok(blocks::measure_all(rt)?),
-        "nodes" => Ok(nodes::measure_all(rt)?),
-        "pool" => Ok(pool::measure_all(rt)?),
         "asks" => asks::print_asks(rt, matches.get_str("DIR").unwrap_or(""), path),
-        "tree" => print_tree(rt, matches),
-        "counts" => print_counts(rt, matches.get_strs("FILE").unwrap_or(&[])),
-        _ => Ok(codec::measure_all(rt)?),
+        _ => print_counts(rt, matches.get_strs("FILE").unwrap_or(&[])),
     }
 }
 
@@ -226,7 +254,7 @@ fn run<H: Threads + Clock + Net<Listener = TcpListener, Stream = TcpStream> + Sy
             };
             match word {
                 "clients" => print_clients(rt, host, matches)?,
-                _ => measure(rt, word, matches)?,
+                _ => perform(rt, word, matches)?,
             }
             Ok(0)
         }

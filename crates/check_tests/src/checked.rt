@@ -1,7 +1,8 @@
 //! What the check tells of a tree that stands, and of others.
 use crate::octets::{COLUMN, LEAF, column, leaf};
-use crate::older::{counted, lay, older};
+use crate::older::{counted, counted_within, lay, older};
 use std::test::Fail;
+use tsb_check::InUse;
 use tsb_walk::NodeError;
 
 #[test]
@@ -53,6 +54,33 @@ fn a_block_that_is_not_what_its_column_says_is_told(rt: HostRuntime) -> Result<(
             counted(&mut tree, 0, 1)?,
             Err(NodeError::Damaged(block)),
             "of {block}"
+        );
+    }
+    Ok(())
+}
+
+// The tree uses pages 0 and 1, and its column names block 4. The record of what is in use is on page 7.
+#[test]
+fn what_is_not_in_use_is_found(rt: HostRuntime) -> Result<(), Fail> {
+    let mut tree = older(rt.alloc())?;
+    for ((pages, blocks, burnt), found) in [
+        ((2, 5, 5), Ok(6)),
+        ((1, 5, 5), Err(NodeError::BadNode(7))),
+        ((0, 5, 5), Err(NodeError::BadNode(7))),
+        ((2, 4, 5), Err(NodeError::BadNode(7))),
+        ((2, 5, 4), Err(NodeError::BadNode(0))),
+        ((0, 4, 4), Err(NodeError::BadNode(0))),
+    ] {
+        let in_use = InUse {
+            recorded_on: 7,
+            pages,
+            blocks,
+            burnt,
+        };
+        assert_eq!(rt;
+            counted_within(&mut tree, 0, 1, in_use)?,
+            found,
+            "{pages} {blocks} {burnt}"
         );
     }
     Ok(())

@@ -10,7 +10,7 @@ use std::alloc::Global;
 use std::num::NonZeroUsize;
 use std::sync::Arc;
 use std::test::Fail;
-use tsb_check::check;
+use tsb_check::{InUse, check};
 use tsb_walk::{NodeError, PagePlace};
 
 // The octets of a page.
@@ -107,10 +107,35 @@ pub fn older(alloc: Global) -> Result<Tree, Fail> {
     Ok(tree)
 }
 
+// All pages and blocks are in use.
+const ALL: InUse = InUse {
+    recorded_on: 7,
+    pages: u64::MAX,
+    blocks: u64::MAX,
+    burnt: u64::MAX,
+};
+
 // How many versions the tree with this root has.
 pub fn counted(tree: &mut Tree, root: u64, level: u8) -> Result<Result<u64, NodeError>, Fail> {
+    counted_within(tree, root, level, ALL)
+}
+
+// The same, where these pages and blocks are in use.
+pub fn counted_within(
+    tree: &mut Tree,
+    root: u64,
+    level: u8,
+    in_use: InUse,
+) -> Result<Result<u64, NodeError>, Fail> {
     let mut seen = tree.shelf.seen()?;
     let mut reader = tree.shelf.reader(tree.alloc, 2)?;
     let root = PagePlace::root(root, level);
-    Ok(check(&mut tree.tx, &mut reader, &mut seen, tree.alloc, &root))
+    Ok(check(
+        &mut tree.tx,
+        &mut reader,
+        &mut seen,
+        tree.alloc,
+        &in_use,
+        &root,
+    ))
 }

@@ -1,5 +1,5 @@
 -- What a question is answered from, and what is told where it isn't.
-use Rattle.std.proofs.Common.{◌≡◌, ◌↔◌, ◌≤◌, ⊎_elim, true≢false, ℕ, zero, suc, List, [], ◌∷◌, ◌++◌, take, drop, map, Bool, true, false, Option, Some, refl, sym, ◌∙◌, ap, subst, Result, Ok, Err, IfOk, IfErr, OnOk}
+use Rattle.std.proofs.Common.{◌≡◌, ◌↔◌, ◌≤◌, ⊎_elim, true≢false, ℕ, zero, suc, List, [], ◌∷◌, ◌++◌, take, drop, map, Bool, true, false, Option, Some, refl, sym, ◌∙◌, ap, subst, arith, Result, Ok, Err, IfOk, IfErr, OnOk}
 use Rattle.std.specs.List.{AllByRecursion}
 use Rattle.disk_models.specs.declared.erase.EraseDisk.{Ghosts as EraseGhosts}
 use Rattle.disk_models.specs.declared.once.OnceDisk.{Ghosts as OnceGhosts}
@@ -104,14 +104,16 @@ reads_idle {O = O} {Pen = Pen} {Seen = Seen} {once = once} a z r s idle same fro
 }
 
 -- it can be read by a question
-pub tree_read : {P : Type 0} (pages : Ghosts P) (held held' : P) {O Pen Seen : Type 0} (device : OnceGhosts O Pen Seen) (reader : ShelfReader O Pen Seen device) (seen : Seen) (root : ℕ) (ps : List (Placed Admitted)) (t : HasTree pages held device reader seen root ps) (place : PagePlace)
-    → ((start : Start) (shown : List (List ℕ)) → pages.shows held start shown → pages.shows held' start shown) → StandsShown t.shown t.lies.store t.versions place → ReadsTree pages held' device reader seen place t.versions
-tree_read pages held held' device reader seen root ps t place reads stands = record {
+pub tree_read : {P : Type 0} (pages : Ghosts P) (held held' : P) {O Pen Seen : Type 0} (device : OnceGhosts O Pen Seen) (reader : ShelfReader O Pen Seen device) (seen : Seen) (root fresh block burnt : ℕ) → block ≤ burnt → (ps : List (Placed Admitted)) (t : HasTree pages held device reader seen root fresh block ps)
+    → (place : PagePlace)
+    → ((start : Start) (shown : List (List ℕ)) → pages.shows held start shown → pages.shows held' start shown) → StandsShown t.shown t.lies.store t.versions place → ReadsTree pages held' device reader seen place burnt t.versions
+tree_read pages held held' device reader seen root fresh block burnt most ps t place reads stands = record {
   start = t.start;
   shown = t.shown;
   shows = reads t.start t.shown t.shows;
   store = t.lies.store;
   stands = stands;
+  named = (let next = t.lies.next in omega (arith, next, most));
   rising = t.lies.has.stands.rising;
   well = t.well;
   known = record { says = λ n node here. (let b = t.lies.blocks n node here in (b.octets, record { inside = b.inside; at = b.here }, b.says)) };

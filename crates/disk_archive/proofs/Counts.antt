@@ -1,5 +1,5 @@
 -- What a check counts, and what it finds.
-use Rattle.std.proofs.Common.{◌≡◌, ⊎_elim, true≢false, ℕ, suc, ◌+◌, ◌<◌, ◌^◌, List, [], ◌∷◌, length, map, sum_by, Bool, false, Option, refl, sym, ◌∙◌, ap, subst, arith, length-append, Result, Ok, Err, IfOk, IfErr, OnOk}
+use Rattle.std.proofs.Common.{◌≡◌, ⊎_elim, true≢false, ℕ, suc, ◌+◌, ◌<◌, ◌≤◌, ◌^◌, List, [], ◌∷◌, length, map, sum_by, Bool, false, Option, refl, sym, ◌∙◌, ap, subst, arith, length-append, Result, Ok, Err, IfOk, IfErr, OnOk}
 use Rattle.std.proofs.lemmas.List.{length-map}
 use Rattle.std.proofs.lemmas.List.Sums.{sum_by-cons}
 use Rattle.disk_models.specs.declared.erase.EraseDisk.{Ghosts as EraseGhosts}
@@ -21,6 +21,7 @@ use Rattle.tsb_walk.specs.declared.error.NodeError.TheVariants as nodes
 use Rattle.tsb_walk.specs.Knowing.{AreKnown}
 use Rattle.version_model.specs.Versions.{Version}
 use Rattle.tsb_check.specs.Counted.{told}
+use Rattle.tsb_check.specs.InUse.{IsWithin}
 use Rattle.disk_archive.specs.declared.archive.Archive.{Archive}
 use Rattle.disk_archive.specs.declared.check_error.CheckError.{CheckError}
 use Rattle.disk_archive.specs.declared.check_error.CheckError.TheVariants as checks
@@ -52,9 +53,16 @@ told_is n m k is same few = omega (arith, is, same, few)
 
 -- ---- what is known of blocks
 
-pub known_of : {P : Type 0} (pages : Ghosts P) (held : P) {O Pen Seen : Type 0} (device : OnceGhosts O Pen Seen) (reader : ShelfReader O Pen Seen device) (seen : Seen) (root : ℕ) (ps : List (Placed Admitted)) (t : HasTree pages held device reader seen root ps)
+pub known_of : {P : Type 0} (pages : Ghosts P) (held : P) {O Pen Seen : Type 0} (device : OnceGhosts O Pen Seen) (reader : ShelfReader O Pen Seen device) (seen : Seen) (root fresh block : ℕ) (ps : List (Placed Admitted)) (t : HasTree pages held device reader seen root fresh block ps)
     → AreKnown (device.known seen) (device.block_count (reader_disk reader)) t.lies.store.blocks
-known_of pages held device reader seen root ps t = record { says = λ n node here. (let b = t.lies.blocks n node here in (b.octets, record { inside = b.inside; at = b.here }, b.says)) }
+known_of pages held device reader seen root fresh block ps t = record { says = λ n node here. (let b = t.lies.blocks n node here in (b.octets, record { inside = b.inside; at = b.here }, b.says)) }
+
+-- its store uses no page and no block but those in use
+pub within_of : {P : Type 0} (pages : Ghosts P) (held : P) {O Pen Seen : Type 0} (device : OnceGhosts O Pen Seen) (reader : ShelfReader O Pen Seen device) (seen : Seen) (root fresh block burnt : ℕ) → block ≤ burnt → (ps : List (Placed Admitted)) (t : HasTree pages held device reader seen root fresh block ps)
+    → IsWithin t.lies.store (record { recorded_on = 0; pages = fresh; blocks = block; burnt = burnt })
+within_of pages held device reader seen root fresh block burnt most ps t =
+    let next = t.lies.next in
+    record { pages = omega (arith, t.lies.limit); tried = next; burnt = omega (arith, next, most) }
 
 -- ---- refusals
 

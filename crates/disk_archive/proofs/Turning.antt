@@ -1,5 +1,5 @@
 -- Turns of questions over an archive, and their errands.
-use Rattle.std.proofs.Common.{◌≡◌, ⊎_elim, true, ℕ, ◌<◌, List, Bool, Option, Some, Result, Ok, Err, OnOk, OnErr, sym, ap, subst}
+use Rattle.std.proofs.Common.{◌≡◌, ⊎_elim, true, ℕ, ◌<◌, ◌≤◌, arith, List, Bool, Option, Some, Result, Ok, Err, OnOk, OnErr, sym, ap, subst}
 use Rattle.disk_models.specs.declared.erase.EraseDisk.{Ghosts as EraseGhosts}
 use Rattle.disk_models.specs.declared.once.OnceDisk.{Ghosts as OnceGhosts}
 use Rattle.once_store.specs.declared.reader.ShelfReader.{ShelfReader}
@@ -46,7 +46,7 @@ use Rattle.tsb_walk.specs.Shown.{StandsShown}
 use Rattle.once_store.specs.Readers.{reader_disk}
 use Rattle.version_model.specs.Blocks.{BlockNode}
 use Rattle.version_model.specs.Versions.{Version}
-use Rattle.tree_questions.specs.Turning.{ShowsTree, TurnsRows, TurnsEvents, GoesOnRows, GoesOnEvents}
+use Rattle.tree_questions.specs.Turning.{ShowsTree, TurnsRows, TurnsEvents, GoesOnRows, GoesOnEvents, RowsBelow, EventsBelow}
 use Rattle.archive_pages.specs.Places.{tree_low}
 use Rattle.route_history.specs.Stamps.{stamp_of}
 use Rattle.disk_archive.specs.declared.archive.Archive.{Archive}
@@ -57,7 +57,7 @@ use Rattle.disk_archive.specs.declared.cursor.Cursor.TheVariants.{Rows, Events}
 use Rattle.disk_archive.specs.declared.errand.Errand.{Errand}
 use Rattle.disk_archive.specs.declared.errand.Errand.TheVariants as errands
 use Rattle.disk_archive.specs.Cursors.{IsGathered, SaysSame}
-use Rattle.disk_archive.specs.Descents.{Descends, GoesFurther, Lies, LiesKnown}
+use Rattle.disk_archive.specs.Descents.{Descends, GoesFurther, ReadsBelow, Lies, LiesKnown}
 use Rattle.disk_archive.specs.inner.Descending.{HasPages, of_rows, of_events}
 
 -- ---- what was gathered over one list of versions, and over each later history
@@ -98,22 +98,22 @@ abbrev pub Reads : {P : Type 0} (pages : Ghosts P) → P → P → Type 0
 Reads pages held held' = (start : Start) (shown : List (List ℕ)) → pages.shows held start shown → pages.shows held' start shown
 
 -- what turns give
-abbrev pub GathersRows : {P : Type 0} (pages : Ghosts P) → P → PagePlace → RowsCursor → RowsCursor → Type 0
-GathersRows pages held place c d = (store : Store) (all : List Version) (ps : List (Placed Admitted)) → ShowsTree pages held place store all → Tells all ps c.question.moment → Gathered all ps c → Gathered all ps d
+abbrev pub GathersRows : {P : Type 0} (pages : Ghosts P) → P → PagePlace → ℕ → RowsCursor → RowsCursor → Type 0
+GathersRows pages held place burnt c d = (store : Store) (all : List Version) (ps : List (Placed Admitted)) → ShowsTree pages held place burnt store all → Tells all ps c.question.moment → Gathered all ps c → Gathered all ps d
 
-abbrev pub GivesRows : {P : Type 0} (pages : Ghosts P) → P → PagePlace → RowsCursor → RowsCursor → RowsTurn → Type 0
-GivesRows pages held place c d turn = (store : Store) (all : List Version) (ps : List (Placed Admitted)) → ShowsTree pages held place store all → Tells all ps c.question.moment → Gathered all ps c → TurnsRows store.blocks all ps c d turn
+abbrev pub GivesRows : {P : Type 0} (pages : Ghosts P) → P → PagePlace → ℕ → RowsCursor → RowsCursor → RowsTurn → Type 0
+GivesRows pages held place burnt c d turn = (store : Store) (all : List Version) (ps : List (Placed Admitted)) → ShowsTree pages held place burnt store all → Tells all ps c.question.moment → Gathered all ps c → TurnsRows store.blocks all ps c d turn
 
-abbrev pub GathersEvents : {P : Type 0} (pages : Ghosts P) → P → PagePlace → EventsCursor → EventsCursor → Type 0
-GathersEvents pages held place c d = (store : Store) (all : List Version) (ps : List (Placed Admitted)) → ShowsTree pages held place store all → TellsEvents all ps c.question → HasToldSo all ps c → HasToldSo all ps d
+abbrev pub GathersEvents : {P : Type 0} (pages : Ghosts P) → P → PagePlace → ℕ → EventsCursor → EventsCursor → Type 0
+GathersEvents pages held place burnt c d = (store : Store) (all : List Version) (ps : List (Placed Admitted)) → ShowsTree pages held place burnt store all → TellsEvents all ps c.question → HasToldSo all ps c → HasToldSo all ps d
 
-abbrev pub GivesEvents : {P : Type 0} (pages : Ghosts P) → P → PagePlace → EventsCursor → EventsCursor → EventsTurn → Type 0
-GivesEvents pages held place c d turn = (store : Store) (all : List Version) (ps : List (Placed Admitted)) → ShowsTree pages held place store all → TellsEvents all ps c.question → HasToldSo all ps c → TurnsEvents store.blocks all ps c d turn
+abbrev pub GivesEvents : {P : Type 0} (pages : Ghosts P) → P → PagePlace → ℕ → EventsCursor → EventsCursor → EventsTurn → Type 0
+GivesEvents pages held place burnt c d turn = (store : Store) (all : List Version) (ps : List (Placed Admitted)) → ShowsTree pages held place burnt store all → TellsEvents all ps c.question → HasToldSo all ps c → TurnsEvents store.blocks all ps c d turn
 
-module _ {P : Type 0} (pages : Ghosts P) (held : P) (count : ℕ) (known : ℕ → Option (List ℕ)) (root : ℕ) (h : History) (t : HasPages pages held count known root h) where
+module _ {P : Type 0} (pages : Ghosts P) (held : P) (count : ℕ) (known : ℕ → Option (List ℕ)) (root block burnt : ℕ) (most : block ≤ burnt) (h : History) (t : HasPages pages held count known root block h) where
   pub shows_tree : (held' : P) (place : PagePlace) → Reads pages held held' → StandsShown t.shown t.lies.store t.versions place
-      → ShowsTree pages held' place t.lies.store t.versions
-  shows_tree held' place reads stands = record { start = t.start; shown = t.shown; shows = reads t.start t.shown t.shows; stands = stands; rising = t.lies.has.stands.rising }
+      → ShowsTree pages held' place burnt t.lies.store t.versions
+  shows_tree held' place reads stands = record { start = t.start; shown = t.shown; shows = reads t.start t.shown t.shows; stands = stands; named = (let next = t.lies.next in omega (arith, next, most)); rising = t.lies.has.stands.rising }
 
   pub rows_descend : (c d : RowsCursor) → d.question ≡ c.question → c.question.moment < settled h → IsGathered (Rows d) h → (turn : RowsTurn) → TurnsRows t.lies.store.blocks t.versions (applied h) c d turn → Descends count known h (Rows c) (Rows d) (of_rows turn)
   rows_descend c d same below g (rows.Done answer) told = told
@@ -144,25 +144,25 @@ module _ {P : Type 0} (pages : Ghosts P) (held : P) (count : ℕ) (known : ℕ �
   }
 
   -- by what a turn does over its tree, and the laws of versions
-  pub rows_gathered : RowsTell → RowsStay → (held' : P) (place : PagePlace) → Reads pages held held' → StandsShown t.shown t.lies.store t.versions place → (c d : RowsCursor) → d.question ≡ c.question → c.question.moment < settled h → IsGathered (Rows c) h → GathersRows pages held' place c d → IsGathered (Rows d) h
+  pub rows_gathered : RowsTell → RowsStay → (held' : P) (place : PagePlace) → Reads pages held held' → StandsShown t.shown t.lies.store t.versions place → (c d : RowsCursor) → d.question ≡ c.question → c.question.moment < settled h → IsGathered (Rows c) h → GathersRows pages held' place burnt c d → IsGathered (Rows d) h
   rows_gathered tell stay held' place reads stands c d same below g gathers =
       rows_later h t.right t.versions t.kept stay d (subst (λ (q : RowsQuestion). q.moment < settled h) (sym same) below)
       (gathers t.lies.store t.versions (applied h) (shows_tree held' place reads stands) (tell (applied h) t.versions c.question.moment (rises_applied h) t.kept) (rows_now h t.right t.versions t.kept c g))
 
-  pub rows_descends : RowsTell → RowsStay → (held' : P) (place : PagePlace) → Reads pages held held' → StandsShown t.shown t.lies.store t.versions place → (c d : RowsCursor) (turn : RowsTurn) → d.question ≡ c.question → c.question.moment < settled h → IsGathered (Rows c) h → GathersRows pages held' place c d
-      → GivesRows pages held' place c d turn → Descends count known h (Rows c) (Rows d) (of_rows turn)
+  pub rows_descends : RowsTell → RowsStay → (held' : P) (place : PagePlace) → Reads pages held held' → StandsShown t.shown t.lies.store t.versions place → (c d : RowsCursor) (turn : RowsTurn) → d.question ≡ c.question → c.question.moment < settled h → IsGathered (Rows c) h → GathersRows pages held' place burnt c d
+      → GivesRows pages held' place burnt c d turn → Descends count known h (Rows c) (Rows d) (of_rows turn)
   rows_descends tell stay held' place reads stands c d turn same below g gathers gives =
       rows_descend c d same below (rows_gathered tell stay held' place reads stands c d same below g gathers) turn
       (gives t.lies.store t.versions (applied h) (shows_tree held' place reads stands) (tell (applied h) t.versions c.question.moment (rises_applied h) t.kept) (rows_now h t.right t.versions t.kept c g))
 
   pub events_gathered : EventsTell → EventsStay → (held' : P) (place : PagePlace) → Reads pages held held' → StandsShown t.shown t.lies.store t.versions place → (c d : EventsCursor) → d.question ≡ c.question → c.question.to < settled h → IsPeer c.question.peer → IsPrefix c.question.prefix → IsGathered (Events c) h
-      → GathersEvents pages held' place c d → IsGathered (Events d) h
+      → GathersEvents pages held' place burnt c d → IsGathered (Events d) h
   events_gathered tell stay held' place reads stands c d same below peer prefix g gathers =
       events_later h t.right t.versions t.kept stay d (subst (λ (q : EventsQuestion). q.to < settled h) (sym same) below) (subst (λ (q : EventsQuestion). IsPeer q.peer) (sym same) peer) (subst (λ (q : EventsQuestion). IsPrefix q.prefix) (sym same) prefix)
       (gathers t.lies.store t.versions (applied h) (shows_tree held' place reads stands) (tell (applied h) t.versions c.question (rises_applied h) t.kept peer prefix) (events_now h t.right t.versions t.kept c g))
 
   pub events_descends : EventsTell → EventsStay → (held' : P) (place : PagePlace) → Reads pages held held' → StandsShown t.shown t.lies.store t.versions place → (c d : EventsCursor) (turn : EventsTurn) → d.question ≡ c.question → c.question.to < settled h → IsPeer c.question.peer → IsPrefix c.question.prefix → IsGathered (Events c) h
-      → GathersEvents pages held' place c d → GivesEvents pages held' place c d turn → Descends count known h (Events c) (Events d) (of_events turn)
+      → GathersEvents pages held' place burnt c d → GivesEvents pages held' place burnt c d turn → Descends count known h (Events c) (Events d) (of_events turn)
   events_descends tell stay held' place reads stands c d turn same below peer prefix g gathers gives =
       events_descend c d same below (events_gathered tell stay held' place reads stands c d same below peer prefix g gathers) turn
       (gives t.lies.store t.versions (applied h) (shows_tree held' place reads stands) (tell (applied h) t.versions c.question (rises_applied h) t.kept peer prefix) (events_now h t.right t.versions t.kept c g))
@@ -176,6 +176,17 @@ pub events_further : (c d : EventsCursor) (turn : EventsTurn) → GoesOnEvents c
 events_further c d (events.Done answer) on = tt
 events_further c d events.Again on = on
 events_further c d (events.Historical errand) on = (on.1, on.0)
+
+-- an errand of a turn reads a block below a number
+pub rows_below : (burnt : ℕ) (turn : RowsTurn) → RowsBelow burnt turn → ReadsBelow burnt (of_rows turn)
+rows_below burnt (rows.Done answer) below = tt
+rows_below burnt rows.Again below = tt
+rows_below burnt (rows.Historical errand) below = below
+
+pub events_below : (burnt : ℕ) (turn : EventsTurn) → EventsBelow burnt turn → ReadsBelow burnt (of_events turn)
+events_below burnt (events.Done answer) below = tt
+events_below burnt events.Again below = tt
+events_below burnt (events.Historical errand) below = below
 
 -- ---- errands
 
@@ -261,7 +272,7 @@ same_where (Err e) c d s = λ h g. same_gathered c d h s g
 
 -- what it carries lies on the pages of a transaction that shows them
 pub pages_in : {E O Pen Seen : Type 0} {erase : EraseGhosts E} {once : OnceGhosts O Pen Seen} (a : Archive E O Pen Seen erase once) (h : History) (k : Carries a h) {P : Type 0} (pages : Ghosts P) (held : P) → pages.shows held (start_of a h k) k.pages
-    → HasPages pages held (once.block_count (once_of a)) (once_state a).settled a.head.root h
+    → HasPages pages held (once.block_count (once_of a)) (once_state a).settled a.head.root a.head.block h
 pages_in a h k pages held shows = record {
   right = k.bears.right;
   start = start_of a h k;
@@ -269,7 +280,6 @@ pages_in a h k pages held shows = record {
   shows = shows;
   low = tree_low a.settings;
   fresh = a.head.fresh;
-  block = a.head.block;
   stamp = stamp_of a.head.last a.head.applied;
   versions = k.bears.versions;
   lies = k.bears.tree;

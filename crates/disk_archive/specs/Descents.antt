@@ -10,6 +10,7 @@ use Rattle.route_history.specs.EventTurns.{IsEventsErrandOf, Stand}
 use Rattle.route_history.specs.Kept.{Kept}
 use Rattle.route_history.specs.RowTurns.{IsErrandOf}
 use Rattle.route_history.specs.Walks.{Rose, NotBack}
+use Rattle.tree_questions.specs.Naming.{PartsBelow}
 use Rattle.tsb_walk.specs.Knowing.{ReadsWell}
 use Rattle.version_model.specs.Blocks.{BlockNode, PlaceStands}
 use Rattle.version_model.specs.Versions.{Version}
@@ -70,3 +71,10 @@ abbrev pub GoesFurther : Cursor → Cursor → Descent → Type 0
 GoesFurther c d (Done answer) = ⊤
 GoesFurther c d Again = Rose (walked_to c) (walked_to d)
 GoesFurther c d (Historical errand) = NotBack (walked_to c) (walked_to d) × IsErrandFor d errand
+
+-- the blocks at which an errand begins are below this number
+abbrev pub ReadsBelow : ℕ → Descent → Type 0
+ReadsBelow burnt (Done answer) = ⊤
+ReadsBelow burnt Again = ⊤
+ReadsBelow burnt (Historical (errands.Rows errand)) = errand.place.part.block < burnt
+ReadsBelow burnt (Historical (errands.Events errand)) = PartsBelow burnt errand.route × PartsBelow burnt errand.session

@@ -71,23 +71,25 @@ pub(crate) fn root_of<P: Pages>(pages: &mut P, head: &Head) -> Result<PagePlace,
     }
 }
 
-// Answers a question over the archive's tree, by these pages and the blocks that the reader knows.
+// Answers a question over the archive's tree, by these pages and the blocks that the reader knows. No block from `burnt` on was ever burnt.
 pub(crate) fn answer_by<P: Pages, O: OnceDisk + Drop>(
     alloc: Global,
     pages: &mut P,
     reader: &mut ShelfReader<O>,
     seen: &mut O::Seen,
     head: &Head,
+    burnt: u64,
     query: Query,
 ) -> Result<Answer, AskError>
-    ensures answer { (ps : List (Placed Admitted)) → HasTree P.Pages pages.old O.OnceDisk reader.old seen.old head.now.root ps → IfOk result (IsAnswered ps query) }
-    ensures blames { (ps : List (Placed Admitted)) → HasTree P.Pages pages.old O.OnceDisk reader.old seen.old head.now.root ps → IfErr result BlamesNone }
+    requires burnt { head.now.block ≤ burnt }
+    ensures answer { (ps : List (Placed Admitted)) → HasTree P.Pages pages.old O.OnceDisk reader.old seen.old head.now.root head.now.fresh head.now.block ps → IfOk result (IsAnswered ps query) }
+    ensures blames { (ps : List (Placed Admitted)) → HasTree P.Pages pages.old O.OnceDisk reader.old seen.old head.now.root head.now.fresh head.now.block ps → IfErr result BlamesNone }
     ensures refused { IfErr result (LookRefusal (P.down pages.old)) }
     ensures reads { (start : Start) (shown : List (List ℕ)) → P.shows pages.old start shown → P.shows pages.new start shown }
     ensures homes { P.homes pages.new ≡ P.homes pages.old }
     ensures down { P.down pages.new ≡ P.down pages.old }
     ensures honest { P.honest pages.old ↔ P.honest pages.new }
-    ensures keeps { (ps : List (Placed Admitted)) → HasTree P.Pages pages.old O.OnceDisk reader.old seen.old head.now.root ps → ReadsWell O.OnceDisk reader.new seen.new }
+    ensures keeps { (ps : List (Placed Admitted)) → HasTree P.Pages pages.old O.OnceDisk reader.old seen.old head.now.root head.now.fresh head.now.block ps → ReadsWell O.OnceDisk reader.new seen.new }
     ensures known { O.honest_seen (reader_disk reader.old) seen.old → O.known seen.new ≡ O.known seen.old }
     ensures disk { reader_disk reader.new ≡ reader_disk reader.old }
     ensures capacity { capacity_of reader.new ≡ capacity_of reader.old }
@@ -98,14 +100,14 @@ pub(crate) fn answer_by<P: Pages, O: OnceDisk + Drop>(
     let root = root_of(pages, head)?;
     match query {
         Query::Rows(question) => {
-            let answer = rows(pages, reader, seen, alloc, &root, question)?;
+            let answer = rows(pages, reader, seen, alloc, &root, burnt, question)?;
             Ok(Answer::Rows(answer))
         }
         Query::Events(question) => {
             // What peers and prefixes are limited to is known to a proof by a call on each.
             let _len = question.peer.encoded_len();
             let _address = question.prefix.address();
-            let answer = events(pages, reader, seen, alloc, &root, question)?;
+            let answer = events(pages, reader, seen, alloc, &root, burnt, question)?;
             Ok(Answer::Events(answer))
         }
     }
@@ -138,6 +140,7 @@ impl<E: EraseDisk + Drop, O: OnceDisk + Drop> Archive<E, O> {
         ensures blocks { IsHonest self.old → once_state self.new ≡ once_state self.old }
         ensures failed { TellsFailure self.old self.new (once_of self.old) (result ≡ Err AskError.Fault) }
     {
+        let burnt = self.shelf.next();
         begin(&mut self.tx)?;
         check_settled(&self.sequencer, &query)?;
         let mut reader = self.shelf.reader(self.alloc, KEPT_BLOCKS)?;
@@ -148,6 +151,7 @@ impl<E: EraseDisk + Drop, O: OnceDisk + Drop> Archive<E, O> {
             &mut reader,
             &mut seen,
             &self.head,
+            burnt,
             query,
         )?;
         Ok(answer)

@@ -50,6 +50,7 @@ impl<E: EraseDisk + Drop, O: OnceDisk + Drop> Archive<E, O> {
         ensures capacity { capacity_of reader.new ≡ capacity_of reader.old }
         ensures failed { TellsFailure self.old self.new (reader_disk reader.old) (result ≡ Err AskError.Fault) }
     {
+        let burnt = self.shelf.next();
         begin(&mut self.tx)?;
         check_settled(&self.sequencer, &query)?;
         let mut seen = self.shelf.seen()?;
@@ -59,6 +60,7 @@ impl<E: EraseDisk + Drop, O: OnceDisk + Drop> Archive<E, O> {
             reader,
             &mut seen,
             &self.head,
+            burnt,
             query,
         )?;
         Ok(answer)

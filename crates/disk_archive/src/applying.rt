@@ -81,7 +81,8 @@ impl<E: EraseDisk + Drop, O: OnceDisk + Drop> Archive<E, O> {
         let Some(number) = self.sequencer.next() else {
             return Ok(Step::Idle);
         };
-        let Application { head, ahead } = plan_changes(
+        let kept = self.kept.take();
+        let Application { head, ahead, kept } = plan_changes(
             self.alloc,
             &mut self.tx,
             &mut self.shelf,
@@ -89,7 +90,9 @@ impl<E: EraseDisk + Drop, O: OnceDisk + Drop> Archive<E, O> {
             &self.head,
             &self.sequencer,
             number,
+            kept,
         )?;
+        self.kept = Some(kept);
         commit(&mut self.tx)?;
         self.head = head;
         self.sequencer.take_passed(&ahead);

@@ -12,6 +12,7 @@ ghost use Rattle.interleaving_core.specs.World.{resume_of};
 use archive_head::Head;
 use archive_pages::{Settings, lane_of};
 use disk_models::{EraseDisk, Fault, OnceDisk};
+use intake::Encoded;
 use interleaving_core::Resume;
 use once_store::Shelf;
 use page_tx::Tx;
@@ -32,6 +33,9 @@ pub struct Archive<E: EraseDisk + Drop, O: OnceDisk + Drop> {
     pub(crate) settings: Settings,
     pub(crate) head: Head,
     pub(crate) sequencer: Sequencer,
+    // The admission of which changes were applied last. It is no part of what the archive holds: the ring is read each time, and this one
+    // is used where its octets are those that stand there.
+    pub(crate) kept: Option<Encoded>,
     ghost some: { 1 ≤ settings.collectors },
     ghost few: { settings.collectors ≤ 16 },
     ghost lanes: { length head.lanes ≡ settings.collectors },

@@ -1,6 +1,6 @@
 //! The whole tree is read, and what is applied is counted.
 
-ghost use Rattle.std.specs.Prelude.{◌≡◌, ◌↔◌, ◌<◌, ◌^◌, ℕ, List, length, sum_by, IfOk, IfErr, OnOk, Err, true, false};
+ghost use Rattle.std.specs.Prelude.{◌≡◌, ◌↔◌, ◌<◌, ◌≤◌, ◌^◌, ℕ, List, length, sum_by, IfOk, IfErr, OnOk, Err, true, false};
 ghost use Rattle.once_store.specs.Readers.{reader_disk};
 ghost use Rattle.page_tx.specs.Device.{KeepsDevice};
 ghost use Rattle.page_tx.specs.Start.{Start};
@@ -26,7 +26,7 @@ use disk_models::{EraseDisk, OnceDisk};
 use once_store::ShelfReader;
 use page_tx::Pages;
 use std::alloc::Global;
-use tsb_check::check;
+use tsb_check::{InUse, check};
 use tsb_tree::open;
 use tsb_walk::PagePlace;
 use version_model::Stamp;
@@ -55,19 +55,34 @@ fn root_of<P: Pages>(pages: &mut P, root: u64) -> Result<PagePlace, CheckError>
     }
 }
 
-// How many versions the archive's tree has: as many as the head tells changes that are applied.
+// Which pages and blocks the archive's tree may use: its head is on page 0.
+fn in_use_by(head: &Head, burnt: u64) -> InUse
+    ensures { result ≡ record { recorded_on = 0; pages = head.now.fresh; blocks = head.now.block; burnt = burnt } }
+{
+    InUse {
+        recorded_on: 0,
+        pages: head.fresh,
+        blocks: head.block,
+        burnt,
+    }
+}
+
+// How many versions the archive's tree has: as many as the head counts applied changes. It uses no page and no block from the first ones on
+// that the head calls unused. No block from `burnt` on was ever burnt.
 fn count_by<P: Pages, O: OnceDisk + Drop>(
     alloc: Global,
     pages: &mut P,
     reader: &mut ShelfReader<O>,
     seen: &mut O::Seen,
     head: &Head,
+    burnt: u64,
 ) -> Result<u64, CheckError>
+    requires burnt { head.now.block ≤ burnt }
     ensures counted { IfOk result (λ n. n ≡ head.now.applied) }
-    ensures finds { (ps : List (Placed Admitted)) → HasTree P.Pages pages.old O.OnceDisk reader.old seen.old head.now.root ps → head.now.applied ≡ length (timed ps) → head.now.applied < 2 ^ 64 → IfErr result FindsNone }
-    ensures read { (start : Start) (shown : List (List ℕ)) → P.shows pages.old start shown → ReadsWell O.OnceDisk reader.old seen.old → IfOk result (IsAllRead shown (O.known seen.old) (O.block_count (reader_disk reader.old)) head.now.root) }
+    ensures finds { (ps : List (Placed Admitted)) → HasTree P.Pages pages.old O.OnceDisk reader.old seen.old head.now.root head.now.fresh head.now.block ps → head.now.applied ≡ length (timed ps) → head.now.applied < 2 ^ 64 → IfErr result FindsNone }
+    ensures read { (start : Start) (shown : List (List ℕ)) → P.shows pages.old start shown → ReadsWell O.OnceDisk reader.old seen.old → IfOk result (IsAllRead shown (O.known seen.old) (O.block_count (reader_disk reader.old)) head.now.root (record { recorded_on = 0; pages = head.now.fresh; blocks = head.now.block; burnt = burnt })) }
     ensures bad { (start : Start) (shown : List (List ℕ)) → P.shows pages.old start shown → ReadsWell O.OnceDisk reader.old seen.old
-        → (page : ℕ) → result ≡ Err (CheckError.BadNode page) → IsBadPage shown (O.known seen.old) (O.block_count (reader_disk reader.old)) head.now.root head.now.applied page }
+        → (page : ℕ) → result ≡ Err (CheckError.BadNode page) → IsBadPage shown (O.known seen.old) (O.block_count (reader_disk reader.old)) head.now.root head.now.applied (record { recorded_on = 0; pages = head.now.fresh; blocks = head.now.block; burnt = burnt }) page }
     ensures damaged { (start : Start) (shown : List (List ℕ)) → P.shows pages.old start shown → ReadsWell O.OnceDisk reader.old seen.old
         → (block : ℕ) → result ≡ Err (CheckError.Damaged block) → IsBadBlock shown (O.known seen.old) (O.block_count (reader_disk reader.old)) head.now.root block }
     ensures refused { IfErr result (CountRefusal (P.down pages.old)) }
@@ -79,7 +94,8 @@ fn count_by<P: Pages, O: OnceDisk + Drop>(
     ensures failed { TellsRead (P.faults pages.old) (P.faults pages.new) (O.seen_fault_count seen.old) (O.seen_fault_count seen.new) (result ≡ Err CheckError.Fault) }
 {
     let root = root_of(pages, head.root)?;
-    let count = check(pages, reader, seen, alloc, &root)?;
+    let in_use = in_use_by(head, burnt);
+    let count = check(pages, reader, seen, alloc, &in_use, &root)?;
     if count != head.applied {
         return Err(CheckError::BadNode(0));
     }
@@ -88,7 +104,7 @@ fn count_by<P: Pages, O: OnceDisk + Drop>(
 
 impl<E: EraseDisk + Drop, O: OnceDisk + Drop> Archive<E, O> {
     ghost use Rattle.disk_archive.specs.Archives.{Carries, Holds, Stands, IsHonest, is_down, once_of, once_state, settings_of, site_of};
-    ghost use Rattle.disk_archive.specs.Checks.{HasPages, applied_in, root_in};
+    ghost use Rattle.disk_archive.specs.Checks.{HasPages, applied_in, in_use_of, root_in};
     ghost use Rattle.disk_archive.specs.Sites.{LeftCarries, LeftEither};
     ghost use Rattle.disk_archive.specs.Crashes.{Crashes, Lasts};
     ghost use Rattle.disk_archive.specs.Failures.{TellsFailure};
@@ -104,9 +120,9 @@ impl<E: EraseDisk + Drop, O: OnceDisk + Drop> Archive<E, O> {
         ensures honest { IsHonest self.old ↔ IsHonest self.new }
         ensures counted { IfOk result (λ n. n ≡ applied_in self.old) }
         ensures finds { (h : History) → Carries self.old h → IfErr result FindsNone }
-        ensures read { IsHonest self.old → (pages : List (List ℕ)) → HasPages self.old pages → IfOk result (IsAllRead pages (once_state self.old).settled (O.block_count (once_of self.old)) (root_in self.old)) }
+        ensures read { IsHonest self.old → (pages : List (List ℕ)) → HasPages self.old pages → IfOk result (IsAllRead pages (once_state self.old).settled (O.block_count (once_of self.old)) (root_in self.old) (in_use_of self.old)) }
         ensures bad { IsHonest self.old → (pages : List (List ℕ)) → HasPages self.old pages
-            → (page : ℕ) → result ≡ Err (CheckError.BadNode page) → IsBadPage pages (once_state self.old).settled (O.block_count (once_of self.old)) (root_in self.old) (applied_in self.old) page }
+            → (page : ℕ) → result ≡ Err (CheckError.BadNode page) → IsBadPage pages (once_state self.old).settled (O.block_count (once_of self.old)) (root_in self.old) (applied_in self.old) (in_use_of self.old) page }
         ensures damaged { IsHonest self.old → (pages : List (List ℕ)) → HasPages self.old pages
             → (block : ℕ) → result ≡ Err (CheckError.Damaged block) → IsBadBlock pages (once_state self.old).settled (O.block_count (once_of self.old)) (root_in self.old) block }
         ensures carries { (h : History) → Carries self.old h → Carries self.new h }
@@ -116,14 +132,23 @@ impl<E: EraseDisk + Drop, O: OnceDisk + Drop> Archive<E, O> {
         ensures blocks { IsHonest self.old → once_state self.new ≡ once_state self.old }
         ensures failed { TellsFailure self.old self.new (once_of self.old) (result ≡ Err CheckError.Fault) }
     {
+        let burnt = self.shelf.next();
         begin(&mut self.tx)?;
         let mut reader = self.shelf.reader(self.alloc, KEPT_BLOCKS)?;
         let mut seen = self.shelf.seen()?;
-        count_by(self.alloc, &mut self.tx, &mut reader, &mut seen, &self.head)
+        count_by(
+            self.alloc,
+            &mut self.tx,
+            &mut reader,
+            &mut seen,
+            &self.head,
+            burnt,
+        )
     }
 
-    /// Reads every page and every block that the tree leads to, and tells how many changes are applied: as many as the tree has
-    /// versions. The first page or block that isn't what it is to be is told; page 0, where the head tells another number.
+    /// Reads every page and every block that the tree leads to, and returns how many changes are applied: as many as the tree has
+    /// versions. The error names the first page or block that isn't what it is to be: page 0, where the head has another number, or calls
+    /// a page or a block unused that the tree uses; the page of a column that names a block which was never burnt.
     ///
     /// Nothing is written. Pages come through the archive's cache, and at most 64 blocks are kept, for the time of the call. `Fault` is told
     /// just where a read, or the look at what is settled, failed. After each outcome the archive holds the history that it held.
@@ -133,9 +158,9 @@ impl<E: EraseDisk + Drop, O: OnceDisk + Drop> Archive<E, O> {
         ensures sound { IsHonest self.old → (h : History) → Holds self.old h → (page : ℕ) → result ≡ Err (CheckError.BadNode page) → ⊥ }
         ensures undamaged { IsHonest self.old → (h : History) → Holds self.old h → (block : ℕ) → result ≡ Err (CheckError.Damaged block) → ⊥ }
         ensures failed { TellsFailure self.old self.new (once_of self.old) (result ≡ Err CheckError.Fault) }
-        ensures read { IsHonest self.old → (pages : List (List ℕ)) → HasPages self.old pages → IfOk result (IsAllRead pages (once_state self.old).settled (O.block_count (once_of self.old)) (root_in self.old)) }
+        ensures read { IsHonest self.old → (pages : List (List ℕ)) → HasPages self.old pages → IfOk result (IsAllRead pages (once_state self.old).settled (O.block_count (once_of self.old)) (root_in self.old) (in_use_of self.old)) }
         ensures bad { IsHonest self.old → (pages : List (List ℕ)) → HasPages self.old pages
-            → (page : ℕ) → result ≡ Err (CheckError.BadNode page) → IsBadPage pages (once_state self.old).settled (O.block_count (once_of self.old)) (root_in self.old) (applied_in self.old) page }
+            → (page : ℕ) → result ≡ Err (CheckError.BadNode page) → IsBadPage pages (once_state self.old).settled (O.block_count (once_of self.old)) (root_in self.old) (applied_in self.old) (in_use_of self.old) page }
         ensures damaged { IsHonest self.old → (pages : List (List ℕ)) → HasPages self.old pages
             → (block : ℕ) → result ≡ Err (CheckError.Damaged block) → IsBadBlock pages (once_state self.old).settled (O.block_count (once_of self.old)) (root_in self.old) block }
         ensures holds { (h : History) → Holds self.old h → Holds self.new h }

@@ -142,6 +142,7 @@ impl<E: EraseDisk + Drop, O: OnceDisk + Drop> Archive<E, O> {
                 settings,
                 head,
                 sequencer,
+                kept: None,
             }),
             Err(Handed { disk, error }) => {
                 let (once, pen) = shelf.into_disk();

@@ -6,7 +6,7 @@ ghost use Rattle.page_tx.specs.Start.{Start};
 ghost use Rattle.route_meaning.specs.History.{History, settled};
 ghost use Rattle.interleaving_core.specs.Does.{last_moment};
 ghost use Rattle.disk_archive.specs.Cursors.{IsGathered, asks};
-ghost use Rattle.disk_archive.specs.Descents.{Descends, GoesFurther};
+ghost use Rattle.disk_archive.specs.Descents.{Descends, GoesFurther, ReadsBelow};
 ghost use Rattle.disk_archive.specs.inner.Asking.{BlamesNone, LookRefusal};
 ghost use Rattle.disk_archive.specs.inner.Descending.{HasPages, of_events, of_rows};
 
@@ -58,18 +58,21 @@ fn of_events(turn: EventsTurn) -> Descent
     }
 }
 
-// A turn of a question over the archive's tree, by these pages.
+// A turn of a question over the archive's tree, by these pages. No block from `burnt` on was ever burnt.
 fn descend_by<P: Pages>(
     alloc: Global,
     pages: &mut P,
     head: &Head,
+    burnt: u64,
     cursor: &mut Cursor,
 ) -> Result<Descent, AskError>
-    ensures descends { (count : ℕ) (known : ℕ → Option (List ℕ)) (h : History) → HasPages P.Pages pages.old count known head.now.root h → last_moment (asks cursor.old) < settled h → IsGathered cursor.old h → IfOk result (Descends count known h cursor.old cursor.new) }
+    requires burnt { head.now.block ≤ burnt }
+    ensures descends { (count : ℕ) (known : ℕ → Option (List ℕ)) (h : History) → HasPages P.Pages pages.old count known head.now.root head.now.block h → last_moment (asks cursor.old) < settled h → IsGathered cursor.old h → IfOk result (Descends count known h cursor.old cursor.new) }
     ensures further { IfOk result (GoesFurther cursor.old cursor.new) }
-    ensures gathered { (count : ℕ) (known : ℕ → Option (List ℕ)) (h : History) → HasPages P.Pages pages.old count known head.now.root h → last_moment (asks cursor.old) < settled h → IsGathered cursor.old h → IsGathered cursor.new h }
+    ensures burnt { IfOk result (ReadsBelow burnt) }
+    ensures gathered { (count : ℕ) (known : ℕ → Option (List ℕ)) (h : History) → HasPages P.Pages pages.old count known head.now.root head.now.block h → last_moment (asks cursor.old) < settled h → IsGathered cursor.old h → IsGathered cursor.new h }
     ensures asks { asks cursor.new ≡ asks cursor.old }
-    ensures blames { (count : ℕ) (known : ℕ → Option (List ℕ)) (h : History) → HasPages P.Pages pages.old count known head.now.root h → IfErr result BlamesNone }
+    ensures blames { (count : ℕ) (known : ℕ → Option (List ℕ)) (h : History) → HasPages P.Pages pages.old count known head.now.root head.now.block h → IfErr result BlamesNone }
     ensures refused { IfErr result (LookRefusal (P.down pages.old)) }
     ensures undamaged { (block : ℕ) → result ≡ Err (AskError.Damaged block) → ⊥ }
     ensures reads { (start : Start) (shown : List (List ℕ)) → P.shows pages.old start shown → P.shows pages.new start shown }
@@ -83,14 +86,14 @@ fn descend_by<P: Pages>(
     let root = root_of(pages, head)?;
     match cursor {
         Cursor::Rows(rows) => {
-            let turn = rows_turn(pages, alloc, &root, rows)?;
+            let turn = rows_turn(pages, alloc, &root, burnt, rows)?;
             Ok(of_rows(turn))
         }
         Cursor::Events(events) => {
             // What peers and prefixes are limited to is known to a proof by a call on each.
             let _len = events.question.peer.encoded_len();
             let _address = events.question.prefix.address();
-            let turn = events_turn(pages, alloc, &root, events)?;
+            let turn = events_turn(pages, alloc, &root, burnt, events)?;
             Ok(of_events(turn))
         }
     }
@@ -98,6 +101,7 @@ fn descend_by<P: Pages>(
 
 impl<E: EraseDisk + Drop, O: OnceDisk + Drop> Archive<E, O> {
     ghost use Rattle.disk_archive.specs.Archives.{Carries, Holds, Stands, IsHonest, erase_of, is_down, once_of, once_state, pen_in, settings_of, site_of};
+    ghost use Rattle.disk_archive.specs.Blanks.{next_block};
     ghost use Rattle.disk_archive.specs.Sites.{LeftCarries, LeftEither};
     ghost use Rattle.disk_archive.specs.Crashes.{Crashes, Lasts};
     ghost use Rattle.disk_archive.specs.inner.Idle.{IsAsBefore};
@@ -121,6 +125,7 @@ impl<E: EraseDisk + Drop, O: OnceDisk + Drop> Archive<E, O> {
         ensures honest { IsHonest self.old ↔ IsHonest self.new }
         ensures descends { IfOk result (λ descent. (h : History) → Carries self.old h → IsGathered cursor.old h → Descends (O.block_count (once_of self.old)) (once_state self.old).settled h cursor.old cursor.new descent) }
         ensures further { IfOk result (GoesFurther cursor.old cursor.new) }
+        ensures burnt { IfOk result (ReadsBelow (next_block self.old)) }
         ensures gathered { (h : History) → Carries self.old h → IsGathered cursor.old h → IsGathered cursor.new h }
         ensures asks { asks cursor.new ≡ asks cursor.old }
         ensures below { OnOk result ((h : History) → Carries self.old h → last_moment (asks cursor.old) < settled h) }
@@ -136,15 +141,17 @@ impl<E: EraseDisk + Drop, O: OnceDisk + Drop> Archive<E, O> {
         ensures pen { pen_in self.new ≡ pen_in self.old }
         ensures settings { settings_of self.new ≡ settings_of self.old }
     {
+        let burnt = self.shelf.next();
         begin(&mut self.tx)?;
         check_settled(&self.sequencer, &cursor.query())?;
-        let descent = descend_by(self.alloc, &mut self.tx, &self.head, cursor)?;
+        let descent = descend_by(self.alloc, &mut self.tx, &self.head, burnt, cursor)?;
         Ok(descent)
     }
 
     /// A turn of a question over what is applied, where its last moment is below the settled watermark: the answer; or the walk has come
     /// further, to a higher key or a later stamp, and the question goes on with its next turn; or settled blocks are to be read for it,
-    /// which the errand does without the archive. The answer is that of what is applied now, and of each later history.
+    /// which the errand does without the archive. The answer is that of what is applied now, and of each later history. Where a column
+    /// names a block that was never burnt, its page is called bad, and no errand is given.
     ///
     /// What the question had gathered stays so whatever was called since its last turn. A turn looks at one key or one stamp, reads pages
     /// alone, which are kept in the archive's cache, and writes nothing. After each outcome the archive holds the history that it held, and
@@ -152,6 +159,7 @@ impl<E: EraseDisk + Drop, O: OnceDisk + Drop> Archive<E, O> {
     pub fn descend(&mut self, cursor: &mut Cursor) -> Result<Descent, AskError>
         ensures descends { IfOk result (λ descent. IsHonest self.old → (h : History) → Holds self.old h → IsGathered cursor.old h → Descends (O.block_count (once_of self.old)) (once_state self.old).settled h cursor.old cursor.new descent) }
         ensures further { IfOk result (GoesFurther cursor.old cursor.new) }
+        ensures burnt { IfOk result (ReadsBelow (next_block self.old)) }
         ensures gathered { IsHonest self.old → (h : History) → Holds self.old h → IsGathered cursor.old h → IsGathered cursor.new h }
         ensures asks { asks cursor.new ≡ asks cursor.old }
         ensures below { OnOk result (IsHonest self.old → (h : History) → Holds self.old h → last_moment (asks cursor.old) < settled h) }

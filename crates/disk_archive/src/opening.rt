@@ -113,6 +113,7 @@ impl<E: EraseDisk + Drop, O: OnceDisk + Drop> Archive<E, O> {
                 settings,
                 head,
                 sequencer,
+                kept: None,
             }),
             Err(once_store::Refused { disk, pen, fault }) => {
                 let _told = fault;

@@ -33,7 +33,7 @@ use crate::apply_error::{ApplyError, of_pages, of_tree};
 use archive_head::Head;
 use archive_pages::{Settings, TreePlace, lane_of, pass_change};
 use disk_models::OnceDisk;
-use intake::ReadError;
+use intake::{Encoded, ReadError};
 use once_store::Shelf;
 use page_tx::Pages;
 use route_history::version_of_change;
@@ -42,14 +42,15 @@ use std::alloc::{AllocError, Global};
 use tsb_tree::{insert, open};
 use version_model::{Entry, Stamp};
 
-/// The first admission that waits of a collector.
+/// The first admission that waits of a collector. One that is kept of a read before isn't decoded again.
 pub(crate) fn front_of<P: Pages>(
     alloc: Global,
     pages: &mut P,
     settings: Settings,
     head: &Head,
     collector: u8,
-) -> Result<Admission, ApplyError>
+    kept: Option<Encoded>,
+) -> Result<Encoded, ApplyError>
     requires collector { collector < length head.now.lanes }
     ensures front { IfOk result (λ a. (start : Start) (shown : List (List ℕ)) (lane : Lane) (waits : List Admitted) → P.shows pages.old start shown → HasLane head.now collector lane → Holds shown (ring_of settings collector lane) waits → slice_get waits 0 ≡ Some a) }
     ensures fits { IfOk result (λ a. (lane : Lane) → HasLane head.now collector lane → CanPop settings collector lane a) }
@@ -71,7 +72,7 @@ pub(crate) fn front_of<P: Pages>(
     if !ring.is_within(pages.home_pages()) {
         return Err(ApplyError::BadNode(0));
     }
-    match ring.front(alloc, pages) {
+    match ring.front(alloc, pages, kept) {
         Ok(Some(admission)) => Ok(admission),
         Ok(None) => Err(ApplyError::BadNode(0)),
         Err(ReadError::BadNode(page)) => Err(ApplyError::BadNode(page)),

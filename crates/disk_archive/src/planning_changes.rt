@@ -22,9 +22,9 @@ use crate::planning_application::{front_of, plan_change};
 use archive_head::Head;
 use archive_pages::{Settings, copy_head, put_head};
 use disk_models::OnceDisk;
+use intake::Encoded;
 use once_store::Shelf;
 use page_tx::Pages;
-use route_model::Admission;
 use sequencer::{Ahead, Sequencer};
 use std::alloc::Global;
 use tsb_tree::open;
@@ -43,7 +43,7 @@ const MORE_CHANGES: u32 = 999;
 #[derive(Drop)]
 pub(crate) struct Front {
     pub(crate) collector: u8,
-    pub(crate) admission: Admission,
+    pub(crate) admission: Encoded,
 }
 
 /// What is planned so far: the head, the admissions that are wholly applied, as those that are passed over, and the admission at hand,
@@ -56,11 +56,13 @@ pub(crate) struct Plan {
     pub(crate) whole: bool,
 }
 
-/// What is to be committed: the head that is on its page, and the admissions that are wholly applied.
+/// What is to be committed: the head that is on its page, and the admissions that are wholly applied. The last admission that was at hand
+/// is kept, since the next changes are mostly its own.
 #[derive(Drop)]
 pub(crate) struct Application {
     pub(crate) head: Head,
     pub(crate) ahead: Ahead,
+    pub(crate) kept: Encoded,
 }
 
 // Takes the first admission of the collector that is next. No change of it is applied.
@@ -71,6 +73,7 @@ fn begin_plan<P: Pages>(
     head: &Head,
     sequencer: &Sequencer,
     number: usize,
+    kept: Option<Encoded>,
 ) -> Result<Plan, ApplyError>
     requires lanes { length head.now.lanes ≡ length sequencer.now }
     requires few { length sequencer.now ≤ 16 }
@@ -97,7 +100,7 @@ fn begin_plan<P: Pages>(
     let next = copy_head(alloc, head)?;
     let ahead = sequencer.ahead(alloc)?;
     let collector = number as u8;
-    let admission = front_of(alloc, pages, settings, &next, collector)?;
+    let admission = front_of(alloc, pages, settings, &next, collector, kept)?;
     Ok(Plan {
         head: next,
         ahead,
@@ -156,6 +159,7 @@ fn plan_step<P: Pages, O: OnceDisk + Drop>(
     ensures failed { CountsFailures (P.faults pages.old) (P.faults pages.new) (O.pen_fault_count (pen_of shelf.old)) (O.pen_fault_count (pen_of shelf.new)) (result ≡ Err ApplyError.Fault) }
 {
     let collector = plan.front.collector;
+    let admission = plan.front.admission.admission();
     let whole = plan_change(
         alloc,
         pages,
@@ -163,7 +167,7 @@ fn plan_step<P: Pages, O: OnceDisk + Drop>(
         settings,
         &mut plan.head,
         collector,
-        &plan.front.admission,
+        admission,
         most_level,
     )?;
     pass_whole(sequencer, &mut plan.ahead, collector, whole);
@@ -200,7 +204,7 @@ fn find_front<P: Pages>(
         return false;
     };
     let collector = number as u8;
-    let Ok(admission) = front_of(alloc, pages, settings, &plan.head, collector) else {
+    let Ok(admission) = front_of(alloc, pages, settings, &plan.head, collector, None) else {
         return false;
     };
     plan.front = Front {
@@ -313,6 +317,7 @@ pub(crate) fn plan_changes<P: Pages, O: OnceDisk + Drop>(
     head: &Head,
     sequencer: &Sequencer,
     number: usize,
+    kept: Option<Encoded>,
 ) -> Result<Application, ApplyError>
     requires lanes { length head.now.lanes ≡ length sequencer.now }
     requires few { length sequencer.now ≤ 16 }
@@ -340,7 +345,7 @@ pub(crate) fn plan_changes<P: Pages, O: OnceDisk + Drop>(
     ensures honest { P.honest pages.old ↔ P.honest pages.new }
     ensures failed { CountsFailures (P.faults pages.old) (P.faults pages.new) (O.pen_fault_count (pen_of shelf.old)) (O.pen_fault_count (pen_of shelf.new)) (result ≡ Err ApplyError.Fault) }
 {
-    let mut plan = begin_plan(alloc, pages, settings, head, sequencer, number)?;
+    let mut plan = begin_plan(alloc, pages, settings, head, sequencer, number, kept)?;
     plan_step(
         alloc,
         pages,
@@ -351,9 +356,18 @@ pub(crate) fn plan_changes<P: Pages, O: OnceDisk + Drop>(
         HIGHEST_LEVEL,
     )?;
     plan_more(alloc, pages, shelf, settings, sequencer, &mut plan);
-    let Plan { head, ahead, .. } = plan;
+    let Plan {
+        head,
+        ahead,
+        front,
+        ..
+    } = plan;
     match put_head(alloc, pages, &head) {
-        Ok(()) => Ok(Application { head, ahead }),
+        Ok(()) => Ok(Application {
+            head,
+            ahead,
+            kept: front.admission,
+        }),
         Err(refusal) => Err(of_pages(refusal)),
     }
 }

@@ -4,6 +4,7 @@ ghost use Rattle.std.specs.Prelude.{◌≡◌, ◌↔◌, ◌≤◌, ℕ, length
 ghost use Rattle.disk_models.specs.Octets.{octets};
 ghost use Rattle.disk_models.specs.Erase.{DiskState, Lingers, Stays, Syncs, WritesWithin};
 
+use crate::failure::{Call, Reason};
 use std::io;
 
 /// Which file of the system it is, whatever its name.
@@ -92,4 +93,7 @@ pub trait OctetFile {
     fn twin(&self) -> io::Result<Self>
     where
         Self: Sized;
+
+    /// Notes why a disk over it fails, for whoever asks later. By itself a file keeps nothing.
+    fn note(&self, _call: Call, _reason: Reason) {}
 }

@@ -8,22 +8,25 @@ ghost use Rattle.disk_files.specs.Nothing.{no_octets};
 ghost use Rattle.disk_files.specs.Refusals.{IsOfSize};
 
 use crate::error::{FileError, Part};
+use crate::failure::Failures;
 use crate::file::OctetFile;
 use crate::folder;
+use crate::noting::NotedFile;
 use crate::opening::{open, prepare};
 use crate::size::are_pages;
 use crate::transfer::{read_whole, sync_whole, write_whole};
 use disk_models::{EraseDisk, Fault};
-use std::alloc::Global;
+use std::alloc::{AllocError, Global};
 use std::fs::File;
 use std::rt::Files;
+use std::sync::Arc;
 
 /// An erasable disk over a file.
 ///
-/// After a write or a sync that failed each call fails, until the disk is opened again: what the system gives then may
+/// After a write or a sync that failed each call fails, until the disk is opened again or renewed: what the system gives then may
 /// never have reached the device.
 #[derive(Drop)]
-pub struct FileErase<F = File> {
+pub struct FileErase<F = NotedFile> {
     file: F,
     size: u64,
     faults: u64,
@@ -31,7 +34,7 @@ pub struct FileErase<F = File> {
 }
 
 impl<F: OctetFile> FileErase<F> {
-    ghost use Rattle.disk_files.specs.Pages.{IsFresh, file_of, is_broken, size_of};
+    ghost use Rattle.disk_files.specs.Pages.{IsFresh, faults_of, file_of, is_broken, size_of};
 
     /// A disk over this file, which has this size.
     fn over(file: F, size: u64) -> Self
@@ -88,6 +91,28 @@ impl<F: OctetFile> FileErase<F> {
         Ok(FileErase::over(file, size))
     }
 
+    /// Makes the disk usable again after a write or a sync that failed, as opening its file does: what a read gives from then
+    /// on stands on the device. Its file stays open and locked. Where it fails the disk is broken.
+    pub fn renew(&mut self) -> Result<(), Fault>
+        ensures size { size_of self.new ≡ size_of self.old }
+        ensures counts { Counts (faults_of self.old) (faults_of self.new) result }
+        ensures whole { OnOk result (is_broken self.new ≡ false) }
+        ensures broken { OnErr result (is_broken self.new ≡ true) }
+        ensures follows { F.follows (file_of self.old) ↔ F.follows (file_of self.new) }
+        ensures held { F.follows (file_of self.old) → OnOk result (F.is_held (file_of self.new)) }
+        ensures settled { F.follows (file_of self.old) → OnOk result ((i : ℕ) → ¬ (F.model (file_of self.new)).unsynced i) }
+        ensures lingers { F.follows (file_of self.old) → OnOk result (Lingers (F.model (file_of self.old)) (F.model (file_of self.new))) }
+        ensures cut { F.follows (file_of self.old) → F.octet_count (file_of self.old) < size_of self.old → IsErr result }
+    {
+        match open(&mut self.file, Part::Pages) {
+            Ok(size) if size >= self.size => {
+                self.is_broken = false;
+                Ok(())
+            }
+            _ => Err(self.break_down()),
+        }
+    }
+
     /// Counts a failure.
     fn fault(&mut self) -> Fault
         ensures { self.new ≡ record self.old { faults = min (self.old.faults + 1) 18446744073709551615 } }
@@ -106,7 +131,7 @@ impl<F: OctetFile> FileErase<F> {
 }
 
 impl FileErase {
-    ghost use Rattle.disk_files.specs.Pages.{IsFresh, size_of};
+    ghost use Rattle.disk_files.specs.Pages.{IsFresh, faults_of, is_broken, size_of};
 
     /// Makes `pages.rha` in a folder, of so many octets: a positive multiple of 16,384, below 2^63. It costs no room on the
     /// device before it is written to.
@@ -127,7 +152,7 @@ impl FileErase {
             return Err(FileError::Size(Part::Pages));
         }
         let file = folder::create(alloc, files, folder, size, Part::Pages)?;
-        Ok(FileErase::over(file, size))
+        Ok(FileErase::over(NotedFile::new(file, Part::Pages), size))
     }
 
     /// Opens `pages.rha` of a folder. No one else may hold it, and no one else can while it is open.
@@ -143,7 +168,17 @@ impl FileErase {
         if !are_pages(size) {
             return Err(FileError::Size(Part::Pages));
         }
-        Ok(FileErase::over(file, size))
+        Ok(FileErase::over(NotedFile::new(file, Part::Pages), size))
+    }
+
+    /// From now on why its file fails is kept there.
+    pub fn note_in(&mut self, failures: &Arc<Failures>) -> Result<(), AllocError>
+        ensures size { size_of self.new ≡ size_of self.old }
+        ensures faults { faults_of self.new ≡ faults_of self.old }
+        ensures state { is_broken self.new ≡ is_broken self.old }
+        ensures fresh { IsFresh self.old → IsFresh self.new }
+    {
+        self.file.note_in(failures)
     }
 
     /// Takes its file out of the folder, where it still stands there under its name.
@@ -153,7 +188,7 @@ impl FileErase {
         files: &R,
         folder: &str,
     ) -> Result<(), FileError> {
-        folder::remove(alloc, files, folder, &self.file, Part::Pages)
+        folder::remove(alloc, files, folder, self.file.file(), Part::Pages)
     }
 }
 

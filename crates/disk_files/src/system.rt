@@ -4,6 +4,7 @@ ghost use Rattle.disk_models.specs.Erase.{DiskState};
 ghost use Rattle.disk_files.specs.Nothing.{no_octets};
 
 use crate::file::{FileFacts, FileIdentity, OctetFile};
+use libc::types::rlimit;
 use std::fs::{File, Metadata, TryLockError};
 use std::io;
 use std::os::fd::AsRawFd;
@@ -16,6 +17,27 @@ fn forget_cached(file: &File) -> io::Result<()> {
         0 => Ok(()),
         error => Err(io::Error::from_raw_os_error(error)),
     }
+}
+
+/// The number of the limit on how large a file may grow, on each Linux.
+const RLIMIT_FSIZE: i32 = 1;
+
+/// How large this process may let a file grow. Beyond it the system sends a signal that ends the process, and that can't be
+/// ignored from here. So what would go there is refused before the system is asked.
+fn size_limit() -> u64 {
+    let mut limit = rlimit {
+        rlim_cur: u64::MAX,
+        rlim_max: u64::MAX,
+    };
+    if libc::getrlimit(RLIMIT_FSIZE, &mut limit) < 0 {
+        return u64::MAX;
+    }
+    limit.rlim_cur
+}
+
+/// What the system answers beyond that limit where the signal is ignored.
+fn too_large() -> io::Error {
+    io::Error::from_raw_os_error(libc::EFBIG)
 }
 
 /// Which file this is said of.
@@ -54,6 +76,9 @@ impl OctetFile for File {
     }
 
     fn resize(&mut self, size: u64) -> io::Result<()> {
+        if size > size_limit() {
+            return Err(too_large());
+        }
         self.set_len(size)
     }
 
@@ -67,6 +92,9 @@ impl OctetFile for File {
     }
 
     fn write_some(&mut self, at: u64, from: &[u8]) -> io::Result<usize> {
+        if at >= size_limit() {
+            return Err(too_large());
+        }
         self.write_at(from, at)
     }
 

@@ -4,18 +4,26 @@ ghost use Rattle.std.specs.Prelude.{◌≡◌, ◌↔◌, ◌≤◌, ◌<◌, �
 ghost use Rattle.disk_models.specs.Octets.{octets};
 ghost use Rattle.disk_models.specs.Erase.{Lingers, Stays, Syncs, WritesWithin};
 
+use crate::failure::{Call, Reason};
 use crate::file::OctetFile;
 use disk_models::Fault;
 use std::io::ErrorKind;
 
-/// The file has all the octets that it should have. One that was cut would grow again with a write behind its end, by
-/// zeros that no one wrote.
-fn look_at_size<F: OctetFile>(file: &F, size: u64) -> Result<(), Fault>
+/// The failure of a call on a file, which is noted with its reason.
+fn fault<F: OctetFile>(file: &F, call: Call, reason: Reason) -> Fault {
+    file.note(call, reason);
+    Fault
+}
+
+/// The file has all the octets that it should have, so that the call can be made. One that was cut would grow again with a write
+/// past its end, by zeros that no one wrote.
+fn look_at_size<F: OctetFile>(file: &F, size: u64, call: Call) -> Result<(), Fault>
     ensures cut { F.follows file.now → F.octet_count file.now < size → IsErr result }
 {
     match file.facts() {
         Ok(facts) if facts.size >= size => Ok(()),
-        _ => Err(Fault),
+        Ok(_) => Err(fault(file, call, Reason::Cut)),
+        Err(e) => Err(fault(file, call, Reason::of(&e))),
     }
 }
 
@@ -35,10 +43,10 @@ fn read_more<F: OctetFile>(
     ensures stays { F.follows file.old → Stays (F.model file.old) (F.model file.new) }
 {
     match file.read_some(at + got as u64, &mut into[got..]) {
-        Ok(0) => Err(Fault),
+        Ok(0) => Err(fault(file, Call::Read, Reason::Cut)),
         Ok(n) => Ok(n),
         Err(e) if e.kind() == ErrorKind::Interrupted => Ok(0),
-        Err(_) => Err(Fault),
+        Err(e) => Err(fault(file, Call::Read, Reason::of(&e))),
     }
 }
 
@@ -70,10 +78,10 @@ fn write_more<F: OctetFile>(file: &mut F, at: u64, from: &[u8], put: usize) -> R
     ensures within { F.follows file.old → WritesWithin at (length from.now) (F.model file.old) (F.model file.new) }
 {
     match file.write_some(at + put as u64, &from[put..]) {
-        Ok(0) => Err(Fault),
+        Ok(0) => Err(fault(file, Call::Write, Reason::Kind(ErrorKind::WriteZero))),
         Ok(n) => Ok(n),
         Err(e) if e.kind() == ErrorKind::Interrupted => Ok(0),
-        Err(_) => Err(Fault),
+        Err(e) => Err(fault(file, Call::Write, Reason::of(&e))),
     }
 }
 
@@ -90,7 +98,7 @@ pub(crate) fn write_whole<F: OctetFile>(
     ensures within { F.follows file.old → WritesWithin at (length from.now) (F.model file.old) (F.model file.new) }
     ensures cut { F.follows file.old → F.octet_count file.old < size → IsErr result × (file.new ≡ file.old) }
 {
-    look_at_size(file, size)?;
+    look_at_size(file, size, Call::Write)?;
     let mut put = 0;
     for _ in 0..u64::MAX {
         if put == from.len() {
@@ -108,9 +116,9 @@ pub(crate) fn sync_whole<F: OctetFile>(file: &mut F, size: u64) -> Result<(), Fa
     ensures lingers { F.follows file.old → Lingers (F.model file.old) (F.model file.new) }
     ensures cut { F.follows file.old → F.octet_count file.old < size → IsErr result }
 {
-    let whole = look_at_size(file, size);
+    let whole = look_at_size(file, size, Call::Sync);
     match file.sync() {
         Ok(()) => whole,
-        Err(_) => Err(Fault),
+        Err(e) => Err(fault(file, Call::Sync, Reason::of(&e))),
     }
 }

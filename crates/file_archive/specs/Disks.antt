@@ -1,8 +1,8 @@
 -- Both disks over the files of a folder.
 use Rattle.std.specs.Prelude.{◌≡◌}
-use Rattle.std.specs.declared.fs.File.{File}
 use Rattle.disk_files.specs.declared.blocks.FileOnce.{FileOnce}
 use Rattle.disk_files.specs.declared.pages.FileErase.{FileErase}
+use Rattle.disk_files.specs.declared.noting.NotedFile.{NotedFile}
 use Rattle.disk_files.specs.declared.pen.FilePen.{FilePen}
 use Rattle.disk_files.specs.Blocks.{count_of, identity_of}
 use Rattle.disk_files.specs.Pages.{IsFresh, size_of}
@@ -11,15 +11,15 @@ use Rattle.disk_files.specs.Sizes.{AreBlocks, ArePages}
 use Rattle.file_archive.specs.declared.disks.FileDisks.{FileDisks}
 
 -- the erasable disk
-abbrev pub erase_in : FileDisks → FileErase File
+abbrev pub erase_in : FileDisks → FileErase NotedFile
 erase_in disks = disks.erase
 
 -- the write-once disk
-abbrev pub once_in : FileDisks → FileOnce File
+abbrev pub once_in : FileDisks → FileOnce NotedFile
 once_in disks = disks.once.value
 
 -- its pen
-abbrev pub pen_in : FileDisks → FilePen File
+abbrev pub pen_in : FileDisks → FilePen NotedFile
 pen_in disks = disks.pen
 
 -- They have sizes that such disks can have, the pen is the write-once disk's, and nothing has failed yet.

@@ -40,9 +40,14 @@ fn create_in<R: Files<File = File>>(
     ensures no_blocks { ¬ AreBlocks blocks → IsErr result }
     ensures right_size { AreBlocks blocks → (why : FileError) → result ≡ Err (CreateFault.File why) → ¬ IsOfSize why }
 {
-    let FileDisks { erase, once, pen } = FileDisks::create(alloc, files, folder, size, blocks)?;
+    let FileDisks {
+        erase,
+        once,
+        pen,
+        failures,
+    } = FileDisks::create(alloc, files, folder, size, blocks)?;
     match Archive::create(alloc, erase, once, pen, settings) {
-        Ok(archive) => Ok(FileArchive::new(archive)),
+        Ok(archive) => Ok(FileArchive::new(archive, failures)),
         Err(
             Refused {
                 erase,
@@ -52,7 +57,7 @@ fn create_in<R: Files<File = File>>(
             },
         ) => {
             take_away(alloc, files, folder, erase, pen);
-            Err(CreateFault::Archive(error))
+            Err(CreateFault::of(error, &failures))
         }
     }
 }

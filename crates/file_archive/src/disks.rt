@@ -1,11 +1,13 @@
 //! Both disks over the files of a folder.
 
 ghost use Rattle.std.specs.Prelude.{◌≡◌, ◌+◌, ◌*◌, ◌≤◌, ◌^◌, ◌↔◌, IfOk, IfErr, IsErr, Err};
+ghost use Rattle.disk_files.specs.Pages.{IsFresh, size_of};
+ghost use Rattle.disk_files.specs.Pens.{IsFreshPen, pen_identity};
 ghost use Rattle.disk_files.specs.Refusals.{IsOfSize};
 ghost use Rattle.disk_files.specs.Sizes.{AreBlocks, ArePages};
 
-use disk_files::{FileErase, FileError, FileOnce, FilePen, Part};
-use std::alloc::Global;
+use disk_files::{Failures, FileErase, FileError, FileOnce, FilePen, Part};
+use std::alloc::{AllocError, Global};
 use std::fs::File;
 use std::rt::Files;
 use std::sync::Arc;
@@ -25,6 +27,7 @@ pub struct FileDisks {
     pub(crate) erase: FileErase,
     pub(crate) once: Arc<FileOnce>,
     pub(crate) pen: FilePen,
+    pub(crate) failures: Arc<Failures>,
 }
 
 /// How many octets the erasable disk of so many home pages has.
@@ -42,8 +45,6 @@ pub(crate) fn disk_size(pages: u64) -> Result<u64, FileError>
 
 impl FileDisks {
     ghost use Rattle.disk_files.specs.Blocks.{count_of, identity_of};
-    ghost use Rattle.disk_files.specs.Pages.{IsFresh, size_of};
-    ghost use Rattle.disk_files.specs.Pens.{IsFreshPen, pen_identity};
     ghost use Rattle.file_archive.specs.Disks.{AreDisks, erase_in, once_in};
 
     /// Makes the files of both disks in a folder: so many octets to be written over, and so many blocks. Where it is refused
@@ -61,17 +62,23 @@ impl FileDisks {
         ensures few { AreBlocks blocks → ArePages size → IfErr result (λ why. ¬ IsOfSize why) }
         ensures refused { ¬ AreBlocks blocks → IsErr result }
     {
-        let erase = FileErase::create(alloc, files, folder, size)?;
-        let (once, pen) = match FileOnce::create(alloc, files, folder, blocks) {
+        let mut erase = FileErase::create(alloc, files, folder, size)?;
+        let (once, mut pen) = match FileOnce::create(alloc, files, folder, blocks) {
             Ok(made) => made,
             Err(why) => {
                 let _ = erase.remove(alloc, files, folder);
                 return Err(why);
             }
         };
-        match Arc::new(alloc, once) {
-            Ok(once) => Ok(FileDisks { erase, once, pen }),
-            Err(_) => {
+        let failures = note_both(alloc, folder, &mut erase, &mut pen);
+        match (Arc::new(alloc, once), failures) {
+            (Ok(once), Ok(failures)) => Ok(FileDisks {
+                erase,
+                once,
+                pen,
+                failures,
+            }),
+            _ => {
                 take_away(alloc, files, folder, erase, pen);
                 Err(FileError::OutOfMemory)
             }
@@ -90,13 +97,37 @@ impl FileDisks {
     ) -> Result<FileDisks, FileError>
         ensures fresh { IfOk result AreDisks }
     {
-        let erase = FileErase::open(alloc, files, folder)?;
-        let (once, pen) = FileOnce::open(alloc, files, folder)?;
-        match Arc::new(alloc, once) {
-            Ok(once) => Ok(FileDisks { erase, once, pen }),
-            Err(_) => Err(FileError::OutOfMemory),
+        let mut erase = FileErase::open(alloc, files, folder)?;
+        let (once, mut pen) = FileOnce::open(alloc, files, folder)?;
+        let failures = note_both(alloc, folder, &mut erase, &mut pen);
+        match (Arc::new(alloc, once), failures) {
+            (Ok(once), Ok(failures)) => Ok(FileDisks {
+                erase,
+                once,
+                pen,
+                failures,
+            }),
+            _ => Err(FileError::OutOfMemory),
         }
     }
+}
+
+/// Keeps why calls on the files of both disks fail from now on.
+fn note_both(
+    alloc: Global,
+    folder: &str,
+    erase: &mut FileErase,
+    pen: &mut FilePen,
+) -> Result<Arc<Failures>, AllocError>
+    ensures size { size_of erase.new ≡ size_of erase.old }
+    ensures fresh { IsFresh erase.old → IsFresh erase.new }
+    ensures identity { pen_identity pen.new ≡ pen_identity pen.old }
+    ensures fresh_pen { IsFreshPen pen.old → IsFreshPen pen.new }
+{
+    let failures = Arc::new(alloc, Failures::new(alloc, folder)?)?;
+    erase.note_in(&failures)?;
+    pen.note_in(&failures)?;
+    Ok(failures)
 }
 
 /// Takes the files of both disks out of a folder, as far as the system does.

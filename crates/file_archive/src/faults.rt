@@ -5,7 +5,7 @@ ghost use Rattle.file_archive.specs.declared.faults.CreateFault.TheVariants as c
 ghost use Rattle.file_archive.specs.declared.faults.OpenFault.TheVariants as open_faults;
 
 use disk_archive::{CreateError, OpenError};
-use disk_files::FileError;
+use disk_files::{Failure, Failures, FileError};
 use std::io;
 use thiserror::Error;
 
@@ -21,6 +21,22 @@ pub enum CreateFault {
     /// There are too few pages for an archive, or it isn't written to the files.
     #[error("{0}")]
     Archive(CreateError),
+    /// A device failed, as this call on a file did.
+    #[error("{0}")]
+    Failed(Failure),
+}
+
+impl CreateFault {
+    /// Why an archive isn't written to its files.
+    pub(crate) fn of(error: CreateError, failures: &Failures) -> CreateFault
+        ensures archive { (why : CreateError) → result ≡ create_faults.Archive why → why ≡ error }
+        ensures no_file { (why : FileError) → ¬ (result ≡ create_faults.File why) }
+    {
+        match (error, failures.first()) {
+            (CreateError::Fault, Some(failure)) => CreateFault::Failed(failure),
+            _ => CreateFault::Archive(error),
+        }
+    }
 }
 
 impl From<FileError> for CreateFault {
@@ -40,6 +56,19 @@ pub enum OpenFault {
     /// The files hold no archive, or one that can't be read.
     #[error("{0}")]
     Archive(OpenError),
+    /// A device failed, as this call on a file did.
+    #[error("{0}")]
+    Failed(Failure),
+}
+
+impl OpenFault {
+    /// Why no archive is opened on the files of a folder.
+    pub(crate) fn of(error: OpenError, failures: &Failures) -> OpenFault {
+        match (error, failures.first()) {
+            (OpenError::Fault, Some(failure)) => OpenFault::Failed(failure),
+            _ => OpenFault::Archive(error),
+        }
+    }
 }
 
 impl From<FileError> for OpenFault {
@@ -47,13 +76,5 @@ impl From<FileError> for OpenFault {
 
     fn from(why: FileError) -> Self {
         OpenFault::File(why)
-    }
-}
-
-impl From<OpenError> for OpenFault {
-    ghost from_gives = { λ why fault. fault ≡ open_faults.Archive why };
-
-    fn from(why: OpenError) -> Self {
-        OpenFault::Archive(why)
     }
 }

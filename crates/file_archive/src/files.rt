@@ -9,10 +9,12 @@ use archive_calls::{
     AdmitError, AskError, Flush, MAX_BATCH_LEN, MarkError, RouteArchive, Step, Trouble,
 };
 use disk_archive::Archive;
-use disk_files::{FileErase, FileOnce};
+use disk_files::{Failures, FileErase, FileOnce};
 use interleaving_core::{Answer, BatchReply, Query, Resume};
 use once_store::ShelfReader;
 use route_model::{Admission, Mark};
+use std::alloc::Global;
+use std::sync::Arc;
 
 /// The most octets of one admission as a batch. A ring, which has nine pages at least, has room for it.
 const ONE_ADMISSION: usize = 131_076;
@@ -34,6 +36,7 @@ pub struct FileArchive {
     // none where there was no memory for it: then each question reads blocks anew
     reader: Option<ShelfReader<FileOnce>>,
     limit: usize,
+    failures: Arc<Failures>,
     ghost one: { 131076 ≤ limit },
     ghost few: { limit ≤ 262144 },
 }
@@ -43,8 +46,8 @@ impl FileArchive {
     ghost use Rattle.disk_archive.specs.Archives.{GoesOn, settings_of, site_of};
     ghost use Rattle.file_archive.specs.FileArchives.{GoesOnWith, limit_for, limit_of, site_in};
 
-    /// The archive that was created or opened on both disks.
-    pub fn new(archive: Archive<FileErase, FileOnce>) -> FileArchive
+    /// The archive that was created or opened on both disks, with the place where it is kept why they fail.
+    pub(crate) fn new(archive: Archive<FileErase, FileOnce>, failures: Arc<Failures>) -> FileArchive
         ensures same { (h : History) → GoesOnWith result h ↔ GoesOn archive h }
         ensures site { site_in result ≡ site_of archive }
         ensures limit { limit_of result ≡ limit_for (settings_of archive) }
@@ -56,7 +59,13 @@ impl FileArchive {
             archive,
             reader,
             limit,
+            failures,
         }
+    }
+
+    /// Where it is kept why calls on its files fail.
+    pub fn failures(&self) -> &Arc<Failures> {
+        &self.failures
     }
 
     /// The archive on both disks, as threads share it.
@@ -152,5 +161,9 @@ impl RouteArchive for FileArchive {
             Ok(count) => Ok(count),
             Err(refusal) => Err(check_trouble(refusal)),
         }
+    }
+
+    fn failure(&self, alloc: Global) -> Option<String> {
+        self.failures.text(alloc)
     }
 }

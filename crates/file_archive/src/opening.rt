@@ -5,7 +5,7 @@ ghost use Rattle.std.specs.Prelude.{◌≡◌, IfOk};
 use crate::disks::FileDisks;
 use crate::faults::OpenFault;
 use crate::files::FileArchive;
-use disk_archive::{Archive, OpenError};
+use disk_archive::Archive;
 use std::alloc::Global;
 use std::fs::File;
 use std::rt::Files;
@@ -20,16 +20,22 @@ impl FileArchive {
     ///
     /// # Errors
     ///
-    /// Why both disks hold no archive, or one that can't be read; a device that failed; a growth of memory that was refused.
-    pub fn on(alloc: Global, disks: FileDisks) -> Result<FileArchive, OpenError>
+    /// `Archive`: why both disks hold no archive, or one that can't be read, or a growth of memory that was refused. `Failed`: a device
+    /// failed.
+    pub fn on(alloc: Global, disks: FileDisks) -> Result<FileArchive, OpenFault>
         ensures limit { IfOk result (λ archive. limit_of archive ≡ limit_for (site_in archive).settings) }
         ensures blocks { IfOk result (λ archive. (site_in archive).blocks ≡ count_of (once_in disks)) }
         ensures noted { IfOk result (λ archive. FollowModels archive → IsNoted (site_in archive)) }
     {
-        let FileDisks { erase, once, pen } = disks;
+        let FileDisks {
+            erase,
+            once,
+            pen,
+            failures,
+        } = disks;
         match Archive::open(alloc, erase, once, pen) {
-            Ok(archive) => Ok(FileArchive::new(archive)),
-            Err(refused) => Err(refused.error),
+            Ok(archive) => Ok(FileArchive::new(archive, failures)),
+            Err(refused) => Err(OpenFault::of(refused.error, &failures)),
         }
     }
 
@@ -37,7 +43,8 @@ impl FileArchive {
     ///
     /// # Errors
     ///
-    /// `File` where a file isn't opened: it is missing, or someone holds it, or the system fails; then `Archive`, as [`FileArchive::on`] tells.
+    /// `File` where a file isn't opened: it is missing, or someone holds it, or the system fails; then `Archive` or `Failed`, as
+    /// of [`FileArchive::on`].
     pub fn open<R: Files<File = File>>(
         alloc: Global,
         files: &R,
@@ -47,6 +54,6 @@ impl FileArchive {
         ensures noted { IfOk result (λ archive. FollowModels archive → IsNoted (site_in archive)) }
     {
         let disks = FileDisks::open(alloc, files, folder)?;
-        Ok(FileArchive::on(alloc, disks)?)
+        FileArchive::on(alloc, disks)
     }
 }

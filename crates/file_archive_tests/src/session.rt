@@ -100,7 +100,7 @@ pub(crate) fn run<A: RouteArchive>(
             load(alloc, archive, how, &mut file, &mut lines, &mut refusals)
         }
         Command::Ask(line) => ask(alloc, archive, line, &mut lines, &mut refusals),
-        Command::Check => check(archive, &mut lines, &mut refusals),
+        Command::Check => check(alloc, archive, &mut lines, &mut refusals),
     })
 }
 

@@ -3,7 +3,7 @@ use crate::answers::Answer::{self, Fault, No, Yes};
 use crate::folders::{
     PAGE, are_all, beside, block_of, cut, folder, has, holds, inside, octet_of, size_of,
 };
-use disk_files::{FileError, FileOnce, FilePen, FileSeen, Part};
+use disk_files::{FileError, FileOnce, FilePen, FileSeen, NotedFile, Part};
 use disk_models::{Block, OnceDisk};
 use std::alloc::Global;
 use std::fs;
@@ -237,14 +237,15 @@ fn a_block_is_marked_before_it_is_written_and_never_written_again(
 }
 
 #[test]
-fn a_block_that_the_map_calls_blank_is_not_read(rt: HostRuntime) -> Result<(), Fail> {
+fn a_block_that_the_map_calls_blank_reads_as_zeros(rt: HostRuntime) -> Result<(), Fail> {
     let folder = folder(&rt, "unread")?;
     let mut bench = made(&rt, folder.as_str(), 2)?;
     beside(&rt, folder.as_str(), "once.rha")?.write_at(b"something that no one burnt", PAGE)?;
     let table = [
         (Look, Yes),
-        (Reads(1, 0), Fault),
-        (Reads(0, 0), Fault),
+        // What stands in its place isn't believed.
+        (Reads(1, 0), Yes),
+        (Reads(0, 0), Yes),
         // A reader that looked before a burn reads it, too; and where the file is cut, no zeros.
         (Burn(0, 7), Yes),
         (Settle, Yes),
@@ -253,13 +254,10 @@ fn a_block_that_the_map_calls_blank_is_not_read(rt: HostRuntime) -> Result<(), F
         (Reads(0, 7), Fault),
     ];
     assert_eq!(rt; bench.first_wrong(&rt, folder.as_str(), &table), None);
-    let seen_faults = bench
-        .seen
-        .as_ref()
-        .map(FileOnce::<std::fs::File>::seen_faults);
+    let seen_faults = bench.seen.as_ref().map(FileOnce::<NotedFile>::seen_faults);
     assert_eq!(rt;
         (seen_faults, FileOnce::pen_faults(&bench.pen)),
-        (Some(3), 0)
+        (Some(1), 0)
     );
     fs::remove_dir_all(&rt, folder.as_str())?;
     Ok(())

@@ -3,11 +3,12 @@ use crate::answers::Answer::{self, Fault, Yes};
 use crate::folders::{
     PAGE, are_all, beside, cut, folder, has, holds, inside, octet_of, page_of, size_of,
 };
-use disk_files::{FileErase, FileError, Part};
+use disk_files::{Call, Failure, Failures, FileErase, FileError, Part, Reason};
 use disk_models::EraseDisk;
 use std::fs;
 use std::os::fd::AsRawFd;
 use std::os::unix::fs::symlink;
+use std::sync::Arc;
 use std::test::Fail;
 
 // A step over a disk of pages.
@@ -143,7 +144,16 @@ fn sizes_that_no_such_file_has_make_nothing(rt: HostRuntime) -> Result<(), Fail>
     // More than any file of this system may have: it is refused once the file is made.
     let most = 9_223_372_036_854_759_424;
     let refused = FileErase::create(rt.alloc(), &rt, folder.as_str(), most).err();
-    assert_eq!(rt; refused, Some(FileError::Failed(Part::Pages)));
+    assert!(rt;
+        matches!(
+            refused,
+            Some(FileError::Failed(Failure {
+                part: Part::Pages,
+                call: Call::Resize,
+                reason: Reason::System(_),
+            }))
+        )
+    );
     assert!(rt; !has(&rt, folder.as_str(), "pages.rha")?);
     fs::remove_dir_all(&rt, folder.as_str())?;
     Ok(())
@@ -293,5 +303,39 @@ fn a_page_reads_as_it_was_written_through_a_link(rt: HostRuntime) -> Result<(), 
     );
     fs::remove_dir_all(&rt, folder.as_str())?;
     fs::remove_dir_all(&rt, other.as_str())?;
+    Ok(())
+}
+
+// A read that failed is kept until a write fails, and then that is.
+#[test]
+fn the_first_failure_is_kept(rt: HostRuntime) -> Result<(), Fail> {
+    let folder = folder(&rt, "kept")?;
+    let failures = Arc::new(rt.alloc(), Failures::new(rt.alloc(), folder.as_str())?)?;
+    let mut disk = FileErase::create(rt.alloc(), &rt, folder.as_str(), 2 * PAGE)?;
+    disk.note_in(&failures)?;
+    assert_eq!(rt; fill(&mut disk, 0, 1), Yes);
+    assert_eq!(rt; failures.text(rt.alloc()), None);
+    assert_eq!(rt; cut(&rt, folder.as_str(), "pages.rha", PAGE), Yes);
+    assert_eq!(rt; is_filled(&mut disk, 1, 0), Fault);
+    let kept = Failure {
+        part: Part::Pages,
+        call: Call::Read,
+        reason: Reason::Cut,
+    };
+    assert_eq!(rt; failures.first(), Some(kept));
+    assert_eq!(rt; fill(&mut disk, 0, 2), Fault);
+    assert_eq!(rt; Answer::of(disk.sync()), Fault);
+    let kept = Failure {
+        part: Part::Pages,
+        call: Call::Write,
+        reason: Reason::Cut,
+    };
+    assert_eq!(rt; failures.first(), Some(kept));
+    let text = format!(in rt.alloc();
+        "{}/pages.rha: write: the file is shorter than it should be",
+        folder.as_str()
+    )?;
+    assert_eq!(rt; failures.text(rt.alloc()), Some(text));
+    fs::remove_dir_all(&rt, folder.as_str())?;
     Ok(())
 }

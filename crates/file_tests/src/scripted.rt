@@ -1,8 +1,9 @@
 // Disks over a file that does less than it is asked for, is interrupted, or fails.
 use crate::folders::{PAGE, are_all};
 use crate::slow::{SlowFile, Wrong};
-use disk_files::{FileErase, FileError, FileOnce, Part};
+use disk_files::{Call, Failure, FileErase, FileError, FileOnce, Part, Reason};
 use disk_models::{Block, EraseDisk, Fault, OnceDisk};
+use std::io::ErrorKind;
 use std::test::Fail;
 
 #[test]
@@ -69,7 +70,14 @@ fn what_stands_against_an_opening_is_told(rt: HostRuntime) -> Result<(), Fail> {
     for (wrong, refusal) in [
         (Wrong::IsHeld, FileError::InUse(Part::Pages)),
         (Wrong::IsIrregular, FileError::NotAFile(Part::Pages)),
-        (Wrong::Settles, FileError::Failed(Part::Pages)),
+        (
+            Wrong::Settles,
+            FileError::Failed(Failure {
+                part: Part::Pages,
+                call: Call::Sync,
+                reason: Reason::Kind(ErrorKind::Other),
+            }),
+        ),
     ] {
         let made = FileErase::create_on(SlowFile::new(rt.alloc(), 99, wrong), PAGE);
         assert_eq!(rt; made.err(), Some(refusal));

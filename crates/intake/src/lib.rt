@@ -4,12 +4,14 @@
 
 mod appending;
 mod drafting;
+mod encoded;
 mod error;
 mod laws;
 mod reading;
 mod ring;
 mod waiting;
 
+pub use encoded::Encoded;
 pub use error::{IntakeError, ReadError};
 pub use laws::{rings_go_round, rings_hold_one_list, rings_keep_what_they_hold};
 pub use ring::Ring;

@@ -5,10 +5,11 @@ ghost use Rattle.page_tx.specs.Start.{Start};
 ghost use Rattle.intake.specs.Ring.{IsRing, StandsIn};
 ghost use Rattle.intake.specs.Calls.{OnlyReads, PageRefusal};
 
+use crate::encoded::Encoded;
 use crate::error::ReadError;
 use crate::ring::{PAGE, Ring, wrap};
 use page_tx::{PageError, Pages};
-use route_model::{Admission, MAX_ADMISSION_LEN};
+use route_model::MAX_ADMISSION_LEN;
 use std::alloc::Global;
 
 // Reads a first piece of so many octets, which stand in one page from a place behind the first used octet on.
@@ -83,12 +84,14 @@ impl Ring {
 
     /// The first admission that waits, none where nothing waits. Where no admission stands first, the page is told on
     /// which it would begin. Where no octet is used, or too few for a length, no page is read for it. Else a failed read
-    /// and want of memory may refuse it before damage is found.
+    /// and want of memory may refuse it before damage is found. One that is kept of a read before is the answer where its
+    /// octets stand first still: it isn't decoded again.
     pub fn front<P: Pages>(
         &self,
         alloc: Global,
         pages: &mut P,
-    ) -> Result<Option<Admission>, ReadError>
+        kept: Option<Encoded>,
+    ) -> Result<Option<Encoded>, ReadError>
         requires ring { IsRing (P.homes pages.old) self.now }
         ensures front { IfOk result (λ front. (start : Start) (shown : List (List ℕ)) (waits : List Admitted) → P.shows pages.old start shown → Holds shown self.now waits → front ≡ slice_get waits 0) }
         ensures none { IfOk result (λ front. IfNone front (self.now.used ≡ 0)) }
@@ -116,7 +119,7 @@ impl Ring {
             return Err(damaged); // a length that no admission here can have
         }
         let octets = read(alloc, pages, *self, 4, len as usize)?;
-        let Some(admission) = Admission::decode(alloc, &octets)? else {
+        let Some(admission) = Encoded::decode(alloc, octets, kept)? else {
             return Err(damaged); // octets that spell no admission
         };
         Ok(Some(admission))

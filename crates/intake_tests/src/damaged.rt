@@ -48,7 +48,7 @@ fn spoil(alloc: Global, tx: &mut Tx<MemErase>, ring: &Ring, place: u64) -> Resul
 // The spelling of the first admission, empty where there is none.
 fn first_read(alloc: Global, tx: &mut Tx<MemErase>, ring: &Ring) -> Result<Reading<Vec<u8>>, Fail> {
     match front(alloc, tx, ring) {
-        Ok(Some(admission)) => Ok(Ok(admission.encode(alloc)?)),
+        Ok(Some(found)) => Ok(Ok(found.admission().encode(alloc)?)),
         Ok(None) => Ok(Ok(Vec::new(alloc))),
         Err(ReadError::BadNode(page)) => Ok(Err(page)),
         Err(other) => Err(other.into()),

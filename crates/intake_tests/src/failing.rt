@@ -23,7 +23,7 @@ fn leave(tx: &mut Tx<MemErase>) -> Result<(), Fail> {
 // Whether the first admission is the one that was put.
 fn is_one(alloc: Global, tx: &mut Tx<MemErase>, ring: &Ring) -> Result<bool, Fail> {
     match front(alloc, tx, ring)? {
-        Some(admission) => Ok(admission.encode(alloc)?.as_slice() == ONE.as_slice()),
+        Some(found) => Ok(found.admission().encode(alloc)?.as_slice() == ONE.as_slice()),
         None => Ok(false),
     }
 }

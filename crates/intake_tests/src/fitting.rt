@@ -87,8 +87,8 @@ fn comes_out(
     let Some(found) = front(alloc, tx, ring)? else {
         return Ok(false);
     };
-    let same = found.encode(alloc)?.as_slice() == admission.encode(alloc)?.as_slice();
-    Ok(pop(tx, ring, &found) && same)
+    let same = found.admission().encode(alloc)?.as_slice() == admission.encode(alloc)?.as_slice();
+    Ok(pop(tx, ring, found.admission()) && same)
 }
 
 #[test]

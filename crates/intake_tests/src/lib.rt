@@ -8,6 +8,8 @@ mod failing;
 #[cfg(test)]
 mod fitting;
 #[cfg(test)]
+mod kept;
+#[cfg(test)]
 mod lengths;
 #[cfg(test)]
 mod made;

@@ -2,7 +2,7 @@
 use buffer_pool::Pool;
 use disk_memory::{Failure, MemErase};
 use disk_models::Page;
-use intake::{IntakeError, ReadError, Ring};
+use intake::{Encoded, IntakeError, ReadError, Ring};
 use page_journal::{Journal, PostError};
 use page_tx::{PageError, Pages, Tx};
 use route_model::{Admission, Change, Moment, Peer, Prefix};
@@ -201,15 +201,25 @@ pub(crate) fn append(
     ring.append(alloc, tx, batch)
 }
 
+// The first admission, where this one is kept of a read before.
+pub(crate) fn front_again(
+    alloc: Global,
+    tx: &mut Tx<MemErase>,
+    ring: &Ring,
+    kept: Option<Encoded>,
+) -> Result<Option<Encoded>, ReadError> {
+    if !ring.is_within(tx.pool().home_pages()) {
+        return Err(ReadError::Pages(PageError::PagesFull));
+    }
+    ring.front(alloc, tx, kept)
+}
+
 pub(crate) fn front(
     alloc: Global,
     tx: &mut Tx<MemErase>,
     ring: &Ring,
-) -> Result<Option<Admission>, ReadError> {
-    if !ring.is_within(tx.pool().home_pages()) {
-        return Err(ReadError::Pages(PageError::PagesFull));
-    }
-    ring.front(alloc, tx)
+) -> Result<Option<Encoded>, ReadError> {
+    front_again(alloc, tx, ring, None)
 }
 
 pub(crate) fn waiting_times(

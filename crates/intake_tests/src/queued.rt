@@ -96,8 +96,8 @@ fn take(alloc: Global, tx: &mut Tx<MemErase>, both: &mut Both) -> Result<bool, F
             let octets = 4u64.saturating_add(admission.encoded_len() as u64);
             both.octets = both.octets.saturating_sub(octets);
             both.taken = both.taken.saturating_add(octets);
-            let same = found.encode(alloc)? == admission.encode(alloc)?;
-            Ok(pop(tx, &mut both.ring, &found) && same)
+            let same = found.admission().encode(alloc)? == admission.encode(alloc)?;
+            Ok(pop(tx, &mut both.ring, found.admission()) && same)
         }
         (None, None) => Ok(true),
         _ => Ok(false),
@@ -226,11 +226,13 @@ fn take_seconds(
             return Ok(ring.used == 0);
         };
         count_end(ring, ends);
-        if found.time() != Moment::from(*next) || found.changes().len() != 1 {
+        if found.admission().time() != Moment::from(*next)
+            || found.admission().changes().len() != 1
+        {
             return Ok(false);
         }
         *next = next.saturating_add(1);
-        if !pop(tx, ring, &found) {
+        if !pop(tx, ring, found.admission()) {
             return Ok(false);
         }
     }
@@ -277,9 +279,9 @@ fn is_wrapped(alloc: Global, tx: &mut Tx<MemErase>, before: u64) -> Result<bool,
     let Some(found) = front(alloc, tx, &ring)? else {
         return Ok(false);
     };
-    let same = found.encode(alloc)?.as_slice() == SHORTEST.as_slice();
+    let same = found.admission().encode(alloc)?.as_slice() == SHORTEST.as_slice();
     Ok(
-        same && pop(tx, &mut ring, &found)
+        same && pop(tx, &mut ring, found.admission())
             && ring.used == 0
             && ring.first == (PAGE + 18).saturating_sub(before) % PAGE,
     )
@@ -311,8 +313,9 @@ fn is_its_turn(
     let Some(found) = front(alloc, tx, ring)? else {
         return Ok(false);
     };
-    let same = found.time() == Moment::from(before) && found.changes().len() == count;
-    Ok(pop(tx, ring, &found) && same)
+    let same = found.admission().time() == Moment::from(before)
+        && found.admission().changes().len() == count;
+    Ok(pop(tx, ring, found.admission()) && same)
 }
 
 #[test]

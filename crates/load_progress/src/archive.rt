@@ -8,6 +8,7 @@ use archive_calls::{AdmitError, AskError, Flush, MarkError, RouteArchive, Step, 
 use file_archive::FileArchive;
 use interleaving_core::{Answer, BatchReply, Query, Resume};
 use route_model::{Admission, Mark};
+use std::alloc::Global;
 use std::io::Eprint;
 use std::time::Clock;
 
@@ -90,5 +91,9 @@ impl<'a, T: Eprint + Clock> RouteArchive for WatchedArchive<'a, T> {
 
     fn check(&mut self) -> Result<u64, Trouble> {
         self.archive.check()
+    }
+
+    fn failure(&self, alloc: Global) -> Option<String> {
+        self.archive.failure(alloc)
     }
 }

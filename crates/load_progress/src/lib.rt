@@ -6,10 +6,6 @@ mod archive;
 mod counts;
 mod meter;
 mod reader;
-#[cfg(test)]
-mod screen;
-#[cfg(test)]
-mod shown;
 mod writer;
 
 pub use archive::WatchedArchive;

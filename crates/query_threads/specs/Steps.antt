@@ -4,7 +4,7 @@ use Rattle.route_model.specs.Admission.{Admitted, admission_octets}
 use Rattle.sequencer.specs.Late.{timely}
 use Rattle.route_meaning.specs.Holds.{admitted_time}
 use Rattle.route_meaning.specs.Merged.{part}
-use Rattle.route_meaning.specs.History.{Intake, History, waiting}
+use Rattle.route_meaning.specs.History.{Intake, History, Begins, waiting}
 use Rattle.interleaving_core.specs.declared.reply.BatchReply.{BatchReply}
 use Rattle.interleaving_core.specs.Does.{IsReply}
 use Rattle.interleaving_core.specs.Steps.{IsCollector, IsMarkAbove, given, marked, Applies, AppliesMore, NothingToApply}
@@ -77,3 +77,9 @@ DoesApply (Err trouble) h g = BlamesNone trouble × (g ≡ h)
 -- nothing that was said changes, and the call fails only for a trouble from outside
 abbrev pub DoesFlush : Result Flush Trouble → History → History → Type 0
 DoesFlush told h g = IfErr told IsOutside × (g ≡ h)
+
+-- What is found begins with all that was said, and may go on with what a call that failed was about; where the archive isn't opened
+-- again nothing changes.
+abbrev pub DoesReopen : Result (Unit {0}) Trouble → History → History → Type 0
+DoesReopen (Ok done) h g = Begins h g
+DoesReopen (Err trouble) h g = g ≡ h

@@ -6,7 +6,7 @@ ghost use Rattle.interleaving_core.specs.Does.{last_moment};
 ghost use Rattle.interleaving_core.specs.Headline.{IsAnswered};
 ghost use Rattle.board.specs.Past.{Past, GoesOnAs, reach};
 ghost use Rattle.board.specs.Views.{View, Within, Reached, IsCaughtUp, IsFrontOf, BeginsView};
-ghost use Rattle.query_threads.specs.Steps.{IsCrowded, DoesAdmit, DoesMark, DoesApply, DoesFlush};
+ghost use Rattle.query_threads.specs.Steps.{IsCrowded, DoesAdmit, DoesMark, DoesApply, DoesFlush, DoesReopen};
 ghost use Rattle.query_threads.specs.Looks.{IsErrandOn};
 ghost use Rattle.query_threads.specs.Turns.{TurnGives, IsTold};
 ghost use Rattle.query_threads.specs.Seeing.{Sees, ComesOf};
@@ -182,6 +182,29 @@ impl<A: Store, N: Named + OnDisk<A::Disk>> Desk<A, N> {
         );
         self.greet(board, pass);
         told
+    }
+
+    /// Opens the archive again. The pass then knows the history that was found.
+    pub fn reopen(
+        &mut self,
+        board: &Board<N>,
+        pass: &mut Pass<N>,
+        alloc: Global,
+    ) -> Result<(), Trouble>
+        ensures begins { BeginsView pass.old pass.new }
+        ensures sees { IsSome N.disk → Sees (DoesReopen result) pass.old pass.new }
+        ensures opens { ComesOf N.disk A.disk_of A.carries (λ a b. A.reopens a result b) pass.old pass.new }
+    {
+        self.greet(board, pass);
+        let told = self.archive.reopen(alloc);
+        follow::<Brand, A, N, Result<(), Trouble>>(board, &mut self.writer, &self.archive, &told);
+        self.greet(board, pass);
+        told
+    }
+
+    /// Which call on a device failed, and why, in words for a person; none where the archive has none.
+    pub fn failure(&self, alloc: Global) -> Option<String> {
+        self.archive.failure(alloc)
     }
 
     /// A turn of a question. The pass then knows the history over which it was made.

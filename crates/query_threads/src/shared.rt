@@ -7,7 +7,7 @@ ghost use Rattle.interleaving_core.specs.Headline.{IsAnswered};
 ghost use Rattle.board.specs.Past.{Past, Among};
 ghost use Rattle.board.specs.Views.{View, Reached, IsCaughtUp, IsFrontOf, BeginsView, with_seen, watermark_of, durable_of};
 ghost use Rattle.board.specs.Opened.{name_of};
-ghost use Rattle.query_threads.specs.Steps.{IsCrowded, DoesAdmit, DoesMark, DoesApply, DoesFlush};
+ghost use Rattle.query_threads.specs.Steps.{IsCrowded, DoesAdmit, DoesMark, DoesApply, DoesFlush, DoesReopen};
 ghost use Rattle.query_threads.specs.Looks.{IsErrandOn};
 ghost use Rattle.query_threads.specs.Turns.{TurnGives, IsTold, IsAbove};
 ghost use Rattle.query_threads.specs.Seeing.{Sees, ComesOf, IsMissed};
@@ -221,6 +221,20 @@ impl<A: Store, N: Named + OnDisk<A::Disk>, G: Gate + Drop> Shared<A, N, G> {
         ensures trouble { IfErr result (λ t. ComesOf N.disk A.disk_of A.carries (λ a b. A.tells a t b) pass.old pass.new) }
     {
         self.desk.lock(rt).flush(&self.board, pass)
+    }
+
+    /// Opens the archive again, once the lock is got.
+    pub fn reopen(&self, rt: &impl Wait, pass: &mut Pass<N>, alloc: Global) -> Result<(), Trouble>
+        ensures begins { BeginsView pass.old pass.new }
+        ensures sees { IsSome N.disk → Sees (DoesReopen result) pass.old pass.new }
+        ensures opens { ComesOf N.disk A.disk_of A.carries (λ a b. A.reopens a result b) pass.old pass.new }
+    {
+        self.desk.lock(rt).reopen(&self.board, pass, alloc)
+    }
+
+    /// Which call on a device of the archive failed, and why, in words for a person, once the lock is got; none where it has none.
+    pub fn failure(&self, rt: &impl Wait, alloc: Global) -> Option<String> {
+        self.desk.lock(rt).failure(alloc)
     }
 
     // Tells once of a request that it has descended.

@@ -1,5 +1,5 @@
 //! What threads ask of an archive.
-ghost use Rattle.std.specs.Prelude.{◌≡◌, ◌<◌, ◌≤◌, ℕ, List, [], length, Option, OnOk, IfOk, IfErr, Err, ⊤};
+ghost use Rattle.std.specs.Prelude.{◌≡◌, ◌<◌, ◌≤◌, ℕ, List, [], length, Option, Result, OnOk, IfOk, IfErr, Err, ⊤};
 ghost use Rattle.route_model.specs.Admission.{Admitted};
 ghost use Rattle.route_meaning.specs.History.{History, IsHistory, Begins, applied, settled};
 ghost use Rattle.interleaving_core.specs.declared.query.Query.{Query};
@@ -9,7 +9,7 @@ ghost use Rattle.interleaving_core.specs.Steps.{IsCollector};
 ghost use Rattle.board.specs.Past.{Past, GoesOnAs, count_of};
 ghost use Rattle.query_threads.specs.declared.refusal.Trouble.{Trouble};
 ghost use Rattle.query_threads.specs.declared.refusal.Flush.{Flush};
-ghost use Rattle.query_threads.specs.Steps.{IsCrowded, DoesAdmit, DoesMark, DoesApply, DoesFlush};
+ghost use Rattle.query_threads.specs.Steps.{IsCrowded, DoesAdmit, DoesMark, DoesApply, DoesFlush, DoesReopen};
 ghost use Rattle.query_threads.specs.Turns.{TurnGives, IsTold};
 ghost use Rattle.query_threads.specs.Looks.{AreSettled, AreTheSettled, IsErrandOn};
 ghost use Rattle.query_threads.specs.Troubles.{IsOutside, OnAdmitTrouble, OnMarkTrouble, OnAskTrouble};
@@ -114,6 +114,9 @@ pub trait Store {
     /// A call told this trouble, of the archive as it was and as the call left it.
     ghost tells: { Self → Trouble → Self → Type 0 };
 
+    /// An opening returned this: the archive before the call and after it.
+    ghost reopens: { Self → Result (Unit {0}) Trouble → Self → Type 0 };
+
     /// A step of flushing did this, with the archive as it was and as the step left it.
     ghost flushes: { Self → Flush → Self → Type 0 };
 
@@ -165,6 +168,19 @@ pub trait Store {
         ensures trouble { IfErr result (λ t. tells self.old t self.new) }
         ensures disk { disk_of self.new ≡ disk_of self.old }
         ensures pages { pages self.new ≡ pages self.old };
+
+    /// Opens the archive again on its disks, as after a write or a sync that failed. Until that is done, each call that asks
+    /// its disks fails.
+    fn reopen(&mut self, alloc: Global) -> Result<(), Trouble>
+        ensures done { (p : Past) → carries self.old p → (q : Past) × GoesOnAs p q × carries self.new q × DoesReopen result p.history q.history }
+        ensures opens { reopens self.old result self.new }
+        ensures disk { disk_of self.new ≡ disk_of self.old }
+        ensures pages { pages self.new ≡ pages self.old };
+
+    /// Which call on a device failed first since the archive was opened, and why, in words for a person. By itself an archive has none.
+    fn failure(&self, _alloc: Global) -> Option<String> {
+        None
+    }
 
     /// The start of a question.
     fn start(alloc: Global, query: &Query) -> Self::Cursor

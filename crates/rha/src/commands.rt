@@ -6,13 +6,13 @@ ghost use Rattle.archive_pages.specs.Places.{AreSettings};
 ghost use Rattle.rha.specs.inner.Made.{settings_for};
 
 use crate::opening::open;
-use crate::refusals::{tell_no_file, tell_unmade, tell_unopened};
+use crate::refusals::{tell_no_file, tell_unanswered, tell_unmade, tell_unopened};
 use archive_pages::Settings;
 use file_archive::{FileArchive, FileDisks};
 use load_progress::{ClearedWriter, Meter, WatchedArchive, WatchedReader};
 use service::{
     Checking, Creation, Input, Loading, Output, Question, ask_line, check_archive, load_file,
-    tell_created, tell_failures, tell_out_of_memory, tell_outside, tell_unwritten,
+    tell_created, tell_lost, tell_out_of_memory, tell_outside,
 };
 use std::fs::File;
 use std::io::{BufWriter, IsTerminal, Write};
@@ -33,9 +33,7 @@ pub(crate) fn create<E: Write>(rt: &HostRuntime, asked: &Creation<'_>, err: &mut
     match FileArchive::create(alloc, rt, folder, settings, pages, blocks) {
         Ok(_) => {
             let mut out = Output::new(buffer);
-            let code = tell_created(asked, &mut out, err);
-            tell_unwritten(alloc, &out, err);
-            code
+            tell_created(alloc, asked, &mut out, err)
         }
         Err(fault) => tell_unmade(alloc, folder, &fault, err),
     }
@@ -50,11 +48,11 @@ pub(crate) fn load<E: Write>(rt: &HostRuntime, asked: &Loading<'_>, err: &mut Ou
     };
     let file = match File::open(rt, asked.file) {
         Ok(file) => file,
-        Err(why) => return tell_outside(alloc, err, asked.file, &why),
+        Err(why) => return tell_outside(alloc, err, asked.file, "open", &why),
     };
     match FileArchive::on(alloc, disks) {
         Ok(archive) => load_into(rt, archive, asked, file, err),
-        Err(why) => tell_unopened(why, err),
+        Err(fault) => tell_unopened(alloc, asked.folder, fault, err),
     }
 }
 
@@ -79,7 +77,7 @@ fn load_into<E: Write>(
     let mut told = Output::new(ClearedWriter::new(rt.stderr(), &meter));
     let code = load_file(alloc, &mut archive, asked, &mut file, &mut out, &mut told);
     meter.clear();
-    tell_failures(alloc, asked.file, &file, &out, err);
+    tell_lost(alloc, asked.file, &file, err);
     code
 }
 
@@ -94,7 +92,9 @@ pub(crate) fn ask<E: Write>(rt: &HostRuntime, asked: &Question<'_>, err: &mut Ou
     };
     let mut out = Output::new(buffer);
     let code = ask_line(alloc, &mut archive, asked, &mut out, err);
-    tell_unwritten(alloc, &out, err);
+    if code != 0 {
+        tell_unanswered(alloc, &archive, err);
+    }
     code
 }
 
@@ -108,7 +108,5 @@ pub(crate) fn check<E: Write>(rt: &HostRuntime, asked: &Checking<'_>, err: &mut 
         return tell_out_of_memory(err);
     };
     let mut out = Output::new(buffer);
-    let code = check_archive(&mut archive, &mut out, err);
-    tell_unwritten(alloc, &out, err);
-    code
+    check_archive(alloc, &mut archive, &mut out, err)
 }

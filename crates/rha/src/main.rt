@@ -6,9 +6,11 @@ mod commands;
 mod opening;
 mod refusals;
 mod served;
+mod streams;
 
 use crate::commands::{ask, check, create, load};
 use crate::served::serve;
+use crate::streams::{DEV_NULL, open_closed_streams};
 use service::{Invocation, Output, command, tell_out_of_memory, tell_outside, tell_usage};
 use std::env;
 use std::io::Write;
@@ -26,7 +28,7 @@ fn run<
     let alloc = rt.alloc();
     let words = match env::args(rt) {
         Ok(words) => words,
-        Err(why) => return tell_outside(alloc, err, "the command line", &why),
+        Err(why) => return tell_outside(alloc, err, "the command line", "read", &why),
     };
     let Ok(words): Result<Vec<String>, _> = words.collect(alloc) else {
         return tell_out_of_memory(err);
@@ -37,11 +39,15 @@ fn run<
         Ok(Invocation::Ask(asked)) => ask(rt, &asked, err),
         Ok(Invocation::Serve(asked)) => serve(rt, host, &asked, err),
         Ok(Invocation::Check(asked)) => check(rt, &asked, err),
-        Err(error) => tell_usage(rt, &error, err),
+        Err(error) => tell_usage(alloc, rt, &error, err),
     }
 }
 
 fn main(rt: HostRuntime) -> ExitCode {
     let mut err = Output::new(rt.stderr());
-    ExitCode::from(run(&rt, &rt, &mut err))
+    let code = match open_closed_streams(&rt) {
+        Ok(()) => run(&rt, &rt, &mut err),
+        Err(why) => tell_outside(rt.alloc(), &mut err, DEV_NULL, "open", &why),
+    };
+    ExitCode::from(code)
 }

@@ -1,7 +1,7 @@
 //! The archive of a folder is opened for a command.
 
-use crate::refusals::{tell_no_file, tell_unopened};
-use file_archive::{FileArchive, OpenFault};
+use crate::refusals::tell_unopened;
+use file_archive::FileArchive;
 use service::Output;
 use std::io::Write;
 
@@ -14,12 +14,8 @@ pub(crate) fn open<E: Write>(
     let alloc = rt.alloc();
     match FileArchive::open(alloc, rt, folder) {
         Ok(archive) => Some(archive),
-        Err(OpenFault::File(why)) => {
-            tell_no_file(alloc, folder, why, err);
-            None
-        }
-        Err(OpenFault::Archive(why)) => {
-            tell_unopened(why, err);
+        Err(fault) => {
+            tell_unopened(alloc, folder, fault, err);
             None
         }
     }

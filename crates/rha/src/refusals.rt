@@ -1,22 +1,31 @@
-//! Why no archive is made or opened, as standard error tells it: `rha: NUMBER NAME`, and where a file failed, behind it which one
-//! and why. The exit status is 1 then.
+//! Why no archive is made or opened, as standard error shows it: `rha: NUMBER NAME`, and where a file failed, then on the same line
+//! which one, at which call, and why. The exit status is 1.
 
-ghost use Rattle.std.specs.Prelude.{◌≡◌};
+ghost use Rattle.std.specs.Prelude.{◌≡◌, codes};
 ghost use Rattle.service.specs.Outputs.{Tells};
-ghost use Rattle.service.specs.Refusals.{error_line};
+ghost use Rattle.service.specs.Refusals.{TellsError, error_line};
 ghost use Rattle.service.specs.Telling.{TellsOutside};
 ghost use Rattle.rha.specs.inner.Refusals.{of_create, of_open, of_serve};
 
+use archive_calls::RouteArchive;
 use disk_archive::{CreateError, OpenError};
-use disk_files::FileError;
-use file_archive::CreateFault;
+use disk_files::{Failure, FileError};
+use file_archive::{CreateFault, FileArchive, OpenFault};
+use query_threads::Trouble;
 use server::trouble_of;
-use service::{Output, Refusal, tell_out_of_memory, tell_outside, tell_refusal, write_reason};
+use service::{
+    Output, Refusal, tell_out_of_memory, tell_outside, tell_refusal, tell_with, write_error,
+    write_outside, write_reason,
+};
 use serving::ServeError;
 use std::alloc::Global;
 use std::io::Write;
 
-/// Tells which file of a folder isn't made or opened, and why.
+/// What helps where a server's threads can't be made.
+const FEW_THREADS: &str =
+    ": a thread can't be made for each: choose fewer, or raise the limits on processes and memory (ulimit -u, ulimit -v)";
+
+/// Prints which file of a folder isn't made or opened, which call failed, and why.
 pub(crate) fn tell_no_file<E: Write>(
     alloc: Global,
     folder: &str,
@@ -30,15 +39,24 @@ pub(crate) fn tell_no_file<E: Write>(
     if why == FileError::OutOfMemory {
         return tell_out_of_memory(err);
     }
-    let code = tell_refusal(&Refusal::Outside, err);
-    if let Ok(reason) = format!(in alloc; "{why}") {
-        write_reason(err, folder, reason.as_str());
+    match format!(in alloc; "/{why}") {
+        Ok(reason) => write_outside(err, folder, reason.as_str()),
+        Err(_) => write_error(err, &Refusal::Outside),
     }
-    code
+    1
+}
+
+/// Prints that a device failed, at which call on a file of the folder, and why.
+fn tell_failure<E: Write>(alloc: Global, folder: &str, failure: Failure, err: &mut Output<E>) -> u8
+    ensures code { result ≡ 1 }
+    ensures told { TellsError Refusal.Fault err.old err.new }
+{
+    let why = format!(in alloc; "{folder}/{failure}").ok();
+    tell_with(&Refusal::Fault, why, err)
 }
 
 /// Tells why no archive is opened on the files of a folder.
-pub(crate) fn tell_unopened<E: Write>(why: OpenError, err: &mut Output<E>) -> u8
+fn tell_no_archive<E: Write>(why: OpenError, err: &mut Output<E>) -> u8
     ensures code { result ≡ 1 }
     ensures told { Tells err.old err.new (error_line (of_open why)) }
 {
@@ -51,6 +69,22 @@ pub(crate) fn tell_unopened<E: Write>(why: OpenError, err: &mut Output<E>) -> u8
     tell_refusal(&refusal, err)
 }
 
+/// Prints why no archive is opened in a folder.
+pub(crate) fn tell_unopened<E: Write>(
+    alloc: Global,
+    folder: &str,
+    fault: OpenFault,
+    err: &mut Output<E>,
+) -> u8
+    ensures code { result ≡ 1 }
+{
+    match fault {
+        OpenFault::File(why) => tell_no_file(alloc, folder, why, err),
+        OpenFault::Archive(why) => tell_no_archive(why, err),
+        OpenFault::Failed(failure) => tell_failure(alloc, folder, failure, err),
+    }
+}
+
 /// Tells why no archive is made in a folder.
 pub(crate) fn tell_unmade<E: Write>(
     alloc: Global,
@@ -61,22 +95,51 @@ pub(crate) fn tell_unmade<E: Write>(
     ensures code { result ≡ 1 }
 {
     match fault {
-        CreateFault::Folder(why) => tell_outside(alloc, err, folder, why),
+        CreateFault::Folder(why) => tell_outside(alloc, err, folder, "create", why),
         CreateFault::File(why) => tell_no_file(alloc, folder, *why, err),
         CreateFault::Archive(why) => tell_refusal(&refusal_of(*why), err),
+        CreateFault::Failed(failure) => tell_failure(alloc, folder, *failure, err),
     }
 }
 
-/// Tells why a server ended otherwise than a client asked for.
-pub(crate) fn tell_unserved<E: Write>(why: ServeError, err: &mut Output<E>) -> u8
+/// Prints of a question that isn't answered which call on a file failed, and why, if one did. Standard output has the refusal.
+pub(crate) fn tell_unanswered<E: Write>(alloc: Global, archive: &FileArchive, err: &mut Output<E>) {
+    if let Some(why) = archive.failure(alloc) {
+        write_reason(err, &Refusal::Fault, why.as_str());
+    }
+}
+
+/// Reports that a server's threads can't all be made, and what helps.
+fn tell_few_threads<E: Write>(err: &mut Output<E>) -> u8
     ensures code { result ≡ 1 }
-    ensures told { Tells err.old err.new (error_line (of_serve why)) }
+    ensures told { TellsOutside (codes "--workers") err.old err.new }
+{
+    write_outside(err, "--workers", FEW_THREADS);
+    1
+}
+
+/// Prints why a server ended otherwise than a client asked for, and which call on a file failed, if one did.
+pub(crate) fn tell_unserved<E: Write>(
+    why: ServeError,
+    failure: Option<String>,
+    err: &mut Output<E>,
+) -> u8
+    ensures code { result ≡ 1 }
+    ensures threads { why ≡ ServeError.Threads → TellsOutside (codes "--workers") err.old err.new }
+    ensures told { (why ≡ ServeError.Threads → ⊥) → TellsError (of_serve why) err.old err.new }
 {
     let refusal = match why {
-        ServeError::OutOfMemory => Refusal::OutOfMemory,
+        ServeError::Threads => return tell_few_threads(err),
+        ServeError::OutOfMemory => return tell_with(&Refusal::OutOfMemory, None, err),
+        // An earlier call failed, and that one is printed.
+        ServeError::Trouble(Trouble::NeedsRecovery) => Refusal::Fault,
         ServeError::Trouble(trouble) => Refusal::from(trouble_of(trouble)),
     };
-    tell_refusal(&refusal, err)
+    let failure = match refusal {
+        Refusal::Fault => failure,
+        _ => None,
+    };
+    tell_with(&refusal, failure, err)
 }
 
 /// The refusal that tells why no archive is written to its files.

@@ -6,10 +6,11 @@ ghost use Rattle.board.specs.Opened.{name_of};
 use crate::opening::open;
 use crate::refusals::tell_unserved;
 use board::{Named, Opened};
-use query_threads::{NoGate, Unpromised};
-use service::{Output, Serving, tell_listening, tell_out_of_memory, tell_outside, tell_unwritten};
+use query_threads::{NoGate, Store, Unpromised};
+use service::{Output, Serving, tell_listening, tell_out_of_memory, tell_outside};
 use serving::serve as serve_store;
 use shared_archive::FileStore;
+use std::alloc::Global;
 use std::io;
 use std::io::Write;
 use std::marker::Brand;
@@ -18,7 +19,7 @@ use std::sync::Wait;
 use std::thread::Threads;
 use std::time::Clock;
 
-/// Listens at an address, and tells where: at port 0 the system chooses one.
+/// Listens at an address, and returns where: at port 0 the system chooses one.
 fn bind<H: Net<Listener = TcpListener, Stream = TcpStream>>(
     host: &H,
     address: SocketAddrV4,
@@ -28,32 +29,34 @@ fn bind<H: Net<Listener = TcpListener, Stream = TcpStream>>(
     Ok((listener, SocketAddrV4::new(*address.ip(), port)))
 }
 
-/// Takes connections where it is asked for, and tells where that is. None where it can't, which is told.
+/// Takes connections where it is asked for, and returns where that is. None where it can't, which standard error says.
 fn listen<H: Net<Listener = TcpListener, Stream = TcpStream>, E: Write>(
-    rt: &HostRuntime,
+    alloc: Global,
     host: &H,
-    asked: &Serving<'_>,
+    address: SocketAddrV4,
     err: &mut Output<E>,
-) -> Option<TcpListener> {
-    let alloc = rt.alloc();
-    let Ok(what) = format!(in alloc; "{}", asked.listen) else {
+) -> Option<(TcpListener, SocketAddrV4)> {
+    let Ok(what) = format!(in alloc; "{address}") else {
         tell_out_of_memory(err);
         return None;
     };
-    let (listener, bound) = match bind(host, asked.listen) {
-        Ok(bound) => bound,
+    match bind(host, address) {
+        Ok(bound) => Some(bound),
         Err(why) => {
-            tell_outside(alloc, err, what.as_str(), &why);
-            return None;
+            tell_outside(alloc, err, what.as_str(), "listen", &why);
+            None
         }
-    };
-    let mut out = Output::new(rt.stdout());
-    let code = tell_listening(&bound, &mut out, err);
-    tell_unwritten(alloc, &out, err);
-    (code == 0).then_some(listener)
+    }
 }
 
-/// Serves an archive on a socket, until a client stops the server. The exit status.
+/// Prints where connections are taken. The exit status of the program: 0 where that could be printed.
+fn announce<E: Write>(rt: &HostRuntime, bound: &SocketAddrV4, err: &mut Output<E>) -> u8 {
+    let mut out = Output::new(rt.stdout());
+    tell_listening(rt.alloc(), bound, &mut out, err)
+}
+
+/// Serves an archive on a socket, until a client stops the server. Where connections are taken is printed once
+/// they are. The exit status.
 fn serve_on<
     B: Named + Send + Sync,
     H: Threads + Wait + Clock + Net<Listener = TcpListener, Stream = TcpStream> + Sync,
@@ -64,6 +67,7 @@ fn serve_on<
     opened: Opened,
     store: FileStore,
     listener: &TcpListener,
+    bound: &SocketAddrV4,
     workers: u8,
     err: &mut Output<E>,
 ) -> u8
@@ -71,12 +75,17 @@ fn serve_on<
     requires some { 1 ≤ opened.collectors }
 {
     let alloc = rt.alloc();
-    let (_store, ended) = serve_store::<FileStore, Unpromised<B>, NoGate, H, HostRuntime>(
-        host, alloc, opened, store, NoGate, listener, workers, rt,
+    let mut code = 0;
+    let ready = || {
+        code = announce(rt, bound, err);
+        code == 0
+    };
+    let (store, ended) = serve_store::<FileStore, Unpromised<B>, NoGate, H, HostRuntime, _>(
+        host, alloc, opened, store, NoGate, listener, workers, rt, ready,
     );
     match ended {
-        Ok(()) => 0,
-        Err(why) => tell_unserved(why, err),
+        Ok(()) => code,
+        Err(why) => tell_unserved(why, store.failure(alloc), err),
     }
 }
 
@@ -88,14 +97,26 @@ pub(crate) fn serve<
     let Some(archive) = open(rt, asked.folder, err) else {
         return 1;
     };
-    let store = FileStore {
-        archive: archive.into_archive(),
-    };
-    let Some(listener) = listen(rt, host, asked, err) else {
-        return 1;
-    };
-    let Ok(opened) = Opened::new(rt.alloc(), store.archive.collectors()) else {
+    let Ok(failures) = archive.failures().clone() else {
         return tell_out_of_memory(err);
     };
-    serve_on::<Brand, H, E>(rt, host, opened, store, &listener, asked.workers, err)
+    let archive = archive.into_archive();
+    let collectors = archive.collectors();
+    let store = FileStore::new(archive, failures);
+    let Some((listener, bound)) = listen(rt.alloc(), host, asked.listen, err) else {
+        return 1;
+    };
+    let Ok(opened) = Opened::new(rt.alloc(), collectors) else {
+        return tell_out_of_memory(err);
+    };
+    serve_on::<Brand, H, E>(
+        rt,
+        host,
+        opened,
+        store,
+        &listener,
+        &bound,
+        asked.workers,
+        err,
+    )
 }

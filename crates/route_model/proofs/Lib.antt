@@ -5,6 +5,8 @@ pub mod Peers
 pub mod Routes
 pub mod Sizes
 pub mod TableRows
+pub mod Indexed
+pub mod Written
 pub mod Measures
 pub mod Decoding
 mod PeersTold

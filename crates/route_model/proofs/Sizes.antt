@@ -114,6 +114,50 @@ pub routes-same : (cs : List Change) (c : Change) → announced c ≡ [] → len
 routes-same cs c a =
     rw (map-first_uses route_octets (flat_map announced (cs ++ c ∷ [])), map-first_uses route_octets (flat_map announced cs), announced-push cs c, a, append-nil (flat_map announced cs)) refl
 
+-- ---- the tables of one more change
+
+peer_rows-push : (cs : List Change) (c : Change) → peer_rows (cs ++ c ∷ []) ≡ enter (peer_rows cs) (peer_octets (peer_of c))
+peer_rows-push cs c =
+    map-first_uses peer_octets (map peer_of (cs ++ c ∷ []))
+    ∙ ap (λ (t : List Peer). distinct (map peer_octets t)) (map_push peer_of cs c)
+    ∙ ap distinct (map_push peer_octets (map peer_of cs) (peer_of c))
+    ∙ distinct-push (peers_of cs) (peer_octets (peer_of c))
+    ∙ ap (λ (t : List (List ℕ)). enter t (peer_octets (peer_of c))) (sym (map-first_uses peer_octets (map peer_of cs)))
+
+-- the table of these changes, in which the peer of one more is entered
+pub peer_entered : (cs : List Change) (c : Change) (old new : List (List ℕ)) (p : Peer) → p ≡ peer_of c → old ≡ peer_rows cs → new ≡ enter old (peer_octets p) → new ≡ peer_rows (cs ++ c ∷ [])
+peer_entered cs c old new p is table entered = entered ∙ (rw (is, table) refl ∙ sym (peer_rows-push cs c))
+
+-- and how many octets it adds
+pub peer_new : (cs : List Change) (c : Change) (old : List (List ℕ)) (n : ℕ) (p : Peer) → p ≡ peer_of c → old ≡ peer_rows cs → n ≡ (if has_row old (peer_octets p) then 0 else length (peer_octets p))
+    → n ≡ (if has_row (peers_of cs) (peer_octets (peer_of c)) then 0 else length (peer_octets (peer_of c)))
+peer_new cs c old n p is table len =
+    let there : has_row (peer_rows cs) (peer_octets (peer_of c)) ≡ has_row (peers_of cs) (peer_octets (peer_of c)) =
+    ap (λ (t : List (List ℕ)). has_row t (peer_octets (peer_of c))) (map-first_uses peer_octets (map peer_of cs)) ∙ has_row-distinct (peers_of cs) (peer_octets (peer_of c)) in
+    len ∙ (rw (is, table) refl ∙ ap (λ (b : Bool). if b then 0 else length (peer_octets (peer_of c))) there)
+
+route_rows-push : (cs : List Change) (c : Change) (r : Route) → announced c ≡ r ∷ [] → route_rows (cs ++ c ∷ []) ≡ enter (route_rows cs) (route_octets r)
+route_rows-push cs c r a =
+    map-first_uses route_octets (flat_map announced (cs ++ c ∷ []))
+    ∙ ap (λ (t : List Route). distinct (map route_octets t)) (announced-push cs c ∙ ap (λ (t : List Route). flat_map announced cs ++ t) a)
+    ∙ ap distinct (map_push route_octets (flat_map announced cs) r)
+    ∙ distinct-push (routes_of cs) (route_octets r)
+    ∙ ap (λ (t : List (List ℕ)). enter t (route_octets r)) (sym (map-first_uses route_octets (flat_map announced cs)))
+
+pub route_entered : (cs : List Change) (c : Change) (r : Route) (old new : List (List ℕ)) → announced c ≡ r ∷ [] → old ≡ route_rows cs → new ≡ enter old (route_octets r) → new ≡ route_rows (cs ++ c ∷ [])
+route_entered cs c r old new a table entered = entered ∙ (rw table refl ∙ sym (route_rows-push cs c r a))
+
+pub route_new : (cs : List Change) (r : Route) (old : List (List ℕ)) (n : ℕ) → old ≡ route_rows cs → n ≡ (if has_row old (route_octets r) then 0 else length (route_octets r) + 2)
+    → n ≡ (if has_row (routes_of cs) (route_octets r) then 0 else length (route_octets r) + 2)
+route_new cs r old n table len =
+    let there : has_row (route_rows cs) (route_octets r) ≡ has_row (routes_of cs) (route_octets r) =
+    ap (λ (t : List (List ℕ)). has_row t (route_octets r)) (map-first_uses route_octets (flat_map announced cs)) ∙ has_row-distinct (routes_of cs) (route_octets r) in
+    len ∙ (rw table refl ∙ ap (λ (b : Bool). if b then 0 else length (route_octets r) + 2) there)
+
+pub route_rows-same : (cs : List Change) (c : Change) → announced c ≡ [] → route_rows (cs ++ c ∷ []) ≡ route_rows cs
+route_rows-same cs c a =
+    rw (map-first_uses route_octets (flat_map announced (cs ++ c ∷ [])), map-first_uses route_octets (flat_map announced cs), announced-push cs c, a, append-nil (flat_map announced cs)) refl
+
 -- ---- changes behind any tables
 
 change-size : (p r q s : List (List ℕ)) (c : Change) → length (change_octets p r c) ≡ length (change_octets q s c)

@@ -1,5 +1,5 @@
 -- Tables that grow by one row at a time.
-use Rattle.std.proofs.Common.{◌≡◌, ℕ, Bool, true, false, not, ◌||◌, List, [], ◌∷◌, ◌++◌, length, map, refl, ap, ◌∙◌, arith, ◌⊎◌, inl, inr}
+use Rattle.std.proofs.Common.{◌≡◌, ℕ, Bool, true, false, not, ◌||◌, List, [], ◌∷◌, ◌++◌, ◌<◌, length, map, refl, ap, ◌∙◌, arith, ◌⊎◌, inl, inr}
 use Rattle.std.specs.Prelude.{filter}
 use Rattle.std.specs.Str.{bytes_eq}
 use Rattle.std.proofs.lemmas.List.{append-nil}
@@ -55,17 +55,10 @@ pub map-first_uses : {A : Type 0} (spell : A → List ℕ) (xs : List A) → map
 map-first_uses spell [] = refl
 map-first_uses spell (x ∷ xs) = ap (λ (l : List (List ℕ)). spell x ∷ l) (map-filter spell (λ y. not (bytes_eq (spell x) y)) (first_uses spell xs) ∙ ap (filter (λ y. not (bytes_eq (spell x) y))) (map-first_uses spell xs))
 
--- a row that stands nowhere has the length as its place
-pub place_none : (rows : List (List ℕ)) (x : List ℕ) → place_of rows x ≡ length rows → has_row rows x ≡ false
-place_none [] x e = refl
-place_none (r ∷ rows) x e = elim (bool_cases (bytes_eq r x)) [
-  | inl p ↦ absurd (omega (arith, rw p at e))
-  | inr p ↦ rw p (place_none rows x (omega (arith, rw p at e)))
-]
-
-pub place_some : (rows : List (List ℕ)) (x : List ℕ) → (place_of rows x ≡ length rows → ⊥) → has_row rows x ≡ true
-place_some [] x e = absurd (e refl)
-place_some (r ∷ rows) x e = elim (bool_cases (bytes_eq r x)) [
+-- a row whose place is before the end stands there
+pub place_some : (rows : List (List ℕ)) (x : List ℕ) → place_of rows x < length rows → has_row rows x ≡ true
+place_some [] x lt = absurd (omega (arith, lt))
+place_some (r ∷ rows) x lt = elim (bool_cases (bytes_eq r x)) [
   | inl p ↦ rw p refl
-  | inr p ↦ rw p (place_some rows x (λ h. e (rw p (omega (arith, h)))))
+  | inr p ↦ rw p (place_some rows x (omega (arith, rw p at lt)))
 ]

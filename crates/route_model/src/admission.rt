@@ -68,7 +68,8 @@ impl Admission {
         if !all_fit(changes.as_slice()) {
             return Err(AdmissionError::RouteTooLarge);
         }
-        let Some(encoded_len) = measure(changes.as_slice()) else {
+        let alloc = *changes.allocator();
+        let Some(encoded_len) = measure(alloc, changes.as_slice()) else {
             return Err(AdmissionError::AdmissionTooLarge);
         };
         Ok(Admission {

@@ -1,17 +1,17 @@
 //! The spelling of an admission.
 
-ghost use Rattle.std.specs.Prelude.{◌≡◌, ◌++◌, ◌∷◌, IfOk, OnOk};
+ghost use Rattle.std.specs.Prelude.{◌≡◌, ◌++◌, ◌∷◌, IfOk, OnOk, map};
 ghost use Rattle.std.specs.List.{flat_map};
 ghost use Rattle.std.specs.Int.{w16, w64, to_be_bytes};
 ghost use Rattle.route_model.specs.Spelling.{peer_octets, route_octets};
 ghost use Rattle.route_model.specs.Tables.{place_of};
-ghost use Rattle.route_model.specs.Admission.{change_octets, sized, admission_octets};
+ghost use Rattle.route_model.specs.Admission.{change_octets, sized, counted, admission_octets};
 
 use crate::change::Change;
 use crate::peer::Peer;
 use crate::prefix::put_prefix;
 use crate::shared::SharedRoute;
-use crate::tables::{RouteRow, peer_place, peer_table, route_place, route_table};
+use crate::tables::{PeerRows, RouteRows, peer_place, peer_table, route_place, route_table};
 use std::alloc::{AllocError, Global};
 
 fn put_u16(out: &mut Vec<u8>, n: usize) -> Result<(), AllocError>
@@ -22,31 +22,30 @@ fn put_u16(out: &mut Vec<u8>, n: usize) -> Result<(), AllocError>
 }
 
 /// Writes the kind of a change and the place of its peer.
-fn put_head(out: &mut Vec<u8>, kind: u8, peers: &[[u8; 22]], p: &Peer) -> Result<(), AllocError>
-    ensures { OnOk result (out.new.items ≡ out.old.items ++ kind ∷ to_be_bytes w16 (place_of peers.now (peer_octets p.now))) }
+fn put_head(out: &mut Vec<u8>, kind: u8, peers: &PeerRows, p: &Peer) -> Result<(), AllocError>
+    ensures { OnOk result (out.new.items ≡ out.old.items ++ kind ∷ to_be_bytes w16 (place_of peers.now.keys (peer_octets p.now))) }
 {
-    let row = p.encode();
-    let place = peer_place(peers, &row).to_be_bytes();
+    let place = peer_place(peers, p.encode()).to_be_bytes();
     out.extend_from_slice(&[kind, place[6], place[7]])
 }
 
 fn put_route_place(
     out: &mut Vec<u8>,
-    routes: &[RouteRow<'_>],
+    routes: &RouteRows<'_>,
     r: &SharedRoute,
 ) -> Result<(), AllocError>
-    ensures { OnOk result (out.new.items ≡ out.old.items ++ to_be_bytes w16 (place_of routes.now (route_octets r.now))) }
+    ensures { OnOk result (out.new.items ≡ out.old.items ++ to_be_bytes w16 (place_of (map (λ row. row.now) routes.now.keys) (route_octets r.now))) }
 {
     put_u16(out, route_place(routes, r.spelling()))
 }
 
 fn put_change(
     out: &mut Vec<u8>,
-    peers: &[[u8; 22]],
-    routes: &[RouteRow<'_>],
+    peers: &PeerRows,
+    routes: &RouteRows<'_>,
     c: &Change,
 ) -> Result<(), AllocError>
-    ensures { OnOk result (out.new.items ≡ out.old.items ++ change_octets peers.now routes.now c.now) }
+    ensures { OnOk result (out.new.items ≡ out.old.items ++ change_octets peers.now.keys (map (λ row. row.now) routes.now.keys) c.now) }
 {
     match c {
         Change::Announce(p, x, r) => {
@@ -71,23 +70,41 @@ fn put_peer_rows(out: &mut Vec<u8>, rows: &[[u8; 22]]) -> Result<(), AllocError>
     Ok(())
 }
 
-fn put_route_rows(out: &mut Vec<u8>, rows: &[RouteRow<'_>]) -> Result<(), AllocError>
-    ensures { OnOk result (out.new.items ≡ out.old.items ++ flat_map sized rows.now) }
+fn put_route_rows(out: &mut Vec<u8>, rows: &[&[u8]]) -> Result<(), AllocError>
+    ensures { OnOk result (out.new.items ≡ out.old.items ++ flat_map (λ row. sized row.now) rows.now) }
 {
     for row in rows {
-        put_u16(out, row.as_slice().len())?;
-        out.extend_from_slice(row.as_slice())?;
+        put_u16(out, row.len())?;
+        out.extend_from_slice(row)?;
     }
+    Ok(())
+}
+
+/// Writes the table of peers: how many rows, and each.
+fn put_peers(out: &mut Vec<u8>, rows: &PeerRows) -> Result<(), AllocError>
+    ensures { OnOk result (out.new.items ≡ out.old.items ++ counted (λ row. row) rows.now.keys) }
+{
+    put_u16(out, rows.len())?;
+    put_peer_rows(out, rows.as_slice())?;
+    Ok(())
+}
+
+/// Writes the table of routes: how many rows, and each behind its length.
+fn put_routes(out: &mut Vec<u8>, rows: &RouteRows<'_>) -> Result<(), AllocError>
+    ensures { OnOk result (out.new.items ≡ out.old.items ++ counted sized (map (λ row. row.now) rows.now.keys)) }
+{
+    put_u16(out, rows.len())?;
+    put_route_rows(out, rows.as_slice())?;
     Ok(())
 }
 
 fn put_changes(
     out: &mut Vec<u8>,
-    peers: &[[u8; 22]],
-    routes: &[RouteRow<'_>],
+    peers: &PeerRows,
+    routes: &RouteRows<'_>,
     changes: &[Change],
 ) -> Result<(), AllocError>
-    ensures { OnOk result (out.new.items ≡ out.old.items ++ flat_map (change_octets peers.now routes.now) changes.now) }
+    ensures { OnOk result (out.new.items ≡ out.old.items ++ flat_map (change_octets peers.now.keys (map (λ row. row.now) routes.now.keys)) changes.now) }
 {
     for c in changes {
         put_change(out, peers, routes, c)?;
@@ -96,7 +113,6 @@ fn put_changes(
 }
 
 /// The one spelling of an admission, in a vector that was made for so many octets.
-#[tactic(auto, unfolding(crate::specs::Admission::admission_octets))]
 pub(crate) fn spell(
     alloc: Global,
     capacity: usize,
@@ -109,11 +125,9 @@ pub(crate) fn spell(
     let routes = route_table(alloc, changes)?;
     let mut out = Vec::with_capacity(alloc, capacity)?;
     out.extend_from_slice(&time.to_be_bytes())?;
-    put_u16(&mut out, peers.len())?;
-    put_peer_rows(&mut out, peers.as_slice())?;
-    put_u16(&mut out, routes.len())?;
-    put_route_rows(&mut out, routes.as_slice())?;
+    put_peers(&mut out, &peers)?;
+    put_routes(&mut out, &routes)?;
     put_u16(&mut out, changes.len())?;
-    put_changes(&mut out, peers.as_slice(), routes.as_slice(), changes)?;
+    put_changes(&mut out, &peers, &routes, changes)?;
     Ok(out)
 }

@@ -1,85 +1,99 @@
 //! The tables of an admission: the spellings of its peers and of its routes, each once, in the order
 //! of first use.
 
-ghost use Rattle.std.specs.Prelude.{◌≡◌, IfOk, OnOk, List, ℕ};
-ghost use Rattle.route_model.specs.Tables.{place_of, enter};
+ghost use Rattle.std.specs.Prelude.{◌≡◌, IfOk, OnOk, map, not};
+ghost use Rattle.route_model.specs.Tables.{place_of, has_row, enter};
 ghost use Rattle.route_model.specs.Admission.{peer_rows, route_rows};
 
 use crate::change::Change;
+use indexmap::IndexSet;
 use std::alloc::{AllocError, Global};
-use std::marker::Model;
 
-/// A row of the table of routes: a route's spelling, where the route keeps it.
-#[derive(Drop)]
-pub(crate) struct RouteRow<'a> {
-    octets: &'a [u8],
-}
+/// The rows of the table of peers: their spellings.
+pub(crate) type PeerRows = IndexSet<[u8; 22]>;
 
-impl<'a> Model for RouteRow<'a> {
-    ghost Value = { List ℕ };
+/// The rows of the table of routes: their spellings, where the routes keep them.
+pub(crate) type RouteRows<'a> = IndexSet<&'a [u8]>;
 
-    ghost view = { λ a. a.octets.now };
-}
+/// Up to how many rows are compared one after another: for a few that is quicker than a hash.
+const FEW_ROWS: usize = 8;
 
-impl<'a> RouteRow<'a> {
-    pub(crate) fn as_slice(&self) -> &[u8]
-        ensures { result.now ≡ self.now }
-    {
-        self.octets
+fn scan_peers(rows: &[[u8; 22]], row: &[u8]) -> usize
+    ensures { result ≡ place_of rows.now row.now }
+{
+    let mut place = 0usize;
+    for r in rows {
+        if r.as_slice() == row {
+            return place;
+        }
+        place += 1;
     }
+    place
+}
+
+fn scan_routes(rows: &[&[u8]], row: &[u8]) -> usize
+    ensures { result ≡ place_of (map (λ r. r.now) rows.now) row.now }
+{
+    let mut place = 0usize;
+    for r in rows {
+        if *r == row {
+            return place;
+        }
+        place += 1;
+    }
+    place
 }
 
 /// Where a peer's spelling stands, or the length.
-pub(crate) fn peer_place(rows: &[[u8; 22]], row: &[u8]) -> usize
-    ensures { result ≡ place_of rows.now row.now }
+pub(crate) fn peer_place(rows: &PeerRows, row: [u8; 22]) -> usize
+    ensures { result ≡ place_of rows.now.keys row }
 {
-    let mut place = 0usize;
-    for r in rows {
-        if r.as_slice() == row {
-            return place;
-        }
-        place += 1;
+    if rows.len() <= FEW_ROWS {
+        return scan_peers(rows.as_slice(), &row);
     }
-    place
+    rows.get_index_of(&row).unwrap_or(rows.len())
 }
 
 /// Where a route's spelling stands, or the length.
-pub(crate) fn route_place(rows: &[RouteRow<'_>], row: &[u8]) -> usize
-    ensures { result ≡ place_of rows.now row.now }
+pub(crate) fn route_place(rows: &RouteRows<'_>, row: &[u8]) -> usize
+    ensures { result ≡ place_of (map (λ r. r.now) rows.now.keys) row.now }
 {
-    let mut place = 0usize;
-    for r in rows {
-        if r.as_slice() == row {
-            return place;
-        }
-        place += 1;
+    if rows.len() <= FEW_ROWS {
+        return scan_routes(rows.as_slice(), row);
     }
-    place
+    rows.get_index_of(&row).unwrap_or(rows.len())
 }
 
-fn enter_peer(rows: &mut Vec<[u8; 22]>, row: [u8; 22]) -> Result<(), AllocError>
-    ensures { OnOk result (rows.new.items ≡ enter rows.old.items row) }
+/// Enters a peer's spelling where it doesn't stand yet, and tells whether it didn't.
+pub(crate) fn enter_peer(rows: &mut PeerRows, row: [u8; 22]) -> Result<bool, AllocError>
+    ensures entered { OnOk result (rows.new.keys ≡ enter rows.old.keys row) }
+    ensures new { IfOk result (λ new. new ≡ not (has_row rows.old.keys row)) }
 {
-    if peer_place(rows.as_slice(), &row) == rows.len() {
-        rows.push(row)?;
+    if peer_place(rows, row) < rows.len() {
+        return Ok(false);
     }
-    Ok(())
+    Ok(rows.insert(row)?)
 }
 
-fn enter_route<'a>(rows: &mut Vec<RouteRow<'a>>, octets: &'a [u8]) -> Result<(), AllocError>
-    ensures { OnOk result (rows.new.items ≡ enter rows.old.items octets.now) }
+/// Enters a route's spelling where it doesn't stand yet, and tells whether it didn't.
+pub(crate) fn enter_route<'a>(
+    rows: &mut RouteRows<'a>,
+    octets: &'a [u8],
+) -> Result<bool, AllocError>
+    ensures entered { OnOk result (map (λ r. r.now) rows.new.keys ≡ enter (map (λ r. r.now) rows.old.keys) octets.now) }
+    ensures new { IfOk result (λ new. new ≡ not (has_row (map (λ r. r.now) rows.old.keys) octets.now)) }
 {
-    if route_place(rows.as_slice(), octets) == rows.len() {
-        rows.push(RouteRow { octets })?;
+    if route_place(rows, octets) < rows.len() {
+        return Ok(false);
     }
-    Ok(())
+    Ok(rows.insert(octets)?)
 }
 
 /// The table of peers.
-pub(crate) fn peer_table(alloc: Global, changes: &[Change]) -> Result<Vec<[u8; 22]>, AllocError>
-    ensures { IfOk result (λ rows. rows.items ≡ peer_rows changes.now) }
+pub(crate) fn peer_table(alloc: Global, changes: &[Change]) -> Result<PeerRows, AllocError>
+    ensures { IfOk result (λ rows. rows.keys ≡ peer_rows changes.now) }
 {
-    let mut rows = Vec::new(alloc);
+    let mut rows = IndexSet::new(alloc);
     for c in changes {
         enter_peer(&mut rows, c.peer().encode())?;
     }
@@ -90,13 +104,15 @@ pub(crate) fn peer_table(alloc: Global, changes: &[Change]) -> Result<Vec<[u8; 2
 pub(crate) fn route_table<'a>(
     alloc: Global,
     changes: &'a [Change],
-) -> Result<Vec<RouteRow<'a>>, AllocError>
-    ensures { IfOk result (λ rows. rows.items ≡ route_rows changes.now) }
+) -> Result<RouteRows<'a>, AllocError>
+    ensures { IfOk result (λ rows. map (λ r. r.now) rows.keys ≡ route_rows changes.now) }
 {
-    let mut rows = Vec::new(alloc);
+    let mut rows = IndexSet::new(alloc);
     for c in changes {
         match c {
-            Change::Announce(_, _, route) => enter_route(&mut rows, route.spelling())?,
+            Change::Announce(_, _, route) => {
+                enter_route(&mut rows, route.spelling())?;
+            }
             Change::Withdraw(_, _) => {}
             Change::Down(_) => {}
         }

@@ -5,8 +5,8 @@ use Rattle.archive_calls.specs.Does.{IsUnchecked}
 use Rattle.archive_calls.specs.declared.refusal.Trouble.{Trouble}
 use Rattle.service.specs.Checks.{IsCheckEnd, TellsCount, TellsUnchecked}
 use Rattle.service.specs.Faults.{of_trouble}
-use Rattle.service.specs.Outputs.{OutputState, Tells}
-use Rattle.service.specs.Refusals.{error_line, TellsFailure}
+use Rattle.service.specs.Outputs.{OutputState}
+use Rattle.service.specs.Refusals.{TellsError, TellsFailure}
 use Rattle.service.specs.inner.Loading.{told_as}
 use Rattle.service.specs.declared.status.Status.{Status}
 use Rattle.service.specs.declared.status.Status.TheVariants as statuses
@@ -39,9 +39,9 @@ unchecked_by false h result was err_was err_now e sound is t =
 -- they weren't, and standard error was told why
 pub unchecked : (h : History) (trouble : Trouble) (result : Status) (was err_was err_mid err_now : OutputState)
     → was.failed ≡ false → result ≡ told_as was.failed err_mid.failed statuses.Refused → TellsFailure was.failed err_mid err_now
-    → IsUnchecked h trouble → Tells err_was err_mid (error_line (of_trouble trouble)) → IsCheckEnd h result was was err_was err_now
+    → IsUnchecked h trouble → TellsError (of_trouble trouble) err_was err_mid → IsCheckEnd h result was was err_was err_now
 unchecked h trouble result was err_was err_mid err_now sound is of_out why tells =
     let same : err_mid ≡ err_now = sym (of_out.quiet sound) in
     unchecked_by err_now.failed h result was err_was err_now refl sound
     (is ∙ (ap (λ (b : Bool). told_as b err_mid.failed statuses.Refused) sound ∙ ap (λ (s : OutputState). told_as false s.failed statuses.Refused) same))
-    (record { trouble = trouble; why = why; unwritten = refl; told = subst (λ (s : OutputState). Tells err_was s (error_line (of_trouble trouble))) same tells })
+    (record { trouble = trouble; why = why; unwritten = refl; told = subst (λ (s : OutputState). TellsError (of_trouble trouble) err_was s) same tells })

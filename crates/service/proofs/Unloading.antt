@@ -11,8 +11,9 @@ use Rattle.service.specs.Turns.{offered, admissions_of}
 use Rattle.service.specs.Faults.{of_load}
 use Rattle.service.specs.Feeds.{FitsFailures, IsEnd, IsFed, IsFeed, IsGivenUp, as_told}
 use Rattle.service.specs.Loads.{IsLoaded, IsLoadEnd, IsGivenUpLoad, IsPartLoaded, IsSettled, IsUnloaded, marked_if}
-use Rattle.service.specs.Refusals.{error_line, TellsFailure}
-use Rattle.service.specs.inner.Loading.{HasNotSettled, mark_after, status_after, told_as}
+use Rattle.service.specs.Refusals.{TellsError, TellsFailure}
+use Rattle.service.specs.inner.Loading.{HasNotSettled, first_of, mark_after, status_after, told_as}
+use Rattle.archive_calls.specs.declared.refusal.Trouble.TheVariants as troubles
 use Rattle.service.specs.declared.faults.FeedCut.{FeedCut}
 use Rattle.service.specs.declared.faults.FeedStop.{FeedStop}
 use Rattle.service.specs.declared.faults.FeedStop.TheVariants as reasons
@@ -127,10 +128,30 @@ unloaded false (ends.Refused r) c dropped limit mark h bytes lost_was lost fed a
     let k = kept_without (ends.Refused r) c dropped limit None h bytes lost_was lost fed archive was mid g (λ e. absurd cc) l in
     unloaded_short c dropped limit mark h bytes lost_was lost archive was mid k.0 why here k.2 (unsettles_all c None (given h c k.0) fed archive why k.1 un)
 
+-- the refusal that a load ends with outside its feed is one for which it does
+pub first_unsettled : (end : End) (why : LoadStop) (c : ℕ) (mark : Option ℕ) (h : History) (archive : Carried) → HasNotSettled c mark h archive why → HasNotSettled c mark h archive (first_of end why)
+first_unsettled ends.Well why c mark h archive u = u
+first_unsettled ends.Cut why c mark h archive u = u
+first_unsettled (ends.Refused reasons.NoCollector) why c mark h archive u = u
+first_unsettled (ends.Refused reasons.CounterFull) why c mark h archive u = u
+first_unsettled (ends.Refused reasons.IntakeFull) why c mark h archive u = u
+first_unsettled (ends.Refused reasons.Outside) why c mark h archive u = u
+first_unsettled (ends.Refused (reasons.Trouble first)) stops.NoCollector c mark h archive u = u
+first_unsettled (ends.Refused (reasons.Trouble first)) stops.MarkBack c mark h archive u = u
+first_unsettled (ends.Refused (reasons.Trouble first)) (stops.Trouble troubles.Fault) c mark h archive u = u
+first_unsettled (ends.Refused (reasons.Trouble first)) (stops.Trouble troubles.NeedsRecovery) c mark h archive u = u
+first_unsettled (ends.Refused (reasons.Trouble first)) (stops.Trouble troubles.PagesFull) c mark h archive u = u
+first_unsettled (ends.Refused (reasons.Trouble first)) (stops.Trouble troubles.OnceFull) c mark h archive u = u
+first_unsettled (ends.Refused (reasons.Trouble first)) (stops.Trouble (troubles.Damaged block)) c mark h archive u = u
+first_unsettled (ends.Refused (reasons.Trouble first)) (stops.Trouble (troubles.BadNode page)) c mark h archive u = u
+first_unsettled (ends.Refused (reasons.Trouble first)) (stops.Trouble troubles.TooHigh) c mark h archive u = u
+first_unsettled (ends.Refused (reasons.Trouble first)) (stops.Trouble troubles.CounterFull) c mark h archive u = u
+first_unsettled (ends.Refused (reasons.Trouble first)) (stops.Trouble troubles.OutOfMemory) c mark h archive u = u
+
 -- and that was told, or it couldn't be
 told_stop : (out_failed err_failed : Bool) (result : Status) (c dropped : ℕ) (limit : BatchLimits) (mark : Option ℕ) (h : History) (bytes : List ℕ) (lost_was lost : Bool) (archive : Carried) (was now err_was err_mid err_now : OutputState) (why : LoadStop)
     → now.failed ≡ out_failed → err_mid.failed ≡ err_failed → IsUnloaded c dropped limit mark h bytes lost_was lost archive was now why
-    → result ≡ told_as out_failed err_failed statuses.Refused → TellsFailure now.failed err_mid err_now → Tells err_was err_mid (error_line (of_load why))
+    → result ≡ told_as out_failed err_failed statuses.Refused → TellsFailure now.failed err_mid err_now → TellsError (of_load why) err_was err_mid
     → IsLoadEnd c dropped limit mark h bytes lost_was lost result archive was now err_was err_now
 told_stop true err_failed result c dropped limit mark h bytes lost_was lost archive was now err_was err_mid err_now why o e u is of_out told_ =
     subst (λ (t : Status). IsLoadEnd c dropped limit mark h bytes lost_was lost t archive was now err_was err_now) (sym is) (inr (why, u, (err_mid, told_, of_out)), inl o)
@@ -138,12 +159,12 @@ told_stop false true result c dropped limit mark h bytes lost_was lost archive w
     subst (λ (t : Status). IsLoadEnd c dropped limit mark h bytes lost_was lost t archive was now err_was err_now) (sym is) (inr (why, u, (err_mid, told_, of_out)), inr (still_failed now.failed true err_mid err_now o e of_out))
 told_stop false false result c dropped limit mark h bytes lost_was lost archive was now err_was err_mid err_now why o e u is of_out told_ =
     subst (λ (t : Status). IsLoadEnd c dropped limit mark h bytes lost_was lost t archive was now err_was err_now) (sym is)
-    (inr (inr (why, u, subst (λ (t : OutputState). Tells err_was t (error_line (of_load why))) (sym (of_out.quiet o)) told_)), o, still_failed now.failed false err_mid err_now o e of_out)
+    (inr (inr (why, u, subst (λ (t : OutputState). TellsError (of_load why) err_was t) (sym (of_out.quiet o)) told_)), o, still_failed now.failed false err_mid err_now o e of_out)
 
 pub load_stops : (end : End) (result : Status) (c dropped : ℕ) (limit : BatchLimits) (mark : Option ℕ) (h : History) (bytes : List ℕ) (lost_was lost : Bool) (fed archive : Carried) (was now err_was err_mid err_now : OutputState) (why : LoadStop)
     → IsCollector h c → IsEnd c dropped limit h bytes end fed was now → FitsFailures end lost_was lost now.failed
     → ((g : History) → fed g → HasNotSettled c (mark_after (as_told now.failed end) mark) g archive why)
-    → result ≡ told_as now.failed err_mid.failed statuses.Refused → TellsFailure now.failed err_mid err_now → Tells err_was err_mid (error_line (of_load why))
+    → result ≡ told_as now.failed err_mid.failed statuses.Refused → TellsFailure now.failed err_mid err_now → TellsError (of_load why) err_was err_mid
     → IsLoadEnd c dropped limit mark h bytes lost_was lost result archive was now err_was err_now
 load_stops end result c dropped limit mark h bytes lost_was lost fed archive was now err_was err_mid err_now why here e l un is of_out told_ =
     told_stop now.failed err_mid.failed result c dropped limit mark h bytes lost_was lost archive was now err_was err_mid err_now why refl refl
@@ -152,7 +173,7 @@ load_stops end result c dropped limit mark h bytes lost_was lost fed archive was
 -- there is no such collector
 pub load_nowhere : (result : Status) (c dropped : ℕ) (limit : BatchLimits) (mark : Option ℕ) (h : History) (bytes : List ℕ) (lost : Bool) (archive : Carried) (was err_was err_mid err_now : OutputState)
     → (IsCollector h c → ⊥) → archive h
-    → result ≡ told_as was.failed err_mid.failed statuses.Refused → TellsFailure was.failed err_mid err_now → Tells err_was err_mid (error_line (of_load stops.NoCollector))
+    → result ≡ told_as was.failed err_mid.failed statuses.Refused → TellsFailure was.failed err_mid err_now → TellsError (of_load stops.NoCollector) err_was err_mid
     → IsLoadEnd c dropped limit mark h bytes lost lost result archive was was err_was err_now
 load_nowhere result c dropped limit mark h bytes lost archive was err_was err_mid err_now none carried is of_out told_ =
     told_stop was.failed err_mid.failed result c dropped limit mark h bytes lost lost archive was was err_was err_mid err_now stops.NoCollector refl refl (none, carried, refl, refl) is of_out told_

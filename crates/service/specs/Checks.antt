@@ -6,7 +6,7 @@ use Rattle.archive_calls.specs.declared.refusal.Trouble.{Trouble}
 use Rattle.service.specs.FeedLines.{numbers_line}
 use Rattle.service.specs.Faults.{of_trouble}
 use Rattle.service.specs.Outputs.{OutputState, Tells}
-use Rattle.service.specs.Refusals.{error_line, TellsFailure}
+use Rattle.service.specs.Refusals.{TellsError, TellsFailure}
 use Rattle.service.specs.declared.status.Status.{Status}
 use Rattle.service.specs.declared.status.Status.TheVariants as statuses
 
@@ -23,7 +23,7 @@ pub record TellsUnchecked (h : History) (was now err_was err_now : OutputState) 
   pub trouble : Trouble
   pub why : IsUnchecked h trouble
   pub unwritten : now ≡ was
-  pub told : Tells err_was err_now (error_line (of_trouble trouble))
+  pub told : TellsError (of_trouble trouble) err_was err_now
 
 -- How a check ended, by its status. `Failed` is answered where not all could be written: where that was so before, nothing is done; else a
 -- front of what should have been told was written, and standard error is told where a write to standard output failed.

@@ -10,7 +10,7 @@ use Rattle.resolve.specs.declared.fault.ResolveFault.{ResolveFault}
 use Rattle.service.specs.Turns.{offered, admissions_of}
 use Rattle.service.specs.FeedTexts.{intake_in, feed_text}
 use Rattle.service.specs.FeedLines.{settled_line}
-use Rattle.service.specs.Refusals.{error_line, TellsFailure}
+use Rattle.service.specs.Refusals.{TellsError, TellsFailure}
 use Rattle.service.specs.Feeds.{IsFeed, IsCut, IsFed, IsGivenUp, FitsFailures}
 use Rattle.service.specs.Faults.{of_load}
 use Rattle.service.specs.declared.limits.BatchLimits.{BatchLimits}
@@ -88,14 +88,14 @@ abbrev pub IsRefusedLoad : ℕ → ℕ → BatchLimits → Option ℕ → Histor
 IsRefusedLoad c dropped limit mark h bytes lost_was lost archive was now err_was err_now =
     ((why : FeedCut) × IsLoaded c dropped limit None h bytes (Some why) archive was now × (err_now ≡ err_was) × (lost ≡ lost_was))
     ⊎ ((IsGivenUpLoad c dropped limit h bytes lost_was lost archive was now × (err_now ≡ err_was))
-    ⊎ ((why : LoadStop) × IsUnloaded c dropped limit mark h bytes lost_was lost archive was now why × Tells err_was err_now (error_line (of_load why))))
+    ⊎ ((why : LoadStop) × IsUnloaded c dropped limit mark h bytes lost_was lost archive was now why × TellsError (of_load why) err_was err_now))
 
 -- Not all lines could be written. The archive carries all the same what the feed gave, applied as far as may be, and the watermark was
 -- told behind its lines as far as it could be; or the load ended outside its feed. Standard error is told of standard output.
 abbrev pub IsFailedLoad : ℕ → ℕ → BatchLimits → Option ℕ → History → List ℕ → Bool → Bool → Carried → OutputState → OutputState → OutputState → OutputState → Type 0
 IsFailedLoad c dropped limit mark h bytes lost_was lost archive was now err_was err_now =
     ((mid : OutputState) × (past : History) × archive past × NothingToApply past × IsPartLoaded c dropped limit mark h bytes lost_was lost past was mid × Tells mid now (settled_line (settled past)) × TellsFailure now.failed err_was err_now)
-    ⊎ ((why : LoadStop) × IsUnloaded c dropped limit mark h bytes lost_was lost archive was now why × ((err_mid : OutputState) × Tells err_was err_mid (error_line (of_load why)) × TellsFailure now.failed err_mid err_now))
+    ⊎ ((why : LoadStop) × IsUnloaded c dropped limit mark h bytes lost_was lost archive was now why × ((err_mid : OutputState) × TellsError (of_load why) err_was err_mid × TellsFailure now.failed err_mid err_now))
 
 -- How a load of these octets ended, by its status, where the reader had failed before it or not, and has behind it or not. It is
 -- `Failed` exactly where a writer has.

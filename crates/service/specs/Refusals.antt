@@ -1,5 +1,5 @@
 -- Refusals by number and name, and the lines that tell them. Each line ends in LF.
-use Rattle.std.specs.Prelude.{◌≡◌, ℕ, Bool, true, false, List, [], ◌∷◌, ◌++◌, codes, decimal}
+use Rattle.std.specs.Prelude.{◌≡◌, ◌⊎◌, ℕ, Bool, true, false, List, [], ◌∷◌, ◌++◌, codes, decimal}
 use Rattle.service.specs.Outputs.{OutputState, Tells}
 use Rattle.service.specs.declared.refusal.Refusal.{Refusal}
 use Rattle.service.specs.declared.refusal.Refusal.TheVariants as refusals
@@ -83,15 +83,23 @@ refusal_line r = refusal_head r ++ told_of r ++ line_end
 abbrev pub refused_record_line : Refusal → ℕ → List ℕ
 refused_record_line r place = refusal_head r ++ codes "|" ++ decimal place ++ line_end
 
--- a refusal as standard error shows it
+-- how standard error shows a refusal
+abbrev pub error_head : Refusal → List ℕ
+error_head r = codes "rha: " ++ decimal (number_of r) ++ codes " " ++ name_of r
+
+-- one that stands alone there
 abbrev pub error_line : Refusal → List ℕ
-error_line r = codes "rha: " ++ decimal (number_of r) ++ codes " " ++ name_of r ++ line_end
+error_line r = error_head r ++ line_end
+
+-- one after which the same line has what failed, and why
+abbrev pub reason_line : Refusal → List ℕ → List ℕ
+reason_line r why = error_head r ++ codes ": " ++ why ++ line_end
+
+-- standard error has the refusal, alone or with some reason after it
+abbrev pub TellsError : Refusal → OutputState → OutputState → Type 0
+TellsError r was now = Tells was now (error_line r) ⊎ ((why : List ℕ) × Tells was now (reason_line r why))
 
 -- standard error is told that lines couldn't be written where it is so, and nothing where it isn't
 pub record TellsFailure (failed : Bool) (err_was err_now : OutputState) : Type 0 where
-  pub told : failed ≡ true → Tells err_was err_now (error_line refusals.Outside)
+  pub told : failed ≡ true → TellsError refusals.Outside err_was err_now
   pub quiet : failed ≡ false → err_now ≡ err_was
-
--- what a refusal is of, as a file or an argument, and why, as standard error shows it behind the refusal
-abbrev pub reason_line : List ℕ → List ℕ → List ℕ
-reason_line what reason = codes "rha: " ++ what ++ codes ": " ++ reason ++ line_end

@@ -30,11 +30,11 @@ pub fn ask<A: RouteArchive, W: Write, E: Write>(
     match reply(alloc, archive, line) {
         Ok(text) => {
             out.text(text.as_str());
-            told(Status::Done, out, err)
+            told(alloc, Status::Done, out, err)
         }
         Err(why) => {
             write_refusal(out, &Refusal::from(why));
-            told(Status::Refused, out, err)
+            told(alloc, Status::Refused, out, err)
         }
     }
 }

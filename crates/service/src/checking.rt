@@ -7,10 +7,12 @@ ghost use Rattle.service.specs.Outputs.{Tells};
 
 use crate::feed_lines::write_numbers;
 use crate::output::Output;
-use crate::refusal::{Refusal, write_error};
+use crate::refusal::Refusal;
 use crate::status::{Status, told};
+use crate::telling::tell_trouble;
 use archive_calls::RouteArchive;
 use route_model::Mark;
+use std::alloc::Global;
 use std::io::Write;
 
 /// Writes how many changes are applied and the settled watermark: `ok|CHANGES|SETTLED`.
@@ -22,8 +24,10 @@ fn write_checked<W: Write>(out: &mut Output<W>, changes: u64, settled: Mark)
 
 /// Has the archive read all that it keeps of what is applied, and writes `ok|CHANGES|SETTLED`: how many changes are applied, and the
 /// settled watermark. What can't be read, or isn't what it is to be, is told to `err`, and nothing is written to `out`. Where a line
-/// can't be written, `err` is told so; where `out` had failed before, nothing is done. No memory is needed but the archive's.
+/// can't be written, `err` is told so; where `out` had failed before, nothing is done. No memory is needed but the archive's, and that of
+/// a reason, which is left out where there is none for it.
 pub fn check<A: RouteArchive, W: Write, E: Write>(
+    alloc: Global,
     archive: &mut A,
     out: &mut Output<W>,
     err: &mut Output<E>,
@@ -37,11 +41,11 @@ pub fn check<A: RouteArchive, W: Write, E: Write>(
     match archive.check() {
         Ok(changes) => {
             write_checked(out, changes, archive.settled());
-            told(Status::Done, out, err)
+            told(alloc, Status::Done, out, err)
         }
         Err(trouble) => {
-            write_error(err, &Refusal::from(trouble));
-            told(Status::Refused, out, err)
+            tell_trouble(alloc, archive, &Refusal::from(trouble), err);
+            told(alloc, Status::Refused, out, err)
         }
     }
 }

@@ -46,7 +46,9 @@ pub use limits::BatchLimits;
 pub use listening::tell_listening;
 pub use loading::{LoadSettings, load};
 pub use output::{Input, Output, read_through};
-pub use refusal::{Refusal, write_error, write_reason, write_refusal, write_refused_record};
+pub use refusal::{
+    Refusal, write_error, write_outside, write_reason, write_refusal, write_refused_record,
+};
 pub use replying::{answer_text, reply, skip_of};
 pub use request::{Request, RequestError, read_request, words_of};
 pub use request_laws::lines_are_one_request;
@@ -54,5 +56,5 @@ pub use request_words::{LAST_COLLECTOR, words_behind};
 pub use running::{ask_line, check_archive, finish, load_file, tell_created};
 pub use status::Status;
 pub use telling::{
-    tell_failures, tell_out_of_memory, tell_outside, tell_refusal, tell_unwritten, tell_usage,
+    tell_lost, tell_out_of_memory, tell_outside, tell_refusal, tell_usage, tell_with,
 };

@@ -6,9 +6,9 @@ ghost use Rattle.service.specs.Listening.{IsListenText, IsListeningTold, IsNoLis
 ghost use Rattle.service.specs.Outputs.{Tells};
 
 use crate::output::Output;
-use crate::refusal::Refusal;
-use crate::telling::tell_refusal;
+use crate::telling::tell_unwritten;
 use route_text::{BadText, read_ipv4, read_number};
+use std::alloc::Global;
 use std::io::Write;
 use std::net::{Ipv4Addr, SocketAddrV4};
 
@@ -56,6 +56,7 @@ fn write_listening<W: Write>(out: &mut Output<W>, bound: &SocketAddrV4)
 /// Tells where connections are taken: `listening ADDRESS:PORT`, and writes out what is buffered. The exit status of the
 /// program is 0, and 1 where not all could be written, which `err` is told.
 pub fn tell_listening<W: Write, E: Write>(
+    alloc: Global,
     bound: &SocketAddrV4,
     out: &mut Output<W>,
     err: &mut Output<E>,
@@ -65,7 +66,8 @@ pub fn tell_listening<W: Write, E: Write>(
     write_listening(out, bound);
     out.flush();
     if out.has_failed() {
-        return tell_refusal(&Refusal::Outside, err);
+        tell_unwritten(alloc, out, err);
+        return 1;
     }
     0
 }

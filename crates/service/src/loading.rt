@@ -6,15 +6,16 @@ ghost use Rattle.service.specs.Feeds.{MayGive};
 ghost use Rattle.service.specs.FeedTexts.{intake_in};
 ghost use Rattle.service.specs.Resuming.{dropped_where};
 ghost use Rattle.service.specs.Loads.{IsLoadEnd, IsSettled, marked_if};
-ghost use Rattle.service.specs.inner.Loading.{HasNotSettled, mark_after, status_after};
+ghost use Rattle.service.specs.inner.Loading.{HasNotSettled, first_of, mark_after, status_after};
 
-use crate::faults::LoadStop;
+use crate::faults::{FeedStop, LoadStop};
 use crate::feed_lines::write_settled;
 use crate::intake::{End, feed};
 use crate::making_room::apply_all;
 use crate::output::{Input, Output};
 use crate::refusal::{Refusal, write_error};
 use crate::status::{Status, told};
+use crate::telling::tell_trouble;
 use archive_calls::{Flush, MarkError, RouteArchive, Trouble};
 use route_model::Mark;
 use std::alloc::Global;
@@ -103,6 +104,18 @@ fn status_after(end: End) -> Status
     }
 }
 
+/// The refusal that a load ends with outside its feed: that the archive must be opened again isn't reported in place of what failed in
+/// the feed before.
+fn first_of(end: End, why: LoadStop) -> LoadStop
+    ensures first { result ≡ first_of end why }
+{
+    match (end, why) {
+        (End::Refused(FeedStop::Trouble(trouble)), LoadStop::Trouble(Trouble::NeedsRecovery)) =>
+            LoadStop::Trouble(trouble),
+        _ => why,
+    }
+}
+
 /// Loads a file: takes it in as a feed, sets the mark where the feed ended well, applies what may be applied, flushes,
 /// and writes the settled watermark. A refusal outside the feed is told to `err` and ends the load.
 pub fn load<A: RouteArchive, R: Read, W: Write, E: Write>(
@@ -118,7 +131,7 @@ pub fn load<A: RouteArchive, R: Read, W: Write, E: Write>(
 {
     if how.collector >= archive.collectors() {
         write_error(err, &Refusal::from(LoadStop::NoCollector));
-        return told(Status::Refused, out, err);
+        return told(alloc, Status::Refused, out, err);
     }
     let end = feed(
         alloc,
@@ -132,11 +145,11 @@ pub fn load<A: RouteArchive, R: Read, W: Write, E: Write>(
     match settle(archive, how.collector, mark_after(end, how.mark)) {
         Ok(()) => {
             write_settled(out, archive.settled());
-            told(status_after(end), out, err)
+            told(alloc, status_after(end), out, err)
         }
         Err(why) => {
-            write_error(err, &Refusal::from(why));
-            told(Status::Refused, out, err)
+            tell_trouble(alloc, archive, &Refusal::from(first_of(end, why)), err);
+            told(alloc, Status::Refused, out, err)
         }
     }
 }

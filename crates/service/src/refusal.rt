@@ -2,7 +2,7 @@
 
 ghost use Rattle.std.specs.Prelude.{◌≡◌, ◌++◌, [], IfSome, IfNone, codes, decimal};
 ghost use Rattle.service.specs.Outputs.{Tells};
-ghost use Rattle.service.specs.Refusals.{number_of, name_of, refusal_head, refusal_line, told_of, refused_record_line, error_line, reason_line};
+ghost use Rattle.service.specs.Refusals.{number_of, name_of, refusal_head, refusal_line, told_of, refused_record_line, error_head, error_line, reason_line};
 
 use crate::output::Output;
 use route_model::Mark;
@@ -211,24 +211,42 @@ pub fn write_refused_record<W: Write>(out: &mut Output<W>, refusal: &Refusal, pl
     out.text("\n");
 }
 
-/// Writes behind a refusal what it is of, as a file or an argument, and why: `rha: WHAT: REASON`. No memory is needed.
-pub fn write_reason<W: Write>(out: &mut Output<W>, what: &str, reason: &str)
-    ensures line { Tells out.old out.new (reason_line what.now reason.now) }
+/// Writes `rha`, the number and the name of a refusal.
+fn write_error_head<W: Write>(out: &mut Output<W>, refusal: &Refusal)
+    ensures head { Tells out.old out.new (error_head refusal.now) }
 {
     out.text("rha: ");
-    out.text(what);
-    out.text(": ");
-    out.text(reason);
-    out.text("\n");
+    out.number(u64::from(refusal.number()));
+    out.text(" ");
+    out.text(refusal.name());
 }
 
 /// Writes a refusal that has no other line, as standard error shows it: `rha: NUMBER NAME`. No memory is needed.
 pub fn write_error<W: Write>(out: &mut Output<W>, refusal: &Refusal)
     ensures line { Tells out.old out.new (error_line refusal.now) }
 {
-    out.text("rha: ");
-    out.number(u64::from(refusal.number()));
-    out.text(" ");
-    out.text(refusal.name());
+    write_error_head(out, refusal);
+    out.text("\n");
+}
+
+/// Writes a refusal, and then on the same line what failed and why: `rha: NUMBER NAME: WHY`. No memory is needed.
+pub fn write_reason<W: Write>(out: &mut Output<W>, refusal: &Refusal, why: &str)
+    ensures line { Tells out.old out.new (reason_line refusal.now why.now) }
+{
+    write_error_head(out, refusal);
+    out.text(": ");
+    out.text(why);
+    out.text("\n");
+}
+
+/// Writes that a file, an address or an argument failed, and right after its name the reason, which begins with a colon or a slash:
+/// `rha: 29 Outside: WHAT: REASON`. No memory is needed.
+pub fn write_outside<W: Write>(out: &mut Output<W>, what: &str, reason: &str)
+    ensures line { Tells out.old out.new (reason_line Refusal.Outside (what.now ++ reason.now)) }
+{
+    write_error_head(out, &Refusal::Outside);
+    out.text(": ");
+    out.text(what);
+    out.text(reason);
     out.text("\n");
 }

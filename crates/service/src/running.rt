@@ -11,15 +11,14 @@ use crate::checking::check;
 use crate::invocation::{Creation, Loading, Question};
 use crate::loading::{LoadSettings, load};
 use crate::output::{Input, Output};
-use crate::refusal::{Refusal, write_error};
 use crate::status::Status;
-use crate::telling::tell_refusal;
+use crate::telling::tell_unwritten;
 use archive_calls::RouteArchive;
 use std::alloc::Global;
 use std::io::{Read, Write};
 
 /// Writes out what is buffered: `Failed` where that fails, which `err` is told where nothing failed before.
-fn write_out<W: Write, E: Write>(out: &mut Output<W>, err: &mut Output<E>) -> Status
+fn write_out<W: Write, E: Write>(alloc: Global, out: &mut Output<W>, err: &mut Output<E>) -> Status
     ensures flushed { Tells out.old out.new [] }
     ensures done { out.new.failed ≡ false → result ≡ Status.Done }
     ensures failed { out.new.failed ≡ true → result ≡ Status.Failed }
@@ -31,7 +30,7 @@ fn write_out<W: Write, E: Write>(out: &mut Output<W>, err: &mut Output<E>) -> St
     }
     out.flush();
     if out.has_failed() {
-        write_error(err, &Refusal::Outside);
+        tell_unwritten(alloc, out, err);
         return Status::Failed;
     }
     Status::Done
@@ -39,10 +38,15 @@ fn write_out<W: Write, E: Write>(out: &mut Output<W>, err: &mut Output<E>) -> St
 
 /// The exit status of the program whose command ended so: what is buffered is written out first, and where not all could
 /// be written, it is 1.
-pub fn finish<W: Write, E: Write>(ended: Status, out: &mut Output<W>, err: &mut Output<E>) -> u8
+pub fn finish<W: Write, E: Write>(
+    alloc: Global,
+    ended: Status,
+    out: &mut Output<W>,
+    err: &mut Output<E>,
+) -> u8
     ensures written { IsWrittenOut ended result out.old out.new err.old err.new }
 {
-    let written = write_out(out, err);
+    let written = write_out(alloc, out, err);
     ended.code().max(written.code())
 }
 
@@ -66,7 +70,7 @@ pub fn load_file<A: RouteArchive, R: Read, W: Write, E: Write>(
         resume: asked.resume,
     };
     let loaded = load(alloc, archive, how, file, out, err);
-    finish(loaded, out, err)
+    finish(alloc, loaded, out, err)
 }
 
 /// Answers the line that the command line asks, and writes out what is buffered. The exit status of the program is that
@@ -82,12 +86,13 @@ pub fn ask_line<A: RouteArchive, W: Write, E: Write>(
     ensures kept { (h : History) → A.carries archive.old h → A.carries archive.new h }
 {
     let answered = ask(alloc, archive, asked.line.as_str(), out, err);
-    finish(answered, out, err)
+    finish(alloc, answered, out, err)
 }
 
 /// Checks the archive, and writes out what is buffered. The exit status of the program is that of the check, and 1 where
 /// not all could be written.
 pub fn check_archive<A: RouteArchive, W: Write, E: Write>(
+    alloc: Global,
     archive: &mut A,
     out: &mut Output<W>,
     err: &mut Output<E>,
@@ -95,8 +100,8 @@ pub fn check_archive<A: RouteArchive, W: Write, E: Write>(
     ensures ended { (h : History) → A.carries archive.old h → IsArchiveChecked h result out.old out.new err.old err.new }
     ensures kept { (h : History) → A.carries archive.old h → A.carries archive.new h }
 {
-    let checked = check(archive, out, err);
-    finish(checked, out, err)
+    let checked = check(alloc, archive, out, err);
+    finish(alloc, checked, out, err)
 }
 
 /// Writes what an archive is made with.
@@ -117,6 +122,7 @@ fn write_created<W: Write>(out: &mut Output<W>, made: &Creation<'_>)
 /// Tells that an archive is made: `created COLLECTORS RING PAGES BLOCKS`, and writes out what is buffered. The exit status
 /// of the program is 0, and 1 where not all could be written, which `err` is told.
 pub fn tell_created<W: Write, E: Write>(
+    alloc: Global,
     made: &Creation<'_>,
     out: &mut Output<W>,
     err: &mut Output<E>,
@@ -126,7 +132,8 @@ pub fn tell_created<W: Write, E: Write>(
     write_created(out, made);
     out.flush();
     if out.has_failed() {
-        return tell_refusal(&Refusal::Outside, err);
+        tell_unwritten(alloc, out, err);
+        return 1;
     }
     0
 }

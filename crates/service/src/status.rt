@@ -1,13 +1,14 @@
 //! How a command ends.
 
 ghost use Rattle.std.specs.Prelude.{◌≡◌, true, false};
-ghost use Rattle.service.specs.Outputs.{Tells};
-ghost use Rattle.service.specs.Refusals.{error_line};
+ghost use Rattle.service.specs.Refusals.{TellsError};
 ghost use Rattle.service.specs.Statuses.{code_of};
 ghost use Rattle.service.specs.inner.Loading.{told_as};
 
 use crate::output::Output;
-use crate::refusal::{Refusal, write_error};
+use crate::refusal::Refusal;
+use crate::telling::tell_unwritten;
+use std::alloc::Global;
 use std::io::Write;
 
 /// How a command ends.
@@ -36,16 +37,17 @@ impl Status {
 /// The status of a command that has written its lines: `Failed` where not all of them could be written. Where that is
 /// so of `out`, `err` is told.
 pub(crate) fn told<W: Write, E: Write>(
+    alloc: Global,
     status: Status,
     out: &Output<W>,
     err: &mut Output<E>,
 ) -> Status
     ensures status { result ≡ told_as out.now.failed err.old.failed status }
     ensures quiet { out.now.failed ≡ false → err.new ≡ err.old }
-    ensures told { out.now.failed ≡ true → Tells err.old err.new (error_line Refusal.Outside) }
+    ensures told { out.now.failed ≡ true → TellsError Refusal.Outside err.old err.new }
 {
     if out.has_failed() {
-        write_error(err, &Refusal::Outside);
+        tell_unwritten(alloc, out, err);
         return Status::Failed;
     }
     if err.has_failed() {

@@ -1,36 +1,64 @@
 //! What the program tells on standard error besides the lines of its command, and the exit status that follows.
 
-ghost use Rattle.std.specs.Prelude.{◌≡◌, ◌⊎◌, false, codes};
+ghost use Rattle.std.specs.Prelude.{◌≡◌, ◌⊎◌, false, true};
 ghost use Rattle.clap.specs.Values.{kind_of};
 ghost use Rattle.clap.specs.declared.error.Error.{Error as Usage};
 ghost use Rattle.service.specs.Outputs.{Tells};
-ghost use Rattle.service.specs.Refusals.{error_line};
-ghost use Rattle.service.specs.Telling.{TellsReason, TellsOutside, TellsFailures};
+ghost use Rattle.service.specs.Refusals.{TellsError, error_line};
+ghost use Rattle.service.specs.Telling.{TellsOutside};
 
 use crate::invocation::CommandError;
 use crate::output::{Input, Output};
-use crate::refusal::{Refusal, write_error, write_reason};
+use crate::refusal::{Refusal, write_error, write_outside, write_reason};
+use archive_calls::RouteArchive;
 use clap::error::ErrorKind as UsageKind;
 use std::alloc::Global;
-use std::io::{Eprint, Error, ErrorKind, Print, Read, Write};
+use std::io::{Eprint, Error, Print, Read, Write};
 
-/// Tells behind a refusal what it is of, as a file or an argument, and the system's reason. Where there is no memory
-/// for the reason, the refusal stands alone.
-fn tell_reason<E: Write>(alloc: Global, err: &mut Output<E>, what: &str, why: &Error)
-    ensures told { TellsReason what.now err.old err.new }
-{
-    if let Ok(reason) = format!(in alloc; "{why}") {
-        write_reason(err, what, reason.as_str());
-    }
-}
-
-/// Tells that a file or an argument failed, and why. The exit status is 1.
-pub fn tell_outside<E: Write>(alloc: Global, err: &mut Output<E>, what: &str, why: &Error) -> u8
+/// Prints that a file, an address or an argument failed, which call, and the system's reason. Where there is no memory for the
+/// reason, the refusal stands alone. The exit status is 1.
+pub fn tell_outside<E: Write>(
+    alloc: Global,
+    err: &mut Output<E>,
+    what: &str,
+    call: &str,
+    why: &Error,
+) -> u8
     ensures code { result ≡ 1 }
     ensures told { TellsOutside what.now err.old err.new }
 {
-    write_error(err, &Refusal::Outside);
-    tell_reason(alloc, err, what, why);
+    match format!(in alloc; ": {call}: {why}") {
+        Ok(reason) => write_outside(err, what, reason.as_str()),
+        Err(_) => write_error(err, &Refusal::Outside),
+    }
+    1
+}
+
+/// Prints what an archive couldn't do, and of a device that failed the call and the reason, if the archive has them.
+pub(crate) fn tell_trouble<A: RouteArchive, E: Write>(
+    alloc: Global,
+    archive: &A,
+    refusal: &Refusal,
+    err: &mut Output<E>,
+)
+    ensures told { TellsError refusal.now err.old err.new }
+{
+    let why = match refusal {
+        Refusal::Fault => archive.failure(alloc),
+        _ => None,
+    };
+    tell_with(refusal, why, err);
+}
+
+/// Prints a refusal, and after it what failed and why, if there is a text of that. The exit status is 1.
+pub fn tell_with<E: Write>(refusal: &Refusal, why: Option<String>, err: &mut Output<E>) -> u8
+    ensures code { result ≡ 1 }
+    ensures told { TellsError refusal.now err.old err.new }
+{
+    match why {
+        Some(why) => write_reason(err, refusal, why.as_str()),
+        None => write_error(err, refusal),
+    }
     1
 }
 
@@ -52,63 +80,53 @@ pub fn tell_out_of_memory<E: Write>(err: &mut Output<E>) -> u8
     1
 }
 
-/// Tells why reading the file failed, where it did.
-fn tell_lost<R: Read, E: Write>(alloc: Global, name: &str, file: &Input<R>, err: &mut Output<E>)
-    ensures told { TellsReason name.now err.old err.new }
+/// Prints why reading the file failed, if it did.
+pub fn tell_lost<R: Read, E: Write>(alloc: Global, name: &str, file: &Input<R>, err: &mut Output<E>)
+    ensures told { file.now.failed ≡ true → TellsOutside name.now err.old err.new }
     ensures quiet { file.now.failed ≡ false → err.new ≡ err.old }
 {
     if let Some(why) = file.failure() {
-        tell_reason(alloc, err, name, why);
+        tell_outside(alloc, err, name, "read", why);
     }
 }
 
-/// Tells why standard output failed, where it did, but for a closed pipe: whoever closed it knows.
-pub fn tell_unwritten<W: Write, E: Write>(alloc: Global, out: &Output<W>, err: &mut Output<E>)
-    ensures told { TellsReason (codes "standard output") err.old err.new }
-    ensures quiet { out.now.failed ≡ false → err.new ≡ err.old }
-{
-    match out.failure() {
-        Some(why) if why.kind() != ErrorKind::BrokenPipe => {
-            tell_reason(alloc, err, "standard output", why);
-        }
-        _ => {}
-    }
-}
-
-/// Tells why reading the file failed and why standard output did, a line for each that did and is told.
-pub fn tell_failures<R: Read, W: Write, E: Write>(
+/// Prints that standard output failed, and why.
+pub(crate) fn tell_unwritten<W: Write, E: Write>(
     alloc: Global,
-    name: &str,
-    file: &Input<R>,
     out: &Output<W>,
     err: &mut Output<E>,
 )
-    ensures told { TellsFailures name.now err.old err.new }
-    ensures quiet { file.now.failed ≡ false → out.now.failed ≡ false → err.new ≡ err.old }
+    ensures told { TellsError Refusal.Outside err.old err.new }
 {
-    tell_lost(alloc, name, file, err);
-    tell_unwritten(alloc, out, err);
+    match out.failure() {
+        Some(why) => {
+            tell_outside(alloc, err, "standard output", "write", why);
+        }
+        None => write_error(err, &Refusal::Outside),
+    }
 }
 
 /// Tells why the command line asks for nothing, or shows the help or version that it asks for. The exit status is that
 /// of the error, or 1 where help or version couldn't be shown.
 pub fn tell_usage<R: Print + Eprint, E: Write>(
+    alloc: Global,
     rt: &R,
     error: &CommandError,
     err: &mut Output<E>,
 ) -> u8
     ensures usage { (e : Usage) → error.now ≡ CommandError.Usage e → (kind_of e ≡ UsageKind.DisplayHelp → ⊥) → (kind_of e ≡ UsageKind.DisplayVersion → ⊥) → (result ≡ 2) × (err.new ≡ err.old) }
-    ensures shown { (e : Usage) → error.now ≡ CommandError.Usage e → (kind_of e ≡ UsageKind.DisplayHelp) ⊎ (kind_of e ≡ UsageKind.DisplayVersion) → ((result ≡ 0) × (err.new ≡ err.old)) ⊎ ((result ≡ 1) × Tells err.old err.new (error_line Refusal.Outside)) }
+    ensures shown { (e : Usage) → error.now ≡ CommandError.Usage e → (kind_of e ≡ UsageKind.DisplayHelp) ⊎ (kind_of e ≡ UsageKind.DisplayVersion) → ((result ≡ 0) × (err.new ≡ err.old)) ⊎ ((result ≡ 1) × TellsError Refusal.Outside err.old err.new) }
     ensures bad_mark { error.now ≡ CommandError.BadMark → (result ≡ 1) × Tells err.old err.new (error_line Refusal.BadText) }
     ensures bad_listen { error.now ≡ CommandError.BadListen → (result ≡ 1) × Tells err.old err.new (error_line Refusal.BadText) }
     ensures memory { error.now ≡ CommandError.OutOfMemory → (result ≡ 1) × Tells err.old err.new (error_line Refusal.OutOfMemory) }
 {
     match error {
         CommandError::Usage(usage) => {
-            if usage.print(rt).is_err() && error.code() == 0 {
-                // Help that can't be shown isn't done.
-                write_error(err, &Refusal::Outside);
-                return 1;
+            if let Err(why) = usage.print(rt) {
+                if error.code() == 0 {
+                    // Help that can't be shown isn't done.
+                    return tell_outside(alloc, err, "standard output", "write", &why);
+                }
             }
         }
         CommandError::BadMark | CommandError::BadListen => write_error(err, &Refusal::BadText),

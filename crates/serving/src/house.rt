@@ -1,5 +1,6 @@
 //! What the threads of a server share beside the archive.
 
+use crate::warning::Warnings;
 use std::sync::atomic::{AtomicBool, AtomicU64, Ordering};
 
 /// What the threads of a server tell one another.
@@ -7,6 +8,10 @@ use std::sync::atomic::{AtomicBool, AtomicU64, Ordering};
 pub(crate) struct Signals {
     /// How many questions were asked.
     pub(crate) questions: AtomicU64,
+    /// Connections whose sockets failed.
+    pub(crate) failed: Warnings,
+    /// Connections that couldn't be taken.
+    pub(crate) untaken: Warnings,
     /// No connection is taken any more.
     is_stopping: AtomicBool,
     /// A worker had no memory to serve with.
@@ -20,6 +25,8 @@ impl Signals {
     pub(crate) fn new() -> Signals {
         Signals {
             questions: AtomicU64::new(0),
+            failed: Warnings::new(),
+            untaken: Warnings::new(),
             is_stopping: AtomicBool::new(false),
             is_short: AtomicBool::new(false),
             places: AtomicU64::new(0),

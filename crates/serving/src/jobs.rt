@@ -6,28 +6,28 @@ ghost use Rattle.board.specs.Past.{Among};
 use crate::client::{Closing, serve_client};
 use crate::house::{Place, Signals};
 use crate::keeping::{keep_applying, keep_flushing};
-use crate::stopping::{let_go, stop_taking, take_connections, warn_outside};
+use crate::socket::{KeptSocket, Lapse};
+use crate::stopping::{let_go, stop_taking};
 use board::{Named, Pass};
-use crossbeam_channel::{Receiver, Sender};
+use crossbeam_channel::Receiver;
 use line_reader::LineReader;
 use log::Log;
 use query_threads::{Gate, OnDisk, Reader, Shared, Store};
 use service::Output;
 use std::alloc::Global;
-use std::io::BufWriter;
-use std::net::{Net, OpenStream, TcpListener, TcpStream};
+use std::cell::Cell;
+use std::io::{BufWriter, Error, ErrorKind};
+use std::net::{Net, OpenStream, SocketAddr, TcpListener, TcpStream};
 use std::sync::Wait;
 use std::time::Clock;
 
 /// How many blocks a worker keeps.
 const BLOCKS: usize = 64;
 
-/// What one thread of a server does.
+/// What one thread of a server does, beside the one that takes connections.
 #[derive(Drop)]
 pub(crate) enum Job<'a, N: Named> {
-    /// It takes connections.
-    Accept(Sender<TcpStream>),
-    /// It serves them.
+    /// It serves connections.
     Work(Receiver<TcpStream>, Pass<N>, Place<'a>),
     /// It applies changes.
     Apply(Pass<N>),
@@ -45,7 +45,7 @@ pub(crate) struct Desk<'a, R, L> {
     pub(crate) log: &'a L,
 }
 
-/// Serves a connection to its end.
+/// Serves a connection to its end. `lapse` is then why its socket failed, where it did.
 fn serve_stream<
     A: Store,
     N: Named + OnDisk<A::Disk>,
@@ -58,14 +58,19 @@ fn serve_stream<
     pass: &mut Pass<N>,
     reader: &mut Reader<A, N>,
     stream: &TcpStream,
+    lapse: &Cell<Option<Lapse>>,
 ) -> Closing
     requires reader { IsSome N.disk → Among reader.old pass.old.past.blocks }
     ensures reader { IsSome N.disk → Among reader.new pass.new.past.blocks }
 {
-    let Ok(writer) = BufWriter::new(desk.alloc, stream) else {
-        return Closing::Failed;
+    let writer = match BufWriter::new(desk.alloc, KeptSocket::new(stream, lapse)) {
+        Ok(writer) => writer,
+        Err(why) => {
+            lapse.set(Some(Lapse { call: "open", why }));
+            return Closing::Failed;
+        }
     };
-    let mut lines = LineReader::new(stream);
+    let mut lines = LineReader::new(KeptSocket::new(stream, lapse));
     let mut out = Output::new(writer);
     serve_client(
         desk.rt,
@@ -79,15 +84,28 @@ fn serve_stream<
     )
 }
 
-/// Closes a connection that ended so.
-fn close_stream<R: Net, L: Log>(desk: &Desk<'_, R, L>, closing: Closing, stream: &TcpStream) {
+/// Closes a connection from this address that ended so, and warns where its socket failed.
+fn close_stream<R: Net + Clock, L: Log>(
+    desk: &Desk<'_, R, L>,
+    closing: Closing,
+    stream: &TcpStream,
+    address: Option<SocketAddr>,
+    lapse: Option<Lapse>,
+) {
     match closing {
         Closing::Done => let_go(stream),
         Closing::Stop => {
             stop_taking(desk.rt, desk.listener, desk.signals);
             let_go(stream);
         }
-        Closing::Failed => warn_outside(desk.log),
+        Closing::Failed => {
+            // Where no call failed, one took nothing of what was written.
+            let lapse = lapse.unwrap_or(Lapse {
+                call: "write",
+                why: Error::from(ErrorKind::WriteZero),
+            });
+            desk.signals.failed.warn(desk.rt, desk.log, address, &lapse);
+        }
     }
 }
 
@@ -108,8 +126,10 @@ fn work<A: Store, N: Named + OnDisk<A::Disk>, G: Gate + Drop, R: Wait + Clock + 
             return;
         };
         let _ = stream.set_nodelay(true);
-        let closing = serve_stream(desk, shared, pass, &mut reader, &stream);
-        close_stream(desk, closing, &stream);
+        let address = stream.peer_addr().ok();
+        let lapse = Cell::new(None);
+        let closing = serve_stream(desk, shared, pass, &mut reader, &stream, &lapse);
+        close_stream(desk, closing, &stream, address, lapse.get());
     }
 }
 
@@ -122,14 +142,16 @@ pub(crate) fn run_job<
     L: Log,
 >(desk: &Desk<'_, R, L>, shared: &Shared<A, N, G>, job: Job<'_, N>) {
     match job {
-        Job::Accept(queue) => {
-            take_connections(desk.rt, desk.log, desk.listener, &queue, desk.signals);
-        }
         Job::Work(queue, mut pass, _place) => work(desk, shared, &mut pass, &queue),
         Job::Apply(mut pass) => {
-            keep_applying(desk.rt, shared, &mut pass, desk.signals);
-            // Where no worker is left and none was told to stop, none began.
-            stop_taking(desk.rt, desk.listener, desk.signals);
+            keep_applying(
+                desk.rt,
+                desk.alloc,
+                shared,
+                &mut pass,
+                desk.signals,
+                desk.log,
+            );
         }
         Job::Flush(mut pass) => keep_flushing(desk.rt, shared, &mut pass, desk.signals),
     }

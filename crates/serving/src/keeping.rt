@@ -1,8 +1,11 @@
 //! What is done with a served archive beside its connections: changes are applied, and pages flushed.
 
 use crate::house::Signals;
+use crate::outage::Outage;
 use board::{Named, Pass};
+use log::Log;
 use query_threads::{Flush, Gate, OnDisk, Shared, Step, Store, Trouble};
+use std::alloc::Global;
 use std::sync::Wait;
 use std::thread;
 use std::time::{Clock, Duration};
@@ -10,21 +13,66 @@ use std::time::{Clock, Duration};
 /// How many milliseconds a thread rests that finds nothing to do.
 const REST: u64 = 10;
 
-/// Applies what may be applied, until no worker serves and nothing may be applied any more. Where applying fails, it is
-/// tried again.
-pub(crate) fn keep_applying<A: Store, N: Named + OnDisk<A::Disk>, G: Gate + Drop, R: Wait + Clock>(
+/// Applies the next change, if one may be applied, and returns whether there was one. If a device of the archive failed, the
+/// archive is opened again.
+fn apply_next<A: Store, N: Named + OnDisk<A::Disk>, G: Gate + Drop, R: Wait + Clock, L: Log>(
     rt: &R,
+    alloc: Global,
     shared: &Shared<A, N, G>,
     pass: &mut Pass<N>,
-    signals: &Signals,
+    outage: &mut Outage,
+    log: &L,
+) -> bool {
+    match shared.apply(rt, pass) {
+        Err(Trouble::Fault | Trouble::NeedsRecovery) => {
+            outage.goes_on(rt, log, shared.failure(rt, alloc));
+            // The next step shows whether it is open.
+            let _ = shared.reopen(rt, pass, alloc);
+            false
+        }
+        Ok(Step::Applied) => {
+            outage.ends(rt, log);
+            outage.is_over();
+            true
+        }
+        _ => {
+            outage.ends(rt, log);
+            false
+        }
+    }
+}
+
+/// Applies what may be applied, until that fails or nothing may be applied any more.
+fn apply_rest<A: Store, N: Named + OnDisk<A::Disk>, G: Gate + Drop>(
+    rt: &impl Wait,
+    shared: &Shared<A, N, G>,
+    pass: &mut Pass<N>,
 ) {
     for _ in rt.forever() {
-        let is_left = signals.is_left();
-        if shared.apply(rt, pass) == Ok(Step::Applied) {
-            continue;
-        }
-        if is_left {
+        if shared.apply(rt, pass) != Ok(Step::Applied) {
             return;
+        }
+    }
+}
+
+/// Applies what may be applied, until no worker serves and nothing may be applied any more. If applying fails, it is
+/// tried again: after a rest, or, if a device of the archive failed, after a pause that grows while it fails. Once no worker serves it
+/// isn't: then the flush at the end of the server reports it.
+pub(crate) fn keep_applying<
+    A: Store,
+    N: Named + OnDisk<A::Disk>,
+    G: Gate + Drop,
+    R: Wait + Clock,
+    L: Log,
+>(rt: &R, alloc: Global, shared: &Shared<A, N, G>, pass: &mut Pass<N>, signals: &Signals, log: &L) {
+    let mut outage = Outage::none();
+    for _ in rt.forever() {
+        if signals.is_left() {
+            apply_rest(rt, shared, pass);
+            return;
+        }
+        if !outage.takes_rest() && apply_next(rt, alloc, shared, pass, &mut outage, log) {
+            continue;
         }
         thread::sleep(rt, Duration::from_millis(REST));
     }

@@ -5,8 +5,11 @@ mod client;
 mod house;
 mod jobs;
 mod keeping;
+mod outage;
 mod serving;
+mod socket;
 mod stopping;
+mod warning;
 
 pub use client::{Closing, serve_client};
 pub use serving::{ServeError, serve};

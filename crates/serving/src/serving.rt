@@ -1,21 +1,23 @@
 //! A server's life: an archive is shared, served by threads, and handed back.
 
-ghost use Rattle.std.specs.Prelude.{◌≡◌, ◌<◌, ◌≤◌, ⊤, [], length, Err, Some, IsSome, vec_len, vec_capacity};
+ghost use Rattle.std.specs.Prelude.{◌≡◌, ◌<◌, ◌≤◌, [], length, Err, Some, IsSome, vec_len, vec_capacity};
 ghost use Rattle.board.specs.Opened.{name_of};
 ghost use Rattle.board.specs.Past.{Past, GoesOnAs};
+ghost use Rattle.serving.specs.declared.serving.ServeError.TheVariants as serves;
 
 use crate::house::Signals;
 use crate::jobs::{Desk, Job, run_job};
 use crate::keeping::flush_all;
+use crate::stopping::take_connections;
 use board::{Named, Opened, Pass};
-use crossbeam_channel::bounded;
+use crossbeam_channel::{Receiver, bounded};
 use log::Log;
 use query_threads::{Gate, OnDisk, Shared, Store, Trouble};
 use std::alloc::{AllocError, Global};
 use std::net::{Net, TcpListener, TcpStream};
 use std::sync::Wait;
 use std::thread;
-use std::thread::Threads;
+use std::thread::{Scope, Threads};
 use std::time::Clock;
 use thiserror::Error;
 
@@ -28,50 +30,96 @@ pub enum ServeError {
     /// There was no memory for its threads.
     #[error("out of memory")]
     OutOfMemory,
+    /// One of its threads couldn't be made, so that no connection was taken.
+    #[error("a thread can't be made")]
+    Threads,
     /// What waited couldn't be written home at the end.
     #[error("{0}")]
     Trouble(Trouble),
 }
 
-/// What the threads of a server of so many workers do, each with a pass of its own.
+impl From<AllocError> for ServeError {
+    ghost from_gives = { λ _ e. e ≡ serves.OutOfMemory };
+
+    fn from(_: AllocError) -> Self {
+        ServeError::OutOfMemory
+    }
+}
+
+/// What the threads of a server of so many workers do, each with a pass of its own. Workers come last.
 fn jobs_of<'a, A: Store, N: Named + OnDisk<A::Disk>, G: Gate + Drop>(
     alloc: Global,
     shared: &Shared<A, N, G>,
     pass: &mut Pass<N>,
     signals: &'a Signals,
+    queue: &Receiver<TcpStream>,
     workers: u8,
 ) -> Result<Vec<Job<'a, N>>, AllocError> {
-    let (sender, receiver) = bounded(alloc, QUEUE)?;
     let mut jobs = Vec::new(alloc);
-    for _ in 0..workers {
-        jobs.push(Job::Work(receiver.clone()?, shared.split(pass), signals.place()))?;
-    }
-    jobs.push(Job::Accept(sender))?;
     jobs.push(Job::Apply(shared.split(pass)))?;
     jobs.push(Job::Flush(shared.split(pass)))?;
+    for _ in 0..workers {
+        jobs.push(Job::Work(queue.clone()?, shared.split(pass), signals.place()))?;
+    }
     Ok(jobs)
 }
 
-/// Runs the threads of a server to their end.
+/// Starts a thread for each job. None is started after one that can't be made.
+fn start_threads<
+    's,
+    E,
+    A: Store + Send + 's,
+    N: Named + OnDisk<A::Disk> + Send + Sync + 's,
+    G: Gate + Drop + Send + Sync + 's,
+    R: Threads + Wait + Clock + Net<Listener = TcpListener, Stream = TcpStream> + Sync + 's,
+    L: Log + Sync + 's,
+>(
+    scope: &Scope<'s, E>,
+    desk: &'s Desk<'s, R, L>,
+    shared: &'s Shared<A, N, G>,
+    jobs: Vec<Job<'s, N>>,
+) -> Result<(), ServeError> {
+    for job in jobs {
+        if scope.spawn(move || run_job(desk, shared, job)).is_err() {
+            return Err(ServeError::Threads);
+        }
+    }
+    Ok(())
+}
+
+/// Runs the threads of a server to their end. The calling one takes connections, once all others are made.
 fn run_threads<
     A: Store + Send,
     N: Named + OnDisk<A::Disk> + Send + Sync,
     G: Gate + Drop + Send + Sync,
     R: Threads + Wait + Clock + Net<Listener = TcpListener, Stream = TcpStream> + Sync,
     L: Log + Sync,
+    F: FnOnce() -> bool,
 >(
     desk: &Desk<'_, R, L>,
     shared: &Shared<A, N, G>,
     pass: &mut Pass<N>,
     workers: u8,
-) -> Result<(), AllocError> {
-    let jobs = jobs_of(desk.alloc, shared, pass, desk.signals, workers)?;
-    // Of what a thread does no clause speaks.
-    let run = |job: Job<'_, N>|
-        ensures { ⊤ }
-    { run_job(desk, shared, job) };
-    thread::map_vec(desk.rt, jobs, &run)?;
-    Ok(())
+    ready: F,
+) -> Result<(), ServeError>
+    requires { F.IsAlwaysCallable ready }
+{
+    let (sender, receiver) = bounded(desk.alloc, QUEUE)?;
+    let jobs = jobs_of(desk.alloc, shared, pass, desk.signals, &receiver, workers)?;
+    drop(receiver);
+    thread::scope(
+        thread::scope_env(),
+        desk.rt,
+        |scope| -> Result<(), ServeError>
+            requires { F.IsAlwaysCallable ready }
+        {
+            start_threads(scope, desk, shared, jobs)?;
+            if ready() {
+                take_connections(desk.rt, desk.log, desk.listener, sender, desk.signals);
+            }
+            Ok(())
+        },
+    )
 }
 
 /// Serves, and then writes home what waits.
@@ -81,17 +129,22 @@ fn serve_shared<
     G: Gate + Drop + Send + Sync,
     R: Threads + Wait + Clock + Net<Listener = TcpListener, Stream = TcpStream> + Sync,
     L: Log + Sync,
+    F: FnOnce() -> bool,
 >(
     desk: &Desk<'_, R, L>,
     shared: &Shared<A, N, G>,
     pass: &mut Pass<N>,
     workers: u8,
-) -> Result<(), ServeError> {
-    let ran = run_threads(desk, shared, pass, workers);
+    ready: F,
+) -> Result<(), ServeError>
+    requires { F.IsAlwaysCallable ready }
+{
+    let ran = run_threads(desk, shared, pass, workers, ready);
     if let Err(trouble) = flush_all(desk.rt, shared, pass) {
         return Err(ServeError::Trouble(trouble));
     }
-    if ran.is_err() || desk.signals.is_short() {
+    ran?;
+    if desk.signals.is_short() {
         return Err(ServeError::OutOfMemory);
     }
     Ok(())
@@ -112,17 +165,19 @@ fn hand_back<A: Store, N: Named + OnDisk<A::Disk>, G: Gate + Drop>(
     shared.close(passes)
 }
 
-/// Serves an archive on a socket, by so many workers, until a connection asks it to stop. Connections are taken by one
-/// thread and handed to the workers, each of which serves one to its end before it takes the next; one more thread applies
-/// changes, and one flushes pages. A connection whose socket fails ends with one warning, `29 Outside`. To stop, no
-/// connection is taken any more, those that are open are served to their end, what may be applied is applied, and all pages
-/// are written home. The archive is handed back.
+/// Serves an archive on a socket, by so many workers, until a connection asks it to stop. The calling thread takes connections
+/// and hands them to the workers, each of which serves one to its end before it takes the next; one more thread applies
+/// changes, and one flushes pages. Once all of these are made, `ready` is called: connections are taken if it returns true. Where
+/// a thread can't be made it isn't called, and no connection is taken. A connection whose socket fails ends with a warning,
+/// `29 Outside`, of which there is no more than one a second. To stop, no connection is taken any more, those that are open are served to their end, what may be applied is
+/// applied, and all pages are written home. The archive is handed back.
 pub fn serve<
     A: Store + Send,
     N: Named + OnDisk<A::Disk> + Send + Sync,
     G: Gate + Drop + Send + Sync,
     R: Threads + Wait + Clock + Net<Listener = TcpListener, Stream = TcpStream> + Sync,
     L: Log + Sync,
+    F: FnOnce() -> bool,
 >(
     rt: &R,
     alloc: Global,
@@ -132,12 +187,14 @@ pub fn serve<
     listener: &TcpListener,
     workers: u8,
     log: &L,
+    ready: F,
 ) -> (A, Result<(), ServeError>)
     requires named { name_of opened ≡ N.table }
     requires some { 1 ≤ opened.collectors }
     requires disk { IsSome N.disk → N.disk ≡ Some (A.disk_of archive) }
     requires pages { IsSome N.disk → N.pages ≡ A.pages archive }
     requires carried { IsSome N.disk → (p : Past) × A.carries archive p × (length p.history.intakes ≡ opened.collectors) }
+    requires ready { F.IsAlwaysCallable ready }
     ensures carried { IsSome N.disk → (p : Past) × A.carries result.0 p }
     ensures goes_on { IsSome N.disk → (result.1 ≡ Err ServeError.OutOfMemory → ⊥) → (p : Past) × (q : Past) × A.carries archive p × GoesOnAs p q × A.carries result.0 q }
 {
@@ -154,6 +211,6 @@ pub fn serve<
         listener,
         log,
     };
-    let ended = serve_shared(&desk, &shared, &mut pass, workers);
+    let ended = serve_shared(&desk, &shared, &mut pass, workers, ready);
     (hand_back(shared, passes, first), ended)
 }

@@ -1,8 +1,9 @@
 //! Connections that are taken and let go.
 
 use crate::house::Signals;
+use crate::socket::Lapse;
 use crossbeam_channel::Sender;
-use log::{Log, warn};
+use log::Log;
 use std::io::Read;
 use std::net::{Net, OpenListener, OpenStream, Shutdown, TcpListener, TcpStream};
 use std::sync::Wait;
@@ -21,17 +22,12 @@ const LINGERS: u32 = 64;
 /// How many milliseconds the acceptor is called for.
 const CALL: u64 = 1_000;
 
-/// Warns that a socket failed.
-pub(crate) fn warn_outside(log: &impl Log) {
-    warn!(log; "29 Outside");
-}
-
-/// Takes connections and hands them to workers, until the server is to stop.
+/// Takes connections and hands them to workers, until the server is to stop. The queue ends with it.
 pub(crate) fn take_connections<R: Wait + Clock>(
     rt: &R,
     log: &impl Log,
     listener: &TcpListener,
-    queue: &Sender<TcpStream>,
+    queue: Sender<TcpStream>,
     signals: &Signals,
 ) {
     for connection in listener.incoming() {
@@ -44,8 +40,13 @@ pub(crate) fn take_connections<R: Wait + Clock>(
                     return;
                 }
             }
-            Err(_) => {
-                warn_outside(log);
+            Err(why) => {
+                let lapse = Lapse {
+                    call: "accept",
+                    why,
+                };
+                let address = listener.local_addr().ok();
+                signals.untaken.warn(rt, log, address, &lapse);
                 thread::sleep(rt, Duration::from_millis(REST));
             }
         }

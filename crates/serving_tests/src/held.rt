@@ -1,6 +1,7 @@
-//! A question is held behind its first turn until another one is answered, each by a worker of its own, and leaves are split
+//! A question is held after its first turn until another one is answered, each by a worker of its own, and leaves are split
 //! between.
 
+use crate::be;
 use crate::made::{COLLECTORS, burnt_by, empty_store};
 use crate::records::{DETOUR, LATER, UPDATE};
 use crate::scenes::{ANSWER, QUESTION};
@@ -16,7 +17,6 @@ use std::marker::Brand;
 use std::net::TcpListener;
 use std::sync::Arc;
 use std::sync::atomic::Ordering;
-use std::test::Fail;
 use std::thread;
 use std::time::Clock;
 
@@ -58,7 +58,7 @@ static FREE: [Step; 12] = [
     HearLast(1, "ok\n"),
 ];
 
-/// Holds the question 1 behind its first turn until the question 2 is answered.
+/// Holds the question 1 after its first turn until the question 2 is answered.
 #[derive(Drop)]
 struct HoldGate<R: Clock> {
     clock: R,
@@ -83,25 +83,25 @@ impl<R: Clock> Gate for HoldGate<R> {
 }
 
 #[test]
-fn a_question_is_answered_while_another_is_held(rt: HostRuntime) -> Result<(), Fail> {
+fn a_question_is_answered_while_another_is_held(rt: HostRuntime) {
     let alloc = rt.alloc();
-    let listener = TcpListener::bind(&rt, "127.0.0.1:0")?;
-    let address = listener.local_addr()?;
+    let listener = TcpListener::bind(&rt, "127.0.0.1:0").expect(&rt, "a socket");
+    let address = listener.local_addr().expect(&rt, "a port");
     let log = Locked::new(rt, Vec::new(alloc));
-    let signals = Arc::new(alloc, Signals::new())?;
-    let seen = signals.clone()?;
+    let signals = Arc::new(alloc, Signals::new()).expect(&rt, "memory for the signals");
+    let seen = signals.clone().expect(&rt, "a clone of the signals");
     let gate = HoldGate {
         clock: rt,
-        signals: signals.clone()?,
+        signals: signals.clone().expect(&rt, "a clone of the signals"),
     };
-    let store = empty_store(alloc)?;
-    let held = thread::spawn(&rt, move || count_right(&rt, alloc, address, &HELD))?;
+    let store = empty_store(alloc).expect(&rt, "an empty archive");
+    let held = thread::spawn(&rt, move || count_right(&rt, alloc, address, &HELD));
     let free = thread::spawn(&rt, move || {
         let signals: &Signals = &seen;
         signals.wait_for(&rt, &signals.is_held);
         count_right(&rt, alloc, address, &FREE)
-    })?;
-    let opened = Opened::new(alloc, COLLECTORS)?;
+    });
+    let opened = Opened::new(alloc, COLLECTORS).expect(&rt, "a board");
     let served = serve_store::<
         MemStore,
         Brand,
@@ -109,11 +109,13 @@ fn a_question_is_answered_while_another_is_held(rt: HostRuntime) -> Result<(), F
         HostRuntime,
         Locked<HostRuntime, Vec<u8>>,
     >(&rt, alloc, opened, store, gate, &listener, &log);
-    assert_eq!(rt; held.join(&rt), HELD.len());
-    assert_eq!(rt; free.join(&rt), FREE.len());
-    assert!(rt; !signals.is_late.load(Ordering::SeqCst));
-    assert!(rt; are_warnings(&log.into_inner(), 0));
-    let store = served.ok_or("the server ended otherwise")?;
-    assert!(rt; burnt_by(store) > BURNT_BEFORE);
-    Ok(())
+    let held = held.expect(&rt, "a thread").join(&rt);
+    let free = free.expect(&rt, "a thread").join(&rt);
+    be(&rt, held == HELD.len(), "the question that is held");
+    be(&rt, free == FREE.len(), "the question that isn't");
+    let is_late = signals.is_late.load(Ordering::SeqCst);
+    be(&rt, !is_late, "nobody waited for too long");
+    be(&rt, are_warnings(&log.into_inner(), 0), "no warning");
+    let burnt = served.map_or(0, burnt_by);
+    be(&rt, burnt > BURNT_BEFORE, "leaves were split");
 }

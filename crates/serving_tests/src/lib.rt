@@ -1,9 +1,13 @@
-//! Tests of serving: connections whose octets lie in memory, and both ends of connections in one process, over the loopback
-//! interface.
+//! Tests of server, serving and load_progress: the lines of a connection, connections whose octets lie in memory, both ends of
+//! connections in one process, over the loopback interface, and the line that says how far a load has come.
 #![tactic(auto)]
 
 #[cfg(test)]
 mod clients;
+#[cfg(test)]
+mod commands;
+#[cfg(test)]
+mod conversations;
 #[cfg(test)]
 mod held;
 #[cfg(test)]
@@ -13,6 +17,10 @@ mod records;
 #[cfg(test)]
 mod scenes;
 #[cfg(test)]
+mod screen;
+#[cfg(test)]
+mod shown;
+#[cfg(test)]
 mod signals;
 #[cfg(test)]
 mod sockets;
@@ -20,3 +28,12 @@ mod sockets;
 mod steps;
 #[cfg(test)]
 mod watched;
+
+#[cfg(test)]
+use std::process::Abort;
+
+/// Ends a test that is wrong, with what was tried. Proofs learn nothing of it, which keeps them short.
+#[cfg(test)]
+fn be(rt: &impl Abort, holds: bool, name: &str) {
+    assert!(rt; holds, "{name}");
+}

@@ -6,7 +6,6 @@ use disk_memory::{MemErase, MemOnce};
 use shared_archive::MemStore;
 use std::alloc::Global;
 use std::sync::Arc;
-use std::test::Fail;
 
 /// How many collectors it has.
 pub(crate) const COLLECTORS: u8 = 1;
@@ -18,21 +17,22 @@ const OCTETS: u64 = (265 + 1 + 16 + 64) * 16_384;
 const BLOCKS: u64 = 64;
 
 /// An archive to which nothing was given.
-pub(crate) fn empty_store(alloc: Global) -> Result<MemStore, Fail> {
+pub(crate) fn empty_store(alloc: Global) -> Option<MemStore> {
     let settings = Settings {
         collectors: COLLECTORS,
         ring: 16,
     };
     let erase = MemErase::new(alloc, OCTETS);
     let (once, pen) = MemOnce::new(alloc, BLOCKS);
-    match Archive::create(alloc, erase, Arc::new(alloc, once)?, pen, settings) {
-        Ok(archive) => Ok(MemStore { archive }),
-        Err(refused) => Err(refused.error.into()),
-    }
+    let once = Arc::new(alloc, once).ok()?;
+    let archive = Archive::create(alloc, erase, once, pen, settings).ok()?;
+    Some(MemStore::new(archive))
 }
 
 /// How many blocks were burnt.
 pub(crate) fn burnt_by(store: MemStore) -> usize {
-    let (_erase, _once, pen) = store.archive.into_disks();
-    pen.settled().len()
+    match store.archive.into_disks() {
+        Some(disks) => disks.pen.settled().len(),
+        None => 0,
+    }
 }

@@ -8,7 +8,7 @@ use crate::steps::Step::{
 };
 
 /// What clients do with a server of an empty archive.
-#[derive(Clone, Copy, Debug, PartialEq, Eq)]
+#[derive(Clone, Copy)]
 pub(crate) enum Scene {
     Three,
     Long,
@@ -30,6 +30,19 @@ pub(crate) const SCENES: [Scene; 7] = [
 ];
 
 impl Scene {
+    /// What is printed where it goes wrong.
+    pub(crate) fn name(self) -> &'static str {
+        match self {
+            Scene::Three => "three clients",
+            Scene::Long => "a long line",
+            Scene::Cut => "a connection that is cut",
+            Scene::Slow => "a slow client",
+            Scene::Open => "a connection that is open",
+            Scene::Unmarked => "records without a mark",
+            Scene::Last => "the last connection",
+        }
+    }
+
     /// What the clients do, one step after another.
     pub(crate) fn steps(self) -> &'static [Step] {
         match self {

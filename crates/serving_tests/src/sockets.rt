@@ -3,8 +3,9 @@
 ghost use Rattle.std.specs.Prelude.{◌≡◌, ◌≤◌};
 ghost use Rattle.board.specs.Opened.{name_of};
 
+use crate::be;
 use crate::made::{COLLECTORS, empty_store};
-use crate::scenes::SCENES;
+use crate::scenes::{SCENES, Scene};
 use crate::steps::count_right;
 use board::{Named, Opened};
 use log::Log;
@@ -16,7 +17,6 @@ use std::alloc::Global;
 use std::marker::Brand;
 use std::net::{Net, TcpListener, TcpStream};
 use std::sync::Wait;
-use std::test::Fail;
 use std::thread;
 use std::thread::Threads;
 use std::time::Clock;
@@ -43,11 +43,31 @@ pub(crate) fn serve_store<
     requires named { name_of opened ≡ B.table }
     requires some { 1 ≤ opened.collectors }
 {
-    let (store, ended) = serve::<A, Unpromised<B>, G, R, L>(
-        rt, alloc, opened, store, gate, listener, WORKERS, log,
+    let (store, ended) = serve::<A, Unpromised<B>, G, R, L, _>(
+        rt,
+        alloc,
+        opened,
+        store,
+        gate,
+        listener,
+        WORKERS,
+        log,
+        || true,
     );
     ended.ok()?;
     Some(store)
+}
+
+/// Whether a line of a log is the warning of a socket that failed, with its client, the call and the moment.
+fn is_warning(line: &[u8]) -> bool {
+    let Ok(line) = str::from_utf8(line) else {
+        return false;
+    };
+    let Some((head, client)) = line.split_once("] 29 Outside: 127.0.0.1:") else {
+        return false;
+    };
+    let has_call = client.contains(": read: ") || client.contains(": write: ");
+    head.starts_with("[WARN ") && has_call && client.ends_with("Z")
 }
 
 /// Whether each of the lines of a log is the warning of a failed socket, and they are so many.
@@ -57,7 +77,7 @@ pub(crate) fn are_warnings(lines: &[u8], count: usize) -> bool {
         if line.is_empty() {
             continue;
         }
-        if left == 0 || !line.starts_with(b"[WARN ") || !line.ends_with(b"] 29 Outside") {
+        if left == 0 || !is_warning(line) {
             return false;
         }
         left -= 1;
@@ -65,17 +85,28 @@ pub(crate) fn are_warnings(lines: &[u8], count: usize) -> bool {
     left == 0
 }
 
+/// Whether the archive has the scene's records, all are applied, and all pages are written home.
+fn is_whole(store: Option<MemStore>, scene: Scene) -> bool {
+    let Some(mut store) = store else {
+        return false;
+    };
+    store.apply_step() == Ok(Step::Idle)
+        && store.flush_step() == Ok(Flush::Clean)
+        && store.admitted(0) == scene.records()
+}
+
 #[test]
-fn clients_are_told_what_they_have_to_be(rt: HostRuntime) -> Result<(), Fail> {
+fn clients_are_told_what_they_have_to_be(rt: HostRuntime) {
     let alloc = rt.alloc();
-    for scene in SCENES {
-        let listener = TcpListener::bind(&rt, "127.0.0.1:0")?;
-        let address = listener.local_addr()?;
+    for scene in &SCENES {
+        let name = scene.name();
+        let listener = TcpListener::bind(&rt, "127.0.0.1:0").expect(&rt, name);
+        let address = listener.local_addr().expect(&rt, name);
         let log = Locked::new(rt, Vec::new(alloc));
-        let store = empty_store(alloc)?;
+        let store = empty_store(alloc).expect(&rt, name);
         let steps = scene.steps();
-        let clients = thread::spawn(&rt, move || count_right(&rt, alloc, address, steps))?;
-        let opened = Opened::new(alloc, COLLECTORS)?;
+        let clients = thread::spawn(&rt, move || count_right(&rt, alloc, address, steps));
+        let opened = Opened::new(alloc, COLLECTORS).expect(&rt, name);
         let served = serve_store::<
             MemStore,
             Brand,
@@ -83,19 +114,9 @@ fn clients_are_told_what_they_have_to_be(rt: HostRuntime) -> Result<(), Fail> {
             HostRuntime,
             Locked<HostRuntime, Vec<u8>>,
         >(&rt, alloc, opened, store, NoGate, &listener, &log);
-        assert_eq!(rt; clients.join(&rt), steps.len(), "steps of {scene:?}");
-        let mut store = served.ok_or("the server ended otherwise")?;
-        assert_eq!(rt; store.apply_step(), Ok(Step::Idle), "applied of {scene:?}");
-        assert_eq!(rt;
-            store.flush_step(),
-            Ok(Flush::Clean),
-            "written home of {scene:?}"
-        );
-        assert_eq!(rt; store.admitted(0), scene.records(), "records of {scene:?}");
-        assert!(rt;
-            are_warnings(&log.into_inner(), scene.warnings()),
-            "warnings of {scene:?}"
-        );
+        let right = clients.expect(&rt, name).join(&rt);
+        be(&rt, right == steps.len(), name);
+        be(&rt, are_warnings(&log.into_inner(), scene.warnings()), name);
+        be(&rt, is_whole(served, *scene), name);
     }
-    Ok(())
 }

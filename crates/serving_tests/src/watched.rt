@@ -1,12 +1,14 @@
 //! A server writes pages home while it serves.
 
-ghost use Rattle.disk_archive.specs.Archives.{once_of};
 ghost use Rattle.disk_archive.specs.Cursors.{IsGathered, asks};
 ghost use Rattle.disk_archive.specs.Descents.{IsErrandFor};
 ghost use Rattle.once_store.specs.Readers.{kept_blocks, reader_disk};
-ghost use Rattle.shared_archive.specs.Carried.{CarriesPast, LiesInPast, gathered_on, right_going, ring_pages};
-ghost use Rattle.shared_archive.specs.Told.{Flushes, Misses, Tells};
+ghost use Rattle.shared_archive.specs.Carried.{LiesInPast, gathered_on};
+ghost use Rattle.shared_archive.specs.Held.{HeldFlushes, HeldTells, HoldsPast, disk_in, pages_in, right_held};
+ghost use Rattle.shared_archive.specs.Reopened.{Reopens};
+ghost use Rattle.shared_archive.specs.Told.{Misses};
 
+use crate::be;
 use crate::made::{COLLECTORS, empty_store};
 use crate::signals::Signals;
 use crate::sockets::serve_store;
@@ -29,10 +31,9 @@ use std::marker::Brand;
 use std::net::TcpListener;
 use std::sync::Arc;
 use std::sync::atomic::Ordering;
-use std::test::Fail;
 use std::thread;
 
-/// What is done before pages are waited for, and behind it.
+/// What is done before pages are waited for, and after it.
 static MARKED: [Step; 4] = [
     Connect,
     Send(0, "mark 0 1704067201\nquit\n"),
@@ -42,7 +43,7 @@ static MARKED: [Step; 4] = [
 
 static STOPPED: [Step; 3] = [Connect, Send(0, "stop\n"), HearLast(0, "ok\n")];
 
-/// An archive on disks in memory which tells that no page waits to go home.
+/// An archive on disks in memory which signals that no page waits to go home.
 #[derive(Drop)]
 struct WatchedStore {
     inner: MemStore,
@@ -60,11 +61,11 @@ impl Store for WatchedStore {
 
     type Cursor = Cursor;
 
-    ghost carries = { λ store p. CarriesPast store.inner.archive p };
+    ghost carries = { λ store p. HoldsPast store.inner.archive p };
 
-    ghost pages = { λ store. ring_pages store.inner.archive };
+    ghost pages = { λ store. pages_in store.inner.archive };
 
-    ghost disk_of = { λ store. once_of store.inner.archive };
+    ghost disk_of = { λ store. disk_in store.inner.archive };
 
     ghost block_count = { λ disk. ⟦<MemOnce as OnceDisk>⟧.block_count disk };
 
@@ -84,13 +85,15 @@ impl Store for WatchedStore {
 
     ghost lies = { λ errand cursor disk p. LiesInPast (⟦<MemOnce as OnceDisk>⟧.block_count disk) errand cursor p };
 
-    ghost right = { λ store p carried. right_going store.inner.archive p.history carried.goes_on };
+    ghost right = { λ store p carried. right_held store.inner.archive p carried };
 
     ghost stays = { λ cursor h g right begins below gathered. gathered_on cursor h g begins gathered };
 
-    ghost tells = { λ store trouble then. Tells store.inner.archive trouble then.inner.archive };
+    ghost tells = { λ store trouble then. HeldTells store.inner.archive trouble then.inner.archive };
 
-    ghost flushes = { λ store step then. Flushes store.inner.archive step then.inner.archive };
+    ghost reopens = { λ store returned then. Reopens store.inner.archive returned then.inner.archive };
+
+    ghost flushes = { λ store step then. HeldFlushes store.inner.archive step then.inner.archive };
 
     ghost misses = { λ seen trouble then. Misses ⟦<MemOnce as OnceDisk>⟧ seen trouble then };
 
@@ -131,6 +134,10 @@ impl Store for WatchedStore {
         told
     }
 
+    fn reopen(&mut self, alloc: Global) -> Result<(), Trouble> {
+        self.inner.reopen(alloc)
+    }
+
     fn start(alloc: Global, query: &Query) -> Cursor {
         MemStore::start(alloc, query)
     }
@@ -158,27 +165,34 @@ impl Store for WatchedStore {
     }
 }
 
+/// How many steps went right before pages were waited for, and after that.
+#[derive(Drop)]
+struct Right {
+    marked: usize,
+    stopped: usize,
+}
+
 #[test]
-fn pages_go_home_while_a_server_serves(rt: HostRuntime) -> Result<(), Fail> {
+fn pages_go_home_while_a_server_serves(rt: HostRuntime) {
     let alloc = rt.alloc();
-    let listener = TcpListener::bind(&rt, "127.0.0.1:0")?;
-    let address = listener.local_addr()?;
+    let listener = TcpListener::bind(&rt, "127.0.0.1:0").expect(&rt, "a socket");
+    let address = listener.local_addr().expect(&rt, "a port");
     let log = Locked::new(rt, Vec::new(alloc));
-    let signals = Arc::new(alloc, Signals::new())?;
-    let seen = signals.clone()?;
+    let signals = Arc::new(alloc, Signals::new()).expect(&rt, "memory for the signals");
+    let seen = signals.clone().expect(&rt, "a clone of the signals");
     let store = WatchedStore {
-        inner: empty_store(alloc)?,
-        signals: signals.clone()?,
+        inner: empty_store(alloc).expect(&rt, "an empty archive"),
+        signals: signals.clone().expect(&rt, "a clone of the signals"),
     };
-    let clients = thread::spawn(&rt, move || {
+    let client = thread::spawn(&rt, move || {
         let signals: &Signals = &seen;
         let marked = count_right(&rt, alloc, address, &MARKED);
         signals.is_done.store(false, Ordering::SeqCst);
         signals.wait_for(&rt, &signals.is_done);
         let stopped = count_right(&rt, alloc, address, &STOPPED);
-        (marked, stopped)
-    })?;
-    let opened = Opened::new(alloc, COLLECTORS)?;
+        Right { marked, stopped }
+    });
+    let opened = Opened::new(alloc, COLLECTORS).expect(&rt, "a board");
     let served = serve_store::<
         WatchedStore,
         Brand,
@@ -186,8 +200,10 @@ fn pages_go_home_while_a_server_serves(rt: HostRuntime) -> Result<(), Fail> {
         HostRuntime,
         Locked<HostRuntime, Vec<u8>>,
     >(&rt, alloc, opened, store, NoGate, &listener, &log);
-    assert_eq!(rt; clients.join(&rt), (MARKED.len(), STOPPED.len()));
-    assert!(rt; !signals.is_late.load(Ordering::SeqCst));
-    assert!(rt; served.is_some());
-    Ok(())
+    let right = client.expect(&rt, "a thread").join(&rt);
+    be(&rt, right.marked == MARKED.len(), "the mark is set");
+    be(&rt, right.stopped == STOPPED.len(), "the server is stopped");
+    let is_late = signals.is_late.load(Ordering::SeqCst);
+    be(&rt, !is_late, "pages went home");
+    be(&rt, served.is_some(), "the server ended well");
 }

@@ -2,3 +2,4 @@ mod Blocks
 mod Serving
 mod Asking
 mod Telling
+mod Renewing

@@ -1,27 +1,110 @@
 //! The archive in files, as threads share it.
 
-ghost use Rattle.disk_archive.specs.Archives.{once_of};
+ghost use Rattle.std.specs.Prelude.{◌≡◌, ◌⊎◌, IfErr, OnErr, OnOk};
 ghost use Rattle.disk_archive.specs.Cursors.{IsGathered, asks};
 ghost use Rattle.disk_archive.specs.Descents.{IsErrandFor};
 ghost use Rattle.once_store.specs.Readers.{kept_blocks, reader_disk};
-ghost use Rattle.shared_archive.specs.Carried.{CarriesPast, LiesInPast, gathered_on, right_going, ring_pages};
-ghost use Rattle.shared_archive.specs.Told.{Flushes, Misses, Tells};
+ghost use Rattle.shared_archive.specs.Carried.{LiesInPast, gathered_on};
+ghost use Rattle.shared_archive.specs.Held.{HeldFlushes, HeldTells, HoldsPast, disk_in, pages_in, right_held};
+ghost use Rattle.shared_archive.specs.Reopened.{Fails, IsAway, IsOpen, Reopens, erase_faults, pen_faults};
+ghost use Rattle.shared_archive.specs.Told.{Failed, Misses};
 
-use crate::{calls, turns};
+use crate::held::{Disks, Held};
+use crate::turns;
 use disk_archive::{Archive, Cursor, Errand};
-use disk_files::{FileErase, FileOnce, FileSeen};
-use disk_models::OnceDisk;
+use disk_files::{Failures, FileErase, FileOnce, FileSeen};
+use disk_models::{EraseDisk, Fault, OnceDisk};
 use interleaving_core::{BatchReply, Query};
 use once_store::ShelfReader;
 use query_threads::{AdmitError, AskError, Flush, MarkError, Step, Store, Trouble, Turn};
 use route_model::{Admission, Mark};
-use std::alloc::Global;
+use std::alloc::{AllocError, Global};
+use std::sync::Arc;
+
+// A new place for why both disks fail. None where there is no memory for it: then they go on with the old one.
+fn note_anew(
+    disks: &mut Disks<FileErase, FileOnce>,
+    failures: &Failures,
+    alloc: Global,
+) -> Option<Arc<Failures>>
+    ensures once { disks.new.once.value ≡ disks.old.once.value }
+    ensures quiet { (⟦<FileErase as EraseDisk>⟧.fault_count disks.new.erase ≡ ⟦<FileErase as EraseDisk>⟧.fault_count disks.old.erase) × (⟦<FileOnce as OnceDisk>⟧.pen_fault_count disks.new.pen ≡ ⟦<FileOnce as OnceDisk>⟧.pen_fault_count disks.old.pen) }
+{
+    let fresh = Arc::new(alloc, failures.renewed(alloc).ok()?).ok()?;
+    disks.erase.note_in(&fresh).ok()?;
+    disks.pen.note_in(&fresh).ok()?;
+    Some(fresh)
+}
+
+// Makes both disks usable again after a failure, and returns the place where it is kept why they fail from then on. Their files stay
+// open and locked.
+fn renew(
+    disks: &mut Disks<FileErase, FileOnce>,
+    failures: &Failures,
+    alloc: Global,
+) -> Result<Option<Arc<Failures>>, Fault>
+    ensures once { disks.new.once.value ≡ disks.old.once.value }
+    ensures quiet { OnOk result ((⟦<FileErase as EraseDisk>⟧.fault_count disks.new.erase ≡ ⟦<FileErase as EraseDisk>⟧.fault_count disks.old.erase) × (⟦<FileOnce as OnceDisk>⟧.pen_fault_count disks.new.pen ≡ ⟦<FileOnce as OnceDisk>⟧.pen_fault_count disks.old.pen)) }
+    ensures counted { OnErr result (Failed (⟦<FileErase as EraseDisk>⟧.fault_count disks.old.erase) (⟦<FileErase as EraseDisk>⟧.fault_count disks.new.erase) ⊎ Failed (⟦<FileOnce as OnceDisk>⟧.pen_fault_count disks.old.pen) (⟦<FileOnce as OnceDisk>⟧.pen_fault_count disks.new.pen)) }
+{
+    disks.erase.renew()?;
+    disks.once.renew(&mut disks.pen)?;
+    Ok(note_anew(disks, failures, alloc))
+}
+
+// Takes the new place once the archive is open: while it isn't, the old one says why.
+fn keep_fresh(failures: &mut Arc<Failures>, fresh: Option<Arc<Failures>>, is_open: bool) {
+    if let Some(fresh) = fresh {
+        if is_open {
+            *failures = fresh;
+        }
+    }
+}
+
+// Opens an archive on the disks that were away, once they are usable again, or keeps them.
+fn open_renewed(
+    held: &mut Held<FileErase, FileOnce>,
+    failures: &mut Arc<Failures>,
+    alloc: Global,
+    mut disks: Disks<FileErase, FileOnce>,
+) -> Result<(), Trouble>
+    requires away { IsAway held.old }
+    ensures disk { disk_in held.new ≡ disks.once.value }
+    ensures pages { pages_in held.new ≡ pages_in held.old }
+    ensures opens { OnOk result (IsOpen held.new) }
+    ensures trouble { IfErr result (λ t. Fails ⊥ (⟦<FileErase as EraseDisk>⟧.fault_count disks.erase) (erase_faults held.new) (⟦<FileOnce as OnceDisk>⟧.pen_fault_count disks.pen) (pen_faults held.new) t) }
+{
+    match renew(&mut disks, failures, alloc) {
+        Ok(fresh) => {
+            let opened = held.open_on(alloc, disks);
+            keep_fresh(failures, fresh, opened.is_ok());
+            opened
+        }
+        Err(_) => {
+            held.put_disks(disks);
+            Err(Trouble::Fault)
+        }
+    }
+}
 
 /// An archive on disks over files. Threads share it.
 #[derive(Drop)]
 pub struct FileStore {
     /// The archive.
-    pub archive: Archive<FileErase, FileOnce>,
+    pub archive: Held<FileErase, FileOnce>,
+    failures: Arc<Failures>,
+}
+
+impl FileStore {
+    /// An archive that is open, with the place where it is kept why calls on its files fail.
+    pub fn new(archive: Archive<FileErase, FileOnce>, failures: Arc<Failures>) -> FileStore
+        ensures { result.archive ≡ Held.Open archive }
+    {
+        FileStore {
+            archive: Held::Open(archive),
+            failures,
+        }
+    }
 }
 
 impl Store for FileStore {
@@ -35,11 +118,11 @@ impl Store for FileStore {
 
     type Cursor = Cursor;
 
-    ghost carries = { λ store p. CarriesPast store.archive p };
+    ghost carries = { λ store p. HoldsPast store.archive p };
 
-    ghost pages = { λ store. ring_pages store.archive };
+    ghost pages = { λ store. pages_in store.archive };
 
-    ghost disk_of = { λ store. once_of store.archive };
+    ghost disk_of = { λ store. disk_in store.archive };
 
     ghost block_count = { λ disk. ⟦<FileOnce as OnceDisk>⟧.block_count disk };
 
@@ -59,13 +142,15 @@ impl Store for FileStore {
 
     ghost lies = { λ errand cursor disk p. LiesInPast (⟦<FileOnce as OnceDisk>⟧.block_count disk) errand cursor p };
 
-    ghost right = { λ store p carried. right_going store.archive p.history carried.goes_on };
+    ghost right = { λ store p carried. right_held store.archive p carried };
 
     ghost stays = { λ cursor h g right begins below gathered. gathered_on cursor h g begins gathered };
 
-    ghost tells = { λ store trouble then. Tells store.archive trouble then.archive };
+    ghost tells = { λ store trouble then. HeldTells store.archive trouble then.archive };
 
-    ghost flushes = { λ store step then. Flushes store.archive step then.archive };
+    ghost reopens = { λ store returned then. Reopens store.archive returned then.archive };
+
+    ghost flushes = { λ store step then. HeldFlushes store.archive step then.archive };
 
     ghost misses = { λ seen trouble then. Misses ⟦<FileOnce as OnceDisk>⟧ seen trouble then };
 
@@ -82,23 +167,34 @@ impl Store for FileStore {
     }
 
     fn admitted(&self, collector: u8) -> u64 {
-        turns::admitted(&self.archive, collector)
+        self.archive.admitted(collector)
     }
 
     fn admit(&mut self, collector: u8, batch: &[Admission]) -> Result<BatchReply, AdmitError> {
-        calls::admit(&mut self.archive, collector, batch)
+        self.archive.admit(collector, batch)
     }
 
     fn mark(&mut self, collector: u8, mark: Mark) -> Result<(), MarkError> {
-        calls::mark(&mut self.archive, collector, mark)
+        self.archive.mark(collector, mark)
     }
 
     fn apply_step(&mut self) -> Result<Step, Trouble> {
-        calls::apply_step(&mut self.archive)
+        self.archive.apply_step()
     }
 
     fn flush_step(&mut self) -> Result<Flush, Trouble> {
-        calls::flush_step(&mut self.archive)
+        self.archive.flush_step()
+    }
+
+    fn reopen(&mut self, alloc: Global) -> Result<(), Trouble> {
+        match self.archive.take_disks(alloc) {
+            Ok(disks) => open_renewed(&mut self.archive, &mut self.failures, alloc, disks),
+            Err(trouble) => Err(trouble),
+        }
+    }
+
+    fn failure(&self, alloc: Global) -> Option<String> {
+        self.failures.text(alloc)
     }
 
     fn start(alloc: Global, query: &Query) -> Cursor {
@@ -106,15 +202,15 @@ impl Store for FileStore {
     }
 
     fn descend(&mut self, cursor: &mut Cursor) -> Result<Turn<Errand>, AskError> {
-        turns::descend(&mut self.archive, cursor)
+        self.archive.descend(cursor)
     }
 
     fn seen(&mut self) -> Result<FileSeen, Trouble> {
-        turns::seen(&mut self.archive)
+        self.archive.seen()
     }
 
     fn reader(&self, _alloc: Global, capacity: usize) -> Result<ShelfReader<FileOnce>, Trouble> {
-        turns::reader(&self.archive, capacity)
+        self.archive.reader(capacity)
     }
 
     fn finish(

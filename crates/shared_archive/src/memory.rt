@@ -1,13 +1,16 @@
 //! The archive on disks in memory, as threads share it.
 
-ghost use Rattle.disk_archive.specs.Archives.{once_of};
+ghost use Rattle.std.specs.Prelude.{◌≡◌};
 ghost use Rattle.disk_archive.specs.Cursors.{IsGathered, asks};
 ghost use Rattle.disk_archive.specs.Descents.{IsErrandFor};
 ghost use Rattle.once_store.specs.Readers.{kept_blocks, reader_disk};
-ghost use Rattle.shared_archive.specs.Carried.{CarriesPast, LiesInPast, gathered_on, right_going, ring_pages};
-ghost use Rattle.shared_archive.specs.Told.{Flushes, Misses, Tells};
+ghost use Rattle.shared_archive.specs.Carried.{LiesInPast, gathered_on};
+ghost use Rattle.shared_archive.specs.Held.{HeldFlushes, HeldTells, HoldsPast, disk_in, pages_in, right_held};
+ghost use Rattle.shared_archive.specs.Reopened.{Reopens};
+ghost use Rattle.shared_archive.specs.Told.{Misses};
 
-use crate::{calls, turns};
+use crate::held::Held;
+use crate::turns;
 use disk_archive::{Archive, Cursor, Errand};
 use disk_memory::{MemErase, MemOnce, MemSeen};
 use disk_models::OnceDisk;
@@ -21,7 +24,18 @@ use std::alloc::Global;
 #[derive(Drop)]
 pub struct MemStore {
     /// The archive.
-    pub archive: Archive<MemErase, MemOnce>,
+    pub archive: Held<MemErase, MemOnce>,
+}
+
+impl MemStore {
+    /// An archive that is open.
+    pub fn new(archive: Archive<MemErase, MemOnce>) -> MemStore
+        ensures { result.archive ≡ Held.Open archive }
+    {
+        MemStore {
+            archive: Held::Open(archive),
+        }
+    }
 }
 
 impl Store for MemStore {
@@ -35,11 +49,11 @@ impl Store for MemStore {
 
     type Cursor = Cursor;
 
-    ghost carries = { λ store p. CarriesPast store.archive p };
+    ghost carries = { λ store p. HoldsPast store.archive p };
 
-    ghost pages = { λ store. ring_pages store.archive };
+    ghost pages = { λ store. pages_in store.archive };
 
-    ghost disk_of = { λ store. once_of store.archive };
+    ghost disk_of = { λ store. disk_in store.archive };
 
     ghost block_count = { λ disk. ⟦<MemOnce as OnceDisk>⟧.block_count disk };
 
@@ -59,13 +73,15 @@ impl Store for MemStore {
 
     ghost lies = { λ errand cursor disk p. LiesInPast (⟦<MemOnce as OnceDisk>⟧.block_count disk) errand cursor p };
 
-    ghost right = { λ store p carried. right_going store.archive p.history carried.goes_on };
+    ghost right = { λ store p carried. right_held store.archive p carried };
 
     ghost stays = { λ cursor h g right begins below gathered. gathered_on cursor h g begins gathered };
 
-    ghost tells = { λ store trouble then. Tells store.archive trouble then.archive };
+    ghost tells = { λ store trouble then. HeldTells store.archive trouble then.archive };
 
-    ghost flushes = { λ store step then. Flushes store.archive step then.archive };
+    ghost reopens = { λ store returned then. Reopens store.archive returned then.archive };
+
+    ghost flushes = { λ store step then. HeldFlushes store.archive step then.archive };
 
     ghost misses = { λ seen trouble then. Misses ⟦<MemOnce as OnceDisk>⟧ seen trouble then };
 
@@ -82,23 +98,27 @@ impl Store for MemStore {
     }
 
     fn admitted(&self, collector: u8) -> u64 {
-        turns::admitted(&self.archive, collector)
+        self.archive.admitted(collector)
     }
 
     fn admit(&mut self, collector: u8, batch: &[Admission]) -> Result<BatchReply, AdmitError> {
-        calls::admit(&mut self.archive, collector, batch)
+        self.archive.admit(collector, batch)
     }
 
     fn mark(&mut self, collector: u8, mark: Mark) -> Result<(), MarkError> {
-        calls::mark(&mut self.archive, collector, mark)
+        self.archive.mark(collector, mark)
     }
 
     fn apply_step(&mut self) -> Result<Step, Trouble> {
-        calls::apply_step(&mut self.archive)
+        self.archive.apply_step()
     }
 
     fn flush_step(&mut self) -> Result<Flush, Trouble> {
-        calls::flush_step(&mut self.archive)
+        self.archive.flush_step()
+    }
+
+    fn reopen(&mut self, alloc: Global) -> Result<(), Trouble> {
+        self.archive.reopen(alloc)
     }
 
     fn start(alloc: Global, query: &Query) -> Cursor {
@@ -106,15 +126,15 @@ impl Store for MemStore {
     }
 
     fn descend(&mut self, cursor: &mut Cursor) -> Result<Turn<Errand>, AskError> {
-        turns::descend(&mut self.archive, cursor)
+        self.archive.descend(cursor)
     }
 
     fn seen(&mut self) -> Result<MemSeen, Trouble> {
-        turns::seen(&mut self.archive)
+        self.archive.seen()
     }
 
     fn reader(&self, _alloc: Global, capacity: usize) -> Result<ShelfReader<MemOnce>, Trouble> {
-        turns::reader(&self.archive, capacity)
+        self.archive.reader(capacity)
     }
 
     fn finish(

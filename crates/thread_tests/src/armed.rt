@@ -3,6 +3,7 @@
 ghost use Rattle.std.specs.Prelude.{◌≡◌, ◌≤◌};
 ghost use Rattle.board.specs.Opened.{name_of};
 
+use crate::be;
 use crate::logs::{Asked, Log};
 use crate::made::{COLLECTORS, FIRST, SECOND, announcements, history_of};
 use crate::reading::ArmedStore;
@@ -16,7 +17,6 @@ use std::alloc::Global;
 use std::marker::Brand;
 use std::sync::atomic::Ordering;
 use std::sync::{Arc, Wait};
-use std::test::Fail;
 use std::thread;
 use std::thread::Threads;
 
@@ -25,7 +25,7 @@ type Batch = (BatchReply, Vec<Admission>);
 
 type Armed<B> = Shared<ArmedStore, Unpromised<B>, NoGate>;
 
-// Asks for all that was told.
+// Asks for all that was announced.
 fn ask<B: Named>(
     rt: &impl Wait,
     alloc: Global,
@@ -56,7 +56,7 @@ fn give<B: Named>(
     Some((reply, records))
 }
 
-// What both threads did, and the store behind it.
+// What both threads did, and the store after it.
 fn play<B: Named + Send + Sync, R: Threads + Wait + Sync>(
     rt: &R,
     alloc: Global,
@@ -88,17 +88,36 @@ fn log_of(mut log: Log, asked: Option<Asked>, given: Option<Batch>) -> Option<Lo
     Some(log)
 }
 
-#[test]
-fn a_batch_is_admitted_while_blocks_are_read(rt: HostRuntime) -> Result<(), Fail> {
-    let alloc = rt.alloc();
+/// Whether both threads were answered what one history holds.
+fn is_right<R: Threads + Wait + Sync>(
+    rt: &R,
+    alloc: Global,
+    signals: &Arc<Signals>,
+) -> Option<bool> {
     let mut before = Log::new(alloc);
-    let signals = Arc::new(alloc, Signals::new(rt))?;
-    let store = ArmedStore::loaded(alloc, &signals, &mut before)?;
-    let opened = Opened::new(alloc, COLLECTORS)?;
-    let (asked, given, store) = play::<Brand, HostRuntime>(&rt, alloc, opened, store, &signals);
-    let log = log_of(before, asked, given).ok_or("refused")?;
-    assert!(rt; is_so(alloc, &store, &log)?);
-    assert!(rt; signals.is_held.load(Ordering::SeqCst));
-    assert!(rt; !signals.is_late.load(Ordering::SeqCst));
-    Ok(())
+    let store = ArmedStore::loaded(alloc, signals, &mut before)?;
+    let opened = Opened::new(alloc, COLLECTORS).ok()?;
+    let (asked, given, store) = play::<Brand, R>(rt, alloc, opened, store, signals);
+    is_so(alloc, &store, &log_of(before, asked, given)?)
+}
+
+#[test]
+fn a_batch_is_admitted_while_blocks_are_read(rt: HostRuntime) {
+    let signals = Arc::new(rt.alloc(), Signals::new(rt)).expect(&rt, "memory for the signals");
+    let is_right = is_right(&rt, rt.alloc(), &signals);
+    be(
+        &rt,
+        is_right == Some(true),
+        "one history holds what both were answered",
+    );
+    be(
+        &rt,
+        signals.is_held.load(Ordering::SeqCst),
+        "a read was held",
+    );
+    be(
+        &rt,
+        !signals.is_late.load(Ordering::SeqCst),
+        "no thread waited for too long",
+    );
 }

@@ -1,8 +1,9 @@
-//! A gate is told once of a request's first turn, behind it, and once of its reply.
+//! A gate is called once of a request's first turn, after it, and once of its reply.
 
 ghost use Rattle.std.specs.Prelude.{◌≡◌, ◌≤◌};
 ghost use Rattle.board.specs.Opened.{name_of};
 
+use crate::be;
 use crate::logs::Log;
 use crate::made::{COLLECTORS, FIRST, SECOND, history_of, mark_of};
 use crate::reading::ArmedStore;
@@ -14,11 +15,10 @@ use std::alloc::Global;
 use std::marker::Brand;
 use std::sync::atomic::{AtomicBool, AtomicU64, Ordering};
 use std::sync::{Arc, Wait};
-use std::test::Fail;
 
 const REQUEST: u64 = 7;
 
-/// How often each was told, and whether all was told in its turn.
+/// How often each was called, and whether all came in its turn.
 #[derive(Drop)]
 struct Told {
     descended: AtomicU64,
@@ -41,7 +41,7 @@ impl Told {
         }
     }
 
-    // Whether each was told once, and in its turn.
+    // Whether each was called once, and in its turn.
     fn is_right(&self) -> bool {
         self.descended.load(Ordering::SeqCst) == 1
             && self.answered.load(Ordering::SeqCst) == 1
@@ -49,7 +49,7 @@ impl Told {
     }
 }
 
-/// Counts what it is told.
+/// Counts its calls.
 #[derive(Drop)]
 struct CountGate {
     signals: Arc<Signals>,
@@ -107,44 +107,60 @@ fn play<B: Named, R: Wait>(
 }
 
 // Signals by which no thread is held.
-fn signals_of(alloc: Global, clock: HostRuntime) -> Result<Arc<Signals>, Fail> {
-    let signals = Arc::new(alloc, Signals::new(clock))?;
+fn signals_of(alloc: Global, clock: HostRuntime) -> Option<Arc<Signals>> {
+    let signals = Arc::new(alloc, Signals::new(clock)).ok()?;
     signals.is_done.store(true, Ordering::SeqCst);
-    Ok(signals)
+    Some(signals)
 }
 
-// What a question of all that was told up to this moment is replied, and how many turns it took. The gate was told as it must be.
-fn reply_to<R: Wait>(
-    rt: &R,
-    alloc: Global,
-    signals: Arc<Signals>,
-    last: u64,
-) -> Result<(Result<Answer, AskError>, u64), Fail> {
-    let told = Arc::new(alloc, Told::new())?;
+/// What a question was replied, and how many turns it took.
+#[derive(Drop)]
+struct Replied {
+    reply: Result<Answer, AskError>,
+    turns: u64,
+}
+
+// What a question of all that was announced up to this moment is replied. None where the gate was called otherwise than it must be.
+fn reply_to<R: Wait>(rt: &R, alloc: Global, signals: &Arc<Signals>, last: u64) -> Option<Replied> {
+    let told = Arc::new(alloc, Told::new()).ok()?;
     let gate = CountGate {
-        signals: signals.clone()?,
-        told: told.clone()?,
+        signals: signals.clone().ok()?,
+        told: told.clone().ok()?,
     };
-    let store = ArmedStore::loaded(alloc, &signals, &mut Log::new(alloc))?;
-    let opened = Opened::new(alloc, COLLECTORS)?;
+    let store = ArmedStore::loaded(alloc, signals, &mut Log::new(alloc))?;
+    let opened = Opened::new(alloc, COLLECTORS).ok()?;
     let query = history_of(FIRST, last);
-    let reply = play::<Brand, R>(rt, alloc, opened, store, gate, query).ok_or("no memory")?;
-    if !told.is_right() {
-        return Err(Fail::from("told otherwise"));
+    let reply = play::<Brand, R>(rt, alloc, opened, store, gate, query)?;
+    let turns = signals.turns.load(Ordering::SeqCst);
+    if told.is_right() {
+        Some(Replied { reply, turns })
+    } else {
+        None
     }
-    Ok((reply, signals.turns.load(Ordering::SeqCst)))
+}
+
+// Whether the reply is an answer in more than one turn.
+fn is_answered(replied: &Replied) -> bool {
+    replied.reply.is_ok() && replied.turns > 1
+}
+
+// Whether the reply is that the question is above the watermark, in one turn.
+fn is_above(replied: &Replied) -> bool {
+    let mark = mark_of(SECOND);
+    replied.turns == 1
+        && matches!(&replied.reply, Err(AskError::AboveWatermark(found)) if *found == mark)
 }
 
 #[test]
-fn a_gate_is_told_once_of_a_first_turn_and_once_of_a_reply(rt: HostRuntime) -> Result<(), Fail> {
+fn a_gate_is_called_once_of_a_first_turn_and_once_of_a_reply(rt: HostRuntime) {
     let alloc = rt.alloc();
-    let signals = signals_of(alloc, rt)?;
-    let (reply, turns) = reply_to::<HostRuntime>(&rt, alloc, signals, SECOND - 1)?;
-    assert!(rt; reply.is_ok() && turns > 1);
-    let signals = signals_of(alloc, rt)?;
-    let (reply, turns) = reply_to::<HostRuntime>(&rt, alloc, signals, SECOND)?;
-    let is_above =
-        matches!(&reply, Err(AskError::AboveWatermark(mark)) if *mark == mark_of(SECOND));
-    assert!(rt; is_above && turns == 1);
-    Ok(())
+    let signals = signals_of(alloc, rt).expect(&rt, "memory for the signals");
+    let replied = reply_to(&rt, alloc, &signals, SECOND - 1).expect(
+        &rt,
+        "a gate called in its turn",
+    );
+    be(&rt, is_answered(&replied), "below the watermark");
+    let signals = signals_of(alloc, rt).expect(&rt, "memory for the signals");
+    let replied = reply_to(&rt, alloc, &signals, SECOND).expect(&rt, "a gate called in its turn");
+    be(&rt, is_above(&replied), "at the watermark");
 }

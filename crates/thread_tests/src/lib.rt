@@ -10,11 +10,7 @@ mod armed_disk;
 #[cfg(test)]
 mod chance;
 #[cfg(test)]
-mod eight;
-#[cfg(test)]
 mod gates;
-#[cfg(test)]
-mod held;
 #[cfg(test)]
 mod logs;
 #[cfg(test)]
@@ -22,14 +18,23 @@ mod made;
 #[cfg(test)]
 mod mixing;
 #[cfg(test)]
-mod own;
-#[cfg(test)]
-mod readers;
+mod parts;
 #[cfg(test)]
 mod reading;
 #[cfg(test)]
+mod reopened;
+#[cfg(test)]
 mod replay;
 #[cfg(test)]
-mod signals;
+mod scenes;
 #[cfg(test)]
-mod team;
+mod signals;
+
+#[cfg(test)]
+use std::process::Abort;
+
+/// Ends a test that is wrong, with what was tried. Proofs learn nothing of it, which keeps them short.
+#[cfg(test)]
+fn be(rt: &impl Abort, holds: bool, name: &str) {
+    assert!(rt; holds, "{name}");
+}

@@ -1,4 +1,4 @@
-//! What threads tell at their end of what they did.
+//! What a thread did, and what it was answered.
 
 use interleaving_core::{Answer, BatchReply, Query};
 use route_model::Admission;
@@ -24,7 +24,7 @@ pub(crate) struct Asked {
 pub(crate) struct Log {
     pub(crate) given: Vec<Given>,
     pub(crate) asked: Vec<Asked>,
-    /// What it was told was never what mustn't be told.
+    /// No reply was one that mustn't come.
     pub(crate) is_right: bool,
 }
 
@@ -43,7 +43,7 @@ impl Log {
     }
 
     /// Remembers the records of a batch by what was replied: those that aren't late have the numbers of the receipt, in their order. None
-    /// for want of memory.
+    /// where memory ran out.
     pub(crate) fn keep(&mut self, reply: &BatchReply, records: Vec<Admission>) -> Option<()> {
         let collector = reply.receipt.collector;
         let mut number = reply.receipt.from;
@@ -59,6 +59,23 @@ impl Log {
             }
         }
         self.expect(number == reply.receipt.to);
+        Some(())
+    }
+
+    /// Adds what another thread did. None where memory ran out.
+    pub(crate) fn add(&mut self, other: Log) -> Option<()> {
+        let Log {
+            given,
+            asked,
+            is_right,
+        } = other;
+        self.expect(is_right);
+        for it in given {
+            self.given.push(it).ok()?;
+        }
+        for it in asked {
+            self.asked.push(it).ok()?;
+        }
         Some(())
     }
 }

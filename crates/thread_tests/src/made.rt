@@ -13,7 +13,6 @@ use route_model::{Address, Admission, Change, Mark, Moment, Peer, Prefix, Route,
 use shared_archive::MemStore;
 use std::alloc::Global;
 use std::sync::Arc;
-use std::test::Fail;
 
 /// How many collectors each archive has.
 pub(crate) const COLLECTORS: u8 = 2;
@@ -39,7 +38,7 @@ const OCTETS: u64 = (265 + 1 + COLLECTORS as u64 * RING as u64 + 400) * 16_384;
 /// The blocks of a write-once disk.
 pub(crate) const BLOCKS: u64 = 20_000;
 
-/// The spelling of a route, as docs/FORMATS.md has it, up to the count of its attributes: the path 65001 65002 by IGP, and the next hop
+/// The encoding of a route, as docs/FORMATS.md has it, up to the count of its attributes: the path 65001 65002 by IGP, and the next hop
 /// 192.0.2.1.
 const ROUTE: [u8; 19] = [
     0, 0, 1, 2, 2, 0, 0, 0xFD, 0xE9, 0, 0, 0xFD, 0xEA, 4, 0xC0, 0, 2, 1, 0,
@@ -50,51 +49,55 @@ pub(crate) fn empty_archive<O: OnceDisk + Drop>(
     alloc: Global,
     once: O,
     pen: O::Pen,
-) -> Result<Archive<MemErase, O>, Fail> {
+) -> Option<Archive<MemErase, O>> {
     let settings = Settings {
         collectors: COLLECTORS,
         ring: RING,
     };
     let erase = MemErase::new(alloc, OCTETS);
-    match Archive::create(alloc, erase, Arc::new(alloc, once)?, pen, settings) {
-        Ok(archive) => Ok(archive),
-        Err(refused) => Err(refused.error.into()),
-    }
+    Archive::create(alloc, erase, Arc::new(alloc, once).ok()?, pen, settings).ok()
 }
 
 /// A store to which nothing was given.
-pub(crate) fn empty_store(alloc: Global) -> Result<MemStore, Fail> {
+pub(crate) fn empty_store(alloc: Global) -> Option<MemStore> {
     let (once, pen) = MemOnce::new(alloc, BLOCKS);
     let archive = empty_archive(alloc, once, pen)?;
-    Ok(MemStore { archive })
+    Some(MemStore::new(archive))
 }
 
-/// Gives the first records, one of each moment from `FIRST` to below `SECOND`, and applies them.
-pub(crate) fn load<S: Store>(alloc: Global, store: &mut S, log: &mut Log) -> Result<(), Fail> {
-    let records = announcements(alloc, FIRST, RECORDS).ok_or("no memory")?;
-    let reply = store.admit(0, &records)?;
-    log.keep(&reply, records).ok_or("no memory")?;
-    store.mark(0, mark_of(SECOND))?;
-    store.mark(1, mark_of(SECOND))?;
+/// Applies what may be applied. None where that failed.
+fn apply_all<S: Store>(store: &mut S) -> Option<()> {
     for _ in 0..STEPS {
-        if store.apply_step()? == Step::Idle {
-            return Ok(());
+        if store.apply_step().ok()? == Step::Idle {
+            return Some(());
         }
     }
-    Err(Fail::from("not applied"))
+    None
+}
+
+/// Gives the first records, one of each moment from `FIRST` to below `SECOND`, and applies them. None where that failed.
+pub(crate) fn load<S: Store>(alloc: Global, store: &mut S, log: &mut Log) -> Option<()> {
+    let records = announcements(alloc, FIRST, RECORDS)?;
+    let reply = store.admit(0, &records).ok()?;
+    log.keep(&reply, records)?;
+    store.mark(0, mark_of(SECOND)).ok()?;
+    store.mark(1, mark_of(SECOND)).ok()?;
+    apply_all(store)
 }
 
 /// A store that the first records were given to.
-pub(crate) fn loaded_store(alloc: Global, log: &mut Log) -> Result<MemStore, Fail> {
+pub(crate) fn loaded_store(alloc: Global, log: &mut Log) -> Option<MemStore> {
     let mut store = empty_store(alloc)?;
     load(alloc, &mut store, log)?;
-    Ok(store)
+    Some(store)
 }
 
 /// How many blocks were burnt.
 pub(crate) fn burnt_by(store: MemStore) -> usize {
-    let (_erase, _once, pen) = store.archive.into_disks();
-    pen.settled().len()
+    match store.archive.into_disks() {
+        Some(disks) => disks.pen.settled().len(),
+        None => 0,
+    }
 }
 
 /// A mark at these seconds, or the last mark.
@@ -190,7 +193,7 @@ pub(crate) fn announcements(alloc: Global, from: u64, count: u8) -> Option<Vec<A
     Some(batch)
 }
 
-/// What that peer told of 10.0.0.0/16 from one moment to another.
+/// What that peer announced of 10.0.0.0/16 from one moment to another.
 pub(crate) fn history_of(from: u64, to: u64) -> Query {
     Query::Events(EventsQuestion {
         from: moment_of(from),

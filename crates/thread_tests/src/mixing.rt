@@ -3,17 +3,40 @@
 use crate::chance::Chance;
 use crate::logs::{Asked, Given, Log};
 use crate::made::{COLLECTORS, RING, STEPS, draw_batch, draw_query, mark_of};
-use crate::team::Done;
+use crate::signals::Signals;
 use board::{Named, Pass};
 use interleaving_core::Query;
 use query_threads::{AdmitError, Gate, MarkError, Reader, Shared, Step, Unpromised};
 use route_model::Admission;
 use shared_archive::MemStore;
 use std::alloc::Global;
-use std::sync::Wait;
+use std::sync::atomic::Ordering;
+use std::sync::{Arc, Wait};
+
+/// Holds the question 1 after its first turn until the question 2 is answered.
+#[derive(Drop)]
+pub(crate) struct HoldGate {
+    pub(crate) signals: Arc<Signals>,
+}
+
+impl Gate for HoldGate {
+    fn descended(&self, request: u64) {
+        let signals: &Signals = &self.signals;
+        if request == 1 {
+            signals.hold();
+        }
+    }
+
+    fn answered(&self, request: u64) {
+        let signals: &Signals = &self.signals;
+        if request == 2 {
+            signals.is_done.store(true, Ordering::SeqCst);
+        }
+    }
+}
 
 /// The archive of a test. Each call of a test names its board `B`.
-pub(crate) type Stage<B, G> = Shared<MemStore, Unpromised<B>, G>;
+pub(crate) type Stage<B> = Shared<MemStore, Unpromised<B>, HoldGate>;
 
 /// A thread's pass and reader, and what it did so far.
 #[derive(Drop)]
@@ -27,10 +50,10 @@ pub(crate) struct Hand<B: Named> {
 
 impl<B: Named> Hand<B> {
     /// With a reader that keeps up to so many blocks, from 1 to 1,024. None for want of memory.
-    pub(crate) fn new<G: Gate + Drop>(
+    pub(crate) fn new(
         rt: &impl Wait,
         alloc: Global,
-        stage: &Stage<B, G>,
+        stage: &Stage<B>,
         pass: Pass<Unpromised<B>>,
         capacity: usize,
         seed: u64,
@@ -45,17 +68,11 @@ impl<B: Named> Hand<B> {
         })
     }
 
-    /// What it gives back at its end.
-    pub(crate) fn done(self) -> Done<B> {
-        let Hand { pass, log, .. } = self;
-        Done { pass, log }
-    }
-
-    /// Gives records. What the thread is told afterwards counts them.
-    pub(crate) fn give<G: Gate + Drop>(
+    /// Gives records. The count that the thread sees afterwards has them.
+    pub(crate) fn give(
         &mut self,
         rt: &impl Wait,
-        stage: &Stage<B, G>,
+        stage: &Stage<B>,
         collector: u8,
         records: Vec<Admission>,
     ) -> Option<()> {
@@ -66,9 +83,9 @@ impl<B: Named> Hand<B> {
         match stage.admit(rt, &mut self.pass, collector, &records) {
             Ok(reply) => {
                 let after = stage.durable(&mut self.pass, collector);
-                let told = reply.receipt;
+                let receipt = reply.receipt;
                 self.log.expect(
-                    told.collector == collector && before <= told.from && told.to <= after,
+                    receipt.collector == collector && before <= receipt.from && receipt.to <= after,
                 );
                 self.log.keep(&reply, records)?;
             }
@@ -79,21 +96,15 @@ impl<B: Named> Hand<B> {
     }
 
     /// Sets a mark, if the collector's isn't above it.
-    pub(crate) fn mark<G: Gate + Drop>(
-        &mut self,
-        rt: &impl Wait,
-        stage: &Stage<B, G>,
-        collector: u8,
-        behind: u64,
-    ) {
-        match stage.mark(rt, &mut self.pass, collector, mark_of(behind)) {
+    pub(crate) fn mark(&mut self, rt: &impl Wait, stage: &Stage<B>, collector: u8, end: u64) {
+        match stage.mark(rt, &mut self.pass, collector, mark_of(end)) {
             Ok(()) | Err(MarkError::MarkBack) => {}
             Err(_) => self.log.expect(false),
         }
     }
 
     /// Applies until nothing may be applied, or many times.
-    pub(crate) fn apply_all<G: Gate + Drop>(&mut self, rt: &impl Wait, stage: &Stage<B, G>) {
+    pub(crate) fn apply_all(&mut self, rt: &impl Wait, stage: &Stage<B>) {
         for _ in 0..STEPS {
             match stage.apply(rt, &mut self.pass) {
                 Ok(Step::Applied) => {}
@@ -104,27 +115,27 @@ impl<B: Named> Hand<B> {
         self.log.expect(false);
     }
 
-    /// Gives records of the first collector, marks both behind them, and applies all.
-    pub(crate) fn give_all<G: Gate + Drop>(
+    /// Gives records of the first collector, marks both after them, and applies all.
+    pub(crate) fn give_all(
         &mut self,
         rt: &impl Wait,
-        stage: &Stage<B, G>,
+        stage: &Stage<B>,
         records: Vec<Admission>,
-        behind: u64,
+        end: u64,
     ) -> Option<()> {
         self.give(rt, stage, 0, records)?;
         for collector in 0..COLLECTORS {
-            self.mark(rt, stage, collector, behind);
+            self.mark(rt, stage, collector, end);
         }
         self.apply_all(rt, stage);
         Some(())
     }
 
     /// Asks a question that has to be answered.
-    pub(crate) fn ask<G: Gate + Drop>(
+    pub(crate) fn ask(
         &mut self,
         rt: &impl Wait,
-        stage: &Stage<B, G>,
+        stage: &Stage<B>,
         request: u64,
         query: &Query,
     ) -> Option<()> {
@@ -142,11 +153,7 @@ impl<B: Named> Hand<B> {
     }
 
     /// Asks a question of moments that the thread has seen to be settled, if there is one.
-    pub(crate) fn ask_settled<G: Gate + Drop>(
-        &mut self,
-        rt: &impl Wait,
-        stage: &Stage<B, G>,
-    ) -> Option<()> {
+    pub(crate) fn ask_settled(&mut self, rt: &impl Wait, stage: &Stage<B>) -> Option<()> {
         match stage.watermark(&mut self.pass).checked_sub(1) {
             Some(last) => {
                 let moment = last.saturating_sub(u64::from(self.chance.below(60)));
@@ -158,7 +165,7 @@ impl<B: Named> Hand<B> {
     }
 
     /// Goes on with a pass that is split off, which sees no less, and asks for the settings.
-    fn look<G: Gate + Drop>(&mut self, stage: &Stage<B, G>, collector: u8) -> Option<()> {
+    fn look(&mut self, stage: &Stage<B>, collector: u8) -> Option<()> {
         if collector >= stage.collectors() {
             return None;
         }
@@ -174,11 +181,7 @@ impl<B: Named> Hand<B> {
     }
 
     /// Any one call.
-    pub(crate) fn mix<G: Gate + Drop>(
-        &mut self,
-        rt: &impl Wait,
-        stage: &Stage<B, G>,
-    ) -> Option<()> {
+    pub(crate) fn mix(&mut self, rt: &impl Wait, stage: &Stage<B>) -> Option<()> {
         let collector = self.chance.below(COLLECTORS);
         let seen = stage.watermark(&mut self.pass);
         let soon = seen.saturating_add(u64::from(self.chance.below(8)));

@@ -1,95 +1,75 @@
-//! What threads told, beside an archive that is all in memory and has one owner.
+//! What threads did, compared with what the lists of all that they gave hold.
 
 use crate::answers::answers_alike;
 use crate::logs::{Asked, Given, Log};
-use crate::made::{COLLECTORS, STEPS, mark_of};
-use archive::Archive as Plain;
-use archive_calls::{RouteArchive, Step};
+use crate::made::COLLECTORS;
+use interleaving_core::{Answer, Query};
 use query_threads::Store;
+use route_meaning::{PlacedAdmission, answer_events, answer_rows, merge};
+use route_model::Admission;
 use std::alloc::Global;
-use std::test::Fail;
 
-// The numbers of what a collector gave, in their order, each with its place.
-fn numbers_of(alloc: Global, given: &[Given], collector: u8) -> Result<Vec<(u64, usize)>, Fail> {
+/// A record's number among those of its collector, and its place among all.
+#[derive(Clone, Copy)]
+struct Numbered {
+    number: u64,
+    place: usize,
+}
+
+/// The numbers of what a collector gave, in their order.
+fn numbers_of(alloc: Global, given: &[Given], collector: u8) -> Option<Vec<Numbered>> {
     let mut numbers = Vec::new(alloc);
     for (place, it) in given.iter().enumerate() {
         if it.collector == collector {
-            numbers.push((it.number, place))?;
+            let number = it.number;
+            numbers.push(Numbered { number, place }).ok()?;
         }
     }
-    numbers.sort_by_key(|it| it.0)?;
-    Ok(numbers)
+    numbers.sort_by_key(|it| it.number).ok()?;
+    Some(numbers)
 }
 
-// Gives the records of a collector in the order of their numbers. How many there are, if each number was told once and none was left out.
-fn replay(
-    alloc: Global,
-    plain: &mut Plain,
-    given: &[Given],
-    collector: u8,
-) -> Result<Option<u64>, Fail> {
-    let mut count = 0u64;
-    for (number, place) in numbers_of(alloc, given, collector)? {
-        let Some(it) = given.get(place) else {
-            return Ok(None);
-        };
-        let mut batch = Vec::new(alloc);
-        batch.push(it.record.share(alloc)?)?;
-        let reply = plain.admit(collector, &batch)?;
-        if number != count || !reply.late.is_empty() {
-            return Ok(None);
+/// The records of a collector in the order of their numbers. None where a number came twice or was left out, a record is earlier than the
+/// one before it, or memory ran out.
+fn list_of(alloc: Global, given: &[Given], collector: u8) -> Option<Vec<Admission>> {
+    let mut list: Vec<Admission> = Vec::new(alloc);
+    for it in numbers_of(alloc, given, collector)? {
+        let record = given.get(it.place)?.record.share(alloc).ok()?;
+        let is_late = list.last().is_some_and(|last| record.time() < last.time());
+        if it.number != list.len() as u64 || is_late {
+            return None;
         }
-        count = count.saturating_add(1);
+        list.push(record).ok()?;
     }
-    Ok(Some(count))
+    Some(list)
 }
 
-// Applies all that was given, behind which both collectors are marked.
-fn apply_all(plain: &mut Plain) -> Result<bool, Fail> {
-    plain.mark(0, mark_of(1 << 32))?;
-    plain.mark(1, mark_of(1 << 32))?;
-    for _ in 0..STEPS {
-        if plain.apply_step()? == Step::Idle {
-            return Ok(true);
-        }
+/// The answer over the lists.
+fn answer_of(alloc: Global, list: &[PlacedAdmission<'_>], query: &Query) -> Option<Answer> {
+    match query {
+        Query::Rows(asked) => Some(Answer::Rows(answer_rows(alloc, list, asked).ok()?)),
+        Query::Events(asked) => Some(Answer::Events(answer_events(alloc, list, asked).ok()?)),
     }
-    Ok(false)
 }
 
-// Whether each answer is the one over all that was given.
-fn all_alike(plain: &mut Plain, asked: &[Asked]) -> Result<bool, Fail> {
+/// Whether each answer is the one over the lists.
+fn all_alike(alloc: Global, list: &[PlacedAdmission<'_>], asked: &[Asked]) -> Option<bool> {
     for it in asked {
-        let answer = plain.answer(it.query)?;
-        if !answers_alike(&answer, &it.answer) {
-            return Ok(false);
+        if !answers_alike(&answer_of(alloc, list, &it.query)?, &it.answer) {
+            return Some(false);
         }
     }
-    Ok(true)
+    Some(true)
 }
 
-/// Puts what the threads did into one log.
-pub(crate) fn gathered(alloc: Global, logs: Vec<Log>) -> Result<Log, Fail> {
-    let mut all = Log::new(alloc);
-    for log in logs {
-        all.expect(log.is_right);
-        for it in log.given {
-            all.given.push(it)?;
-        }
-        for it in log.asked {
-            all.asked.push(it)?;
-        }
-    }
-    Ok(all)
-}
-
-/// Whether what the threads were told is what the plain archive tells of all that they gave, and the store holds that.
-pub(crate) fn is_so<S: Store>(alloc: Global, store: &S, log: &Log) -> Result<bool, Fail> {
-    let mut plain = Plain::plain(alloc, COLLECTORS)?;
-    for collector in 0..COLLECTORS {
-        let count = replay(alloc, &mut plain, &log.given, collector)?;
-        if count != Some(store.admitted(collector)) {
-            return Ok(false);
-        }
-    }
-    Ok(log.is_right && apply_all(&mut plain)? && all_alike(&mut plain, &log.asked)?)
+/// Whether the threads were answered what the lists of all that they gave hold, and the store has as many records. None where memory ran
+/// out, or what they gave is no list.
+pub(crate) fn is_so<S: Store>(alloc: Global, store: &S, log: &Log) -> Option<bool> {
+    let first = list_of(alloc, &log.given, 0)?;
+    let second = list_of(alloc, &log.given, 1)?;
+    let list = merge(alloc, &[first.as_slice(), second.as_slice()]).ok()?;
+    let is_whole = COLLECTORS == 2
+        && store.admitted(0) == first.len() as u64
+        && store.admitted(1) == second.len() as u64;
+    Some(log.is_right && is_whole && all_alike(alloc, &list, &log.asked)?)
 }

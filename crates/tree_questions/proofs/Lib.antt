@@ -1,3 +1,4 @@
 mod Reading
+mod Unburnt
 mod Going
 mod Turned

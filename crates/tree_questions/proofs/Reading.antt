@@ -29,16 +29,17 @@ has_key place key all fits =
     let high : high_or place.high ≡ key_end = ap (λ (k : Keys). k.high) all in
     record { low = omega (arith, low); high = omega (arith, high, fits) }
 
-module _ {P : Type 0} (pages : Ghosts P) {O Pen Seen : Type 0} (device : OnceGhosts O Pen Seen) (root : PagePlace) (all : List Version) where
+module _ {P : Type 0} (pages : Ghosts P) {O Pen Seen : Type 0} (device : OnceGhosts O Pen Seen) (root : PagePlace) (burnt : ℕ) (all : List Version) where
   -- where pages were only read
   pub reads_pages : (held held' : P) (reader : ShelfReader O Pen Seen device) (seen : Seen) → ((start : Start) (shown : List (List ℕ)) → pages.shows held start shown → pages.shows held' start shown)
-      → ReadsTree pages held device reader seen root all → ReadsTree pages held' device reader seen root all
+      → ReadsTree pages held device reader seen root burnt all → ReadsTree pages held' device reader seen root burnt all
   reads_pages held held' reader seen shows r = record {
     start = r.start;
     shown = r.shown;
     shows = shows r.start r.shown r.shows;
     store = r.store;
     stands = r.stands;
+    named = r.named;
     rising = r.rising;
     well = r.well;
     known = r.known;
@@ -46,20 +47,21 @@ module _ {P : Type 0} (pages : Ghosts P) {O Pen Seen : Type 0} (device : OnceGho
 
   -- where a block was read
   pub reads_block : (held held' : P) (reader reader' : ShelfReader O Pen Seen device) (seen seen' : Seen) → ((start : Start) (shown : List (List ℕ)) → pages.shows held start shown → pages.shows held' start shown)
-      → (r : ReadsTree pages held device reader seen root all) → ReadsWell device reader' seen' → device.known seen' ≡ device.known seen → reader_disk reader' ≡ reader_disk reader → ReadsTree pages held' device reader' seen' root all
+      → (r : ReadsTree pages held device reader seen root burnt all) → ReadsWell device reader' seen' → device.known seen' ≡ device.known seen → reader_disk reader' ≡ reader_disk reader → ReadsTree pages held' device reader' seen' root burnt all
   reads_block held held' reader reader' seen seen' shows r well same disk = record {
     start = r.start;
     shown = r.shown;
     shows = shows r.start r.shown r.shows;
     store = r.store;
     stands = r.stands;
+    named = r.named;
     rising = r.rising;
     well = well;
     known = known_on device reader reader' seen seen' r.store.blocks same disk r.known;
   }
 
   -- the place in the past to which a look leads stands by known blocks
-  pub place_known : (held : P) (reader : ShelfReader O Pen Seen device) (seen : Seen) (r : ReadsTree pages held device reader seen root all) (key stamp : ℕ) (place : Place) → GoesOnIn r.store.blocks all key stamp place → StandsKnown device reader seen all place
+  pub place_known : (held : P) (reader : ShelfReader O Pen Seen device) (seen : Seen) (r : ReadsTree pages held device reader seen root burnt all) (key stamp : ℕ) (place : Place) → GoesOnIn r.store.blocks all key stamp place → StandsKnown device reader seen all place
   place_known held reader seen r key stamp place goes = record { well = r.well; blocks = r.store.blocks; known = r.known; stands = goes.stands }
 
 -- where pages alone may be called bad, and none is, nothing is blamed

@@ -32,9 +32,9 @@ use Rattle.tree_questions.specs.Turning.{ShowsTree, TurnsRows, TurnsEvents, Goes
 use Rattle.tree_questions.specs.inner.Telling.{KeepsEvents, KeepsRows, TellsOn, ToldEvents, ToldRows}
 
 -- where pages were only read
-pub shows_pages : {P : Type 0} (pages : Ghosts P) (root : PagePlace) (store : Store) (all : List Version) (held held' : P) → ((start : Start) (shown : List (List ℕ)) → pages.shows held start shown → pages.shows held' start shown)
-    → ShowsTree pages held root store all → ShowsTree pages held' root store all
-shows_pages pages root store all held held' shows r = record { start = r.start; shown = r.shown; shows = shows r.start r.shown r.shows; stands = r.stands; rising = r.rising }
+pub shows_pages : {P : Type 0} (pages : Ghosts P) (root : PagePlace) (burnt : ℕ) (store : Store) (all : List Version) (held held' : P) → ((start : Start) (shown : List (List ℕ)) → pages.shows held start shown → pages.shows held' start shown)
+    → ShowsTree pages held root burnt store all → ShowsTree pages held' root burnt store all
+shows_pages pages root burnt store all held held' shows r = record { start = r.start; shown = r.shown; shows = shows r.start r.shown r.shows; stands = r.stands; named = r.named; rising = r.rising }
 
 -- the walk went on from a key that isn't before the front
 pub rose_on : (f g : Option ℕ) (from : ℕ) → NotBack f (Some from) → Rose (Some from) g → Rose f g

@@ -1,3 +1,4 @@
+pub mod Naming
 pub mod Reading
 pub mod Turning
 pub mod inner

@@ -1,5 +1,5 @@
 -- What one turn of a question over current pages gives.
-use Rattle.std.specs.Prelude.{⊤, ℕ, List, Option}
+use Rattle.std.specs.Prelude.{⊤, ℕ, ◌<◌, ◌≤◌, List, Option}
 use Rattle.page_tx.specs.declared.pages.Pages.{Ghosts}
 use Rattle.page_tx.specs.Start.{Start}
 use Rattle.route_model.specs.Admission.{Admitted}
@@ -21,14 +21,16 @@ use Rattle.tsb_walk.specs.Shown.{StandsShown}
 use Rattle.version_model.specs.Blocks.{BlockNode, PlaceStands}
 use Rattle.version_model.specs.Pages.{Store}
 use Rattle.version_model.specs.Versions.{Version, IsRising}
+use Rattle.tree_questions.specs.Naming.{PartsBelow}
 
 -- The pages of a transaction show a tree whose root is at this place. By what they and blocks of this store say it stands for these
--- versions, whose stamps rise.
-pub record ShowsTree {P : Type 0} (pages : Ghosts P) (held : P) (root : PagePlace) (store : Store) (all : List Version) : Type 0 where
+-- versions, whose stamps rise. It names no block from the first on that was never burnt.
+pub record ShowsTree {P : Type 0} (pages : Ghosts P) (held : P) (root : PagePlace) (burnt : ℕ) (store : Store) (all : List Version) : Type 0 where
   pub start : Start
   pub shown : List (List ℕ)
   pub shows : pages.shows held start shown
   pub stands : StandsShown shown store all root
+  pub named : store.next ≤ burnt
   pub rising : IsRising all
 
 -- A turn of a question of a moment, from one cursor to the next: the whole answer; or the walk has come further; or an errand of the next
@@ -55,3 +57,15 @@ abbrev pub GoesOnEvents : EventsCursor → EventsCursor → EventsTurn → Type 
 GoesOnEvents c d (events.Done answer) = ⊤
 GoesOnEvents c d events.Again = Rose c.at d.at
 GoesOnEvents c d (events.Historical errand) = IsEventsErrandOf d errand × NotBack c.at d.at
+
+-- an errand reads a block below this number
+abbrev pub RowsBelow : ℕ → RowsTurn → Type 0
+RowsBelow burnt (rows.Done answer) = ⊤
+RowsBelow burnt rows.Again = ⊤
+RowsBelow burnt (rows.Historical errand) = errand.place.part.block < burnt
+
+-- the same of a question of a history
+abbrev pub EventsBelow : ℕ → EventsTurn → Type 0
+EventsBelow burnt (events.Done answer) = ⊤
+EventsBelow burnt events.Again = ⊤
+EventsBelow burnt (events.Historical errand) = PartsBelow burnt errand.route × PartsBelow burnt errand.session

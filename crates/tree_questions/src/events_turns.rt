@@ -12,9 +12,11 @@ ghost use Rattle.tsb_walk.specs.Shown.{keys_at};
 ghost use Rattle.route_history.specs.Blame.{BlamesNone};
 ghost use Rattle.route_history.specs.Points.{PartsAt};
 ghost use Rattle.route_history.specs.Spans.{TellsEvents, HasToldSo};
-ghost use Rattle.tree_questions.specs.Turning.{ShowsTree, TurnsEvents, GoesOnEvents};
+ghost use Rattle.tree_questions.specs.Naming.{PartsBelow};
+ghost use Rattle.tree_questions.specs.Turning.{ShowsTree, TurnsEvents, GoesOnEvents, EventsBelow};
 ghost use Rattle.tree_questions.specs.inner.Telling.{KeepsEvents, TellsOn, ToldEvents};
 
+use crate::naming::part_named;
 use page_tx::Pages;
 use route_history::{EventsCursor, EventsErrand, EventsTurn};
 use route_meaning::EventsAnswer;
@@ -22,7 +24,7 @@ use route_model::Key;
 use std::alloc::Global;
 use std::mem;
 use tsb_node::{key_fits, stamp_fits};
-use tsb_walk::{NodeError, PagePlace, Parted, part};
+use tsb_walk::{NodeError, PagePlace, Parted};
 use version_model::Stamp;
 
 // The answer, where the walk is over. The cursor is then at the start of its question again.
@@ -53,22 +55,24 @@ fn look<P: Pages>(
     pages: &mut P,
     alloc: Global,
     root: &PagePlace,
+    burnt: u64,
     key: Key,
     from: Stamp,
 ) -> Result<Parted, NodeError>
     requires all { keys_at root.now ≡ all_keys }
     requires level { 1 ≤ root.now.level }
-    ensures part { (store : Store) (all : List Version) → ShowsTree P.Pages pages.old root.now store all → IfOk result (IsParted store.blocks all key from) }
-    ensures stays { (store : Store) (all : List Version) → ShowsTree P.Pages pages.old root.now store all → ShowsTree P.Pages pages.new root.now store all }
+    ensures part { (store : Store) (all : List Version) → ShowsTree P.Pages pages.old root.now burnt store all → IfOk result (IsParted store.blocks all key from) }
+    ensures stays { (store : Store) (all : List Version) → ShowsTree P.Pages pages.old root.now burnt store all → ShowsTree P.Pages pages.new root.now burnt store all }
     ensures point { IfOk result (PartsAt key from) }
     ensures onward { IfOk result (TellsOn from) }
-    ensures blames { (store : Store) (all : List Version) → ShowsTree P.Pages pages.old root.now store all → IfErr result BlamesNone }
+    ensures named { IfOk result (PartsBelow burnt) }
+    ensures blames { (store : Store) (all : List Version) → ShowsTree P.Pages pages.old root.now burnt store all → IfErr result BlamesNone }
     ensures refused { IfErr result (LookRefusal (P.down pages.old)) }
     ensures same { OnlyReads P.Pages pages.old pages.new (result ≡ Err NodeError.Fault) }
 {
     key_fits(key);
     stamp_fits(from);
-    part(pages, alloc, root, key, from)
+    part_named(pages, alloc, root, burnt, key, from)
 }
 
 /// One turn of a question of a history over the tree whose root is at this place: the versions of the prefix and of the peer's session from
@@ -80,15 +84,17 @@ pub fn events_turn<P: Pages>(
     pages: &mut P,
     alloc: Global,
     root: &PagePlace,
+    burnt: u64,
     cursor: &mut EventsCursor,
 ) -> Result<EventsTurn, NodeError>
     requires all { keys_at root.now ≡ all_keys }
     requires level { 1 ≤ root.now.level }
-    ensures turn { (store : Store) (all : List Version) (ps : List (Placed Admitted)) → ShowsTree P.Pages pages.old root.now store all → TellsEvents all ps cursor.old.question → HasToldSo all ps cursor.old → IfOk result (TurnsEvents store.blocks all ps cursor.old cursor.new) }
+    ensures turn { (store : Store) (all : List Version) (ps : List (Placed Admitted)) → ShowsTree P.Pages pages.old root.now burnt store all → TellsEvents all ps cursor.old.question → HasToldSo all ps cursor.old → IfOk result (TurnsEvents store.blocks all ps cursor.old cursor.new) }
     ensures goes_on { IfOk result (GoesOnEvents cursor.old cursor.new) }
-    ensures gathered { (store : Store) (all : List Version) (ps : List (Placed Admitted)) → ShowsTree P.Pages pages.old root.now store all → TellsEvents all ps cursor.old.question → HasToldSo all ps cursor.old → HasToldSo all ps cursor.new }
+    ensures burnt { IfOk result (EventsBelow burnt) }
+    ensures gathered { (store : Store) (all : List Version) (ps : List (Placed Admitted)) → ShowsTree P.Pages pages.old root.now burnt store all → TellsEvents all ps cursor.old.question → HasToldSo all ps cursor.old → HasToldSo all ps cursor.new }
     ensures question { cursor.new.question ≡ cursor.old.question }
-    ensures blames { (store : Store) (all : List Version) → ShowsTree P.Pages pages.old root.now store all → IfErr result BlamesNone }
+    ensures blames { (store : Store) (all : List Version) → ShowsTree P.Pages pages.old root.now burnt store all → IfErr result BlamesNone }
     ensures refused { IfErr result (LookRefusal (P.down pages.old)) }
     ensures same { OnlyReads P.Pages pages.old pages.new (result ≡ Err NodeError.Fault) }
 {
@@ -97,8 +103,8 @@ pub fn events_turn<P: Pages>(
     };
     let route_key = Key::prefix(&cursor.question.peer, &cursor.question.prefix);
     let session_key = Key::session(&cursor.question.peer);
-    let route = look(pages, alloc, root, route_key, from)?;
-    let session = look(pages, alloc, root, session_key, from)?;
+    let route = look(pages, alloc, root, burnt, route_key, from)?;
+    let session = look(pages, alloc, root, burnt, session_key, from)?;
     match (route, session) {
         (Parted::Here(route), Parted::Here(session)) => {
             cursor.take_parts(alloc, &route, &session)?;

@@ -33,16 +33,17 @@ fn take_look<P: Pages, O: OnceDisk + Drop>(
     seen: &mut O::Seen,
     alloc: Global,
     root: &PagePlace,
+    burnt: u64,
     cursor: &mut EventsCursor,
 ) -> Result<bool, NodeError>
     requires all { keys_at root.now ≡ all_keys }
     requires level { 1 ≤ root.now.level }
-    ensures told { (all : List Version) (ps : List (Placed Admitted)) → ReadsTree P.Pages pages.old O.OnceDisk reader.old seen.old root.now all → TellsEvents all ps cursor.old.question → HasToldSo all ps cursor.old → OnOk result (HasToldSo all ps cursor.new) }
+    ensures told { (all : List Version) (ps : List (Placed Admitted)) → ReadsTree P.Pages pages.old O.OnceDisk reader.old seen.old root.now burnt all → TellsEvents all ps cursor.old.question → HasToldSo all ps cursor.old → OnOk result (HasToldSo all ps cursor.new) }
     ensures over { result ≡ Ok false → cursor.new.at ≡ None }
     ensures onward { result ≡ Ok true → stamps_left cursor.new.at < stamps_left cursor.old.at }
     ensures question { cursor.new.question ≡ cursor.old.question }
-    ensures stays { (all : List Version) → ReadsTree P.Pages pages.old O.OnceDisk reader.old seen.old root.now all → ReadsTree P.Pages pages.new O.OnceDisk reader.new seen.new root.now all }
-    ensures blames { (all : List Version) → ReadsTree P.Pages pages.old O.OnceDisk reader.old seen.old root.now all → IfErr result BlamesNone }
+    ensures stays { (all : List Version) → ReadsTree P.Pages pages.old O.OnceDisk reader.old seen.old root.now burnt all → ReadsTree P.Pages pages.new O.OnceDisk reader.new seen.new root.now burnt all }
+    ensures blames { (all : List Version) → ReadsTree P.Pages pages.old O.OnceDisk reader.old seen.old root.now burnt all → IfErr result BlamesNone }
     ensures refused { IfErr result (VersionsRefusal (P.down pages.old)) }
     ensures same { OnlyReads P.Pages pages.old pages.new (result ≡ Err NodeError.Fault) }
     ensures known { O.honest_seen (reader_disk reader.old) seen.old → O.known seen.new ≡ O.known seen.old }
@@ -58,8 +59,8 @@ fn take_look<P: Pages, O: OnceDisk + Drop>(
     stamp_fits(from);
     let route_key = Key::prefix(&cursor.question.peer, &cursor.question.prefix);
     let session_key = Key::session(&cursor.question.peer);
-    let route = part_from(pages, reader, seen, alloc, root, route_key, from)?;
-    let session = part_from(pages, reader, seen, alloc, root, session_key, from)?;
+    let route = part_from(pages, reader, seen, alloc, root, burnt, route_key, from)?;
+    let session = part_from(pages, reader, seen, alloc, root, burnt, session_key, from)?;
     cursor.take_parts(alloc, &route, &session)?;
     Ok(true)
 }
@@ -74,13 +75,14 @@ pub fn events<P: Pages, O: OnceDisk + Drop>(
     seen: &mut O::Seen,
     alloc: Global,
     root: &PagePlace,
+    burnt: u64,
     question: EventsQuestion,
 ) -> Result<EventsAnswer, NodeError>
     requires all { keys_at root.now ≡ all_keys }
     requires level { 1 ≤ root.now.level }
-    ensures answer { (all : List Version) (ps : List (Placed Admitted)) → ReadsTree P.Pages pages.old O.OnceDisk reader.old seen.old root.now all → TellsEvents all ps question → IfOk result (λ answer. IsEventsAnswer ps question answer.events.items answer.more) }
-    ensures stays { (all : List Version) → ReadsTree P.Pages pages.old O.OnceDisk reader.old seen.old root.now all → ReadsTree P.Pages pages.new O.OnceDisk reader.new seen.new root.now all }
-    ensures blames { (all : List Version) → ReadsTree P.Pages pages.old O.OnceDisk reader.old seen.old root.now all → IfErr result BlamesNone }
+    ensures answer { (all : List Version) (ps : List (Placed Admitted)) → ReadsTree P.Pages pages.old O.OnceDisk reader.old seen.old root.now burnt all → TellsEvents all ps question → IfOk result (λ answer. IsEventsAnswer ps question answer.events.items answer.more) }
+    ensures stays { (all : List Version) → ReadsTree P.Pages pages.old O.OnceDisk reader.old seen.old root.now burnt all → ReadsTree P.Pages pages.new O.OnceDisk reader.new seen.new root.now burnt all }
+    ensures blames { (all : List Version) → ReadsTree P.Pages pages.old O.OnceDisk reader.old seen.old root.now burnt all → IfErr result BlamesNone }
     ensures refused { IfErr result (VersionsRefusal (P.down pages.old)) }
     ensures same { OnlyReads P.Pages pages.old pages.new (result ≡ Err NodeError.Fault) }
     ensures known { O.honest_seen (reader_disk reader.old) seen.old → O.known seen.new ≡ O.known seen.old }
@@ -92,7 +94,7 @@ pub fn events<P: Pages, O: OnceDisk + Drop>(
 {
     let mut cursor = EventsCursor::start(alloc, question);
     loop {
-        let goes_on = take_look(pages, reader, seen, alloc, root, &mut cursor)?;
+        let goes_on = take_look(pages, reader, seen, alloc, root, burnt, &mut cursor)?;
         if !goes_on {
             return Ok(cursor.into_answer());
         }

@@ -5,6 +5,7 @@
 mod events_turns;
 mod events_walk;
 mod looks;
+mod naming;
 mod rows_turns;
 mod rows_walk;
 

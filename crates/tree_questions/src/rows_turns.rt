@@ -10,16 +10,17 @@ ghost use Rattle.tsb_walk.specs.Refusals.{LookRefusal, OnlyReads};
 ghost use Rattle.tsb_walk.specs.Shown.{keys_at};
 ghost use Rattle.route_history.specs.Blame.{BlamesNone};
 ghost use Rattle.route_history.specs.Walks.{Tells, Gathered};
-ghost use Rattle.tree_questions.specs.Turning.{ShowsTree, TurnsRows, GoesOnRows};
+ghost use Rattle.tree_questions.specs.Turning.{ShowsTree, TurnsRows, GoesOnRows, RowsBelow};
 ghost use Rattle.tree_questions.specs.inner.Telling.{KeepsRows, ToldRows};
 
+use crate::naming::next_named;
 use page_tx::Pages;
 use route_history::{RowsCursor, RowsErrand, RowsTurn};
 use route_meaning::RowsAnswer;
 use std::alloc::Global;
 use std::mem;
 use tsb_node::key_fits;
-use tsb_walk::{Looked, NodeError, PagePlace, next};
+use tsb_walk::{Looked, NodeError, PagePlace};
 
 // The answer, where the walk is over. The cursor is then at the start of its question again.
 fn take_answer(alloc: Global, cursor: &mut RowsCursor) -> RowsAnswer
@@ -48,21 +49,23 @@ fn tell(alloc: Global, cursor: &mut RowsCursor) -> RowsTurn
 /// leads into the past, the errand goes on there without the pages.
 ///
 /// Each turn passes a key, but for one that leaves an errand, which passes it when it is finished. Pages are only read, and called damaged
-/// where they aren't what the tree asks of them. After each outcome the cursor has gathered what the range has that its walk has passed;
+/// where they aren't what the tree asks of them, or name a block from `burnt` on, the first that was never burnt. After each outcome the cursor has gathered what the range has that its walk has passed;
 /// once the answer is told, it is at the start of its question again. It takes memory for rows, and for what the cache of pages keeps.
 pub fn rows_turn<P: Pages>(
     pages: &mut P,
     alloc: Global,
     root: &PagePlace,
+    burnt: u64,
     cursor: &mut RowsCursor,
 ) -> Result<RowsTurn, NodeError>
     requires all { keys_at root.now ≡ all_keys }
     requires level { 1 ≤ root.now.level }
-    ensures turn { (store : Store) (all : List Version) (ps : List (Placed Admitted)) → ShowsTree P.Pages pages.old root.now store all → Tells all ps cursor.old.question.moment → Gathered all ps cursor.old → IfOk result (TurnsRows store.blocks all ps cursor.old cursor.new) }
+    ensures turn { (store : Store) (all : List Version) (ps : List (Placed Admitted)) → ShowsTree P.Pages pages.old root.now burnt store all → Tells all ps cursor.old.question.moment → Gathered all ps cursor.old → IfOk result (TurnsRows store.blocks all ps cursor.old cursor.new) }
     ensures goes_on { IfOk result (GoesOnRows cursor.old cursor.new) }
-    ensures gathered { (store : Store) (all : List Version) (ps : List (Placed Admitted)) → ShowsTree P.Pages pages.old root.now store all → Tells all ps cursor.old.question.moment → Gathered all ps cursor.old → Gathered all ps cursor.new }
+    ensures burnt { IfOk result (RowsBelow burnt) }
+    ensures gathered { (store : Store) (all : List Version) (ps : List (Placed Admitted)) → ShowsTree P.Pages pages.old root.now burnt store all → Tells all ps cursor.old.question.moment → Gathered all ps cursor.old → Gathered all ps cursor.new }
     ensures question { cursor.new.question ≡ cursor.old.question }
-    ensures blames { (store : Store) (all : List Version) → ShowsTree P.Pages pages.old root.now store all → IfErr result BlamesNone }
+    ensures blames { (store : Store) (all : List Version) → ShowsTree P.Pages pages.old root.now burnt store all → IfErr result BlamesNone }
     ensures refused { IfErr result (LookRefusal (P.down pages.old)) }
     ensures same { OnlyReads P.Pages pages.old pages.new (result ≡ Err NodeError.Fault) }
 {
@@ -72,7 +75,7 @@ pub fn rows_turn<P: Pages>(
     let from = look.from;
     let stamp = look.stamp;
     key_fits(from);
-    let looked = next(pages, alloc, root, from, stamp)?;
+    let looked = next_named(pages, alloc, root, burnt, from, stamp)?;
     match looked {
         Looked::Here(reached) => {
             cursor.take_reached(alloc, reached)?;

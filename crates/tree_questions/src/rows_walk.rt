@@ -32,16 +32,17 @@ fn take_look<P: Pages, O: OnceDisk + Drop>(
     seen: &mut O::Seen,
     alloc: Global,
     root: &PagePlace,
+    burnt: u64,
     cursor: &mut RowsCursor,
 ) -> Result<bool, NodeError>
     requires all { keys_at root.now ≡ all_keys }
     requires level { 1 ≤ root.now.level }
-    ensures gathered { (all : List Version) (ps : List (Placed Admitted)) → ReadsTree P.Pages pages.old O.OnceDisk reader.old seen.old root.now all → Tells all ps cursor.old.question.moment → Gathered all ps cursor.old → OnOk result (Gathered all ps cursor.new) }
+    ensures gathered { (all : List Version) (ps : List (Placed Admitted)) → ReadsTree P.Pages pages.old O.OnceDisk reader.old seen.old root.now burnt all → Tells all ps cursor.old.question.moment → Gathered all ps cursor.old → OnOk result (Gathered all ps cursor.new) }
     ensures over { result ≡ Ok false → cursor.new.front ≡ None }
     ensures onward { result ≡ Ok true → left_of (front_number cursor.new.front) < left_of (front_number cursor.old.front) }
     ensures question { cursor.new.question ≡ cursor.old.question }
-    ensures stays { (all : List Version) → ReadsTree P.Pages pages.old O.OnceDisk reader.old seen.old root.now all → ReadsTree P.Pages pages.new O.OnceDisk reader.new seen.new root.now all }
-    ensures blames { (all : List Version) → ReadsTree P.Pages pages.old O.OnceDisk reader.old seen.old root.now all → IfErr result BlamesNone }
+    ensures stays { (all : List Version) → ReadsTree P.Pages pages.old O.OnceDisk reader.old seen.old root.now burnt all → ReadsTree P.Pages pages.new O.OnceDisk reader.new seen.new root.now burnt all }
+    ensures blames { (all : List Version) → ReadsTree P.Pages pages.old O.OnceDisk reader.old seen.old root.now burnt all → IfErr result BlamesNone }
     ensures refused { IfErr result (VersionsRefusal (P.down pages.old)) }
     ensures same { OnlyReads P.Pages pages.old pages.new (result ≡ Err NodeError.Fault) }
     ensures known { O.honest_seen (reader_disk reader.old) seen.old → O.known seen.new ≡ O.known seen.old }
@@ -57,7 +58,7 @@ fn take_look<P: Pages, O: OnceDisk + Drop>(
     let from = look.from;
     let stamp = look.stamp;
     key_fits(from);
-    let reached = next_key(pages, reader, seen, alloc, root, from, stamp)?;
+    let reached = next_key(pages, reader, seen, alloc, root, burnt, from, stamp)?;
     cursor.take_reached(alloc, reached)?;
     Ok(true)
 }
@@ -66,20 +67,22 @@ fn take_look<P: Pages, O: OnceDisk + Drop>(
 /// asked for, and whether more follow.
 ///
 /// Each look passes a key, so it ends. Pages are only read, and blocks by the reader alone. A page or a block is called damaged that
-/// isn't what the tree asks of it. It takes memory for the rows, and for what the cache of pages and the reader keep.
+/// isn't what the tree asks of it; so is the page of a column that names a block from `burnt` on, the first that was never burnt. It takes
+/// memory for the rows, and for what the cache of pages and the reader keep.
 pub fn rows<P: Pages, O: OnceDisk + Drop>(
     pages: &mut P,
     reader: &mut ShelfReader<O>,
     seen: &mut O::Seen,
     alloc: Global,
     root: &PagePlace,
+    burnt: u64,
     question: RowsQuestion,
 ) -> Result<RowsAnswer, NodeError>
     requires all { keys_at root.now ≡ all_keys }
     requires level { 1 ≤ root.now.level }
-    ensures answer { (all : List Version) (ps : List (Placed Admitted)) → ReadsTree P.Pages pages.old O.OnceDisk reader.old seen.old root.now all → Tells all ps question.moment → IfOk result (λ answer. IsAnswer ps question answer.rows.items answer.more) }
-    ensures stays { (all : List Version) → ReadsTree P.Pages pages.old O.OnceDisk reader.old seen.old root.now all → ReadsTree P.Pages pages.new O.OnceDisk reader.new seen.new root.now all }
-    ensures blames { (all : List Version) → ReadsTree P.Pages pages.old O.OnceDisk reader.old seen.old root.now all → IfErr result BlamesNone }
+    ensures answer { (all : List Version) (ps : List (Placed Admitted)) → ReadsTree P.Pages pages.old O.OnceDisk reader.old seen.old root.now burnt all → Tells all ps question.moment → IfOk result (λ answer. IsAnswer ps question answer.rows.items answer.more) }
+    ensures stays { (all : List Version) → ReadsTree P.Pages pages.old O.OnceDisk reader.old seen.old root.now burnt all → ReadsTree P.Pages pages.new O.OnceDisk reader.new seen.new root.now burnt all }
+    ensures blames { (all : List Version) → ReadsTree P.Pages pages.old O.OnceDisk reader.old seen.old root.now burnt all → IfErr result BlamesNone }
     ensures refused { IfErr result (VersionsRefusal (P.down pages.old)) }
     ensures same { OnlyReads P.Pages pages.old pages.new (result ≡ Err NodeError.Fault) }
     ensures known { O.honest_seen (reader_disk reader.old) seen.old → O.known seen.new ≡ O.known seen.old }
@@ -91,7 +94,7 @@ pub fn rows<P: Pages, O: OnceDisk + Drop>(
 {
     let mut cursor = RowsCursor::start(alloc, question);
     loop {
-        let goes_on = take_look(pages, reader, seen, alloc, root, &mut cursor)?;
+        let goes_on = take_look(pages, reader, seen, alloc, root, burnt, &mut cursor)?;
         if !goes_on {
             return Ok(cursor.into_answer());
         }

@@ -10,4 +10,5 @@ pub mod Standing
 pub mod Columns
 pub mod Under
 pub mod GoingUnder
+pub mod Used
 pub mod Checked

@@ -75,7 +75,7 @@ level_some : (s : Store) (all : List Version) (level : ℕ) (keys : Keys) (page 
 level_some s all _ _ _ (column keys page c) = omega arith
 level_some s all _ _ _ (key_node level keys page children inside at are stand) = omega arith
 
-in_limit : (s : Store) (all : List Version) (level : ℕ) (keys : Keys) (page : ℕ) → StandsIn s all level keys page → page < s.limit
+pub in_limit : (s : Store) (all : List Version) (level : ℕ) (keys : Keys) (page : ℕ) → StandsIn s all level keys page → page < s.limit
 in_limit s all _ _ _ (column keys page c) = c.in_limit
 in_limit s all _ _ _ (key_node level keys page children inside at are stand) = inside
 
@@ -91,7 +91,7 @@ module _ (shown : List (List ℕ)) (s : Store) (all : List Version) (are_shown :
   PlaceIn place = StandsIn s all place.level (keys_at place) place.page
 
   -- a column that stands, by what its page says
-  record ColumnIn (place : PagePlace) (parts : List Part) (start current : ℕ) : Type 0 where
+  pub record ColumnIn (place : PagePlace) (parts : List Part) (start current : ℕ) : Type 0 where
     pub versions : List Version
     pub at : s.nodes place.page ≡ Some (ColumnNode (keys_at place) parts start current)
     pub at_current : s.nodes current ≡ Some (CurrentLeaf (keys_at place) start versions)
@@ -153,7 +153,7 @@ module _ (shown : List (List ℕ)) (s : Store) (all : List Version) (are_shown :
   under_stands places _ (as_child place next children under says one) stand =
       all_at PlaceIn (places_under place children) next (children_stand place children says (under_stands places place under stand)) one
 
-  column_under_stands : (places : List PagePlace) (place : PagePlace) (parts : List Part) (start current : ℕ) → IsColumnUnder shown places place parts start current → AllByRecursion PlaceIn places → ColumnIn place parts start current
+  pub column_under_stands : (places : List PagePlace) (place : PagePlace) (parts : List Part) (start current : ℕ) → IsColumnUnder shown places place parts start current → AllByRecursion PlaceIn places → ColumnIn place parts start current
   column_under_stands places place parts start current is stand = column_stands_in place parts start current is.lowest is.says (under_stands places place is.under stand)
 
   pub none_bad : (places : List PagePlace) (page : ℕ) → IsBadUnder shown places page → AllByRecursion PlaceIn places → ⊥

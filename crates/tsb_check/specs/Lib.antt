@@ -1,3 +1,4 @@
 pub mod Counted
+pub mod InUse
 pub mod Pages
 pub mod inner

@@ -74,8 +74,8 @@ fn is_wider(wide: &Bounds, bounds: &Bounds) -> bool
         && is_same_end(wide.end, bounds.end)
 }
 
-// Whether all parts are in blocks of lower numbers.
-fn are_lower(parts: &[Part], block: u64) -> bool
+/// Whether all parts are in blocks of lower numbers.
+pub fn are_lower(parts: &[Part], block: u64) -> bool
     ensures { IsTrue result ↔ All (λ part. part.block < block) parts.now }
 {
     parts.iter().all(|part| part.block < block)

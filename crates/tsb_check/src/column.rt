@@ -1,6 +1,6 @@
 //! The versions of one column are counted: those of its past, and those of its current leaf.
 
-ghost use Rattle.std.specs.Prelude.{◌≡◌, ◌↔◌, ◌⊎◌, ◌+◌, ℕ, List, IfOk, IfErr, Err, IsErrOf, min};
+ghost use Rattle.std.specs.Prelude.{◌≡◌, ◌↔◌, ◌⊎◌, ◌+◌, ℕ, List, IfOk, OnOk, IfErr, Err, IsErrOf, min};
 ghost use Rattle.once_store.specs.Readers.{capacity_of, reader_disk};
 ghost use Rattle.page_tx.specs.Start.{Start};
 ghost use Rattle.tsb_walk.specs.AllVersions.{VersionsRefusal};
@@ -8,8 +8,9 @@ ghost use Rattle.tsb_walk.specs.Knowing.{ReadsWell};
 ghost use Rattle.tsb_walk.specs.Refusals.{OnlyReads, LookRefusal};
 ghost use Rattle.tsb_check.specs.Counted.{TellsPast, MeetUnknown, MeetDamage};
 ghost use Rattle.tsb_check.specs.Pages.{past_of};
-ghost use Rattle.tsb_check.specs.inner.Columns.{HasCurrent, TellsColumn, IsBadColumn, IsUnknownIn, IsDamagedIn};
+ghost use Rattle.tsb_check.specs.inner.Columns.{HasCurrent, TellsColumn, IsBadColumn, IsUnusedColumn, IsUsedColumn, IsUnknownIn, IsDamagedIn};
 
+use crate::in_use::{InUse, check_column};
 use crate::past::count_past;
 use crate::places::list_places;
 use crate::reading::{column_at, count_current};
@@ -75,17 +76,19 @@ fn count_before<O: OnceDisk + Drop>(
     count_past(reader, seen, alloc, places)
 }
 
-/// How many versions the column at a place has.
+/// How many versions the column at a place has. All that it uses is in use.
 pub fn count_column<P: Pages, O: OnceDisk + Drop>(
     pages: &mut P,
     reader: &mut ShelfReader<O>,
     seen: &mut O::Seen,
     alloc: Global,
+    in_use: &InUse,
     place: &PagePlace,
 ) -> Result<u64, NodeError>
     ensures checked { (start : Start) (shown : List (List ℕ)) → P.shows pages.old start shown → ReadsWell O.OnceDisk reader.old seen.old
         → IfOk result (λ n. TellsColumn shown (O.known seen.old) (O.block_count (reader_disk reader.old)) place.now n ⊎ IsUnknownIn shown (O.known seen.old) (O.block_count (reader_disk reader.old)) place.now) }
-    ensures bad { (start : Start) (shown : List (List ℕ)) → P.shows pages.old start shown → (page : ℕ) → result ≡ Err (NodeError.BadNode page) → IsBadColumn shown place.now page }
+    ensures bad { (start : Start) (shown : List (List ℕ)) → P.shows pages.old start shown → (page : ℕ) → result ≡ Err (NodeError.BadNode page) → IsBadColumn shown place.now page ⊎ IsUnusedColumn shown in_use.now place.now page }
+    ensures used { (start : Start) (shown : List (List ℕ)) → P.shows pages.old start shown → OnOk result (IsUsedColumn shown in_use.now place.now) }
     ensures damaged { (start : Start) (shown : List (List ℕ)) → P.shows pages.old start shown → ReadsWell O.OnceDisk reader.old seen.old → (block : ℕ) → result ≡ Err (NodeError.Damaged block)
         → IsDamagedIn shown (O.known seen.old) (O.block_count (reader_disk reader.old)) place.now block ⊎ IsUnknownIn shown (O.known seen.old) (O.block_count (reader_disk reader.old)) place.now }
     ensures reads { (start : Start) (shown : List (List ℕ)) → P.shows pages.old start shown → ReadsWell O.OnceDisk reader.old seen.old
@@ -100,6 +103,7 @@ pub fn count_column<P: Pages, O: OnceDisk + Drop>(
     ensures counted { IsErrOf result NodeError.OnceFault → O.seen_fault_count seen.new ≡ min (O.seen_fault_count seen.old + 1) 18446744073709551615 }
 {
     let (said, current) = current_of(pages, alloc, place)?;
+    check_column(in_use, place.page, &said)?;
     let past = count_before(reader, seen, alloc, place, &said)?;
     Ok(past.saturating_add(current))
 }

@@ -6,6 +6,7 @@ mod checking;
 mod children;
 mod column;
 mod counting;
+mod in_use;
 mod keeping;
 mod page;
 mod past;
@@ -13,3 +14,4 @@ mod places;
 mod reading;
 
 pub use checking::check;
+pub use in_use::InUse;

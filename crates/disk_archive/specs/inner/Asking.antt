@@ -48,16 +48,14 @@ BlamesNone asks.OutOfMemory = ⊤
 abbrev pub known_in : (ℕ → Option (List ℕ)) → ℕ → List ℕ → Type 0
 known_in known n octets = known n ≡ Some octets
 
--- On the pages of a transaction, and in the blocks that a reader knows, a tree lies with this root. It stands for the versions of these
--- admissions' changes, whose times never fall.
-pub record HasTree {P : Type 0} (pages : Ghosts P) (held : P) {O Pen Seen : Type 0} (device : OnceGhosts O Pen Seen) (reader : ShelfReader O Pen Seen device) (seen : Seen) (root : ℕ) (ps : List (Placed Admitted)) : Type 0 where
+-- On the pages of a transaction, and in the blocks that a reader knows, a tree lies with this root, which uses no page and no block from
+-- these on. It stands for the versions of these admissions' changes, whose times never fall.
+pub record HasTree {P : Type 0} (pages : Ghosts P) (held : P) {O Pen Seen : Type 0} (device : OnceGhosts O Pen Seen) (reader : ShelfReader O Pen Seen device) (seen : Seen) (root fresh block : ℕ) (ps : List (Placed Admitted)) : Type 0 where
   pub start : Start
   pub shown : List (List ℕ)
   pub shows : pages.shows held start shown
   pub well : ReadsWell device reader seen
   pub low : ℕ
-  pub fresh : ℕ
-  pub block : ℕ
   pub stamp : ℕ
   pub versions : List Version
   pub lies : TreeLies (device.block_count (reader_disk reader)) shown (known_in (device.known seen)) low root fresh block stamp versions

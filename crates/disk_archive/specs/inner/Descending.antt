@@ -28,16 +28,15 @@ of_events (events.Done answer) = Done (answers.Events answer)
 of_events events.Again = Again
 of_events (events.Historical errand) = Historical (errands.Events errand)
 
--- On the pages of a transaction, and in settled blocks of a disk of so many, a tree lies with this root. It stands for versions of what the
--- right history has applied.
-pub record HasPages {P : Type 0} (pages : Ghosts P) (held : P) (count : ℕ) (known : ℕ → Option (List ℕ)) (root : ℕ) (h : History) : Type 0 where
+-- On the pages of a transaction, and in settled blocks of a disk of so many, a tree lies with this root, which uses no block from this one
+-- on. It stands for versions of what the right history has applied.
+pub record HasPages {P : Type 0} (pages : Ghosts P) (held : P) (count : ℕ) (known : ℕ → Option (List ℕ)) (root block : ℕ) (h : History) : Type 0 where
   pub right : IsHistory h
   pub start : Start
   pub shown : List (List ℕ)
   pub shows : pages.shows held start shown
   pub low : ℕ
   pub fresh : ℕ
-  pub block : ℕ
   pub stamp : ℕ
   pub versions : List Version
   pub lies : TreeLies count shown (is_known known) low root fresh block stamp versions

@@ -4,6 +4,8 @@ use Rattle.route_meaning.specs.History.{History}
 use Rattle.interleaving_core.specs.Steps.{IsCollector, IsMarkAbove}
 use Rattle.service.specs.Carried.{Carried, HasIntakes}
 use Rattle.service.specs.Loads.{marked_if}
+use Rattle.archive_calls.specs.declared.refusal.Trouble.TheVariants as troubles
+use Rattle.service.specs.declared.faults.FeedStop.TheVariants as reasons
 use Rattle.service.specs.declared.faults.LoadStop.{LoadStop}
 use Rattle.service.specs.declared.faults.LoadStop.TheVariants as stops
 use Rattle.service.specs.declared.intake.End.{End}
@@ -22,6 +24,11 @@ abbrev pub status_after : End → Status
 status_after ends.Well = statuses.Done
 status_after ends.Cut = statuses.Refused
 status_after (ends.Refused why) = statuses.Refused
+
+-- the refusal that a load ends with outside its feed: a trouble for which the feed was given up comes before what follows from it
+abbrev pub first_of : End → LoadStop → LoadStop
+first_of (ends.Refused (reasons.Trouble trouble)) (stops.Trouble troubles.NeedsRecovery) = stops.Trouble trouble
+first_of _ why = why
 
 -- why a mark isn't set, or what may be applied isn't
 abbrev pub HasNotSettled : ℕ → Option ℕ → History → Carried → LoadStop → Type 0

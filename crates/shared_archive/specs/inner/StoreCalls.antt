@@ -19,6 +19,8 @@ use Rattle.disk_archive.specs.declared.flush_error.FlushError.{FlushError}
 use Rattle.disk_archive.specs.declared.flush_error.FlushError.TheVariants as flushes
 use Rattle.disk_archive.specs.declared.ask_error.AskError.{AskError}
 use Rattle.disk_archive.specs.declared.ask_error.AskError.TheVariants as asks
+use Rattle.disk_archive.specs.declared.open_error.OpenError.{OpenError}
+use Rattle.disk_archive.specs.declared.open_error.OpenError.TheVariants as openings
 
 -- why a batch isn't taken
 abbrev pub of_admit : AdmitError → AdmitRefusal
@@ -69,3 +71,11 @@ abbrev pub of_block : BlockError → Trouble
 of_block blocks.Fault = troubles.Fault
 of_block (blocks.Damaged block) = troubles.DamagedBlock block
 of_block blocks.OutOfMemory = troubles.OutOfMemory
+
+-- why disks aren't opened again; those that hold no archive are reported as damaged in their first page
+abbrev pub of_open : OpenError → Trouble
+of_open openings.Fault = troubles.Fault
+of_open openings.NotAJournal = troubles.DamagedPage 0
+of_open (openings.BadSlot page) = troubles.DamagedPage page
+of_open (openings.BadNode page) = troubles.DamagedPage page
+of_open openings.OutOfMemory = troubles.OutOfMemory

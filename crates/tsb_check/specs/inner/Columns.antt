@@ -9,6 +9,8 @@ use Rattle.version_model.specs.Versions.{Version}
 use Rattle.version_model.specs.Counts.{count_in}
 use Rattle.version_model.specs.Pages.{CurrentLeaf, ColumnNode, current_range}
 use Rattle.tsb_check.specs.Counted.{AreCounted, MeetUnknown, MeetDamage, told}
+use Rattle.tsb_check.specs.declared.in_use.InUse.{InUse}
+use Rattle.tsb_check.specs.InUse.{IsColumnUsed, IsColumnUnused}
 use Rattle.tsb_check.specs.Pages.{past_of}
 
 -- a page says the column at a place
@@ -48,3 +50,13 @@ pub record IsUnknownIn (shown : List (List ℕ)) (known : ℕ → Option (List �
 pub record IsDamagedIn (shown : List (List ℕ)) (known : ℕ → Option (List ℕ)) (count : ℕ) (place : PagePlace) (block : ℕ) : Type 0 where
   pub column : IsColumnAt shown place
   pub damage : MeetDamage known count (past_of place column.parts column.start) block
+
+-- a page says the column, and all that the column uses is in use
+pub record IsUsedColumn (shown : List (List ℕ)) (in_use : InUse) (place : PagePlace) : Type 0 where
+  pub column : IsColumnAt shown place
+  pub used : IsColumnUsed in_use place.page column.parts column.current
+
+-- a page says the column, and not all that it uses is in use, for which this page is at fault
+pub record IsUnusedColumn (shown : List (List ℕ)) (in_use : InUse) (place : PagePlace) (page : ℕ) : Type 0 where
+  pub column : IsColumnAt shown place
+  pub unused : IsColumnUnused in_use place.page column.parts column.current page

@@ -1,14 +1,16 @@
-use Rattle.std.proofs.Common.{rules, ◌≡◌, ◌<◌, ◌^◌, ℕ, refl, sym, ◌∙◌, ap, subst, Ok, Err, IfErr, length}
+use Rattle.std.proofs.Common.{rules, ◌≡◌, ◌<◌, ◌^◌, ℕ, [], ◌∷◌, inl, inr, refl, sym, ◌∙◌, ap, subst, Ok, Err, IfErr, length}
 use Rattle.once_store.specs.Readers.{reader_disk}
 use Rattle.archive_head.specs.Head.{Contents}
 use Rattle.route_history.specs.Kept.{timed}
 use Rattle.version_model.specs.Pages.{TreeStands}
 use Rattle.tsb_tree.specs.Opened.{ShowsRoot}
 use Rattle.disk_archive.specs.declared.check_error.CheckError.TheVariants as checks
-use Rattle.disk_archive.specs.Checks.{IsBadPage, IsRootPlace, no_root, bad_under, other_number}
+use Rattle.tsb_check.specs.declared.in_use.InUse.{InUse}
+use Rattle.tsb_check.specs.InUse.{AreInUse, IsUnusedUnder, IsWithin}
+use Rattle.disk_archive.specs.Checks.{IsBadPage, IsRootPlace, no_root, bad_under, unused_under, other_number}
 use Rattle.disk_archive.specs.inner.Checking.{check_of_node}
 use Rattle.disk_archive.proofs.Asking.{at_root}
-use Rattle.disk_archive.proofs.Counts.{as_many, finds_none, known_of, passed, passed_node, told_is}
+use Rattle.disk_archive.proofs.Counts.{as_many, finds_none, known_of, passed, passed_node, told_is, within_of}
 use Rattle.disk_archive.proofs.Faults.{done_not_told, keeps_told, one_told}
 use Rattle.disk_archive.proofs.ReadFaults.{check_either, read_done, read_pages, read_refused, read_then}
 use Rattle.disk_archive.proofs.checking.count_by.Goals as goal
@@ -27,8 +29,9 @@ returns-in_err-count-clause-finds g c ps t number few =
     let tree = c.in_ok-root.ensures.stands t.start t.shown t.lies.store t.versions t.lies.level t.shows t.lies.says (subst (λ (r : ℕ). TreeStands t.lies.store t.versions r t.lies.level) (sym top) t.lies.has.stands) in
     let shows = c.root_of.ensures.reads t.start t.shown t.shows in
     let stands = at_root t.shown t.lies.store t.versions root.page root.level root refl refl c.in_ok-root.ensures.place.keys t.lies.says tree in
-    let known = known_of g.P.Pages c.args.pages.now g.O.OnceDisk c.args.reader.now c.args.seen.now c.args.head.now.root ps t in
-    let f = finds_none c.check.result (λ page e. c.check.ensures.blames t.start t.shown shows t.lies.store t.versions stands page e) (λ block e. c.check.ensures.never t.start t.shown shows t.lies.store t.versions stands t.well known block e) in
+    let known = known_of g.P.Pages c.args.pages.now g.O.OnceDisk c.args.reader.now c.args.seen.now c.args.head.now.root c.args.head.now.fresh c.args.head.now.block ps t in
+    let within = subst (IsWithin t.lies.store) (sym c.in_use_by-in_use.ensures) (within_of g.P.Pages c.args.pages.now g.O.OnceDisk c.args.reader.now c.args.seen.now c.args.head.now.root c.args.head.now.fresh c.args.head.now.block c.args.burnt c.requires.burnt ps t) in
+    let f = finds_none c.check.result (λ page e. c.check.ensures.blames t.start t.shown shows t.lies.store t.versions stands within page e) (λ block e. c.check.ensures.never t.start t.shown shows t.lies.store t.versions stands t.well known block e) in
     search (rules, f)
 
 pub returns-in_err-root-clause-bad : goal.returns-in_err-root-clause-bad
@@ -39,7 +42,8 @@ returns-in_err-root-clause-bad g c start shown shows well page is =
     let bad = c.root_of.ensures.bad start shown shows page was in
     let known = g.O.OnceDisk.known c.args.seen.now in
     let blocks = g.O.OnceDisk.block_count (reader_disk c.args.reader.now) in
-    subst (λ (p : ℕ). IsBadPage shown known blocks c.args.head.now.root c.args.head.now.applied p) (sym (bad.0 ∙ top))
+    let in_use : InUse = record { recorded_on = 0; pages = c.args.head.now.fresh; blocks = c.args.head.now.block; burnt = c.args.burnt } in
+    subst (λ (p : ℕ). IsBadPage shown known blocks c.args.head.now.root c.args.head.now.applied in_use p) (sym (bad.0 ∙ top))
     (no_root (subst (λ (r : ℕ). (level : ℕ) → ShowsRoot shown r level → ⊥) top bad.1))
 
 pub returns-in_err-count-clause-bad : goal.returns-in_err-count-clause-bad
@@ -48,14 +52,17 @@ returns-in_err-count-clause-bad g c start shown shows well page is =
     let was = passed_node c.from_residual-in_err-count.result c.check.result c.in_err-count.field-0.0 page told c.in_err-count.was is in
     let top = ap (λ (x : Contents). x.root) c.head.view_is in
     let place = subst (λ (r : ℕ). IsRootPlace r c.in_ok-root.root) top c.in_ok-root.ensures.place in
-    bad_under c.in_ok-root.root place page (c.check.ensures.bad start shown (c.root_of.ensures.reads start shown shows) page was)
+    elim (c.check.ensures.bad start shown (c.root_of.ensures.reads start shown shows) page was) [
+      | inl bad ↦ bad_under c.in_ok-root.root place page bad
+      | inr unused ↦ unused_under c.in_ok-root.root place page (subst (λ (u : InUse). IsUnusedUnder shown u (c.in_ok-root.root ∷ []) page) c.in_use_by-in_use.ensures unused)
+    ]
 
 pub returns-then-count-head-clause-finds : goal.returns-then-count-head-clause-finds
 returns-then-count-head-clause-finds g c ps t number few =
     let top = ap (λ (x : Contents). x.root) c.head.view_is in
     let tree = c.in_ok-root.ensures.stands t.start t.shown t.lies.store t.versions t.lies.level t.shows t.lies.says (subst (λ (r : ℕ). TreeStands t.lies.store t.versions r t.lies.level) (sym top) t.lies.has.stands) in
     let shows = c.root_of.ensures.reads t.start t.shown t.shows in
-    let known = known_of g.P.Pages c.args.pages.now g.O.OnceDisk c.args.reader.now c.args.seen.now c.args.head.now.root ps t in
+    let known = known_of g.P.Pages c.args.pages.now g.O.OnceDisk c.args.reader.now c.args.seen.now c.args.head.now.root c.args.head.now.fresh c.args.head.now.block ps t in
     let counted = c.in_ok-count.ensures.counted t.start t.shown shows t.lies.store t.versions t.lies.says c.in_ok-root.ensures.place.keys tree t.well known in
     let many = as_many 0 (timed ps) t.versions t.kept in
     let is = told_is c.in_ok-count.count (length t.versions) (length (timed ps)) counted many (subst (λ n. n < 2 ^ 64) number few) in
@@ -70,10 +77,22 @@ returns-then-count-head-clause-bad g c start shown shows well page is =
     let known = g.O.OnceDisk.known c.args.seen.now in
     let blocks = g.O.OnceDisk.block_count (reader_disk c.args.reader.now) in
     let read = c.in_ok-count.ensures.checked start shown (c.root_of.ensures.reads start shown shows) well in
+    let used = subst (λ (u : InUse). AreInUse shown u (c.in_ok-root.root ∷ [])) c.in_use_by-in_use.ensures (c.in_ok-count.ensures.used start shown (c.root_of.ensures.reads start shown shows)) in
     let here : 0 ≡ page = cc in
-    subst (λ (p : ℕ). IsBadPage shown known blocks c.args.head.now.root c.args.head.now.applied p) here
-    (other_number c.in_ok-count.count (record { place = c.in_ok-root.root; top = place; read = read })
+    let in_use : InUse = record { recorded_on = 0; pages = c.args.head.now.fresh; blocks = c.args.head.now.block; burnt = c.args.burnt } in
+    subst (λ (p : ℕ). IsBadPage shown known blocks c.args.head.now.root c.args.head.now.applied in_use p) here
+    (other_number c.in_ok-count.count (record { place = c.in_ok-root.root; top = place; read = read; used = used })
     (λ e. c.if-count-head.true (e ∙ sym applied)))
+
+pub returns-clause-read : goal.returns-clause-read
+returns-clause-read g c start shown shows well =
+    let top = ap (λ (x : Contents). x.root) c.head.view_is in
+    record {
+      place = c.in_ok-root.root;
+      top = subst (λ (r : ℕ). IsRootPlace r c.in_ok-root.root) top c.in_ok-root.ensures.place;
+      read = c.in_ok-count.ensures.checked start shown (c.root_of.ensures.reads start shown shows) well;
+      used = subst (λ (u : InUse). AreInUse shown u (c.in_ok-root.root ∷ [])) c.in_use_by-in_use.ensures (c.in_ok-count.ensures.used start shown (c.root_of.ensures.reads start shown shows));
+    }
 
 -- ---- failures
 

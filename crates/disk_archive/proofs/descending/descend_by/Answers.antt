@@ -7,14 +7,14 @@ use Rattle.route_meaning.specs.History.{settled}
 use Rattle.route_history.specs.Blame.{BlamesNone as NodeBlamesNone}
 use Rattle.tsb_walk.specs.Refusals.{LookRefusal as PageRefusal}
 use Rattle.disk_archive.specs.Cursors.{IsGathered, asks}
-use Rattle.disk_archive.specs.Descents.{Descends, GoesFurther}
+use Rattle.disk_archive.specs.Descents.{Descends, GoesFurther, ReadsBelow}
 use Rattle.disk_archive.specs.declared.cursor.Cursor.{Cursor}
 use Rattle.disk_archive.specs.declared.cursor.Cursor.TheVariants.{Rows, Events}
 use Rattle.disk_archive.specs.declared.descending.Descent.{Descent}
 use Rattle.disk_archive.specs.inner.Asking.{ask_of_node, BlamesNone, LookRefusal}
 use Rattle.disk_archive.proofs.Asking.{ask_blames, if_err}
 use Rattle.disk_archive.proofs.Faults.{asked_fault, done_not_told, keeps_then, keeps_told, one_told}
-use Rattle.disk_archive.proofs.Turning.{rows_descends, rows_gathered, rows_further, events_descends, events_gathered, events_further, shows_tree, turn_refused}
+use Rattle.disk_archive.proofs.Turning.{rows_descends, rows_gathered, rows_further, events_descends, events_gathered, events_further, events_below, rows_below, shows_tree, turn_refused}
 use Rattle.disk_archive.proofs.descending.descend_by.Goals as goal
 
 pub returns-in_err-root-clause-blames : goal.returns-in_err-root-clause-blames
@@ -28,7 +28,7 @@ returns-in_ok-turn-in-Rows-clause-descends g c count known h t below gathered =
     let is = c.in-Rows.is in
     let moment = subst (λ (x : Cursor). last_moment (asks x) < settled h) is below in
     let so_far = subst (λ (x : Cursor). IsGathered x h) is gathered in
-    let told = rows_descends g.P.Pages c.args.pages.now count known c.args.head.now.root h t c.versions_tell.ensures.rows c.gathered_follows_histories.ensures.rows c.root_of.new.pages c.in_ok-root.root c.root_of.ensures.reads stands c.in-Rows.rows c.rows_turn.new.cursor c.in_ok-turn-in-Rows.turn c.rows_turn.ensures.question moment so_far c.rows_turn.ensures.gathered c.in_ok-turn-in-Rows.ensures.turn in
+    let told = rows_descends g.P.Pages c.args.pages.now count known c.args.head.now.root c.args.head.now.block c.args.burnt c.requires.burnt h t c.versions_tell.ensures.rows c.gathered_follows_histories.ensures.rows c.root_of.new.pages c.in_ok-root.root c.root_of.ensures.reads stands c.in-Rows.rows c.rows_turn.new.cursor c.in_ok-turn-in-Rows.turn c.rows_turn.ensures.question moment so_far c.rows_turn.ensures.gathered c.in_ok-turn-in-Rows.ensures.turn in
     subst (λ (x : Cursor). Descends count known h x (Rows c.rows_turn.new.cursor) c.of_rows.result) (sym is) (subst (λ (d : Descent). Descends count known h (Rows c.in-Rows.rows) (Rows c.rows_turn.new.cursor) d) (sym c.of_rows.ensures) told)
 
 pub returns-in_ok-turn-in-Rows-clause-gathered : goal.returns-in_ok-turn-in-Rows-clause-gathered
@@ -37,7 +37,7 @@ returns-in_ok-turn-in-Rows-clause-gathered g c count known h t below gathered =
     let is = c.in-Rows.is in
     let moment = subst (λ (x : Cursor). last_moment (asks x) < settled h) is below in
     let so_far = subst (λ (x : Cursor). IsGathered x h) is gathered in
-    rows_gathered g.P.Pages c.args.pages.now count known c.args.head.now.root h t c.versions_tell.ensures.rows c.gathered_follows_histories.ensures.rows c.root_of.new.pages c.in_ok-root.root c.root_of.ensures.reads stands c.in-Rows.rows c.rows_turn.new.cursor c.rows_turn.ensures.question moment so_far c.rows_turn.ensures.gathered
+    rows_gathered g.P.Pages c.args.pages.now count known c.args.head.now.root c.args.head.now.block c.args.burnt c.requires.burnt h t c.versions_tell.ensures.rows c.gathered_follows_histories.ensures.rows c.root_of.new.pages c.in_ok-root.root c.root_of.ensures.reads stands c.in-Rows.rows c.rows_turn.new.cursor c.rows_turn.ensures.question moment so_far c.rows_turn.ensures.gathered
 
 pub returns-in_err-turn-in-Rows-clause-gathered : goal.returns-in_err-turn-in-Rows-clause-gathered
 returns-in_err-turn-in-Rows-clause-gathered g c count known h t below gathered =
@@ -45,7 +45,7 @@ returns-in_err-turn-in-Rows-clause-gathered g c count known h t below gathered =
     let is = c.in-Rows.is in
     let moment = subst (λ (x : Cursor). last_moment (asks x) < settled h) is below in
     let so_far = subst (λ (x : Cursor). IsGathered x h) is gathered in
-    rows_gathered g.P.Pages c.args.pages.now count known c.args.head.now.root h t c.versions_tell.ensures.rows c.gathered_follows_histories.ensures.rows c.root_of.new.pages c.in_ok-root.root c.root_of.ensures.reads stands c.in-Rows.rows c.rows_turn.new.cursor c.rows_turn.ensures.question moment so_far c.rows_turn.ensures.gathered
+    rows_gathered g.P.Pages c.args.pages.now count known c.args.head.now.root c.args.head.now.block c.args.burnt c.requires.burnt h t c.versions_tell.ensures.rows c.gathered_follows_histories.ensures.rows c.root_of.new.pages c.in_ok-root.root c.root_of.ensures.reads stands c.in-Rows.rows c.rows_turn.new.cursor c.rows_turn.ensures.question moment so_far c.rows_turn.ensures.gathered
 
 pub returns-in_ok-turn-in-Rows-clause-further : goal.returns-in_ok-turn-in-Rows-clause-further
 returns-in_ok-turn-in-Rows-clause-further g c =
@@ -55,7 +55,7 @@ returns-in_ok-turn-in-Rows-clause-further g c =
 pub returns-in_err-turn-in-Rows-clause-blames : goal.returns-in_err-turn-in-Rows-clause-blames
 returns-in_err-turn-in-Rows-clause-blames g c count known h t =
     let stands = c.in_ok-root.ensures.stands t.start t.shown t.lies.store t.versions t.lies.level t.shows t.lies.says t.lies.has.stands in
-    let shown = shows_tree g.P.Pages c.args.pages.now count known c.args.head.now.root h t c.root_of.new.pages c.in_ok-root.root c.root_of.ensures.reads stands in
+    let shown = shows_tree g.P.Pages c.args.pages.now count known c.args.head.now.root c.args.head.now.block c.args.burnt c.requires.burnt h t c.root_of.new.pages c.in_ok-root.root c.root_of.ensures.reads stands in
     let b : IfErr c.rows_turn.result (λ e. BlamesNone (ask_of_node e)) = if_err ask_of_node NodeBlamesNone BlamesNone c.rows_turn.result ask_blames (c.rows_turn.ensures.blames t.lies.store t.versions shown) in
     search (rules, b)
 
@@ -72,7 +72,7 @@ returns-in_ok-turn-in-Events-clause-descends g c count known h t below gathered 
     let is = c.in-Events.is in
     let moment = subst (λ (x : Cursor). last_moment (asks x) < settled h) is below in
     let so_far = subst (λ (x : Cursor). IsGathered x h) is gathered in
-    let told = events_descends g.P.Pages c.args.pages.now count known c.args.head.now.root h t c.versions_tell.ensures.events c.gathered_follows_histories.ensures.events c.root_of.new.pages c.in_ok-root.root c.root_of.ensures.reads stands c.in-Events.events c.events_turn.new.cursor c.in_ok-turn-in-Events.turn c.events_turn.ensures.question moment c.encoded_len-len.ensures.valid c.address-address.ensures.valid so_far c.events_turn.ensures.gathered c.in_ok-turn-in-Events.ensures.turn in
+    let told = events_descends g.P.Pages c.args.pages.now count known c.args.head.now.root c.args.head.now.block c.args.burnt c.requires.burnt h t c.versions_tell.ensures.events c.gathered_follows_histories.ensures.events c.root_of.new.pages c.in_ok-root.root c.root_of.ensures.reads stands c.in-Events.events c.events_turn.new.cursor c.in_ok-turn-in-Events.turn c.events_turn.ensures.question moment c.encoded_len-len.ensures.valid c.address-address.ensures.valid so_far c.events_turn.ensures.gathered c.in_ok-turn-in-Events.ensures.turn in
     subst (λ (x : Cursor). Descends count known h x (Events c.events_turn.new.cursor) c.of_events.result) (sym is) (subst (λ (d : Descent). Descends count known h (Events c.in-Events.events) (Events c.events_turn.new.cursor) d) (sym c.of_events.ensures) told)
 
 pub returns-in_ok-turn-in-Events-clause-gathered : goal.returns-in_ok-turn-in-Events-clause-gathered
@@ -81,7 +81,7 @@ returns-in_ok-turn-in-Events-clause-gathered g c count known h t below gathered 
     let is = c.in-Events.is in
     let moment = subst (λ (x : Cursor). last_moment (asks x) < settled h) is below in
     let so_far = subst (λ (x : Cursor). IsGathered x h) is gathered in
-    events_gathered g.P.Pages c.args.pages.now count known c.args.head.now.root h t c.versions_tell.ensures.events c.gathered_follows_histories.ensures.events c.root_of.new.pages c.in_ok-root.root c.root_of.ensures.reads stands c.in-Events.events c.events_turn.new.cursor c.events_turn.ensures.question moment c.encoded_len-len.ensures.valid c.address-address.ensures.valid so_far c.events_turn.ensures.gathered
+    events_gathered g.P.Pages c.args.pages.now count known c.args.head.now.root c.args.head.now.block c.args.burnt c.requires.burnt h t c.versions_tell.ensures.events c.gathered_follows_histories.ensures.events c.root_of.new.pages c.in_ok-root.root c.root_of.ensures.reads stands c.in-Events.events c.events_turn.new.cursor c.events_turn.ensures.question moment c.encoded_len-len.ensures.valid c.address-address.ensures.valid so_far c.events_turn.ensures.gathered
 
 pub returns-in_err-turn-in-Events-clause-gathered : goal.returns-in_err-turn-in-Events-clause-gathered
 returns-in_err-turn-in-Events-clause-gathered g c count known h t below gathered =
@@ -89,7 +89,7 @@ returns-in_err-turn-in-Events-clause-gathered g c count known h t below gathered
     let is = c.in-Events.is in
     let moment = subst (λ (x : Cursor). last_moment (asks x) < settled h) is below in
     let so_far = subst (λ (x : Cursor). IsGathered x h) is gathered in
-    events_gathered g.P.Pages c.args.pages.now count known c.args.head.now.root h t c.versions_tell.ensures.events c.gathered_follows_histories.ensures.events c.root_of.new.pages c.in_ok-root.root c.root_of.ensures.reads stands c.in-Events.events c.events_turn.new.cursor c.events_turn.ensures.question moment c.encoded_len-len.ensures.valid c.address-address.ensures.valid so_far c.events_turn.ensures.gathered
+    events_gathered g.P.Pages c.args.pages.now count known c.args.head.now.root c.args.head.now.block c.args.burnt c.requires.burnt h t c.versions_tell.ensures.events c.gathered_follows_histories.ensures.events c.root_of.new.pages c.in_ok-root.root c.root_of.ensures.reads stands c.in-Events.events c.events_turn.new.cursor c.events_turn.ensures.question moment c.encoded_len-len.ensures.valid c.address-address.ensures.valid so_far c.events_turn.ensures.gathered
 
 pub returns-in_ok-turn-in-Events-clause-further : goal.returns-in_ok-turn-in-Events-clause-further
 returns-in_ok-turn-in-Events-clause-further g c =
@@ -99,7 +99,7 @@ returns-in_ok-turn-in-Events-clause-further g c =
 pub returns-in_err-turn-in-Events-clause-blames : goal.returns-in_err-turn-in-Events-clause-blames
 returns-in_err-turn-in-Events-clause-blames g c count known h t =
     let stands = c.in_ok-root.ensures.stands t.start t.shown t.lies.store t.versions t.lies.level t.shows t.lies.says t.lies.has.stands in
-    let shown = shows_tree g.P.Pages c.args.pages.now count known c.args.head.now.root h t c.root_of.new.pages c.in_ok-root.root c.root_of.ensures.reads stands in
+    let shown = shows_tree g.P.Pages c.args.pages.now count known c.args.head.now.root c.args.head.now.block c.args.burnt c.requires.burnt h t c.root_of.new.pages c.in_ok-root.root c.root_of.ensures.reads stands in
     let b : IfErr c.events_turn.result (λ e. BlamesNone (ask_of_node e)) = if_err ask_of_node NodeBlamesNone BlamesNone c.events_turn.result ask_blames (c.events_turn.ensures.blames t.lies.store t.versions shown) in
     search (rules, b)
 
@@ -163,3 +163,13 @@ returns-in_err-turn-in-Events-clause-device g c =
     (λ told. r ∙ ap Err (asked_fault _ e c.in_err-turn-in-Events.ensures.refused (one_told c.from_residual-in_err-turn-in-Events.result (ask_of_node e) refusals.Fault d told)))
     (λ failed. d ∙ ap (λ (x : NodeError). Err (ask_of_node x)) (one_told c.events_turn.result e nodes.Fault r failed))
     c.events_turn.ensures.same.device)
+
+-- ---- errands
+
+pub returns-in_ok-turn-in-Rows-clause-burnt : goal.returns-in_ok-turn-in-Rows-clause-burnt
+returns-in_ok-turn-in-Rows-clause-burnt g c =
+    subst (λ (d : Descent). ReadsBelow c.args.burnt d) (sym c.of_rows.ensures) (rows_below c.args.burnt c.in_ok-turn-in-Rows.turn c.in_ok-turn-in-Rows.ensures.burnt)
+
+pub returns-in_ok-turn-in-Events-clause-burnt : goal.returns-in_ok-turn-in-Events-clause-burnt
+returns-in_ok-turn-in-Events-clause-burnt g c =
+    subst (λ (d : Descent). ReadsBelow c.args.burnt d) (sym c.of_events.ensures) (events_below c.args.burnt c.in_ok-turn-in-Events.turn c.in_ok-turn-in-Events.ensures.burnt)

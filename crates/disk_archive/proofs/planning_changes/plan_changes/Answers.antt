@@ -87,8 +87,8 @@ returns-in-Ok-clause-shelf g c =
     keeps_told g.O.OnceDisk 2000 c.args.shelf.now c.plan_more.new.shelf ⊥ _ (λ full. absurd cc)
     (keeps_then g.O.OnceDisk 2 1998 c.args.shelf.now c.plan_step.new.shelf c.plan_more.new.shelf ⊥ _ c.plan_step.ensures.shelf c.plan_more.ensures.shelf)
 
-pub returns-clause-shelf : goal.returns-clause-shelf
-returns-clause-shelf g c =
+pub returns-in-Err-clause-shelf : goal.returns-in-Err-clause-shelf
+returns-in-Err-clause-shelf g c =
     keeps_told g.O.OnceDisk 2000 c.args.shelf.now c.plan_more.new.shelf ⊥ _ (λ full. c.of_pages.ensures.once cc)
     (keeps_then g.O.OnceDisk 2 1998 c.args.shelf.now c.plan_step.new.shelf c.plan_more.new.shelf ⊥ _ c.plan_step.ensures.shelf c.plan_more.ensures.shelf)
 
@@ -98,8 +98,8 @@ returns-in-Ok-clause-shows g c start shown s =
     let more = c.plan_more.ensures.shows start mid.0 mid.1 in
     (slice_set more.0 0 (head_octets c.plan_more.new.plan.head), c.in-Ok.ensures.written start more.0 more.1)
 
-pub returns-clause-refused : goal.returns-clause-refused
-returns-clause-refused g c = c.of_pages.ensures.refused _ (λ e. absurd (subst (HeadRefusal _) e c.in-Err.ensures.refused))
+pub returns-in-Err-clause-refused : goal.returns-in-Err-clause-refused
+returns-in-Err-clause-refused g c = c.of_pages.ensures.refused _ (λ e. absurd (subst (HeadRefusal _) e c.in-Err.ensures.refused))
 
 -- ---- what is too much
 
@@ -110,17 +110,14 @@ pub returns-in_err-plan_step-clause-high : goal.returns-in_err-plan_step-clause-
 returns-in_err-plan_step-clause-high g c start shown shows told =
     subst (λ (x : Contents). ShowsRoot shown x.root 7) c.in_ok-plan.ensures.head (c.plan_step.ensures.high start shown (c.begin_plan.ensures.reads start shown shows) (search (rules, told)))
 
-pub returns-clause-high : goal.returns-clause-high
-returns-clause-high g c start shown shows told = absurd (c.of_pages.ensures.high (cc told))
-
 pub returns-in_err-plan_step-clause-limits : goal.returns-in_err-plan_step-clause-limits
 returns-in_err-plan_step-clause-limits g c =
     let e = c.in_err-plan_step.field-0.0 in
     on_told c.from_residual-in_err-plan_step.result e _ c.from_residual-in_err-plan_step.ensures.1
     (limits_as _ _ _ _ _ _ e c.begin_plan.ensures.homes c.begin_plan.ensures.next (ap (λ (x : Contents). x.applied) c.in_ok-plan.ensures.head) c.in_err-plan_step.ensures.limits)
 
-pub returns-clause-limits : goal.returns-clause-limits
-returns-clause-limits g c = c.of_pages.ensures.limits _ _ _ (λ e. absurd (subst (HeadRefusal _) e c.in-Err.ensures.refused))
+pub returns-in-Err-clause-limits : goal.returns-in-Err-clause-limits
+returns-in-Err-clause-limits g c = c.of_pages.ensures.limits _ _ _ (λ e. absurd (subst (HeadRefusal _) e c.in-Err.ensures.refused))
 
 -- ---- how often both disks failed
 
@@ -149,8 +146,8 @@ returns-in-Ok-clause-failed g c =
     (counts_then _ _ _ _ _ _ ⊥ ⊥ ⊥ inl (counts_told _ _ _ _ _ ⊥ (λ never. absurd never) c.plan_step.ensures.failed) c.plan_more.ensures.failed))
     (counts_quiet _ _ _ _ _ ⊥ (λ never. never) c.put_head.ensures.device)
 
-pub returns-clause-failed : goal.returns-clause-failed
-returns-clause-failed g c =
+pub returns-in-Err-clause-failed : goal.returns-in-Err-clause-failed
+returns-in-Err-clause-failed g c =
     let begun : c.begin_plan.result ≡ Ok c.in_ok-plan.plan = search rules in
     counts_then _ _ _ _ _ _ ⊥ ⊥ _ (λ told. (let is : c.of_pages.result ≡ applies.Fault = cc in absurd (subst (HeadRefusal _) (c.of_pages.ensures.fault.0 is) c.in-Err.ensures.refused)))
     (counts_then _ _ _ _ _ _ ⊥ ⊥ ⊥ inl (counts_quiet _ _ _ _ _ _ (done_not_told c.begin_plan.result c.in_ok-plan.plan applies.Fault begun) c.begin_plan.ensures.device)

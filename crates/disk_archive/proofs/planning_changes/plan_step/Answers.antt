@@ -1,5 +1,7 @@
 use Rattle.std.proofs.Common.{rules, ◌≡◌, ℕ, List, min, refl, sym, ◌∙◌, ap, subst, arith, Err}
 use Rattle.std.specs.List.{slice_get}
+use Rattle.route_model.specs.Admission.{Admitted}
+use Rattle.archive_pages.specs.Batches.{CanPop}
 use Rattle.archive_head.specs.Head.{Contents}
 use Rattle.archive_head.specs.declared.lane.Lane.{Lane}
 use Rattle.sequencer.specs.Ahead.{behind}
@@ -11,14 +13,20 @@ use Rattle.disk_archive.specs.declared.apply_error.ApplyError.TheVariants as app
 use Rattle.disk_archive.proofs.Failing.{counts_told}
 use Rattle.disk_archive.proofs.Faults.{one_told}
 use Rattle.disk_archive.proofs.Outcomes.{on_each_err}
-use Rattle.disk_archive.proofs.Reaching.{advances}
+use Rattle.disk_archive.proofs.Reaching.{advances, at_hand}
 use Rattle.disk_archive.proofs.planning_changes.plan_step.Goals as goal
+
+pub plan_change-requires-clause-fits : goal.plan_change-requires-clause-fits
+plan_change-requires-clause-fits g c ls outlives lane at =
+    let front = c.args.plan.now.front in
+    let hand = c.requires.fits.hand c.requires.hand in
+    subst (λ (x : Admitted). CanPop c.args.settings front.collector lane x) (sym c.admission-admission.ensures) (hand.fits lane at)
 
 pub returns-clause-moves : goal.returns-clause-moves
 returns-clause-moves g c start h honest r =
-    let f = r.first c.requires.hand in
+    let f = at_hand h c.args.plan.now.front c.admission-admission.result.now (r.first c.requires.hand) (sym c.admission-admission.ensures) in
     let hand = c.requires.fits.hand c.requires.hand in
-    advances _ c.args.settings _ _ (g.P.Pages.shows c.args.pages.now start) (g.P.Pages.shows c.plan_change.new.pages start) c.args.sequencer.now c.args.plan.now _ h r f
+    advances _ c.args.settings _ _ (g.P.Pages.shows c.args.pages.now start) (g.P.Pages.shows c.plan_change.new.pages start) c.args.sequencer.now c.args.plan.now _ h r (r.first c.requires.hand)
     (let n = r.bears.number in let m = r.bears.lanes_number in let lt = hand.inside in omega (arith, n, m, lt)) refl
     c.pass_whole.ensures.leaves (λ part. ap (λ (ns : List ℕ). behind ns c.args.sequencer.now) (c.pass_whole.ensures.stays part))
     (c.in_ok-whole.ensures.moves start r.pages h f.later r.shown honest r.bears f.here f.below)
@@ -61,7 +69,7 @@ returns-in_err-whole-clause-as_before g c = on_each_err _ _ (ap (λ (x : Content
 
 pub returns-in_err-whole-clause-sound : goal.returns-in_err-whole-clause-sound
 returns-in_err-whole-clause-sound g c most start h honest r page bad =
-    let f = r.first c.requires.hand in
+    let f = at_hand h c.args.plan.now.front c.admission-admission.result.now (r.first c.requires.hand) (sym c.admission-admission.ensures) in
     c.plan_change.ensures.sound most start r.pages h f.later r.shown honest r.bears f.here page (search (rules, bad))
 
 pub returns-in_err-whole-clause-high : goal.returns-in_err-whole-clause-high

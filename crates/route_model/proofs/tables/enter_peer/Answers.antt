@@ -1,14 +1,20 @@
-use Rattle.std.proofs.Common.{◌≡◌, length, refl}
-use Rattle.route_model.specs.Tables.{place_of}
-use Rattle.route_model.proofs.TableRows.{place_none, place_some}
+use Rattle.std.proofs.Common.{not, refl, ap, ◌∙◌, arith}
+use Rattle.route_model.proofs.Indexed.{octets_entered, octets_there}
+use Rattle.route_model.proofs.TableRows.{place_some}
 use Rattle.route_model.proofs.tables.enter_peer.Goals as goal
 
-pub returns-in_ok-push : goal.returns-in_ok-push
-returns-in_ok-push c =
-    let at : place_of c.args.rows.now.items c.args.row ≡ length c.args.rows.now.items = cc (c.peer_place.ensures, c.as_slice.ensures.value, c.len.ensures, c.if-peer_place-len.true) in
-    rw (place_none c.args.rows.now.items c.args.row at) c.in_ok-push.ensures.items
-
-pub returns-else-peer_place-len : goal.returns-else-peer_place-len
-returns-else-peer_place-len c =
-    let here = place_some c.args.rows.now.items c.args.row (λ e. c.if-peer_place-len.false (cc (c.peer_place.ensures, c.as_slice.ensures.value, c.len.ensures, e))) in
+pub returns-then-peer_place-len-clause-entered : goal.returns-then-peer_place-len-clause-entered
+returns-then-peer_place-len-clause-entered c =
+    let here = place_some c.args.rows.now.keys c.args.row (omega (arith, c.if-peer_place-len.true, c.peer_place.ensures, c.len.ensures.len)) in
     rw here refl
+
+pub returns-then-peer_place-len-clause-new : goal.returns-then-peer_place-len-clause-new
+returns-then-peer_place-len-clause-new c =
+    let here = place_some c.args.rows.now.keys c.args.row (omega (arith, c.if-peer_place-len.true, c.peer_place.ensures, c.len.ensures.len)) in
+    rw here refl
+
+pub returns-clause-entered : goal.returns-clause-entered
+returns-clause-entered c = c.in_ok-insert.ensures.keys ∙ octets_entered c.args.row c.args.rows.now.keys
+
+pub returns-clause-new : goal.returns-clause-new
+returns-clause-new c = c.in_ok-insert.ensures.added ∙ ap not (octets_there c.args.row c.args.rows.now.keys)

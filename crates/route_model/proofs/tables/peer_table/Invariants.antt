@@ -5,4 +5,4 @@ use Rattle.route_model.specs.Tables.{distinct}
 use Rattle.route_model.proofs.tables.peer_table.Given as goal
 
 abbrev pub invariant-loop-c : goal.invariant-loop-c
-invariant-loop-c l = l.rows.items ≡ distinct (map peer_octets (map peer_of (take l.c-index l.changes)))
+invariant-loop-c l = l.rows.keys ≡ distinct (map peer_octets (map peer_of (take l.c-index l.changes)))

@@ -6,4 +6,4 @@ use Rattle.route_model.specs.Tables.{distinct}
 use Rattle.route_model.proofs.tables.route_table.Given as goal
 
 abbrev pub invariant-loop-c : goal.invariant-loop-c
-invariant-loop-c l = l.rows.items ≡ distinct (map route_octets (flat_map announced (take l.c-index l.changes)))
+invariant-loop-c l = map (λ r. r.now) l.rows.keys ≡ distinct (map route_octets (flat_map announced (take l.c-index l.changes)))

@@ -21,7 +21,7 @@ pub returns-in-Err : goal.returns-in-Err
 returns-in-Err g c = record {
   kept = λ h carried. c.check.ensures.carries h carried;
   ended = λ h carried.
-      unchecked h c.in-Err.trouble c.told-in-Err.result c.args.out.now c.args.err.now c.write_error.new.out c.told-in-Err.new.err (sym c.has_failed.ensures.failed ∙ c.if-has_failed.false) c.told-in-Err.ensures.status
+      unchecked h c.in-Err.trouble c.told-in-Err.result c.args.out.now c.args.err.now c.tell_trouble.new.err c.told-in-Err.new.err (sym c.has_failed.ensures.failed ∙ c.if-has_failed.false) c.told-in-Err.ensures.status
       (record { told = c.told-in-Err.ensures.told; quiet = c.told-in-Err.ensures.quiet })
-      (c.in-Err.ensures.done h carried) (rw c.from.ensures at c.write_error.ensures.line);
+      (c.in-Err.ensures.done h carried) (rw c.from.ensures at c.tell_trouble.ensures.told);
 }

@@ -1,4 +1,4 @@
-use Rattle.std.proofs.Common.{append-nil, subst}
+use Rattle.std.proofs.Common.{append-nil, refl, subst}
 use Rattle.service.specs.Outputs.{Tells}
 use Rattle.service.specs.Listening.{listening_line}
 use Rattle.service.proofs.Outputs.{Tells-trans}
@@ -12,7 +12,7 @@ returns-then-has_failed g c =
       told = record {
         wrote = subst (Tells c.args.out.now c.flush.new.self) (append-nil (listening_line c.args.bound.now)) wrote;
         sound = λ sound. absurd cc;
-        failed = λ told. c.tell_refusal.ensures.code;
-        told = record { told = λ told. c.tell_refusal.ensures.told; quiet = λ sound. absurd cc };
+        failed = λ told. refl;
+        told = record { told = λ told. c.tell_unwritten.ensures.told; quiet = λ sound. absurd cc };
       };
     }

@@ -3,5 +3,5 @@ use Rattle.service.proofs.refusal.write_reason.Goals as goal
 
 pub returns : goal.returns
 returns g c = record {
-  line = Tells-trans _ _ _ _ _ (Tells-trans _ _ _ _ _ (Tells-trans _ _ _ _ _ (Tells-trans _ _ _ _ _ c.text.ensures.tells c.text-2.ensures.tells) c.text-3.ensures.tells) c.text-4.ensures.tells) c.text-5.ensures.tells;
+  line = Tells-trans _ _ _ _ _ (Tells-trans _ _ _ _ _ (Tells-trans _ _ _ _ _ c.write_error_head.ensures.head c.text.ensures.tells) c.text-2.ensures.tells) c.text-3.ensures.tells;
 }

@@ -6,12 +6,14 @@ use Rattle.tsb_walk.specs.Knowing.{ReadsWell}
 use Rattle.tsb_walk.specs.Refusals.{OnlyReads}
 use Rattle.tsb_check.specs.Pages.{IsUnder, IsUnknownUnder}
 use Rattle.tsb_check.specs.inner.GoingUnder.{CountsOnUnder, page_weight}
+use Rattle.tsb_check.proofs.Used.{UsedOrLeft}
 use Rattle.tsb_check.proofs.checking.count_under.Given as goal
 
 abbrev pub invariant-loop-place : goal.invariant-loop-place
 invariant-loop-place g l = record {
   pages : OnlyReads g.P.Pages l.initial.pages l.pages ⊥;
   under : (start : Start) (shown : List (List ℕ)) → g.P.Pages.shows l.initial.pages start shown → AllByRecursion (IsUnder shown l.initial.left.items) l.left.items;
+  used : (start : Start) (shown : List (List ℕ)) → g.P.Pages.shows l.initial.pages start shown → UsedOrLeft shown l.fn.in_use l.initial.left.items l.left.items;
   went : (start : Start) (shown : List (List ℕ)) → g.P.Pages.shows l.initial.pages start shown → ReadsWell g.O.OnceDisk l.initial.reader l.initial.seen
       → (ReadsWell g.O.OnceDisk l.reader l.seen × CountsOnUnder shown (g.O.OnceDisk.known l.initial.seen) (g.O.OnceDisk.block_count (reader_disk l.initial.reader)) l.initial.left.items l.left.items l.count)
       ⊎ IsUnknownUnder shown (g.O.OnceDisk.known l.initial.seen) (g.O.OnceDisk.block_count (reader_disk l.initial.reader)) l.initial.left.items;

@@ -25,3 +25,16 @@ returns-in_err-past-clause-reads g c = λ start shown shows well.
 pub returns-clause-reads : goal.returns-clause-reads
 returns-clause-reads g c = λ start shown shows well.
     reads_in shown (g.O.OnceDisk.known c.args.seen.now) (g.O.OnceDisk.block_count (reader_disk c.args.reader.now)) c.args.place.now c.in_ok-said.said c.in_ok-said.current _ (c.in_ok-said.ensures.says start shown shows) (c.count_before.ensures.reads well)
+
+pub returns-in_err-check_column-clause-bad : goal.returns-in_err-check_column-clause-bad
+returns-in_err-check_column-clause-bad g c = λ start shown shows page e.
+    let d : c.check_column.result ≡ Err (BadNode page) = search rules in
+    let said = c.in_ok-said.said in
+    let column : IsColumnAt shown c.args.place.now = record { parts = said.parts.items; start = said.current.start; current = said.current.page; says = (c.in_ok-said.ensures.says start shown shows).says } in
+    inr (record { column = column; unused = c.check_column.ensures.bad page d })
+
+pub returns-clause-used : goal.returns-clause-used
+returns-clause-used g c = λ start shown shows.
+    let said = c.in_ok-said.said in
+    let column : IsColumnAt shown c.args.place.now = record { parts = said.parts.items; start = said.current.start; current = said.current.page; says = (c.in_ok-said.ensures.says start shown shows).says } in
+    record { column = column; used = c.in_ok-check_column.ensures.used }

@@ -1,5 +1,6 @@
 use Rattle.std.proofs.Common.{rules, ◌≡◌, ℕ, List, Option, refl, sym, ◌∙◌, ap, subst, true≢false, Err, IfOk, IsOk, IsErr}
 use Rattle.disk_models.specs.Once.{OnceState, Grows}
+use Rattle.once_store.specs.Readers.{reader_disk}
 use Rattle.once_store.specs.Shelves.{pen_of}
 use Rattle.page_journal.specs.Journal.{home_pages, note_of}
 use Rattle.buffer_pool.specs.Pool.{journal_of}
@@ -10,7 +11,7 @@ use Rattle.route_history.specs.Stamps.{stamp_of}
 use Rattle.archive_pages.specs.Places.{tree_low}
 use Rattle.disk_archive.specs.declared.check_error.CheckError.TheVariants as checks
 use Rattle.disk_archive.specs.Archives.{erase_state, once_of, once_state}
-use Rattle.disk_archive.specs.Checks.{IsAllRead, IsBadBlock, IsBadPage}
+use Rattle.disk_archive.specs.Checks.{IsAllRead, IsBadBlock, IsBadPage, in_use_of}
 use Rattle.disk_archive.specs.inner.Asking.{HasTree}
 use Rattle.disk_archive.proofs.Calling.{Ready, start_of, grows_none, unwritten, kept}
 use Rattle.disk_archive.proofs.Asking.{rises_applied, lies_known, reads_well}
@@ -90,14 +91,12 @@ returns-clause-finds g c h k =
     let a = c.args.self.now in
     let start : Start = start_of a h k in
     let s0 = c.in_ok-begin.ensures.shown k.honest.0 k.pages k.maps in
-    let tree : HasTree _ c.begin.new.tx g.O.OnceDisk c.in_ok-reader.reader c.in_ok-seen.seen a.head.root (applied h) = record {
+    let tree : HasTree _ c.begin.new.tx g.O.OnceDisk c.in_ok-reader.reader c.in_ok-seen.seen a.head.root a.head.fresh a.head.block (applied h) = record {
       start = start;
       shown = k.pages;
       shows = s0;
       well = reads_well g.O.OnceDisk c.in_ok-reader.reader c.in_ok-seen.seen (once_of a) c.in_ok-reader.ensures.disk (c.in_ok-seen.ensures.seen k.honest.1) c.in_ok-reader.ensures.none;
       low = tree_low a.settings;
-      fresh = a.head.fresh;
-      block = a.head.block;
       stamp = stamp_of a.head.last a.head.applied;
       versions = k.bears.versions;
       lies = lies_known g.O.OnceDisk c.in_ok-reader.reader c.in_ok-seen.seen (once_of a) (once_state a) k.pages (tree_low a.settings) a.head.root a.head.fresh a.head.block (stamp_of a.head.last a.head.applied) k.bears.versions c.in_ok-reader.ensures.disk (c.in_ok-seen.ensures.known k.honest.1) k.bears.tree;
@@ -112,8 +111,11 @@ returns-clause-read g c honest pages maps =
     let start : Start = record { note = note_of (journal_of (pool_of a.tx)); pages = pages; clock = (erase_state a).clock } in
     let s0 = c.in_ok-begin.ensures.shown honest.0 pages maps in
     let well = reads_well g.O.OnceDisk c.in_ok-reader.reader c.in_ok-seen.seen (once_of a) c.in_ok-reader.ensures.disk (c.in_ok-seen.ensures.seen honest.1) c.in_ok-reader.ensures.none in
-    at_disk g.O.OnceDisk c.in_ok-reader.reader c.in_ok-seen.seen (once_of a) (once_state a).settled (λ (f : ℕ → Option (List ℕ)) (n : ℕ). IfOk c.count_by.result (IsAllRead pages f n a.head.root))
-    c.in_ok-reader.ensures.disk (c.in_ok-seen.ensures.known honest.1) (c.count_by.ensures.read start pages s0 well)
+    let known = g.O.OnceDisk.known c.in_ok-seen.seen in
+    let blocks = g.O.OnceDisk.block_count (reader_disk c.in_ok-reader.reader) in
+    let read = subst (λ (b : ℕ). IfOk c.count_by.result (IsAllRead pages known blocks a.head.root (record { recorded_on = 0; pages = a.head.fresh; blocks = a.head.block; burnt = b }))) c.next-burnt.ensures.next (c.count_by.ensures.read start pages s0 well) in
+    at_disk g.O.OnceDisk c.in_ok-reader.reader c.in_ok-seen.seen (once_of a) (once_state a).settled (λ (f : ℕ → Option (List ℕ)) (n : ℕ). IfOk c.count_by.result (IsAllRead pages f n a.head.root (in_use_of a)))
+    c.in_ok-reader.ensures.disk (c.in_ok-seen.ensures.known honest.1) read
 
 pub returns-clause-bad : goal.returns-clause-bad
 returns-clause-bad g c honest pages maps page e =
@@ -121,8 +123,11 @@ returns-clause-bad g c honest pages maps page e =
     let start : Start = record { note = note_of (journal_of (pool_of a.tx)); pages = pages; clock = (erase_state a).clock } in
     let s0 = c.in_ok-begin.ensures.shown honest.0 pages maps in
     let well = reads_well g.O.OnceDisk c.in_ok-reader.reader c.in_ok-seen.seen (once_of a) c.in_ok-reader.ensures.disk (c.in_ok-seen.ensures.seen honest.1) c.in_ok-reader.ensures.none in
-    at_disk g.O.OnceDisk c.in_ok-reader.reader c.in_ok-seen.seen (once_of a) (once_state a).settled (λ (f : ℕ → Option (List ℕ)) (n : ℕ). IsBadPage pages f n a.head.root a.head.applied page)
-    c.in_ok-reader.ensures.disk (c.in_ok-seen.ensures.known honest.1) (c.count_by.ensures.bad start pages s0 well page e)
+    let known = g.O.OnceDisk.known c.in_ok-seen.seen in
+    let blocks = g.O.OnceDisk.block_count (reader_disk c.in_ok-reader.reader) in
+    let bad = subst (λ (b : ℕ). IsBadPage pages known blocks a.head.root a.head.applied (record { recorded_on = 0; pages = a.head.fresh; blocks = a.head.block; burnt = b }) page) c.next-burnt.ensures.next (c.count_by.ensures.bad start pages s0 well page e) in
+    at_disk g.O.OnceDisk c.in_ok-reader.reader c.in_ok-seen.seen (once_of a) (once_state a).settled (λ (f : ℕ → Option (List ℕ)) (n : ℕ). IsBadPage pages f n a.head.root a.head.applied (in_use_of a) page)
+    c.in_ok-reader.ensures.disk (c.in_ok-seen.ensures.known honest.1) bad
 
 pub returns-clause-damaged : goal.returns-clause-damaged
 returns-clause-damaged g c honest pages maps block e =

@@ -1,4 +1,4 @@
-use Rattle.std.proofs.Common.{rules, ◌≡◌, ◌<◌, ℕ, refl, sym, ◌∙◌, ap, arith, true≢false, Ok, Err}
+use Rattle.std.proofs.Common.{rules, ◌≡◌, ◌<◌, ℕ, refl, sym, ◌∙◌, ap, subst, arith, true≢false, Ok, Err}
 use Rattle.page_journal.specs.Journal.{home_pages}
 use Rattle.page_tx.specs.Start.{Start}
 use Rattle.route_meaning.specs.History.{settled}
@@ -6,6 +6,7 @@ use Rattle.interleaving_core.specs.Does.{last_moment}
 use Rattle.disk_archive.specs.declared.ask_error.AskError.TheVariants as refusals
 use Rattle.disk_archive.specs.Archives.{once_state}
 use Rattle.disk_archive.specs.Cursors.{asks}
+use Rattle.disk_archive.specs.Descents.{ReadsBelow}
 use Rattle.disk_archive.proofs.Mirroring.{mirror_settled}
 use Rattle.disk_archive.proofs.Calling.{Ready, start_of, grows_none, unwritten, kept}
 use Rattle.disk_archive.proofs.Asking.{above_told}
@@ -189,3 +190,8 @@ returns-clause-device g c =
     let r : c.descend_by.result ≡ Ok c.in_ok-descent.descent = search rules in
     keeps_then _ _ _ _ _ _ _ first
     (keeps_told _ _ _ _ _ _ (λ told. absurd (done_not_told _ _ refusals.Fault refl told)) (λ failed. absurd (done_not_told c.descend_by.result c.in_ok-descent.descent refusals.Fault r failed)) c.descend_by.ensures.device)
+
+-- ---- errands
+
+pub returns-clause-burnt : goal.returns-clause-burnt
+returns-clause-burnt g c = subst (λ (n : ℕ). ReadsBelow n c.in_ok-descent.descent) c.next-burnt.ensures.next c.in_ok-descent.ensures.burnt

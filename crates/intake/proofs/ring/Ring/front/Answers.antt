@@ -32,8 +32,8 @@ returns-in_default-clause-damaged g c page is start shown waits are holds =
     let f = first_there shown c.args.self.now waits (omega (arith, ne)) holds in
     let len : c.number-len.result ≡ length (admission_octets f.a) =
     c.number-len.ensures.number ∙ first_len c.args.self.now waits c.deref.result.now f (c.deref.ensures.value ∙ c.in_ok-size.ensures.read start shown (flat_map entry waits) are holds.size holds.octets) in
-    let spelled = first_spelled c.args.self.now waits c.number-len.result c.deref-2.result.now f len
-    (c.deref-2.ensures.value ∙ c.in_ok-octets.ensures.read start shown (flat_map entry waits) (c.read.ensures.same.shown start shown are) holds.size holds.octets) in
+    let spelled = first_spelled c.args.self.now waits c.number-len.result c.in_ok-octets.octets.items f len
+    (c.in_ok-octets.ensures.read start shown (flat_map entry waits) (c.read.ensures.same.shown start shown are) holds.size holds.octets) in
     let only = c.in_ok-admission.ensures.only f.a spelled in
     absurd (c.in_default.not-Some f.a only)
 
@@ -43,15 +43,15 @@ returns-clause-front g c start shown waits are holds =
     let f = first_there shown c.args.self.now waits (omega (arith, ne)) holds in
     let len : c.number-len.result ≡ length (admission_octets f.a) =
     c.number-len.ensures.number ∙ first_len c.args.self.now waits c.deref.result.now f (c.deref.ensures.value ∙ c.in_ok-size.ensures.read start shown (flat_map entry waits) are holds.size holds.octets) in
-    let spelled = first_spelled c.args.self.now waits c.number-len.result c.deref-2.result.now f len
-    (c.deref-2.ensures.value ∙ c.in_ok-octets.ensures.read start shown (flat_map entry waits) (c.read.ensures.same.shown start shown are) holds.size holds.octets) in
+    let spelled = first_spelled c.args.self.now waits c.number-len.result c.in_ok-octets.octets.items f len
+    (c.in_ok-octets.ensures.read start shown (flat_map entry waits) (c.read.ensures.same.shown start shown are) holds.size holds.octets) in
     let only = c.in_ok-admission.ensures.only f.a spelled in
     sym c.in-Some.is ∙ (only ∙ ap (λ (l : List Admitted). slice_get l 0) (sym f.is))
 
 pub returns-clause-fits : goal.returns-clause-fits
 returns-clause-fits g c =
     let spelled = rw c.in-Some.is at c.in_ok-admission.ensures.found in
-    let len = ap length (sym c.deref-2.ensures.value ∙ spelled.spelled) in
+    let len = ap length spelled.spelled in
     omega (arith, len, c.in_ok-octets.ensures.len, c.if-from-min.false, c.min.ensures, c.from.ensures, c.if-self-lt4.false, length-sized (admission_octets c.in-Some.admission))
 
 pub returns-then-self-lt4-clause-no_first : goal.returns-then-self-lt4-clause-no_first
@@ -81,8 +81,8 @@ returns-in_default-clause-no_first g c page is start shown a are first =
     let stand = used_stand shown ring in
     let b = begins shown ring a stood long stand first in
     let len = length_told a c.number-len.result stood c.deref.result.now first.valid.small b.size (c.deref.ensures.value ∙ c.in_ok-size.ensures.read start shown stood are long stand) c.number-len.ensures.number in
-    let octets : c.deref-2.result.now ≡ admission_octets a =
-    c.deref-2.ensures.value ∙ (c.in_ok-octets.ensures.read start shown stood (c.read.ensures.same.shown start shown are) long stand ∙ (ap (λ n. take n (drop 4 stood)) len ∙ b.octets)) in
+    let octets : c.in_ok-octets.octets.items ≡ admission_octets a =
+    c.in_ok-octets.ensures.read start shown stood (c.read.ensures.same.shown start shown are) long stand ∙ (ap (λ n. take n (drop 4 stood)) len ∙ b.octets) in
     let only = c.in_ok-admission.ensures.only a (record { valid = first.valid; spelled = octets }) in
     absurd (c.in_default.not-Some a only)
 
@@ -93,8 +93,8 @@ returns-clause-first g c start shown are =
     let long = used_length shown ring in
     let stand = used_stand shown ring in
     let spelled = rw c.in-Some.is at c.in_ok-admission.ensures.found in
-    first_stands shown ring c.in-Some.admission c.number-len.result c.deref.result.now c.deref-2.result.now stood stand
+    first_stands shown ring c.in-Some.admission c.number-len.result c.deref.result.now c.in_ok-octets.octets.items stood stand
     (c.deref.ensures.value ∙ c.in_ok-size.ensures.read start shown stood are long stand)
-    (c.deref-2.ensures.value ∙ c.in_ok-octets.ensures.read start shown stood (c.read.ensures.same.shown start shown are) long stand)
-    c.number-len.ensures.octets (ap length c.deref-2.ensures.value ∙ c.in_ok-octets.ensures.len)
+    (c.in_ok-octets.ensures.read start shown stood (c.read.ensures.same.shown start shown are) long stand)
+    c.number-len.ensures.octets c.in_ok-octets.ensures.len
     (omega (arith, c.if-from-min.false, c.min.ensures, c.from.ensures, c.if-self-lt4.false)) spelled

@@ -1,0 +1,6 @@
+use Rattle.std.proofs.Common.{◌≡◌, ◌+◌, drop}
+use Rattle.route_model.specs.Tables.{place_of}
+use Rattle.route_model.proofs.tables.scan_peers.Given as goal
+
+abbrev pub invariant-loop-r : goal.invariant-loop-r
+invariant-loop-r l = (l.place ≡ l.r-index) × (place_of l.rows l.row ≡ l.r-index + place_of (drop l.r-index l.rows) l.row)

@@ -1,0 +1,6 @@
+use Rattle.board.specs.Opened.{name_of}
+use Rattle.serving_tests.proofs.conversations.played.Given as goal
+
+-- the board that was opened
+abbrev pub ghosts-play : goal.ghosts-play
+ghosts-play g a = record { table = name_of a.opened }

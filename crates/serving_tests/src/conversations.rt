@@ -1,0 +1,131 @@
+//! Connections whose octets lie in memory: what they are told, and how they end.
+
+ghost use Rattle.std.specs.Prelude.{◌≡◌, ◌≤◌};
+ghost use Rattle.board.specs.Opened.{name_of};
+
+use crate::be;
+use crate::made::{COLLECTORS, empty_store};
+use board::{Named, Opened, Pass};
+use line_reader::LineReader;
+use query_threads::{NoGate, Reader, Shared, Unpromised};
+use server::{Ending, serve_lines};
+use service::Output;
+use shared_archive::MemStore;
+use std::alloc::Global;
+use std::marker::Brand;
+use std::sync::Wait;
+use std::sync::atomic::AtomicU64;
+
+type Stage<B> = Shared<MemStore, Unpromised<B>, NoGate>;
+
+/// A connection: what it sends, what it is told, and how it ends.
+#[derive(Drop)]
+struct Conversation {
+    sent: &'static [u8],
+    told: &'static str,
+    ending: Ending,
+}
+
+/// Connections to one archive, one behind another.
+const CONVERSATIONS: [Conversation; 7] = [
+    Conversation {
+        sent: b"watermark\ndurable 0\nat 0 all\nquit\nwatermark\n",
+        told: "S|0\nN|0\nX|24|AboveWatermark|0\nok\n",
+        ending: Ending::Done,
+    },
+    Conversation {
+        sent: b"mark 0 1704067201\r\nat 1704067200 all\r\nat 1704067201 all\r\nwatermark\r\n",
+        told: "S|1704067201\nE|0\nX|24|AboveWatermark|1704067201\nS|1704067201\n",
+        ending: Ending::Done,
+    },
+    Conversation {
+        sent: b"mark 0 1704067200\nmark 1 5\ndurable 1\nmark 0 2024-01-01T00:00:02Z\n",
+        told: "X|21|MarkBack\nX|22|NoCollector\nX|22|NoCollector\nS|1704067202\n",
+        ending: Ending::Done,
+    },
+    Conversation {
+        sent: b"\nhello\nmark 0\n\xff\nat 1704067200 route 0 192.0.2.1 65001\ndurable 0",
+        told: "X|28|BadRequest\nX|28|BadRequest\nX|28|BadRequest\nX|28|BadRequest\nX|28|BadRequest\n",
+        ending: Ending::Done,
+    },
+    Conversation {
+        sent: b"durable 0\nfeed 0 7\nwatermark\n",
+        told: "N|0\n",
+        ending: Ending::Feed(0, 7),
+    },
+    Conversation {
+        sent: b"stop\nwatermark\n",
+        told: "ok\n",
+        ending: Ending::Stop,
+    },
+    Conversation {
+        sent: b"",
+        told: "",
+        ending: Ending::Done,
+    },
+];
+
+/// Whether a connection is told this and ends so.
+fn is_so<B: Named>(
+    rt: &impl Wait,
+    alloc: Global,
+    stage: &Stage<B>,
+    first: &mut Pass<Unpromised<B>>,
+    it: &Conversation,
+) -> Option<bool> {
+    let mut pass = stage.split(first);
+    let mut reader = Reader::new(rt, alloc, stage, 1).ok()?;
+    let numbers = AtomicU64::new(0);
+    let mut told = Vec::new(alloc);
+    let mut lines = LineReader::new(it.sent);
+    let mut out = Output::new(&mut told);
+    let ending = serve_lines(
+        rt,
+        alloc,
+        stage,
+        &mut pass,
+        &mut reader,
+        &numbers,
+        &mut lines,
+        &mut out,
+    );
+    Some(ending == it.ending && told.as_slice() == it.told.as_bytes())
+}
+
+/// How many of the connections are as they should be, before the first that isn't.
+fn count_right<B: Named>(
+    rt: &impl Wait,
+    alloc: Global,
+    stage: &Stage<B>,
+    first: &mut Pass<Unpromised<B>>,
+) -> Option<usize> {
+    for (place, it) in CONVERSATIONS.iter().enumerate() {
+        if !is_so(rt, alloc, stage, first, it)? {
+            return Some(place);
+        }
+    }
+    Some(CONVERSATIONS.len())
+}
+
+fn play<B: Named>(rt: &impl Wait, alloc: Global, opened: Opened, store: MemStore) -> Option<usize>
+    requires named { name_of opened ≡ B.table }
+    requires some { 1 ≤ opened.collectors }
+{
+    let (stage, mut first): (Stage<B>, Pass<Unpromised<B>>) = Shared::new(opened, store, NoGate);
+    let right = count_right(rt, alloc, &stage, &mut first);
+    let _store = stage.close(Vec::new(alloc));
+    right
+}
+
+/// How many of the connections to an empty archive are as they should be.
+fn played(rt: &impl Wait, alloc: Global) -> Option<usize> {
+    let store = empty_store(alloc)?;
+    let opened = Opened::new(alloc, COLLECTORS).ok()?;
+    play::<Brand>(rt, alloc, opened, store)
+}
+
+#[test]
+fn connections_are_replied_what_they_ask(rt: HostRuntime) {
+    let right = played(&rt, rt.alloc());
+    be(&rt, right == Some(CONVERSATIONS.len()), "all connections");
+}

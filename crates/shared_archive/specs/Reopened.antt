@@ -1,0 +1,63 @@
+-- What is known of a held archive that isn't opened again.
+use Rattle.std.specs.Prelude.{◌≡◌, ◌⊎◌, ⊤, ℕ, Option, Some, None, Result, Ok, Err, false}
+use Rattle.disk_models.specs.declared.erase.EraseDisk.{Ghosts as EraseGhosts}
+use Rattle.disk_models.specs.declared.once.OnceDisk.{Ghosts as OnceGhosts}
+use Rattle.query_threads.specs.declared.refusal.Trouble.{Trouble}
+use Rattle.query_threads.specs.declared.refusal.Trouble.TheVariants.{Fault, NeedsRecovery, DamagedPage, DamagedBlock, Full, OutOfMemory}
+use Rattle.board.specs.Past.{Past}
+use Rattle.disk_archive.specs.Archives.{erase_of, is_down, pen_in}
+use Rattle.shared_archive.specs.Held.{HoldsPast}
+use Rattle.shared_archive.specs.Told.{Failed}
+use Rattle.shared_archive.specs.declared.held.Disks.{Disks}
+use Rattle.shared_archive.specs.declared.held.Held.{Held}
+use Rattle.shared_archive.specs.declared.held.Held.TheVariants.{Open, Shut as Closed}
+
+-- how often the erasable disk of these disks has failed
+abbrev pub erase_faults_at : {E O Pen Seen : Type 0} → EraseGhosts E → Option (Disks E O Pen Seen) → ℕ
+erase_faults_at erase None = 0
+erase_faults_at erase (Some disks) = erase.fault_count disks.erase
+
+-- and the pen of their write-once disk
+abbrev pub pen_faults_at : {E O Pen Seen : Type 0} → OnceGhosts O Pen Seen → Option (Disks E O Pen Seen) → ℕ
+pen_faults_at once None = 0
+pen_faults_at once (Some disks) = once.pen_fault_count disks.pen
+
+-- how often the erasable disk of a held archive has failed
+abbrev pub erase_faults : {E O Pen Seen : Type 0} {erase : EraseGhosts E} {once : OnceGhosts O Pen Seen} → Held E O Pen Seen erase once → ℕ
+erase_faults {erase = erase} (Open a) = erase.fault_count (erase_of a)
+erase_faults {erase = erase} (Closed s) = erase_faults_at erase s.disks
+
+-- and the pen of its write-once disk
+abbrev pub pen_faults : {E O Pen Seen : Type 0} {erase : EraseGhosts E} {once : OnceGhosts O Pen Seen} → Held E O Pen Seen erase once → ℕ
+pen_faults {once = once} (Open a) = once.pen_fault_count (pen_in a)
+pen_faults {once = once} (Closed s) = pen_faults_at once s.disks
+
+-- its disks are away, while it is being opened
+abbrev pub IsAway : {E O Pen Seen : Type 0} {erase : EraseGhosts E} {once : OnceGhosts O Pen Seen} → Held E O Pen Seen erase once → Type 0
+IsAway (Open a) = ⊥
+IsAway (Closed s) = s.disks ≡ None
+
+-- An opening was refused for this trouble, of disks that had failed so often before and have so often then: one of them counted a failure; or a page
+-- is damaged, or there was no memory. It is refused as one that must be opened again only if there are no disks.
+abbrev pub Fails : Type 0 → (erase erase' pen pen' : ℕ) → Trouble → Type 0
+Fails away erase erase' pen pen' Fault = Failed erase erase' ⊎ Failed pen pen'
+Fails away erase erase' pen pen' NeedsRecovery = away
+Fails away erase erase' pen pen' (DamagedPage page) = ⊤
+Fails away erase erase' pen pen' (DamagedBlock block) = ⊥
+Fails away erase erase' pen pen' Full = ⊥
+Fails away erase erase' pen pen' OutOfMemory = ⊤
+
+-- it is open
+abbrev pub IsOpen : {E O Pen Seen : Type 0} {erase : EraseGhosts E} {once : OnceGhosts O Pen Seen} → Held E O Pen Seen erase once → Type 0
+IsOpen (Open a) = ⊤
+IsOpen (Closed s) = ⊥
+
+-- it is open, and needn't be opened again
+abbrev pub IsUp : {E O Pen Seen : Type 0} {erase : EraseGhosts E} {once : OnceGhosts O Pen Seen} → Held E O Pen Seen erase once → Type 0
+IsUp (Open a) = is_down a ≡ false
+IsUp (Closed s) = ⊥
+
+-- An opening of an archive returned this. After a success it is open, and if it carried a past it needn't be opened again.
+abbrev pub Reopens : {E O Pen Seen : Type 0} {erase : EraseGhosts E} {once : OnceGhosts O Pen Seen} → Held E O Pen Seen erase once → Result (Unit {0}) Trouble → Held E O Pen Seen erase once → Type 0
+Reopens a (Ok done) b = IsOpen b × ((p : Past) → HoldsPast a p → IsUp b)
+Reopens a (Err trouble) b = Fails (IsAway a) (erase_faults a) (erase_faults b) (pen_faults a) (pen_faults b) trouble

@@ -1,0 +1,174 @@
+//! Calls on a held archive. While it isn't open, each one that needs its disks is refused, and nothing changes.
+
+ghost use Rattle.std.specs.Prelude.{◌≡◌, ◌<◌, ◌≤◌, ℕ, [], length, Err, IfErr, IfOk, OnOk, ⊤};
+ghost use Rattle.route_meaning.specs.History.{applied, settled};
+ghost use Rattle.interleaving_core.specs.Does.{last_moment};
+ghost use Rattle.interleaving_core.specs.Headline.{IsAnswered};
+ghost use Rattle.board.specs.Past.{Past, GoesOnAs, count_of};
+ghost use Rattle.query_threads.specs.Looks.{AreTheSettled};
+ghost use Rattle.query_threads.specs.Steps.{IsCrowded, DoesAdmit, DoesMark, DoesApply, DoesFlush};
+ghost use Rattle.query_threads.specs.Troubles.{IsOutside, OnAdmitTrouble, OnAskTrouble, OnMarkTrouble};
+ghost use Rattle.query_threads.specs.Turns.{TurnGives, IsTold};
+ghost use Rattle.once_store.specs.Readers.{kept_blocks, reader_disk};
+ghost use Rattle.disk_archive.specs.Cursors.{IsGathered, asks};
+ghost use Rattle.disk_archive.specs.Descents.{IsErrandFor};
+ghost use Rattle.shared_archive.specs.Carried.{LiesInPast};
+
+use crate::held::Held;
+use crate::{calls, turns};
+use disk_archive::{Cursor, Errand};
+use disk_models::{EraseDisk, OnceDisk};
+use interleaving_core::BatchReply;
+use once_store::ShelfReader;
+use query_threads::{AdmitError, AskError, Flush, MarkError, Step, Trouble, Turn};
+use route_model::{Admission, Mark};
+
+impl<E: EraseDisk + Drop, O: OnceDisk + Drop> Held<E, O> {
+    ghost use Rattle.shared_archive.specs.Held.{HeldFlushes, HeldTells, HoldsPast, disk_in, pages_in};
+
+    /// How many collectors there are.
+    pub fn collectors(&self) -> u8
+        ensures { (p : Past) → HoldsPast self.now p → result ≡ length p.history.intakes }
+    {
+        match self {
+            Held::Open(archive) => archive.collectors(),
+            Held::Shut(shut) => shut.collectors,
+        }
+    }
+
+    /// How many pages each ring has.
+    pub fn ring(&self) -> u16
+        ensures { result ≡ pages_in self.now }
+    {
+        match self {
+            Held::Open(archive) => archive.ring(),
+            Held::Shut(shut) => shut.ring,
+        }
+    }
+
+    /// The settled watermark.
+    pub fn settled(&self) -> Mark
+        ensures { (p : Past) → HoldsPast self.now p → result ≡ settled p.history }
+    {
+        match self {
+            Held::Open(archive) => archive.settled(),
+            Held::Shut(shut) => shut.settled,
+        }
+    }
+
+    /// How many admissions of a collector there are, 0 of one that there isn't.
+    pub fn admitted(&self, collector: u8) -> u64
+        ensures { (p : Past) → HoldsPast self.now p → result ≡ count_of p.history collector }
+    {
+        match self {
+            Held::Open(archive) => turns::admitted(archive, collector),
+            Held::Shut(shut) => match shut.counts.get(usize::from(collector)) {
+                Some(count) => *count,
+                None => 0,
+            },
+        }
+    }
+
+    /// Admits a batch.
+    pub fn admit(&mut self, collector: u8, batch: &[Admission]) -> Result<BatchReply, AdmitError>
+        ensures done { (p : Past) → HoldsPast self.old p → (q : Past) × GoesOnAs p q × HoldsPast self.new q × DoesAdmit collector batch.now result p.history q.history }
+        ensures full { (p : Past) → HoldsPast self.old p → result ≡ Err AdmitError.IntakeFull → IsCrowded (pages_in self.old) p.history collector batch.now }
+        ensures trouble { IfErr result (OnAdmitTrouble (λ t. HeldTells self.old t self.new)) }
+        ensures disk { disk_in self.new ≡ disk_in self.old }
+        ensures pages { pages_in self.new ≡ pages_in self.old }
+    {
+        match self {
+            Held::Open(archive) => calls::admit(archive, collector, batch),
+            Held::Shut(_) => Err(AdmitError::Trouble(Trouble::NeedsRecovery)),
+        }
+    }
+
+    /// Raises the mark of a collector.
+    pub fn mark(&mut self, collector: u8, mark: Mark) -> Result<(), MarkError>
+        ensures done { (p : Past) → HoldsPast self.old p → (q : Past) × GoesOnAs p q × HoldsPast self.new q × DoesMark collector mark result p.history q.history }
+        ensures trouble { IfErr result (OnMarkTrouble (λ t. HeldTells self.old t self.new)) }
+        ensures disk { disk_in self.new ≡ disk_in self.old }
+        ensures pages { pages_in self.new ≡ pages_in self.old }
+    {
+        match self {
+            Held::Open(archive) => calls::mark(archive, collector, mark),
+            Held::Shut(_) => Err(MarkError::Trouble(Trouble::NeedsRecovery)),
+        }
+    }
+
+    /// Applies the next change, and perhaps some more.
+    pub fn apply_step(&mut self) -> Result<Step, Trouble>
+        ensures done { (p : Past) → HoldsPast self.old p → (q : Past) × GoesOnAs p q × HoldsPast self.new q × DoesApply result p.history q.history }
+        ensures trouble { IfErr result (λ t. HeldTells self.old t self.new) }
+        ensures disk { disk_in self.new ≡ disk_in self.old }
+        ensures pages { pages_in self.new ≡ pages_in self.old }
+    {
+        match self {
+            Held::Open(archive) => calls::apply_step(archive),
+            Held::Shut(_) => Err(Trouble::NeedsRecovery),
+        }
+    }
+
+    /// Writes a page home that waits.
+    pub fn flush_step(&mut self) -> Result<Flush, Trouble>
+        ensures done { (p : Past) → HoldsPast self.old p → (q : Past) × GoesOnAs p q × HoldsPast self.new q × DoesFlush result p.history q.history }
+        ensures flushes { IfOk result (λ step. HeldFlushes self.old step self.new) }
+        ensures trouble { IfErr result (λ t. HeldTells self.old t self.new) }
+        ensures disk { disk_in self.new ≡ disk_in self.old }
+        ensures pages { pages_in self.new ≡ pages_in self.old }
+    {
+        match self {
+            Held::Open(archive) => calls::flush_step(archive),
+            Held::Shut(_) => Err(Trouble::NeedsRecovery),
+        }
+    }
+
+    /// A turn of a question.
+    pub fn descend(&mut self, cursor: &mut Cursor) -> Result<Turn<Errand>, AskError>
+        ensures carries { (p : Past) → HoldsPast self.old p → HoldsPast self.new p }
+        ensures asks { asks cursor.new ≡ asks cursor.old }
+        ensures fits { IfOk result (λ turn. TurnGives (λ errand. IsErrandFor cursor.new errand) ⊤ (λ _. ⊤) turn) }
+        ensures settled { (p : Past) → HoldsPast self.old p → OnOk result (last_moment (asks cursor.old) < settled p.history) }
+        ensures gives { (p : Past) → HoldsPast self.old p → IsGathered cursor.old p.history → IfOk result (λ turn. TurnGives (λ errand. LiesInPast (O.block_count (disk_in self.old)) errand cursor.new p) (IsGathered cursor.new p.history) (λ answer. IsAnswered (applied p.history) (asks cursor.old) answer) turn) }
+        ensures told { (p : Past) → HoldsPast self.old p → IfErr result (λ e. IsTold e p.history (asks cursor.old)) }
+        ensures trouble { IfErr result (OnAskTrouble (λ t. HeldTells self.old t self.new)) }
+        ensures disk { disk_in self.new ≡ disk_in self.old }
+        ensures pages { pages_in self.new ≡ pages_in self.old }
+    {
+        match self {
+            Held::Open(archive) => turns::descend(archive, cursor),
+            Held::Shut(_) => Err(AskError::Trouble(Trouble::NeedsRecovery)),
+        }
+    }
+
+    /// A look at which blocks are settled.
+    pub fn seen(&mut self) -> Result<O::Seen, Trouble>
+        ensures carries { (p : Past) → HoldsPast self.old p → HoldsPast self.new p }
+        ensures honest { (p : Past) → HoldsPast self.old p → IfOk result (λ s. O.honest_seen (disk_in self.old) s) }
+        ensures known { (p : Past) → HoldsPast self.old p → IfOk result (λ s. AreTheSettled (O.block_count (disk_in self.old)) (O.known s) p.blocks) }
+        ensures sound { (p : Past) → HoldsPast self.old p → IfErr result IsOutside }
+        ensures trouble { IfErr result (λ t. HeldTells self.old t self.new) }
+        ensures disk { disk_in self.new ≡ disk_in self.old }
+        ensures pages { pages_in self.new ≡ pages_in self.old }
+    {
+        match self {
+            Held::Open(archive) => turns::seen(archive),
+            Held::Shut(_) => Err(Trouble::NeedsRecovery),
+        }
+    }
+
+    /// A reader that keeps up to so many blocks, and none yet. It is refused as for want of memory, also while the archive isn't
+    /// open.
+    pub fn reader(&self, capacity: usize) -> Result<ShelfReader<O>, Trouble>
+        requires some { 1 ≤ capacity }
+        requires few { capacity ≤ 1024 }
+        ensures disk { IfOk result (λ r. reader_disk r ≡ disk_in self.now) }
+        ensures empty { IfOk result (λ r. kept_blocks r ≡ []) }
+        ensures memory { IfErr result (λ e. e ≡ Trouble.OutOfMemory) }
+    {
+        match self {
+            Held::Open(archive) => turns::reader(archive, capacity),
+            Held::Shut(_) => Err(Trouble::OutOfMemory),
+        }
+    }
+}

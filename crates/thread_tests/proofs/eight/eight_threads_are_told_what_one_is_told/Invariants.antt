@@ -1,6 +1,0 @@
-use Rattle.board.specs.Opened.{name_of}
-use Rattle.thread_tests.proofs.eight.eight_threads_are_told_what_one_is_told.Given as goal
-
--- the board that was opened
-abbrev pub ghosts-play : goal.ghosts-play
-ghosts-play c a = record { table = name_of a.opened }

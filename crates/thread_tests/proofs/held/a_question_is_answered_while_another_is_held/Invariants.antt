@@ -1,6 +1,0 @@
-use Rattle.board.specs.Opened.{name_of}
-use Rattle.thread_tests.proofs.held.a_question_is_answered_while_another_is_held.Given as goal
-
--- the board that was opened
-abbrev pub ghosts-play : goal.ghosts-play
-ghosts-play c a = record { table = name_of a.opened }

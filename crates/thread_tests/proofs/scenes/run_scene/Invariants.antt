@@ -1,0 +1,6 @@
+use Rattle.board.specs.Opened.{name_of}
+use Rattle.thread_tests.proofs.scenes.run_scene.Given as goal
+
+-- the board that was opened
+abbrev pub ghosts-play : goal.ghosts-play
+ghosts-play c a = record { table = name_of a.opened }

@@ -1,0 +1,94 @@
+//! Looks that begin at current pages, and go on in no block that was never burnt.
+
+ghost use Rattle.std.specs.Prelude.{◌≡◌, ◌<◌, ◌≤◌, ◌⊎◌, ℕ, List, IfOk, OnOk, IfErr, Err};
+ghost use Rattle.page_tx.specs.Start.{Start};
+ghost use Rattle.version_model.specs.Pages.{Store};
+ghost use Rattle.version_model.specs.Versions.{Version, IsRising};
+ghost use Rattle.tsb_walk.specs.Looked.{IsLooked, IsParted, LooksAt, LooksOn, PartsAt, TellsAll};
+ghost use Rattle.tsb_walk.specs.PageLooks.{InPastOf, IsBadLook};
+ghost use Rattle.tsb_walk.specs.Refusals.{LookRefusal, OnlyReads};
+ghost use Rattle.tsb_walk.specs.Shown.{HasKey, StandsShown};
+ghost use Rattle.tree_questions.specs.Naming.{NamesUnburnt, GoesBelow, PartsBelow};
+
+use page_tx::Pages;
+use route_model::Key;
+use std::alloc::Global;
+use tsb_walk::{Looked, NodeError, PagePlace, Parted, locate, next, part};
+use version_model::{Place, Stamp};
+
+// That a place in the past of a key's column lies in a block below `burnt`. The page of a column that names another is called bad.
+fn check_named<P: Pages>(
+    pages: &mut P,
+    root: &PagePlace,
+    burnt: u64,
+    key: Key,
+    place: &Place,
+) -> Result<(), NodeError>
+    requires has { HasKey root.now key }
+    requires level { 1 ≤ root.now.level }
+    ensures named { OnOk result (place.now.part.block < burnt) }
+    ensures bad { (start : Start) (shown : List (List ℕ)) → P.shows pages.old start shown → (stamp : ℕ) → InPastOf shown root.now key stamp place.now → (page : ℕ) → result ≡ Err (NodeError.BadNode page) → NamesUnburnt shown root.now key burnt page }
+    ensures refused { IfErr result (LookRefusal (P.down pages.old)) }
+    ensures same { OnlyReads P.Pages pages.old pages.new (result ≡ Err NodeError.Fault) }
+{
+    if place.part.block < burnt {
+        return Ok(());
+    }
+    let column = locate(pages, root, key)?;
+    Err(NodeError::BadNode(column.page))
+}
+
+/// Looks for the next key as `tsb_walk::next` does. Where that leads into the past, the block there is below `burnt`, the first that
+/// was never burnt. The page of a column that names another is called bad.
+pub(crate) fn next_named<P: Pages>(
+    pages: &mut P,
+    alloc: Global,
+    root: &PagePlace,
+    burnt: u64,
+    from: Key,
+    stamp: Stamp,
+) -> Result<Looked, NodeError>
+    requires has { HasKey root.now from }
+    requires level { 1 ≤ root.now.level }
+    ensures next { (start : Start) (shown : List (List ℕ)) → P.shows pages.old start shown → (s : Store) (all : List Version) → StandsShown shown s all root.now → IfOk result (IsLooked s.blocks all from stamp) }
+    ensures named { IfOk result (GoesBelow burnt) }
+    ensures bad { (start : Start) (shown : List (List ℕ)) → P.shows pages.old start shown → (page : ℕ) → result ≡ Err (NodeError.BadNode page) → IsBadLook shown root.now from stamp page ⊎ NamesUnburnt shown root.now from burnt page }
+    ensures blames { (start : Start) (shown : List (List ℕ)) → P.shows pages.old start shown → (s : Store) (all : List Version) → StandsShown shown s all root.now → s.next ≤ burnt → (page : ℕ) → result ≡ Err (NodeError.BadNode page) → ⊥ }
+    ensures point { IfOk result (LooksAt from stamp) }
+    ensures onward { IfOk result (LooksOn from) }
+    ensures refused { IfErr result (LookRefusal (P.down pages.old)) }
+    ensures same { OnlyReads P.Pages pages.old pages.new (result ≡ Err NodeError.Fault) }
+{
+    let looked = next(pages, alloc, root, from, stamp)?;
+    if let Looked::InBlock(place) = &looked {
+        check_named(pages, root, burnt, from, place)?;
+    }
+    Ok(looked)
+}
+
+/// Looks for versions as `tsb_walk::part` does, and judges the block of a place in the past as `next_named` does.
+pub(crate) fn part_named<P: Pages>(
+    pages: &mut P,
+    alloc: Global,
+    root: &PagePlace,
+    burnt: u64,
+    key: Key,
+    from: Stamp,
+) -> Result<Parted, NodeError>
+    requires has { HasKey root.now key }
+    requires level { 1 ≤ root.now.level }
+    ensures part { (start : Start) (shown : List (List ℕ)) → P.shows pages.old start shown → (s : Store) (all : List Version) → IsRising all → StandsShown shown s all root.now → IfOk result (IsParted s.blocks all key from) }
+    ensures named { IfOk result (PartsBelow burnt) }
+    ensures bad { (start : Start) (shown : List (List ℕ)) → P.shows pages.old start shown → (page : ℕ) → result ≡ Err (NodeError.BadNode page) → IsBadLook shown root.now key from page ⊎ NamesUnburnt shown root.now key burnt page }
+    ensures blames { (start : Start) (shown : List (List ℕ)) → P.shows pages.old start shown → (s : Store) (all : List Version) → StandsShown shown s all root.now → s.next ≤ burnt → (page : ℕ) → result ≡ Err (NodeError.BadNode page) → ⊥ }
+    ensures point { IfOk result (PartsAt key from) }
+    ensures told { IfOk result TellsAll }
+    ensures refused { IfErr result (LookRefusal (P.down pages.old)) }
+    ensures same { OnlyReads P.Pages pages.old pages.new (result ≡ Err NodeError.Fault) }
+{
+    let parted = part(pages, alloc, root, key, from)?;
+    if let Parted::InBlock(place) = &parted {
+        check_named(pages, root, burnt, key, place)?;
+    }
+    Ok(parted)
+}

@@ -1,0 +1,171 @@
+//! Lines of streams, and what is left behind them.
+
+use crate::be;
+use crate::readers::{Broken, Slow};
+use line_reader::{Found, LIMIT, LineError, LineReader};
+use std::alloc::Global;
+use std::io;
+use std::io::Read;
+
+/// The lines of a stream until one isn't read: each between angle brackets, then `.` for the end, `!` for a line that is too
+/// long or `?` for a failure.
+fn push_lines<R: Read>(lines: &mut LineReader<R>, told: &mut Vec<u8>) -> io::Result<()> {
+    for _ in 0..100 {
+        let mark = match lines.read_line() {
+            Ok(Found::Line) => {
+                told.push(b'<')?;
+                told.extend_from_slice(lines.line())?;
+                told.push(b'>')?;
+                continue;
+            }
+            Ok(Found::End) => b'.',
+            Err(LineError::TooLong) => b'!',
+            Err(LineError::Failed(_)) => b'?',
+        };
+        told.push(mark)?;
+        break;
+    }
+    Ok(())
+}
+
+/// The lines of a stream, and what it gives behind them.
+fn told_of<R: Read + Drop>(alloc: Global, reader: R) -> io::Result<Vec<u8>> {
+    let mut told = Vec::new(alloc);
+    let mut lines = LineReader::new(reader);
+    push_lines(&mut lines, &mut told)?;
+    lines.read_to_end(&mut told)?;
+    Ok(told)
+}
+
+/// Whether a stream has these lines, at once and octet by octet.
+fn has_lines(alloc: Global, stream: &[u8], wanted: &[u8]) -> io::Result<bool> {
+    let at_once = told_of(alloc, stream)?;
+    let slowly = told_of(alloc, Slow::new(stream))?;
+    Ok(at_once.as_slice() == wanted && slowly.as_slice() == wanted)
+}
+
+/// A line ends in LF, or in CR and LF; any other octet stands in it, and what has no end is no line.
+const STREAMS: [(&[u8], &[u8]); 9] = [
+    (b"", b"."),
+    (
+        b"mark 0 1704067201\ndurable 0\r\nquit\n",
+        b"<mark 0 1704067201><durable 0><quit>.",
+    ),
+    (b"\n\r\n\r\r\n", b"<><><\r>."),
+    (b"quit", b".quit"),
+    (b"quit\r", b".quit\r"),
+    (b"quit\nsto", b"<quit>.sto"),
+    (b"a\rb\n\rc\n", b"<a\rb><\rc>."),
+    (b"a\0b\xff\xfe\n \n", b"<a\0b\xff\xfe>< >."),
+    (b"\r", b".\r"),
+];
+
+#[test]
+fn lines_end_in_line_feeds(rt: HostRuntime) -> io::Result<()> {
+    for (stream, wanted) in STREAMS {
+        be(
+            &rt,
+            has_lines(rt.alloc(), stream, wanted)?,
+            "lines end in line feeds",
+        );
+    }
+    Ok(())
+}
+
+/// So many octets, then these.
+fn long(alloc: Global, count: usize, behind: &[u8]) -> io::Result<Vec<u8>> {
+    let mut octets = Vec::new(alloc);
+    octets.resize(count, b'a')?;
+    octets.extend_from_slice(behind)?;
+    Ok(octets)
+}
+
+/// How many octets the first line has, where it is one; the mark of why it isn't, else.
+fn first_len<R: Read + Drop>(reader: R) -> Result<usize, u8> {
+    let mut lines = LineReader::new(reader);
+    match lines.read_line() {
+        Ok(Found::Line) => Ok(lines.line().len()),
+        Ok(Found::End) => Err(b'.'),
+        Err(LineError::TooLong) => Err(b'!'),
+        Err(LineError::Failed(_)) => Err(b'?'),
+    }
+}
+
+/// 4,096 octets with the end are a line, and one more is too long.
+const LONG: [(usize, &[u8], Result<usize, u8>); 7] = [
+    (4095, b"\n", Ok(4095)),
+    (4094, b"\r\n", Ok(4094)),
+    (4095, b"\nquit\n", Ok(4095)),
+    (4096, b"\n", Err(b'!')),
+    (4095, b"\r\n", Err(b'!')),
+    (4095, b"", Err(b'.')),
+    (4096, b"", Err(b'!')),
+];
+
+#[test]
+fn lines_have_a_limit(rt: HostRuntime) -> io::Result<()> {
+    be(&rt, LIMIT == 4096, "lines have a limit");
+    for (count, behind, wanted) in LONG {
+        let stream = long(rt.alloc(), count, behind)?;
+        be(
+            &rt,
+            first_len(stream.as_slice()) == wanted,
+            "octets at once",
+        );
+        be(
+            &rt,
+            first_len(Slow::new(&stream)) == wanted,
+            "octets slowly",
+        );
+    }
+    Ok(())
+}
+
+/// What stands behind a line that was read, and what stands behind that.
+fn behind_first<R: Read + Drop>(alloc: Global, reader: R) -> io::Result<Vec<u8>> {
+    let mut lines = LineReader::new(reader);
+    let _ = lines.read_line();
+    let mut behind = Vec::new(alloc);
+    lines.read_to_end(&mut behind)?;
+    Ok(behind)
+}
+
+#[test]
+fn octets_behind_a_line_are_left(rt: HostRuntime) -> io::Result<()> {
+    let octets = long(rt.alloc(), 9000, b"\nend\n")?;
+    let mut stream = Vec::from_slice(rt.alloc(), b"feed 0 1\n")?;
+    stream.extend_from_slice(&octets)?;
+    let at_once = behind_first(rt.alloc(), stream.as_slice())?;
+    be(
+        &rt,
+        at_once.as_slice() == octets.as_slice(),
+        "octets behind a line are left",
+    );
+    let slowly = behind_first(rt.alloc(), Slow::new(&stream))?;
+    be(
+        &rt,
+        slowly.as_slice() == octets.as_slice(),
+        "octets behind a line are left",
+    );
+    Ok(())
+}
+
+/// The lines of a stream that fails once, read on behind the failure.
+fn told_of_broken(alloc: Global, before: &[u8], after: &[u8]) -> io::Result<Vec<u8>> {
+    let mut told = Vec::new(alloc);
+    let mut lines = LineReader::new(Broken::new(before, after));
+    push_lines(&mut lines, &mut told)?;
+    push_lines(&mut lines, &mut told)?;
+    Ok(told)
+}
+
+#[test]
+fn a_failed_read_loses_nothing(rt: HostRuntime) -> io::Result<()> {
+    let told = told_of_broken(rt.alloc(), b"quit\nma", b"rk 0 1\n")?;
+    be(
+        &rt,
+        told.as_slice() == b"<quit>?<mark 0 1>.".as_slice(),
+        "a failed read loses nothing",
+    );
+    Ok(())
+}

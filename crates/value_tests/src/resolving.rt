@@ -1,0 +1,245 @@
+//! Records from outside, worked examples among them, and the spelling of what they mean.
+
+use crate::be;
+use mrt_records::{Framer, Item};
+use resolve::{ResolveFault, Resolver, resolve_all};
+use route_model::Admission;
+use std::alloc::Global;
+use std::test::Fail;
+use test_octets::octets;
+
+/// A message of 192.0.2.1, AS 65001: an UPDATE that announces 10.0.0.0/8 by 65001 65002.
+const UPDATE: &str = "65920080 0010 0001 0000003D FDE9 FC00 0000 0001 C0000201 C0000202
+    FFFFFFFFFFFFFFFFFFFFFFFFFFFFFFFF 002D 02 0000 0014 40010100 4002060202FDE9FDEA 400304C0000201 080A";
+
+/// The same, with 10.0.0.0/8 in the withdrawn field too, behind 11.0.0.0/8.
+const BOTH: &str = "65920080 0010 0001 00000041 FDE9 FC00 0000 0001 C0000201 C0000202
+    FFFFFFFFFFFFFFFFFFFFFFFFFFFFFFFF 0031 02 0004 080B 080A 0014 40010100 4002060202FDE9FDEA 400304C0000201 080A";
+
+/// An UPDATE with prefixes in each of its four places.
+const FOUR_PLACES: &str = "65920080 0010 0001 00000067 FDE9 FC00 0000 0001 C0000201 C0000202
+    FFFFFFFFFFFFFFFFFFFFFFFFFFFFFFFF 0057 02 0002 080B 003C 40010100 4002060202FDE9FDEA 400304C0000201
+    800E1A 0002 01 10 20010DB8000000000000000000000001 00 20 20010DB8 800F08 0002 01 20 20010DB9 080A";
+
+/// An UPDATE without prefixes.
+const EMPTY: &str = "65920080 0010 0001 00000027 FDE9 FC00 0000 0001 C0000201 C0000202
+    FFFFFFFFFFFFFFFFFFFFFFFFFFFFFFFF 0017 02 0000 0000";
+
+/// A prefix of 33 bits in NLRI.
+const LONG_PREFIX: &str = "65920080 0010 0001 00000041 FDE9 FC00 0000 0001 C0000201 C0000202
+    FFFFFFFFFFFFFFFFFFFFFFFFFFFFFFFF 0031 02 0000 0014 40010100 4002060202FDE9FDEA 400304C0000201 210A00000000";
+
+const NOTIFICATION: &str = "65920080 0010 0001 00000025 FDE9 FC00 0000 0001 C0000201 C0000202
+    FFFFFFFFFFFFFFFFFFFFFFFFFFFFFFFF 0015 03 0602";
+
+/// From Established to Idle.
+const SESSION_DOWN: &str =
+    "65920080 0010 0000 00000014 FDE9 FC00 0000 0001 C0000201 C0000202 0006 0001";
+
+/// From OpenConfirm to Established.
+const SESSION_UP: &str =
+    "65920080 0010 0000 00000014 FDE9 FC00 0000 0001 C0000201 C0000202 0005 0006";
+
+/// A record of another type.
+const SKIPPED: &str = "65920080 000B 0001 00000001 00";
+
+/// One peer: 192.0.2.1, AS 65001.
+const PEER_TABLE: &str =
+    "65920080 000D 0001 00000015 C0000202 0000 0001 02 C0000201 C0000201 0000FDE9";
+
+/// The same without its last octet.
+const CUT_PEER_TABLE: &str =
+    "65920080 000D 0001 00000014 C0000202 0000 0001 02 C0000201 C0000201 0000FD";
+
+/// 10.0.0.0/8 by the first peer of the table.
+const RIB: &str = "65920080 000D 0002 00000028 00000000 08 0A 0001 0000 65920000 0018 40010100
+    40020A02020000FDE90000FDEA 400304C0000201";
+
+/// The same by the second peer.
+const RIB_OF_SECOND: &str =
+    "65920080 000D 0002 00000028 00000000 08 0A 0001 0001 65920000 0018 40010100
+    40020A02020000FDE90000FDEA 400304C0000201";
+
+/// An entry of the second peer, and one whose ORIGIN is 3: the first fault is told.
+const RIB_OF_TWO_FAULTS: &str =
+    "65920080 000D 0002 0000001C 00000000 08 0A 0002 0001 65920000 0000 0000 65920000 0004 40010103";
+
+/// The same entries in the other order.
+const RIB_OF_TWO_OTHERS: &str =
+    "65920080 000D 0002 0000001C 00000000 08 0A 0002 0000 65920000 0004 40010103 0001 65920000 0000";
+
+/// An entry whose ORIGIN is 3, of the second peer: the peer is looked at first.
+const RIB_OF_BAD_ENTRY: &str =
+    "65920080 000D 0002 00000014 00000000 08 0A 0001 0001 65920000 0004 40010103";
+
+/// Without entries.
+const RIB_OF_NONE: &str = "65920080 000D 0002 00000008 00000000 08 0A 0000";
+
+/// 2001:db8::/32, where MP_REACH_NLRI gives the next hop.
+const RIB_IPV6: &str =
+    "65920080 000D 0004 00000038 00000000 20 20010DB8 0001 0000 65920000 0025 40010100
+    40020A02020000FDE90000FDEA 800E11 10 20010DB8000000000000000000000001";
+
+/// The spelling of the admission of `UPDATE`.
+const ANNOUNCED: &str = "0000000065920080 0001 0004C0000201000000000000000000000000 0000FDE9
+    0001 0015 00 0001 02020000FDE90000FDEA 04C0000201 00 0000 0001 01 0000 04080A 0000";
+
+/// That of `BOTH`.
+const WITHDRAWN_AND_ANNOUNCED: &str =
+    "0000000065920080 0001 0004C0000201000000000000000000000000 0000FDE9
+    0001 0015 00 0001 02020000FDE90000FDEA 04C0000201 00 0000 0002 02 0000 04080B 01 0000 04080A 0000";
+
+/// That of `FOUR_PLACES`.
+const FOUR_CHANGES: &str = "0000000065920080 0001 0004C0000201000000000000000000000000 0000FDE9
+    0002 0015 00 0001 02020000FDE90000FDEA 04C0000201 00 0000
+    0021 00 0001 02020000FDE90000FDEA 1020010DB8000000000000000000000001 00 0000
+    0004 02 0000 04080B 02 0000 062020010DB9 01 0000 04080A 0000 01 0000 062020010DB8 0001";
+
+/// No changes.
+const NO_CHANGES: &str = "0000000065920080 0000 0000 0000";
+
+/// The end of all routes of the peer.
+const ENDED: &str =
+    "0000000065920080 0001 0004C0000201000000000000000000000000 0000FDE9 0000 0001 03 0000";
+
+/// The announcement of `RIB_IPV6`.
+const ANNOUNCED_IPV6: &str = "0000000065920080 0001 0004C0000201000000000000000000000000 0000FDE9
+    0001 0021 00 0001 02020000FDE90000FDEA 1020010DB8000000000000000000000001 00 0000 0001 01 0000 062020010DB8 0000";
+
+/// What a record means: an admission of this spelling, nothing, or a fault.
+type Meaning = Result<Option<&'static str>, ResolveFault>;
+
+/// The records of a feed, and what each means behind those before it.
+struct Feed {
+    name: &'static str,
+    records: &'static [(&'static str, Meaning)],
+}
+
+const FEEDS: [Feed; 6] = [
+    Feed {
+        name: "messages change routes",
+        records: &[
+            (UPDATE, Ok(Some(ANNOUNCED))),
+            (EMPTY, Ok(Some(NO_CHANGES))),
+            (NOTIFICATION, Ok(Some(ENDED))),
+            (LONG_PREFIX, Err(ResolveFault::Malformed)),
+            (SKIPPED, Ok(None)),
+        ],
+    },
+    Feed {
+        name: "a prefix that is announced is not withdrawn",
+        records: &[(BOTH, Ok(Some(WITHDRAWN_AND_ANNOUNCED)))],
+    },
+    Feed {
+        name: "changes stand in the order of the places",
+        records: &[(FOUR_PLACES, Ok(Some(FOUR_CHANGES)))],
+    },
+    Feed {
+        name: "a session that is left ends its routes",
+        records: &[
+            (SESSION_DOWN, Ok(Some(ENDED))),
+            (SESSION_UP, Ok(Some(NO_CHANGES))),
+        ],
+    },
+    Feed {
+        name: "RIB records are read under the last peer table",
+        records: &[
+            (RIB, Err(ResolveFault::NoPeerTable)),
+            (PEER_TABLE, Ok(None)),
+            (RIB, Ok(Some(ANNOUNCED))),
+            (RIB_IPV6, Ok(Some(ANNOUNCED_IPV6))),
+            (RIB_OF_NONE, Ok(Some(NO_CHANGES))),
+            (CUT_PEER_TABLE, Err(ResolveFault::Malformed)),
+            (RIB, Err(ResolveFault::NoPeerTable)),
+            (PEER_TABLE, Ok(None)),
+            (LONG_PREFIX, Err(ResolveFault::Malformed)),
+            (RIB, Ok(Some(ANNOUNCED))),
+        ],
+    },
+    Feed {
+        name: "entries are refused in their order",
+        records: &[
+            (PEER_TABLE, Ok(None)),
+            (RIB_OF_SECOND, Err(ResolveFault::BadPeerIndex)),
+            (RIB_OF_TWO_FAULTS, Err(ResolveFault::BadPeerIndex)),
+            (RIB_OF_BAD_ENTRY, Err(ResolveFault::BadPeerIndex)),
+            (RIB_OF_TWO_OTHERS, Err(ResolveFault::Malformed)),
+        ],
+    },
+];
+
+/// The item of a record.
+fn item(alloc: Global, record: &str) -> Result<Item, Fail> {
+    let mut framer = Framer::new(alloc);
+    let mut items: Vec<Item> = Vec::new(alloc);
+    framer.feed(&octets(alloc, record)?, &mut items)?;
+    framer.finish()?;
+    let item = items.pop().ok_or("no record")?;
+    Ok(item)
+}
+
+/// Whether the next record means this.
+fn means(
+    alloc: Global,
+    resolver: &mut Resolver,
+    record: &str,
+    wanted: &Meaning,
+) -> Result<bool, Fail> {
+    match (resolver.record(alloc, &item(alloc, record)?), wanted) {
+        (Ok(Some(admission)), Ok(Some(text))) => {
+            Ok(admission.encode(alloc)?.as_slice() == octets(alloc, text)?.as_slice())
+        }
+        (Ok(None), Ok(None)) => Ok(true),
+        (Err(fault), Err(other)) => Ok(fault == *other),
+        _ => Ok(false),
+    }
+}
+
+#[test]
+fn records_mean_what_they_say(rt: HostRuntime) -> Result<(), Fail> {
+    for feed in &FEEDS {
+        let mut resolver = Resolver::new(0);
+        for (record, wanted) in feed.records {
+            be(
+                &rt,
+                means(rt.alloc(), &mut resolver, record, wanted)?,
+                "records mean what they say",
+            );
+        }
+    }
+    Ok(())
+}
+
+/// Whether a RIB record without a peer table, a table, the record, a table that is cut, and the record again have these meanings.
+fn are_as_told(
+    alloc: Global,
+    results: &[Result<Option<Admission>, ResolveFault>],
+) -> Result<bool, Fail> {
+    match results {
+        [
+            Err(ResolveFault::NoPeerTable),
+            Ok(None),
+            Ok(Some(admission)),
+            Err(ResolveFault::Malformed),
+            Err(ResolveFault::NoPeerTable),
+        ] => Ok(admission.encode(alloc)?.as_slice() == octets(alloc, ANNOUNCED)?.as_slice()),
+        _ => Ok(false),
+    }
+}
+
+#[test]
+fn a_feed_is_read_as_its_records_are(rt: HostRuntime) -> Result<(), Fail> {
+    let alloc = rt.alloc();
+    let mut framer = Framer::new(alloc);
+    let mut items: Vec<Item> = Vec::new(alloc);
+    for record in [RIB, PEER_TABLE, RIB, CUT_PEER_TABLE, RIB] {
+        framer.feed(&octets(alloc, record)?, &mut items)?;
+    }
+    let results = resolve_all(alloc, 0, &items)?;
+    be(
+        &rt,
+        are_as_told(alloc, results.as_slice())?,
+        "a feed is read as its records are",
+    );
+    Ok(())
+}
