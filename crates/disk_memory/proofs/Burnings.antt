@@ -1,14 +1,14 @@
 -- Burns one after another.
-use Rattle.std.proofs.Common.{◌≡◌, ◌≢◌, ⊎_elim, ◌<◌, ℕ, ◌+◌, List, [], ◌∷◌, ◌++◌, length, take, get_or, Bool, Bor, true, false, inr, option_copied, ◌||◌, ◌&&◌, ◌==◌, if◌then◌else◌, Option, None, Some, is_some, slice_get, refl, sym, ◌∙◌, ap, subst, arith, append_assoc, append-nil}
+use Rattle.std.proofs.Common.{◌≡◌, ◌≢◌, ⊎_elim, ◌<◌, ℕ, ◌+◌, List, [], ◌∷◌, ◌++◌, length, map, take, get_or, Bool, Bor, true, false, inr, option_copied, ◌||◌, ◌&&◌, ◌==◌, if◌then◌else◌, Option, None, Some, is_some, slice_get, refl, sym, ◌∙◌, ap, subst, arith, append_assoc, append-nil}
 use Rattle.std.proofs.lemmas.List.{take_more, length-take}
 use Rattle.std.proofs.lemmas.Bool.{ne_eqb, eq-eqb}
 use Rattle.disk_models.specs.Once.{Burns, BurnsOnly, SettlesOnly}
 use Rattle.disk_models.specs.Left.{OnceFound}
 use Rattle.disk_memory.specs.declared.torn.Torn.{Torn}
-use Rattle.disk_memory.specs.declared.torn.Torn.TheVariants.{Old, New, Half, Octets}
+use Rattle.disk_memory.specs.declared.torn.Torn.TheVariants.{Old, New, Half, Gate, Octets}
 use Rattle.disk_memory.specs.OnceSound.{burnt_still}
 use Rattle.disk_memory.specs.inner.Failing.{burning_kept}
-use Rattle.disk_memory.specs.Burning.{Burning, burnt_in, tried_block_in, once_state_of, torn_burning, torn_burnings, torn_block, LeavesFailed}
+use Rattle.disk_memory.specs.Burning.{Burning, burnt_in, tried_block_in, once_state_of, all_torn, torn_burning, torn_burnings, torn_block, LeavesFailed}
 
 -- tried by the first or by the others
 pub tried_append : (n : ℕ) (bs more : List Burning) → is_some (tried_block_in n (bs ++ more)) ≡ (is_some (tried_block_in n bs) || is_some (tried_block_in n more))
@@ -152,6 +152,7 @@ torn_number None b = refl
 torn_number (Some Old) b = refl
 torn_number (Some New) b = refl
 torn_number (Some Half) b = refl
+torn_number (Some Gate) b = refl
 torn_number (Some (Octets octets)) b = refl
 
 tried_left : (torn : Option Torn) (b : Burning) (n : ℕ) (rest other : Option (List ℕ)) → is_some rest ≡ is_some other
@@ -165,6 +166,11 @@ tried_torn [] [] n = refl
 tried_torn (torn ∷ choice) [] n = refl
 tried_torn [] (b ∷ bs) n = tried_left None b n (tried_block_in n (torn_burnings [] bs)) (tried_block_in n bs) (tried_torn [] bs n)
 tried_torn (torn ∷ choice) (b ∷ bs) n = tried_left (Some torn) b n (tried_block_in n (torn_burnings choice bs)) (tried_block_in n bs) (tried_torn choice bs n)
+
+-- burns that are all torn in one way
+pub torn_burnings_all : (torn : Torn) (bs : List Burning) → map (torn_burning (Some torn)) bs ≡ all_torn torn bs
+torn_burnings_all torn [] = refl
+torn_burnings_all torn (b ∷ bs) = ap (λ (l : List Burning). torn_burning (Some torn) b ∷ l) (torn_burnings_all torn bs)
 
 -- the disk that begins again is one that a crash may leave
 pub once_allowed : (choice : List Torn) (settled waiting : List Burning) → OnceFound (once_state_of settled waiting) (once_state_of (settled ++ torn_burnings choice waiting) [])

@@ -1,6 +1,6 @@
 -- What a crash leaves by a choice.
-use Rattle.std.proofs.Common.{◌≡◌, inl, inr, ⊎_elim, ◌<◌, ℕ, ◌+◌, List, [], ◌∷◌, ◌++◌, length, take, drop, map, get_or, Option, None, Some, refl, sym, ◌∙◌, ap, subst, arith, append_assoc, append-nil, slice_get}
-use Rattle.std.proofs.lemmas.List.{take_more, length-take}
+use Rattle.std.proofs.Common.{◌≡◌, inl, inr, ⊎_elim, ◌<◌, ℕ, ◌+◌, List, [], ◌∷◌, ◌++◌, length, replicate, take, drop, map, get_or, Option, None, Some, refl, sym, ◌∙◌, ap, subst, arith, append_assoc, append-nil, slice_get}
+use Rattle.std.proofs.lemmas.List.{take_more, length-map, length-take}
 use Rattle.disk_models.specs.Erase.{MayLeave, WritesWithin}
 use Rattle.disk_models.specs.Left.{EraseFound}
 use Rattle.disk_memory.specs.declared.torn.Torn.{Torn}
@@ -60,6 +60,17 @@ crash_begins choice calls after count split is =
       reads = ap octet_of same ∙ sync_octet front ∙ ap (λ (m : Image). all_written m.waiting m.synced) image;
       synced = λ i un. sync_unsynced front i (subst (λ (l : List Call). IsUnsynced l i) same un);
     }
+
+-- the same of one way for all
+torn_calls_all : (torn : Torn) (calls : List Call) → map (torn_call (Some torn)) calls ≡ torn_calls (replicate (length calls) torn) calls
+torn_calls_all torn [] = refl
+torn_calls_all torn (call ∷ calls) = ap (λ (l : List Call). torn_call (Some torn) call ∷ l) (torn_calls_all torn calls)
+
+-- each write since the last sync in one way
+pub all_calls : (torn : Torn) (calls : List Call) (count : ℕ) → SplitsAtSync count calls → map (torn_call (Some torn)) (drop count calls) ≡ torn_calls (replicate (length (image_of calls).waiting) torn) (drop count calls)
+all_calls torn calls count split =
+    let long : length (drop count calls) ≡ length (image_of calls).waiting = ap length split.since ∙ length-map (image_of calls).waiting Write in
+    torn_calls_all torn (drop count calls) ∙ ap (λ n. torn_calls (replicate n torn) (drop count calls)) long
 
 torn_writings_out : (choice : List Torn) (ws : List Writing) (f : ℕ → ℕ) (i : ℕ) → ¬ IsWithinSome ws i → all_written (torn_writings choice ws) f i ≡ f i
 torn_writings_out [] [] f i out = refl

@@ -1,11 +1,11 @@
 -- Burns as they are remembered, as plain data, and what they leave.
-use Rattle.std.specs.Prelude.{◌≡◌, ℕ, ◌==◌, ◌&&◌, List, [], ◌∷◌, ◌++◌, Bool, false, if◌then◌else◌, Option, None, Some, is_some, ◌⊎◌}
+use Rattle.std.specs.Prelude.{◌≡◌, ℕ, ◌==◌, ◌&&◌, List, [], ◌∷◌, ◌++◌, length, replicate, Bool, false, if◌then◌else◌, Option, None, Some, is_some, ◌⊎◌}
 use Rattle.disk_models.specs.Octets.{zeros}
 use Rattle.disk_models.specs.Lending.{refilled}
 use Rattle.disk_models.specs.Once.{OnceState}
 use Rattle.disk_memory.specs.Torn.{torn_octets}
 use Rattle.disk_memory.specs.declared.torn.Torn.{Torn}
-use Rattle.disk_memory.specs.declared.torn.Torn.TheVariants.{Old, New, Half, Octets}
+use Rattle.disk_memory.specs.declared.torn.Torn.TheVariants.{Old, New, Half, Gate, Octets}
 
 -- a burn of a block, what came to stand there, and whether it was burnt whole
 pub record Burning : Type 0 where
@@ -40,6 +40,7 @@ abbrev pub torn_burning : Option Torn → Burning → Burning
 torn_burning (Some New) b = b
 torn_burning (Some Old) b = record { number = b.number; block = torn_block Old b.block; whole = false }
 torn_burning (Some Half) b = record { number = b.number; block = torn_block Half b.block; whole = false }
+torn_burning (Some Gate) b = record { number = b.number; block = torn_block Gate b.block; whole = false }
 torn_burning (Some (Octets octets)) b = record { number = b.number; block = torn_block (Octets octets) b.block; whole = false }
 torn_burning None b = record { number = b.number; block = torn_block Old b.block; whole = false }
 
@@ -48,6 +49,10 @@ abbrev pub torn_burnings : List Torn → List Burning → List Burning
 torn_burnings choice [] = []
 torn_burnings [] (b ∷ bs) = torn_burning None b ∷ torn_burnings [] bs
 torn_burnings (torn ∷ choice) (b ∷ bs) = torn_burning (Some torn) b ∷ torn_burnings choice bs
+
+-- burns of which a crash leaves each in this one way
+abbrev pub all_torn : Torn → List Burning → List Burning
+all_torn torn bs = torn_burnings (replicate (length bs) torn) bs
 
 -- A burn that failed: nothing was burnt, or, where the script has it fail, the block with the torn octets.
 abbrev pub LeavesFailed : ℕ → List ℕ → Option Torn → List Burning → List Burning → Type 0

@@ -1,6 +1,7 @@
 -- Which calls a script lets fail.
 use Rattle.std.specs.Prelude.{ℕ, ◌==◌, List, [], ◌∷◌, Bool, false, if◌then◌else◌, Option, None, Some}
 use Rattle.disk_memory.specs.declared.torn.Torn.{Torn}
+use Rattle.disk_memory.specs.declared.torn.Torn.TheVariants.{New}
 use Rattle.disk_memory.specs.declared.failure.Failure.{Failure}
 use Rattle.disk_memory.specs.declared.failure.Failure.TheVariants.{Read, Write, Sync}
 
@@ -22,3 +23,7 @@ write_failure_at number [] = None
 write_failure_at number (Read n ∷ script) = write_failure_at number script
 write_failure_at number (Write n torn ∷ script) = if n == number then Some torn else write_failure_at number script
 write_failure_at number (Sync n ∷ script) = write_failure_at number script
+
+-- what a write or a burn leaves that is cut off, or else what the script says of it
+abbrev pub cut_failure : Bool → Option Torn → Option Torn
+cut_failure cut scripted = if cut then Some New else scripted

@@ -1,5 +1,5 @@
 -- What a run of calls leaves on a disk of zeros.
-use Rattle.std.specs.Prelude.{◌≡◌, ◌≤◌, ◌⊎◌, ℕ, ◌+◌, ◌-◌, min, List, [], ◌∷◌, ◌++◌, length, take, slice_index, nat_lt, if◌then◌else◌, Option, None, Some}
+use Rattle.std.specs.Prelude.{◌≡◌, ◌≤◌, ◌⊎◌, ℕ, ◌+◌, ◌-◌, min, List, [], ◌∷◌, ◌++◌, length, replicate, take, slice_index, nat_lt, if◌then◌else◌, Option, None, Some}
 use Rattle.disk_models.specs.Octets.{Within}
 use Rattle.disk_models.specs.Erase.{DiskState}
 use Rattle.disk_memory.specs.Writing.{Writing}
@@ -80,6 +80,10 @@ torn_writings (torn ∷ choice) (w ∷ ws) = torn_writing (Some torn) w ∷ torn
 -- the octets that a crash after these calls leaves by a choice
 abbrev pub left_by : List Torn → List Call → ℕ → ℕ
 left_by choice calls = all_written (torn_writings choice (image_of calls).waiting) (image_of calls).synced
+
+-- the octets that a crash leaves where it tears each write since the last sync in this one way
+abbrev pub left_all : Torn → List Call → ℕ → ℕ
+left_all torn calls = left_by (replicate (length (image_of calls).waiting) torn) calls
 
 -- what a crash leaves of one call
 abbrev pub torn_call : Option Torn → Call → Call

@@ -1,17 +1,17 @@
 //! The erasable disk in memory: all its writes and syncs, from which each content that it had can be read.
 
-ghost use Rattle.std.specs.Prelude.{◌≡◌, ◌≤◌, ◌<◌, ◌+◌, ◌⊎◌, ◌↔◌, ◌++◌, ◌∷◌, [], ℕ, List, length, min, true, take, drop, map, Option, None, Some, IfOk, OnOk, OnErr, IsErr, IsSome, option_copied, IsTrue};
+ghost use Rattle.std.specs.Prelude.{◌≡◌, ◌≤◌, ◌<◌, ◌+◌, ◌⊎◌, ◌↔◌, ◌++◌, ◌∷◌, ◌||◌, [], ℕ, List, length, min, true, take, drop, map, Option, None, Some, IfOk, OnOk, OnErr, IsErr, IsSome, option_copied, IsTrue};
 ghost use Rattle.std.specs.List.{list_any};
 ghost use Rattle.disk_models.specs.Octets.{octets};
 ghost use Rattle.disk_models.specs.Erase.{Counts, Lingers, MayLeave, Stays, Syncs, WritesWithin};
 ghost use Rattle.disk_models.specs.Left.{EraseFound};
 ghost use Rattle.disk_memory.specs.Writing.{Writing};
 ghost use Rattle.disk_memory.specs.Failure.{is_read_failure, is_sync_failure, write_failure_at};
-ghost use Rattle.disk_memory.specs.Replay.{LeavesTorn, left_by, octet_of, state_of, torn_call};
+ghost use Rattle.disk_memory.specs.Replay.{LeavesTorn, left_all, left_by, octet_of, state_of, torn_call};
 ghost use Rattle.disk_memory.specs.inner.Replaying.{SplitsAtSync, torn_calls};
 
 use crate::call::{Call, Written};
-use crate::failure::{Failure, write_failure};
+use crate::failure::{Failure, cut_or, has_read, has_sync, write_failure};
 use crate::lay::replay;
 use crate::torn::Torn;
 use disk_models::{EraseDisk, Fault};
@@ -28,6 +28,8 @@ pub struct MemErase {
     reads: u64,
     writes: u64,
     syncs: u64,
+    // At which write or sync it stops.
+    stop: Option<u64>,
     faults: u64,
 }
 
@@ -84,9 +86,24 @@ fn tear(
     Ok(())
 }
 
+/// Appends what a crash leaves of these calls that tears them all in one way.
+fn tear_all(
+    alloc: Global,
+    into: &mut Vec<Call>,
+    calls: &[Call],
+    torn: &Torn,
+) -> Result<(), AllocError>
+    ensures { OnOk result (into.new.items ≡ into.old.items ++ map (torn_call (Some torn.now)) calls.now) }
+{
+    for call in calls {
+        into.push(left(alloc, call, Some(torn))?)?;
+    }
+    Ok(())
+}
+
 impl MemErase {
     ghost use Rattle.disk_memory.specs.inner.Failing.{KeepsScript};
-    ghost use Rattle.disk_memory.specs.Memory.{IsAtCall, calls_of, faults_of, script_of, size_of};
+    ghost use Rattle.disk_memory.specs.Memory.{IsAtCall, KeepsPlan, begun_of, calls_of, faults_of, is_cut, is_stopped, script_of, size_of, stop_of, stops_within};
 
     /// A disk of so many zeros, with no failure to come.
     pub fn new(alloc: Global, size: u64) -> Self
@@ -94,6 +111,7 @@ impl MemErase {
         ensures calls { calls_of result ≡ [] }
         ensures faults { faults_of result ≡ 0 }
         ensures script { script_of result ≡ [] }
+        ensures stop { stop_of result ≡ None }
     {
         MemErase {
             alloc,
@@ -103,22 +121,71 @@ impl MemErase {
             reads: 0,
             writes: 0,
             syncs: 0,
+            stop: None,
             faults: 0,
         }
     }
 
-    /// Says which calls fail. They are numbered from here on.
+    /// Says which calls fail. They are numbered from here on, and it doesn't stop.
     pub fn set_script(&mut self, script: Vec<Failure>)
         ensures script { script_of self.new ≡ script.items }
+        ensures stop { stop_of self.new ≡ None }
         ensures next { IsAtCall self.new 0 0 0 }
         ensures size { size_of self.new ≡ size_of self.old }
         ensures calls { calls_of self.new ≡ calls_of self.old }
         ensures faults { faults_of self.new ≡ faults_of self.old }
     {
         self.script = script;
+        self.stop = None;
         self.reads = 0;
         self.writes = 0;
         self.syncs = 0;
+    }
+
+    /// Cuts the disk off at its k-th write or sync from here on, the first one being 1. That call fails, and so do all calls of the disk after
+    /// it, reads too. A write that is cut off is left unsynced with all its octets, so a crash decides what comes of it; later ones
+    /// leave nothing. No other call fails.
+    pub fn stop_at(&mut self, k: u64)
+        ensures stop { stop_of self.new ≡ Some k }
+        ensures script { script_of self.new ≡ [] }
+        ensures next { IsAtCall self.new 0 0 0 }
+        ensures size { size_of self.new ≡ size_of self.old }
+        ensures calls { calls_of self.new ≡ calls_of self.old }
+        ensures faults { faults_of self.new ≡ faults_of self.old }
+    {
+        self.set_script(Vec::new(self.alloc));
+        self.stop = Some(k);
+    }
+
+    /// Whether it came to the write or sync at which it was to stop.
+    pub fn is_stopped(&self) -> bool
+        ensures { result ≡ is_stopped self.now }
+    {
+        self.stops_within(self.begun())
+    }
+
+    /// Whether the next write or sync is cut off.
+    fn is_cut(&self) -> bool
+        ensures { result ≡ is_cut self.now }
+    {
+        self.stops_within(self.begun().saturating_add(1))
+    }
+
+    /// How many writes and syncs there were.
+    fn begun(&self) -> u64
+        ensures { result ≡ begun_of self.now }
+    {
+        self.writes.saturating_add(self.syncs)
+    }
+
+    /// Whether it stops within so many writes and syncs.
+    fn stops_within(&self, count: u64) -> bool
+        ensures { result ≡ stops_within (stop_of self.now) count }
+    {
+        match self.stop {
+            Some(k) => k <= count,
+            None => false,
+        }
     }
 
     /// The writes and the syncs that left something, the oldest first. A failed sync leaves nothing.
@@ -141,13 +208,14 @@ impl MemErase {
         ensures calls { calls_of self.new ≡ calls_of self.old }
         ensures size { size_of self.new ≡ size_of self.old }
         ensures faults { faults_of self.new ≡ faults_of self.old }
-        ensures scripted { result ≡ list_any (λ failure. is_read_failure self.old.reads failure) (script_of self.old) }
-        ensures script { script_of self.new ≡ script_of self.old }
+        ensures scripted { result ≡ (is_stopped self.old || list_any (λ failure. is_read_failure self.old.reads failure) (script_of self.old)) }
+        ensures plan { KeepsPlan self.old self.new }
         ensures next { IsAtCall self.new (min (self.old.reads + 1) 18446744073709551615) self.old.writes self.old.syncs }
     {
         let number = self.reads;
+        let stopped = self.is_stopped();
         self.reads = number.saturating_add(1);
-        self.script.iter().any(|failure| failure.is_read(number))
+        stopped || has_read(&self.script, number)
     }
 
     /// Counts a sync, and says whether it fails.
@@ -155,13 +223,14 @@ impl MemErase {
         ensures calls { calls_of self.new ≡ calls_of self.old }
         ensures size { size_of self.new ≡ size_of self.old }
         ensures faults { faults_of self.new ≡ faults_of self.old }
-        ensures scripted { result ≡ list_any (λ failure. is_sync_failure self.old.syncs failure) (script_of self.old) }
-        ensures script { script_of self.new ≡ script_of self.old }
+        ensures scripted { result ≡ (is_cut self.old || list_any (λ failure. is_sync_failure self.old.syncs failure) (script_of self.old)) }
+        ensures plan { KeepsPlan self.old self.new }
         ensures next { IsAtCall self.new self.old.reads self.old.writes (min (self.old.syncs + 1) 18446744073709551615) }
     {
         let number = self.syncs;
+        let cut = self.is_cut();
         self.syncs = number.saturating_add(1);
-        self.script.iter().any(|failure| failure.is_sync(number))
+        cut || has_sync(&self.script, number)
     }
 
     /// Records a call that leaves something, or counts a failure for want of memory.
@@ -185,6 +254,7 @@ impl MemErase {
         ensures calls { IfOk result (λ disk. calls_of disk ≡ calls_of self.now) }
         ensures faults { IfOk result (λ disk. faults_of disk ≡ faults_of self.now) }
         ensures script { IfOk result (λ disk. script_of disk ≡ []) }
+        ensures stop { IfOk result (λ disk. stop_of disk ≡ None) }
     {
         let mut disk = MemErase::new(self.alloc, self.size);
         disk.calls = copies(self.alloc, &self.calls)?;
@@ -200,11 +270,30 @@ impl MemErase {
         ensures size { IfOk result (λ disk. size_of disk ≡ size_of self.now) }
         ensures faults { IfOk result (λ disk. faults_of disk ≡ 0) }
         ensures script { IfOk result (λ disk. script_of disk ≡ []) }
+        ensures stop { IfOk result (λ disk. stop_of disk ≡ None) }
     {
         let synced = synced_count(&self.calls);
         let mut disk = MemErase::new(self.alloc, self.size);
         disk.calls = copies(self.alloc, &self.calls[..synced])?;
         tear(self.alloc, &mut disk.calls, &self.calls[synced..], choice)?;
+        disk.calls.push(Call::Sync)?;
+        Ok(disk)
+    }
+
+    /// The disk that begins again after a crash now that tears the range of each write since the last sync that succeeded in this one way.
+    /// No failure is to come.
+    pub fn crash_as(&self, torn: &Torn) -> Result<MemErase, AllocError>
+        ensures begins { IfOk result (λ disk. EraseFound (left_all torn.now (calls_of self.now)) (state_of (calls_of disk))) }
+        ensures allowed { OnOk result (MayLeave (state_of (calls_of self.now)) (left_all torn.now (calls_of self.now))) }
+        ensures size { IfOk result (λ disk. size_of disk ≡ size_of self.now) }
+        ensures faults { IfOk result (λ disk. faults_of disk ≡ 0) }
+        ensures script { IfOk result (λ disk. script_of disk ≡ []) }
+        ensures stop { IfOk result (λ disk. stop_of disk ≡ None) }
+    {
+        let synced = synced_count(&self.calls);
+        let mut disk = MemErase::new(self.alloc, self.size);
+        disk.calls = copies(self.alloc, &self.calls[..synced])?;
+        tear_all(self.alloc, &mut disk.calls, &self.calls[synced..], torn)?;
         disk.calls.push(Call::Sync)?;
         Ok(disk)
     }
@@ -233,7 +322,7 @@ impl EraseDisk for MemErase {
         self.faults
     }
 
-    /// Beside the trait's clauses: it fails exactly where the script says.
+    /// Beside the trait's clauses: it fails exactly where the script says, and once the disk has stopped.
     fn read(&mut self, at: u64, into: &mut [u8]) -> Result<(), Fault>
         requires { at + length into.old ≤ size_of self.old }
         ensures size { size_of self.new ≡ size_of self.old }
@@ -266,8 +355,13 @@ impl EraseDisk for MemErase {
         ensures next { CalledWrite self.old self.new }
     {
         let number = self.writes;
+        let (stopped, cut) = (self.is_stopped(), self.is_cut());
         self.writes = number.saturating_add(1);
-        let failure = write_failure(&self.script, number);
+        if stopped {
+            return Err(self.fault());
+        }
+        let whole = Torn::New;
+        let failure = cut_or(cut, &whole, write_failure(&self.script, number));
         let fails = failure.is_some();
         let write = match Written::new(self.alloc, at, from, failure) {
             Ok(write) => write,

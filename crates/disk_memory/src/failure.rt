@@ -1,7 +1,8 @@
 //! Which calls fail.
 
 ghost use Rattle.std.specs.Prelude.{◌≡◌, ◌==◌, ℕ, List, Bool, Option, option_copied};
-ghost use Rattle.disk_memory.specs.Failure.{is_read_failure, is_sync_failure, write_failure_at};
+ghost use Rattle.disk_memory.specs.Failure.{cut_failure, is_read_failure, is_sync_failure, write_failure_at};
+ghost use Rattle.std.specs.List.{list_any};
 
 use crate::torn::Torn;
 
@@ -50,4 +51,26 @@ pub(crate) fn write_failure(script: &[Failure], number: u64) -> Option<&Torn>
         }
     }
     None
+}
+
+/// What a write or a burn leaves, where it fails: all of it, where it is cut off, or else what the script says.
+pub(crate) fn cut_or<'a>(cut: bool, whole: &'a Torn, scripted: Option<&'a Torn>) -> Option<&'a Torn>
+    requires { whole.now ≡ Torn.New }
+    ensures { option_copied result ≡ cut_failure cut (option_copied scripted.entry) }
+{
+    if cut { Some(whole) } else { scripted }
+}
+
+/// Whether the script has this read fail.
+pub(crate) fn has_read(script: &[Failure], number: u64) -> bool
+    ensures { result ≡ list_any (λ failure. is_read_failure number failure) script.now }
+{
+    script.iter().any(|failure| failure.is_read(number))
+}
+
+/// Whether the script has this sync fail.
+pub(crate) fn has_sync(script: &[Failure], number: u64) -> bool
+    ensures { result ≡ list_any (λ failure. is_sync_failure number failure) script.now }
+{
+    script.iter().any(|failure| failure.is_sync(number))
 }

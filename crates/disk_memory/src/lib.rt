@@ -16,7 +16,7 @@ mod pen;
 mod seen;
 mod torn;
 
-pub use both::crash_both;
+pub use both::{crash_all, crash_both};
 pub use burn::Burn;
 pub use call::{Call, Written};
 pub use erase::MemErase;

@@ -4,11 +4,12 @@ ghost use Rattle.std.specs.Prelude.{◌≡◌, ◌<◌, ◌+◌, ◌↔◌, ◌+
 ghost use Rattle.disk_models.specs.Erase.{Counts};
 ghost use Rattle.disk_models.specs.Once.{Burns, BurnsOnly, SettlesOnly};
 ghost use Rattle.disk_models.specs.Left.{OnceFound};
-ghost use Rattle.disk_memory.specs.Burning.{LeavesFailed, once_state_of, torn_burnings};
+ghost use Rattle.disk_memory.specs.Burning.{LeavesFailed, all_torn, once_state_of, torn_burnings};
 ghost use Rattle.disk_memory.specs.OnceFailure.{failing_reads_of};
 ghost use Rattle.disk_memory.specs.Pen.{KeepsBurns, once_faults_of, once_model, once_script_of, settled_of, waiting_of};
 
 use crate::burn::{Burn, burnt, is_tried, tried};
+use crate::failure::cut_or;
 use crate::once_failure::burn_failure;
 use crate::pen::MemPen;
 use crate::seen::MemSeen;
@@ -25,6 +26,7 @@ pub struct MemOnce {
 
 impl MemOnce {
     ghost use Rattle.disk_memory.specs.Once.{blocks_of};
+    ghost use Rattle.disk_memory.specs.Pen.{IsAtOnceCall, once_stop_of};
 
     /// A disk of so many blank blocks, with its pen, with no failure to come.
     pub fn new(alloc: Global, blocks: u64) -> (Self, MemPen)
@@ -34,8 +36,23 @@ impl MemOnce {
         ensures state { once_model result.1 ≡ once_state_of [] [] }
         ensures faults { once_faults_of result.1 ≡ 0 }
         ensures script { once_script_of result.1 ≡ [] }
+        ensures stop { once_stop_of result.1 ≡ None }
     {
         (MemOnce { blocks }, MemPen::new(alloc))
+    }
+
+    /// Cuts the disk off at its k-th burn or settle from here on, the first one being 1. That call fails, and so do all calls by the pen after
+    /// it. A block whose burn is cut off is spent: what stands there is all that was to be burnt, or what a crash makes of it. A
+    /// settle that is cut off settles nothing. No other call fails.
+    pub fn stop_at(&self, pen: &mut MemPen, k: u64)
+        ensures stop { once_stop_of pen.new ≡ Some k }
+        ensures script { once_script_of pen.new ≡ [] }
+        ensures next { IsAtOnceCall pen.new 0 0 0 0 }
+        ensures burns { KeepsBurns pen.old pen.new }
+        ensures faults { once_faults_of pen.new ≡ once_faults_of pen.old }
+    {
+        pen.set_script(Vec::new(pen.alloc));
+        pen.stop = Some(k);
     }
 
     /// The same disk once more, with its pen: what is burnt and settled, and the count of failures. No failure is to
@@ -45,6 +62,7 @@ impl MemOnce {
         ensures burns { IfOk result (λ pair. KeepsBurns pen.now pair.1) }
         ensures faults { IfOk result (λ pair. once_faults_of pair.1 ≡ once_faults_of pen.now) }
         ensures script { IfOk result (λ pair. once_script_of pair.1 ≡ []) }
+        ensures stop { IfOk result (λ pair. once_stop_of pair.1 ≡ None) }
     {
         Ok((*self, pen.copy()?))
     }
@@ -60,8 +78,24 @@ impl MemOnce {
         ensures allowed { IfOk result (λ pair. OnceFound (once_model pen.now) (once_model pair.1)) }
         ensures faults { IfOk result (λ pair. once_faults_of pair.1 ≡ 0) }
         ensures script { IfOk result (λ pair. once_script_of pair.1 ≡ []) }
+        ensures stop { IfOk result (λ pair. once_stop_of pair.1 ≡ None) }
     {
         Ok((*self, pen.crash(choice)?))
+    }
+
+    /// The disk that begins again after a crash now, with its pen. Each burn since the last settle that succeeded leaves this at its block: a
+    /// whole burn of which all came through is settled then. No failure is to come.
+    pub fn crash_as(&self, pen: &MemPen, torn: &Torn) -> Result<(Self, MemPen), AllocError>
+        ensures blocks { IfOk result (λ pair. blocks_of pair.0 ≡ blocks_of self.now) }
+        ensures begins { IfOk result (λ pair. once_model pair.1 ≡ once_state_of (settled_of pen.now ++ all_torn torn.now (waiting_of pen.now)) []) }
+        ensures settled { IfOk result (λ pair. settled_of pair.1 ≡ settled_of pen.now ++ all_torn torn.now (waiting_of pen.now)) }
+        ensures waiting { IfOk result (λ pair. waiting_of pair.1 ≡ []) }
+        ensures allowed { IfOk result (λ pair. OnceFound (once_model pen.now) (once_model pair.1)) }
+        ensures faults { IfOk result (λ pair. once_faults_of pair.1 ≡ 0) }
+        ensures script { IfOk result (λ pair. once_script_of pair.1 ≡ []) }
+        ensures stop { IfOk result (λ pair. once_stop_of pair.1 ≡ None) }
+    {
+        Ok((*self, pen.crash_as(torn)?))
     }
 }
 
@@ -97,7 +131,7 @@ impl OnceDisk for MemOnce {
         self.blocks
     }
 
-    /// Beside the trait's clauses: it fails exactly where the script says.
+    /// Beside the trait's clauses: it fails exactly where the script says, and once the disk has stopped.
     #[tactic(auto, using(crate::proofs::Burnings::tried_append))]
     fn blank(&self, pen: &mut MemPen, n: u64) -> Result<bool, Fault>
         requires { n < blocks_of self.now }
@@ -130,8 +164,13 @@ impl OnceDisk for MemOnce {
         ensures next { CalledBurn pen.old pen.new }
     {
         let number = pen.burns;
+        let (stopped, cut) = (pen.has_stopped(), pen.is_cut());
         pen.burns = number.saturating_add(1);
-        let failure = burn_failure(&pen.script, number);
+        if stopped {
+            return Err(pen.fault());
+        }
+        let whole = Torn::New;
+        let failure = cut_or(cut, &whole, burn_failure(&pen.script, number));
         let fails = failure.is_some();
         let burn = match Burn::new(pen.alloc, n, block, failure) {
             Ok(burn) => burn,

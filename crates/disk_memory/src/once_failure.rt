@@ -2,6 +2,7 @@
 
 ghost use Rattle.std.specs.Prelude.{◌≡◌, ◌==◌, ℕ, List, Bool, Option, IfOk, option_copied};
 ghost use Rattle.disk_memory.specs.OnceFailure.{burn_failure_at, is_blank_failure, is_look_failure, is_settle_failure, failing_reads_of};
+ghost use Rattle.std.specs.List.{list_any};
 
 use crate::torn::Torn;
 use std::alloc::{AllocError, Global};
@@ -78,4 +79,25 @@ pub(crate) fn failing_reads(alloc: Global, script: &[OnceFailure]) -> Result<Vec
         }
     }
     Ok(numbers)
+}
+
+/// Whether the script has this look for a blank block fail.
+pub(crate) fn has_blank(script: &[OnceFailure], number: u64) -> bool
+    ensures { result ≡ list_any (λ failure. is_blank_failure number failure) script.now }
+{
+    script.iter().any(|failure| failure.is_blank(number))
+}
+
+/// Whether the script has this settle fail.
+pub(crate) fn has_settle(script: &[OnceFailure], number: u64) -> bool
+    ensures { result ≡ list_any (λ failure. is_settle_failure number failure) script.now }
+{
+    script.iter().any(|failure| failure.is_settle(number))
+}
+
+/// Whether the script has this look fail.
+pub(crate) fn has_look(script: &[OnceFailure], number: u64) -> bool
+    ensures { result ≡ list_any (λ failure. is_look_failure number failure) script.now }
+{
+    script.iter().any(|failure| failure.is_look(number))
 }

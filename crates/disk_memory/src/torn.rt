@@ -15,6 +15,8 @@ pub enum Torn {
     New,
     /// The first half of what was being written, and FF in the rest.
     Half,
+    /// A5 in every octet. A gate that was being written is open then.
+    Gate,
     /// These octets from its start on, as many as fit, and behind them what it held before.
     Octets(Vec<u8>),
 }
@@ -28,6 +30,7 @@ impl Torn {
             Torn::Old => Ok(Vec::new(alloc)),
             Torn::New => new.to_vec(alloc),
             Torn::Half => half(alloc, new),
+            Torn::Gate => vec![in alloc; 0xa5; new.len()],
             Torn::Octets(octets) => octets.as_slice().to_vec(alloc),
         }
     }

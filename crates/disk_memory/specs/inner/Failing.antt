@@ -1,14 +1,14 @@
 -- What fails next, and what a failure leaves. Contracts of private functions alone cite this file.
 use Rattle.std.specs.Prelude.{◌≡◌, ℕ, List, true, false, Option, None, Some}
 use Rattle.disk_memory.specs.Burning.{Burning, torn_block}
-use Rattle.disk_memory.specs.Memory.{IsAtCall, script_of}
+use Rattle.disk_memory.specs.Memory.{IsAtCall, KeepsPlan}
 use Rattle.disk_memory.specs.Torn.{torn_octets}
 use Rattle.disk_memory.specs.declared.erase.MemErase.{MemErase}
 use Rattle.disk_memory.specs.declared.torn.Torn.{Torn}
 
 -- what fails next is the same
 pub record KeepsScript (old new : MemErase) : Type 0 where
-  pub script : script_of new ≡ script_of old
+  pub plan : KeepsPlan old new
   pub next : IsAtCall new old.reads old.writes old.syncs
 
 -- what comes to stand from the range's start on, where the write of `new` failed, if it did

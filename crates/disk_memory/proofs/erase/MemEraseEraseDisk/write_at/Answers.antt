@@ -17,7 +17,7 @@ returns-then-fails-clause-within c =
 pub returns-clause-octets : goal.returns-clause-octets
 returns-clause-octets c =
     let w : Writing = record { at = c.args.at; length = length c.args.from.now; octets = c.args.from.now } in
-    let octets = whole c.write_failure-failure.result c.is_some-fails.result c.args.from.now c.is_some-fails.ensures c.if-fails.false in
+    let octets = whole c.cut_or-failure.result c.is_some-fails.result c.args.from.now c.is_some-fails.ensures c.if-fails.false in
     more_done w (calls_of c.args.self.now) _ refl
     (c.in_ok-record.ensures.ok ∙ ap (λ (w : Writing). calls_of c.args.self.now ++ Write w ∷ []) (c.in-Ok.ensures ∙ ap (λ (o : List _). record w { octets = o }) octets))
 
