@@ -1,5 +1,5 @@
 -- What a call that committed, or ended before, left of an archive.
-use Rattle.std.proofs.Common.{◌≡◌, ◌⊎◌, inl, inr, ⊎_elim, ℕ, List, true, sym, ◌∙◌, subst}
+use Rattle.std.proofs.Common.{◌≡◌, ◌⊎◌, inl, inr, ⊎_elim, ℕ, List, true, sym, ◌∙◌, subst, ◌≤◌, arith}
 use Rattle.disk_models.specs.declared.erase.EraseDisk.{Ghosts as EraseGhosts}
 use Rattle.disk_models.specs.declared.once.OnceDisk.{Ghosts as OnceGhosts}
 use Rattle.disk_models.specs.Erase.{MayLeave, Leaves, IsSound}
@@ -58,10 +58,8 @@ ready_means {erase = erase} a h k b shown r c may =
 pub unwritten : {E O Pen Seen : Type 0} {erase : EraseGhosts E} {once : OnceGhosts O Pen Seen} (a z : Archive E O Pen Seen erase once) (h g : History) (k : Carries a h) (shown : List (List ℕ)) → AllSound erase → Ready a h k z.tx shown → Grows (once_state a) (once_state z)
     → Crashes a z (LeftEither (site_of a) h g)
 unwritten {erase = erase} a z h g k shown sound r grows = record {
-  first = once_state a;
-  from = grows_none (once_state a);
-  to = grows;
-  each = no_write (erase_state a) (erase_state z) (once_state a) (once_state a) (once_state z) (LeftEither (site_of a) h g) (sound _ r.shows.honest) r.shows.clocked
+  later = (let clocked = r.shows.clocked in omega (arith, clocked));
+  each = no_write (erase_state a) (erase_state z) (once_state a) (once_state z) (once_state z) (LeftEither (site_of a) h g) (sound _ r.shows.honest) r.shows.clocked
       (λ left may has. inl (now_carries (site_of a) (once_state a) a.head k.pages h left (headed_of a h k) (ready_means a h k z.tx shown r left.erase may) has));
 }
 
@@ -71,9 +69,7 @@ pub written : {E O Pen Seen : Type 0} {erase : EraseGhosts E} {once : OnceGhosts
     → Leaves (erase.model (erase_disk (journal_of (pool_of b)))) (erase_state z) (RecoversEither (home_pages (journal_of (pool_of b))) (site_of a).note k.pages shown)
     → Crashes a z (LeftEither (site_of a) h g)
 written {erase = erase} a z h g k b shown next sound r grows n l = record {
-  first = once_state z;
-  from = grows;
-  to = grows_none (once_state z);
+  later = (let clocked = r.shows.clocked in let later = l.later in omega (arith, clocked, later));
   each =
       let e = erase.model (erase_disk (journal_of (pool_of b))) in
       let l' = subst (λ m. Leaves e (erase_state z) (RecoversEither m (site_of a).note k.pages shown)) r.homes l in

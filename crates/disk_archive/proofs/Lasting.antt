@@ -1,19 +1,19 @@
 -- What is held after a call, and what lasts.
-use Rattle.std.proofs.Common.{◌≡◌, ◌⊎◌, inl, inr, ⊎_elim, true, false, sym, ◌∙◌, ap, subst, true≢false}
+use Rattle.std.proofs.Common.{◌≡◌, ◌⊎◌, inl, inr, ⊎_elim, true, false, sym, ◌∙◌, ap, subst, true≢false, ◌≤◌, arith}
 use Rattle.disk_models.specs.declared.erase.EraseDisk.{Ghosts as EraseGhosts}
 use Rattle.disk_models.specs.declared.once.OnceDisk.{Ghosts as OnceGhosts}
 use Rattle.disk_models.specs.Erase.{DiskState}
-use Rattle.disk_models.specs.Once.{OnceState, Grows}
+use Rattle.disk_models.specs.Once.{OnceState}
 use Rattle.disk_models.specs.Left.{TriedWithin}
-use Rattle.page_journal.specs.Journal.{disk_of as erase_disk}
+use Rattle.page_journal.specs.Journal.{disk_of as erase_disk, needs_recovery}
 use Rattle.route_meaning.specs.History.{History, Begins}
 use Rattle.route_meaning.proofs.api.Beginning.{Begins-refl, Begins-trans}
 use Rattle.disk_archive.specs.declared.archive.Archive.{Archive}
 use Rattle.disk_archive.specs.Sites.{LeftEither}
-use Rattle.disk_archive.specs.Archives.{Carries, GoesOn, Holds, Stands, IsHonest, erase_state, once_state, site_of, is_down}
+use Rattle.disk_archive.specs.Archives.{Carries, GoesOn, Holds, Stands, IsHonest, erase_of, erase_state, once_state, site_of, is_down}
 use Rattle.disk_archive.specs.Crashes.{Crashes, Lasts}
 use Rattle.disk_archive.specs.inner.Idle.{IsAsBefore}
-use Rattle.disk_archive.proofs.Calling.{AllSound, grows_none}
+use Rattle.disk_archive.proofs.Calling.{AllSound}
 use Rattle.disk_archive.proofs.Telling.{waits_same}
 
 usable_of : {E O Pen Seen : Type 0} {erase : EraseGhosts E} {once : OnceGhosts O Pen Seen} (a : Archive E O Pen Seen erase once) (h : History) → Carries a h → is_down a ≡ false
@@ -41,9 +41,7 @@ lasts_by {erase = erase} a z sound honest idle after crash h stands =
     record {
       stands = (then'.0, Begins-trans h g then'.0 stands.1 then'.1, then'.2);
       inside = record {
-        first = each.2.first;
-        from = each.2.from;
-        to = each.2.to;
+        later = each.2.later;
         each = λ left pair. ⊎_elim (λ was. (g, stands.1, was)) (λ is. (each.0, Begins-trans h g each.0 stands.1 each.1, is)) (each.2.each left pair);
       };
     })
@@ -53,9 +51,7 @@ lasts_by {erase = erase} a z sound honest idle after crash h stands =
     record {
       stands = (g, stands.1, inr (waits_same a z g w s.journal s.disk s.state s.settings s.head s.lanes (honest w.honest)));
       inside = record {
-        first = once_state a;
-        from = grows_none (once_state a);
-        to = subst (λ (o : OnceState). Grows (once_state a) o) (sym s.state) (grows_none (once_state a));
+        later = subst (λ (x : DiskState). (erase_state a).clock ≤ x.clock) (sym e) (omega arith);
         each = λ left pair.
             let o = once_state a in
             let f = w.rests left (record {
@@ -75,3 +71,7 @@ pub lasts_of : {E O Pen Seen : Type 0} {erase : EraseGhosts E} {once : OnceGhost
 lasts_of a z to beg sound honest idle after crash h stands = lasts_by a z sound honest idle
     (λ g k. ⊎_elim (λ moved. (to g, beg g, inl moved)) (λ same. (g, Begins-refl g, same)) (after g k))
     (λ g k. (to g, beg g, crash g k)) h stands
+
+-- a call that did nothing leaves an archive as it must be opened again
+pub down_still : {E O Pen Seen : Type 0} {erase : EraseGhosts E} {once : OnceGhosts O Pen Seen} (a z : Archive E O Pen Seen erase once) → is_down a ≡ true → IsAsBefore a z → (erase_of z ≡ erase_of a) × (once_state z ≡ once_state a) × (is_down z ≡ true)
+down_still a z down s = (ap (λ j. erase_disk j) s.journal, s.state, ap needs_recovery s.journal ∙ down)

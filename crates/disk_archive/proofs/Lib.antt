@@ -19,9 +19,11 @@ mod Reaching
 mod Burning
 mod Applied
 mod Looking
+mod Guarding
 mod Found
 mod NoteReading
 mod Recalled
+mod Waiting
 mod Rooted
 mod Reopened
 mod Meanings

@@ -32,8 +32,8 @@ use Rattle.disk_archive.specs.declared.mark_error.MarkError.{MarkError}
 use Rattle.disk_archive.specs.declared.mark_error.MarkError.TheVariants as refusals
 use Rattle.disk_archive.specs.inner.Committing.{CommitRefusal}
 use Rattle.disk_models.specs.Left.{Left}
-use Rattle.disk_archive.specs.Sites.{Site, LeftEither}
-use Rattle.disk_archive.specs.inner.Marked.{LeftMarked, mark_of_commit}
+use Rattle.disk_archive.specs.Sites.{Site, LeftEither, LeftMarked}
+use Rattle.disk_archive.specs.inner.Marked.{mark_of_commit}
 use Rattle.disk_archive.specs.inner.Planning.{Planned}
 use Rattle.disk_archive.proofs.Mirroring.{intake_at, mark_there}
 use Rattle.disk_archive.proofs.api.Trees.{tree_framed}

@@ -1,11 +1,11 @@
 -- What both disks read as is what the archive carries that is opened on them.
-use Rattle.std.proofs.Common.{◌≡◌, ◌<◌, ◌≤◌, inl, ℕ, zero, suc, ◌+◌, ◌*◌, List, length, refl, sym, ◌∙◌, ap, subst, arith, Result, Ok, Err, IfOk, IfErr}
+use Rattle.std.proofs.Common.{◌≡◌, ◌⊎◌, ◌<◌, ◌≤◌, inl, inr, ⊎_elim, ℕ, zero, suc, ◌+◌, ◌*◌, List, length, refl, sym, ◌∙◌, ap, subst, arith, Result, Ok, Err, IfOk, IfErr}
 use Rattle.std.proofs.Math.Nat.{suc-mul}
 use Rattle.disk_models.specs.declared.erase.EraseDisk.{Ghosts as EraseGhosts}
 use Rattle.disk_models.specs.declared.once.OnceDisk.{Ghosts as OnceGhosts}
-use Rattle.disk_models.specs.Erase.{DiskState, IsSound}
+use Rattle.disk_models.specs.Erase.{DiskState, IsSound, MayLeave}
 use Rattle.disk_models.specs.Once.{OnceState, settled_in}
-use Rattle.disk_models.specs.Left.{CrashPair, HasSettled, IsFound, Left, LeftNow, present}
+use Rattle.disk_models.specs.Left.{CrashPair, HasSettled, IsFound, Left, LeftNow, TriedWithin, present}
 use Rattle.disk_models.proofs.api.Pairs.{present_now}
 use Rattle.page_journal.specs.Journal.{disk_of as erase_disk}
 use Rattle.page_journal.specs.Recovers.{Recovers}
@@ -32,7 +32,7 @@ use Rattle.disk_archive.specs.Sites.{IsNoted, LeftCarries, Rests, Site}
 use Rattle.disk_archive.specs.Trees.{TreeLies}
 use Rattle.disk_archive.specs.inner.Looking.{LooksAt}
 use Rattle.disk_archive.specs.inner.Recalling.{RecallRefusal}
-use Rattle.disk_archive.specs.inner.Restoring.{MeansSince}
+use Rattle.disk_archive.specs.inner.Guarding.{MeansOr}
 use Rattle.archive_pages.proofs.api.Bearing.{bears_grown}
 use Rattle.disk_archive.proofs.api.Trees.{tree_grows}
 use Rattle.disk_archive.proofs.Crossing.{now_carries}
@@ -100,13 +100,20 @@ left_read site blocks e o h left r means has =
     now_carries site o k.head r.carries.pages h left (record { valid = k.valid; first = k.first; bears = k.bears }) means has
 
 -- each crash inside the call
-pub crash_read : (site : Site) (blocks : ℕ) (e0 e1 : DiskState) (o om o1 : OnceState) (h : History) → (r : ReadsAs site blocks e0 o h) → MeansSince e1 e0.clock site.homes site.note r.carries.pages → (left : Left) → CrashPair e0 e1 o om o1 left → LeftCarries site h left
-crash_read site blocks e0 e1 o om o1 h r m left pair = left_read site blocks e0 o h left r (m.each left.erase pair.erase) pair.settled
+pub inside_read : (site : Site) (blocks : ℕ) (e0 e1 : DiskState) (o om o1 : OnceState) (h : History) → (r : ReadsAs site blocks e0 o h) → o1 ≡ o → MeansOr e1 e0.clock (MayLeave e0) site.homes site.note r.carries.pages → (left : Left) → CrashPair e0 e1 o om o1 left → LeftNow e0 o left ⊎ LeftCarries site h left
+inside_read site blocks e0 e1 o om o1 h r same m left pair = ⊎_elim
+    (λ was. inl (record { erase = was; tried = pair.tried; within = subst (λ (x : OnceState). TriedWithin x left) same pair.within; settled = pair.settled }))
+    (λ means. inr (left_read site blocks e0 o h left r means pair.settled))
+    (m.each left.erase pair.erase)
 
 -- and each one after it
-pub kept_read : (site : Site) (blocks : ℕ) (e0 e1 : DiskState) (o o1 : OnceState) (h : History) → (r : ReadsAs site blocks e0 o h) → IsSound e1 → o1 ≡ o → MeansSince e1 e0.clock site.homes site.note r.carries.pages → (left : Left) → LeftNow e1 o1 left → LeftCarries site h left
-kept_read site blocks e0 e1 o o1 h r sound same m left now =
-    left_read site blocks e0 o h left r (m.each left.erase (sound.counts_now e0.clock left.erase m.later now.erase)) (subst (λ (x : OnceState). HasSettled x left) same now.settled)
+pub after_read : (site : Site) (blocks : ℕ) (e0 e1 : DiskState) (o o1 : OnceState) (h : History) → (r : ReadsAs site blocks e0 o h) → IsSound e1 → o1 ≡ o → MeansOr e1 e0.clock (MayLeave e0) site.homes site.note r.carries.pages → (left : Left) → LeftNow e1 o1 left → LeftNow e0 o left ⊎ LeftCarries site h left
+after_read site blocks e0 e1 o o1 h r sound same m left now =
+    let here : LeftNow e1 o left = subst (λ (x : OnceState). LeftNow e1 x left) same now in
+    ⊎_elim
+    (λ was. inl (record { erase = was; tried = here.tried; within = here.within; settled = here.settled }))
+    (λ means. inr (left_read site blocks e0 o h left r means here.settled))
+    (m.each left.erase (sound.counts_now e0.clock left.erase m.later now.erase))
 
 -- ---- refusals
 

@@ -1,9 +1,9 @@
 -- Calls that carry a history on, whatever step they take.
-use Rattle.std.proofs.Common.{◌≡◌, inr, ⊎_elim, true, sym, ap, subst}
+use Rattle.std.proofs.Common.{◌≡◌, inr, ⊎_elim, true, sym, ap, subst, ◌≤◌, arith}
 use Rattle.disk_models.specs.declared.erase.EraseDisk.{Ghosts as EraseGhosts}
 use Rattle.disk_models.specs.declared.once.OnceDisk.{Ghosts as OnceGhosts}
 use Rattle.disk_models.specs.Erase.{DiskState}
-use Rattle.disk_models.specs.Once.{OnceState, Grows}
+use Rattle.disk_models.specs.Once.{OnceState}
 use Rattle.disk_models.specs.Left.{Left, TriedWithin}
 use Rattle.page_journal.specs.Journal.{disk_of as erase_disk}
 use Rattle.route_meaning.specs.History.{History}
@@ -13,12 +13,12 @@ use Rattle.disk_archive.specs.Sites.{LeftFrom}
 use Rattle.disk_archive.specs.Archives.{Carries, Stands, IsHonest, erase_state, once_state, site_of, is_down}
 use Rattle.disk_archive.specs.Crashes.{Crashes, Lasts}
 use Rattle.disk_archive.specs.inner.Idle.{IsAsBefore}
-use Rattle.disk_archive.proofs.Calling.{AllSound, grows_none}
+use Rattle.disk_archive.proofs.Calling.{AllSound}
 use Rattle.disk_archive.proofs.Telling.{waits_same}
 
 -- what follows of whatever a crash left
 pub crashes_weaker : {E O Pen Seen : Type 0} {erase : EraseGhosts E} {once : OnceGhosts O Pen Seen} (a z : Archive E O Pen Seen erase once) (P Q : Left → Type 0) → ((left : Left) → P left → Q left) → Crashes a z P → Crashes a z Q
-crashes_weaker a z P Q weaker c = record { first = c.first; from = c.from; to = c.to; each = λ left pair. weaker left (c.each left pair) }
+crashes_weaker a z P Q weaker c = record { later = c.later; each = λ left pair. weaker left (c.each left pair) }
 
 -- A call that goes on with a history that the one of before begins, in each crash too, and does nothing while the archive must be opened
 -- again.
@@ -33,9 +33,7 @@ lasts_steps {erase = erase} a z sound honest idle after crash h stands =
     record {
       stands = (then.0, Begins-trans h g then.0 stands.1 then.1, then.2);
       inside = record {
-        first = each.first;
-        from = each.from;
-        to = each.to;
+        later = each.later;
         each = λ left pair. let f = each.each left pair in (f.0, Begins-trans h g f.0 stands.1 f.1, f.2);
       };
     })
@@ -45,9 +43,7 @@ lasts_steps {erase = erase} a z sound honest idle after crash h stands =
     record {
       stands = (g, stands.1, inr (waits_same a z g w s.journal s.disk s.state s.settings s.head s.lanes (honest w.honest)));
       inside = record {
-        first = once_state a;
-        from = grows_none (once_state a);
-        to = subst (λ (o : OnceState). Grows (once_state a) o) (sym s.state) (grows_none (once_state a));
+        later = subst (λ (x : DiskState). (erase_state a).clock ≤ x.clock) (sym e) (omega arith);
         each = λ left pair.
             let o = once_state a in
             let f = w.rests left (record {

@@ -5,6 +5,7 @@ use Rattle.disk_models.specs.Once.{OnceState, settled_in}
 use Rattle.disk_models.specs.Left.{Left, LeftNow}
 use Rattle.page_journal.specs.Recovers.{Recovers}
 use Rattle.route_meaning.specs.History.{History, Begins}
+use Rattle.interleaving_core.specs.Steps.{IsMarkAbove, marked}
 use Rattle.archive_pages.specs.declared.settings.Settings.{Settings}
 use Rattle.archive_pages.specs.Places.{AreSettings}
 use Rattle.archive_pages.specs.Carried.{Represents}
@@ -32,6 +33,10 @@ pub record LeftCarries (site : Site) (h : History) (left : Left) : Type 0 where
 -- it carries one history or the other
 abbrev pub LeftEither : Site → History → History → Left → Type 0
 LeftEither site h g left = LeftCarries site h left ⊎ LeftCarries site g left
+
+-- it carries one history, or that with the mark, which then isn't below the collector's
+abbrev pub LeftMarked : Site → History → ℕ → ℕ → Left → Type 0
+LeftMarked site h c mark left = LeftCarries site h left ⊎ ((IsMarkAbove h c mark → ⊥) × LeftCarries site (marked h c mark) left)
 
 -- it carries a history that this one begins
 abbrev pub LeftFrom : Site → History → Left → Type 0

@@ -14,3 +14,4 @@ pub mod Asking
 pub mod Checking
 pub mod Descending
 pub mod ReadFaults
+pub mod Guarding

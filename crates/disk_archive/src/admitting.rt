@@ -122,6 +122,7 @@ impl<E: EraseDisk + Drop, O: OnceDisk + Drop> Archive<E, O> {
         ensures crash { (h : History) → Carries self.old h → Crashes self.old self.new (LeftEither (site_of self.old) h (given h collector batch.now)) }
         ensures lasts { (h : History) → Stands self.old h → Lasts self.old self.new h }
         ensures usable { OnOk result (is_down self.old ≡ false) }
+        ensures idle { is_down self.old ≡ true → (erase_of self.new ≡ erase_of self.old) × (once_state self.new ≡ once_state self.old) × (is_down self.new ≡ true) }
         ensures still_usable { OnOk result (is_down self.new ≡ false) }
         ensures falls { is_down self.old ≡ false → is_down self.new ≡ true → result ≡ Err AdmitError.Fault }
         ensures quiet { result ≢ Err AdmitError.Fault → E.fault_count (erase_of self.new) ≡ E.fault_count (erase_of self.old) }

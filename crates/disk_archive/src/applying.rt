@@ -117,6 +117,7 @@ impl<E: EraseDisk + Drop, O: OnceDisk + Drop> Archive<E, O> {
         ensures crash { (h : History) → Carries self.old h → (g : History) × ((g ≡ h) ⊎ Moves h g) × Crashes self.old self.new (LeftEither (site_of self.old) h g) }
         ensures lasts { (h : History) → Stands self.old h → Lasts self.old self.new h }
         ensures usable { OnOk result (is_down self.old ≡ false) }
+        ensures down_idle { is_down self.old ≡ true → (erase_of self.new ≡ erase_of self.old) × (once_state self.new ≡ once_state self.old) × (is_down self.new ≡ true) }
         ensures still_usable { OnOk result (is_down self.new ≡ false) }
         ensures falls { is_down self.old ≡ false → is_down self.new ≡ true → result ≡ Err ApplyError.Fault }
         ensures failed { CountsFailures (E.fault_count (erase_of self.old)) (E.fault_count (erase_of self.new)) (O.pen_fault_count (pen_in self.old)) (O.pen_fault_count (pen_in self.new)) (result ≡ Err ApplyError.Fault) }

@@ -45,7 +45,7 @@ pub struct Archive<E: EraseDisk + Drop, O: OnceDisk + Drop> {
 }
 
 impl<E: EraseDisk + Drop, O: OnceDisk + Drop> Archive<E, O> {
-    ghost use Rattle.disk_archive.specs.Archives.{Holds, IsHonest, erase_of, once_of, once_state, pen_in, settings_of};
+    ghost use Rattle.disk_archive.specs.Archives.{Holds, IsHonest, erase_of, is_down, once_of, once_state, pen_in, settings_of};
     ghost use Rattle.disk_archive.specs.Checks.{applied_in};
 
     /// How many collectors there are, 1 to 16. Their numbers begin with 0.
@@ -102,6 +102,8 @@ impl<E: EraseDisk + Drop, O: OnceDisk + Drop> Archive<E, O> {
         ensures fresh { IfOk result (λ seen. O.seen_fault_count seen ≡ 0) }
         ensures counts { Counts (O.pen_fault_count (pen_in self.old)) (O.pen_fault_count (pen_in self.new)) result }
         ensures holds { (h : History) → Holds self.old h → Holds self.new h }
+        ensures pages { erase_of self.new ≡ erase_of self.old }
+        ensures down { is_down self.new ≡ is_down self.old }
         ensures honest { IsHonest self.old ↔ IsHonest self.new }
         ensures settings { settings_of self.new ≡ settings_of self.old }
         ensures disk { once_of self.new ≡ once_of self.old }

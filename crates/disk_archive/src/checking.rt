@@ -1,6 +1,6 @@
 //! The whole tree is read, and what is applied is counted.
 
-ghost use Rattle.std.specs.Prelude.{◌≡◌, ◌↔◌, ◌<◌, ◌≤◌, ◌^◌, ℕ, List, length, sum_by, IfOk, IfErr, OnOk, Err, true, false};
+ghost use Rattle.std.specs.Prelude.{◌≡◌, ◌⊎◌, ◌↔◌, ◌<◌, ◌≤◌, ◌^◌, ℕ, List, length, sum_by, IfOk, IfErr, OnOk, Err, true, false};
 ghost use Rattle.once_store.specs.Readers.{reader_disk};
 ghost use Rattle.page_tx.specs.Device.{KeepsDevice};
 ghost use Rattle.page_tx.specs.Start.{Start};
@@ -14,14 +14,17 @@ ghost use Rattle.tsb_tree.specs.Opened.{ShowsRoot};
 ghost use Rattle.tsb_walk.specs.Knowing.{ReadsWell};
 ghost use Rattle.tsb_walk.specs.Shown.{AreShown};
 ghost use Rattle.disk_archive.specs.Checks.{IsAllRead, IsBadBlock, IsBadPage, IsRootPlace};
+ghost use Rattle.disk_archive.specs.Rings.{AreRings, IsBadRing};
 ghost use Rattle.disk_archive.specs.inner.Asking.{HasTree};
 ghost use Rattle.disk_archive.specs.inner.Checking.{CountRefusal, FindsNone};
 ghost use Rattle.disk_archive.specs.inner.ReadFaults.{TellsRead};
 
 use crate::archive::Archive;
 use crate::check_error::{CheckError, of_root};
+use crate::checking_rings::check_rings;
 use crate::committing::begin;
 use archive_head::Head;
+use archive_pages::Settings;
 use disk_models::{EraseDisk, OnceDisk};
 use once_store::ShelfReader;
 use page_tx::Pages;
@@ -69,7 +72,7 @@ fn in_use_by(head: &Head, burnt: u64) -> InUse
 
 // How many versions the archive's tree has: as many as the head counts applied changes. It uses no page and no block from the first ones on
 // that the head calls unused. No block from `burnt` on was ever burnt.
-fn count_by<P: Pages, O: OnceDisk + Drop>(
+fn count_tree<P: Pages, O: OnceDisk + Drop>(
     alloc: Global,
     pages: &mut P,
     reader: &mut ShelfReader<O>,
@@ -102,9 +105,43 @@ fn count_by<P: Pages, O: OnceDisk + Drop>(
     Ok(count)
 }
 
+// Reads what waits and the tree, and returns how many versions the tree has.
+fn count_by<P: Pages, O: OnceDisk + Drop>(
+    alloc: Global,
+    pages: &mut P,
+    reader: &mut ShelfReader<O>,
+    seen: &mut O::Seen,
+    settings: Settings,
+    head: &Head,
+    burnt: u64,
+) -> Result<u64, CheckError>
+    requires burnt { head.now.block ≤ burnt }
+    requires lanes { length head.now.lanes ≡ settings.collectors }
+    ensures counted { IfOk result (λ n. n ≡ head.now.applied) }
+    ensures finds { (ps : List (Placed Admitted)) (t : HasTree P.Pages pages.old O.OnceDisk reader.old seen.old head.now.root head.now.fresh head.now.block ps) → AreRings t.shown settings head.now
+        → head.now.applied ≡ length (timed ps) → head.now.applied < 2 ^ 64 → IfErr result FindsNone }
+    ensures rings { (start : Start) (shown : List (List ℕ)) → P.shows pages.old start shown → OnOk result (AreRings shown settings head.now) }
+    ensures read { (start : Start) (shown : List (List ℕ)) → P.shows pages.old start shown → ReadsWell O.OnceDisk reader.old seen.old → IfOk result (IsAllRead shown (O.known seen.old) (O.block_count (reader_disk reader.old)) head.now.root (record { recorded_on = 0; pages = head.now.fresh; blocks = head.now.block; burnt = burnt })) }
+    ensures bad { (start : Start) (shown : List (List ℕ)) → P.shows pages.old start shown → ReadsWell O.OnceDisk reader.old seen.old
+        → (page : ℕ) → result ≡ Err (CheckError.BadNode page) → IsBadPage shown (O.known seen.old) (O.block_count (reader_disk reader.old)) head.now.root head.now.applied (record { recorded_on = 0; pages = head.now.fresh; blocks = head.now.block; burnt = burnt }) page ⊎ IsBadRing shown settings head.now page }
+    ensures damaged { (start : Start) (shown : List (List ℕ)) → P.shows pages.old start shown → ReadsWell O.OnceDisk reader.old seen.old
+        → (block : ℕ) → result ≡ Err (CheckError.Damaged block) → IsBadBlock shown (O.known seen.old) (O.block_count (reader_disk reader.old)) head.now.root block }
+    ensures refused { IfErr result (CountRefusal (P.down pages.old)) }
+    ensures reads { (start : Start) (shown : List (List ℕ)) → P.shows pages.old start shown → P.shows pages.new start shown }
+    ensures homes { P.homes pages.new ≡ P.homes pages.old }
+    ensures down { P.down pages.new ≡ P.down pages.old }
+    ensures honest { P.honest pages.old ↔ P.honest pages.new }
+    ensures look { O.honest_seen (reader_disk reader.old) seen.old → O.honest_seen (reader_disk reader.old) seen.new }
+    ensures failed { TellsRead (P.faults pages.old) (P.faults pages.new) (O.seen_fault_count seen.old) (O.seen_fault_count seen.new) (result ≡ Err CheckError.Fault) }
+{
+    check_rings(alloc, pages, settings, head)?;
+    count_tree(alloc, pages, reader, seen, head, burnt)
+}
+
 impl<E: EraseDisk + Drop, O: OnceDisk + Drop> Archive<E, O> {
-    ghost use Rattle.disk_archive.specs.Archives.{Carries, Holds, Stands, IsHonest, is_down, once_of, once_state, settings_of, site_of};
+    ghost use Rattle.disk_archive.specs.Archives.{Carries, Holds, Stands, IsHonest, erase_of, is_down, once_of, once_state, settings_of, site_of};
     ghost use Rattle.disk_archive.specs.Checks.{HasPages, applied_in, in_use_of, root_in};
+    ghost use Rattle.disk_archive.specs.Rings.{head_in};
     ghost use Rattle.disk_archive.specs.Sites.{LeftCarries, LeftEither};
     ghost use Rattle.disk_archive.specs.Crashes.{Crashes, Lasts};
     ghost use Rattle.disk_archive.specs.Failures.{TellsFailure};
@@ -121,8 +158,9 @@ impl<E: EraseDisk + Drop, O: OnceDisk + Drop> Archive<E, O> {
         ensures counted { IfOk result (λ n. n ≡ applied_in self.old) }
         ensures finds { (h : History) → Carries self.old h → IfErr result FindsNone }
         ensures read { IsHonest self.old → (pages : List (List ℕ)) → HasPages self.old pages → IfOk result (IsAllRead pages (once_state self.old).settled (O.block_count (once_of self.old)) (root_in self.old) (in_use_of self.old)) }
+        ensures rings { IsHonest self.old → (pages : List (List ℕ)) → HasPages self.old pages → OnOk result (AreRings pages (settings_of self.old) (head_in self.old)) }
         ensures bad { IsHonest self.old → (pages : List (List ℕ)) → HasPages self.old pages
-            → (page : ℕ) → result ≡ Err (CheckError.BadNode page) → IsBadPage pages (once_state self.old).settled (O.block_count (once_of self.old)) (root_in self.old) (applied_in self.old) (in_use_of self.old) page }
+            → (page : ℕ) → result ≡ Err (CheckError.BadNode page) → IsBadPage pages (once_state self.old).settled (O.block_count (once_of self.old)) (root_in self.old) (applied_in self.old) (in_use_of self.old) page ⊎ IsBadRing pages (settings_of self.old) (head_in self.old) page }
         ensures damaged { IsHonest self.old → (pages : List (List ℕ)) → HasPages self.old pages
             → (block : ℕ) → result ≡ Err (CheckError.Damaged block) → IsBadBlock pages (once_state self.old).settled (O.block_count (once_of self.old)) (root_in self.old) block }
         ensures carries { (h : History) → Carries self.old h → Carries self.new h }
@@ -141,17 +179,19 @@ impl<E: EraseDisk + Drop, O: OnceDisk + Drop> Archive<E, O> {
             &mut self.tx,
             &mut reader,
             &mut seen,
+            self.settings,
             &self.head,
             burnt,
         )
     }
 
-    /// Reads every page and every block that the tree leads to, and returns how many changes are applied: as many as the tree has
-    /// versions. The error names the first page or block that isn't what it is to be: page 0, where the head has another number, or calls
-    /// a page or a block unused that the tree uses; the page of a column that names a block which was never burnt.
+    /// Reads all that waits in the rings, and every page and every block that the tree leads to, and returns how many changes are applied:
+    /// as many as the tree has versions. The error names the first page or block that isn't what it is to be: the page of a ring on which no
+    /// admission begins where one has to; page 0, where the head has another number, or calls a page or a block unused that the tree uses;
+    /// the page of a column that names a block which was never burnt.
     ///
-    /// Nothing is written. Pages come through the archive's cache, and at most 64 blocks are kept, for the time of the call. `Fault` is told
-    /// just where a read, or the look at what is settled, failed. After each outcome the archive holds the history that it held.
+    /// Nothing is written. Pages come through the archive's cache, and at most 64 blocks are kept, for the time of the call. `Fault` is returned
+    /// only where a read, or the look at what is settled, failed. After each outcome the archive holds the history that it held.
     pub fn check(&mut self) -> Result<u64, CheckError>
         ensures counted { IfOk result (λ n. IsHonest self.old → (h : History) → Holds self.old h → n ≡ sum_by (λ p. length p.item.changes) (applied h)) }
         ensures head { IfOk result (λ n. n ≡ applied_in self.old) }
@@ -159,14 +199,16 @@ impl<E: EraseDisk + Drop, O: OnceDisk + Drop> Archive<E, O> {
         ensures undamaged { IsHonest self.old → (h : History) → Holds self.old h → (block : ℕ) → result ≡ Err (CheckError.Damaged block) → ⊥ }
         ensures failed { TellsFailure self.old self.new (once_of self.old) (result ≡ Err CheckError.Fault) }
         ensures read { IsHonest self.old → (pages : List (List ℕ)) → HasPages self.old pages → IfOk result (IsAllRead pages (once_state self.old).settled (O.block_count (once_of self.old)) (root_in self.old) (in_use_of self.old)) }
+        ensures rings { IsHonest self.old → (pages : List (List ℕ)) → HasPages self.old pages → OnOk result (AreRings pages (settings_of self.old) (head_in self.old)) }
         ensures bad { IsHonest self.old → (pages : List (List ℕ)) → HasPages self.old pages
-            → (page : ℕ) → result ≡ Err (CheckError.BadNode page) → IsBadPage pages (once_state self.old).settled (O.block_count (once_of self.old)) (root_in self.old) (applied_in self.old) (in_use_of self.old) page }
+            → (page : ℕ) → result ≡ Err (CheckError.BadNode page) → IsBadPage pages (once_state self.old).settled (O.block_count (once_of self.old)) (root_in self.old) (applied_in self.old) (in_use_of self.old) page ⊎ IsBadRing pages (settings_of self.old) (head_in self.old) page }
         ensures damaged { IsHonest self.old → (pages : List (List ℕ)) → HasPages self.old pages
             → (block : ℕ) → result ≡ Err (CheckError.Damaged block) → IsBadBlock pages (once_state self.old).settled (O.block_count (once_of self.old)) (root_in self.old) block }
         ensures holds { (h : History) → Holds self.old h → Holds self.new h }
         ensures crash { (h : History) → Carries self.old h → Crashes self.old self.new (LeftCarries (site_of self.old) h) }
         ensures lasts { (h : History) → Stands self.old h → Lasts self.old self.new h }
         ensures usable { OnOk result (is_down self.old ≡ false) }
+        ensures idle { is_down self.old ≡ true → (erase_of self.new ≡ erase_of self.old) × (once_state self.new ≡ once_state self.old) × (is_down self.new ≡ true) }
         ensures down { is_down self.new ≡ is_down self.old }
         ensures recovery { (result ≡ Err CheckError.NeedsRecovery) ↔ (is_down self.old ≡ true) }
         ensures honest { IsHonest self.old ↔ IsHonest self.new }

@@ -88,6 +88,7 @@ impl<E: EraseDisk + Drop, O: OnceDisk + Drop> Archive<E, O> {
         ensures crash { (h : History) → Carries self.old h → Crashes self.old self.new (LeftCarries (site_of self.old) h) }
         ensures lasts { (h : History) → Stands self.old h → Lasts self.old self.new h }
         ensures usable { OnOk result ((is_down self.old ≡ false) × (is_down self.new ≡ false)) }
+        ensures idle { is_down self.old ≡ true → (erase_of self.new ≡ erase_of self.old) × (once_state self.new ≡ once_state self.old) × (is_down self.new ≡ true) }
         ensures recovery { (result ≡ Err FlushError.NeedsRecovery) ↔ (is_down self.old ≡ true) }
         ensures quiet { result ≢ Err FlushError.Fault → E.fault_count (erase_of self.new) ≡ E.fault_count (erase_of self.old) }
         ensures counted { result ≡ Err FlushError.Fault → E.fault_count (erase_of self.new) ≡ min (E.fault_count (erase_of self.old) + 1) 18446744073709551615 }

@@ -110,10 +110,9 @@ fn plan_mark<P: Pages>(
 
 impl<E: EraseDisk + Drop, O: OnceDisk + Drop> Archive<E, O> {
     ghost use Rattle.disk_archive.specs.Archives.{Carries, GoesOn, Holds, Stands, IsHonest, erase_of, is_down, once_of, once_state, pen_in, settings_of, site_of};
-    ghost use Rattle.disk_archive.specs.Sites.{LeftEither};
+    ghost use Rattle.disk_archive.specs.Sites.{LeftMarked};
     ghost use Rattle.disk_archive.specs.Crashes.{Crashes, Lasts};
     ghost use Rattle.disk_archive.specs.inner.Idle.{IsAsBefore};
-    ghost use Rattle.disk_archive.specs.inner.Marked.{LeftMarked};
 
     // Raises a mark where the archive carries a history.
     fn try_mark(&mut self, collector: u8, mark: Mark) -> Result<(), MarkError>
@@ -156,9 +155,10 @@ impl<E: EraseDisk + Drop, O: OnceDisk + Drop> Archive<E, O> {
     pub fn mark(&mut self, collector: u8, mark: Mark) -> Result<(), MarkError>
         ensures ok { OnOk result ((h : History) → Holds self.old h → Holds self.new (marked h collector mark)) }
         ensures err { OnErr result ((h : History) → Holds self.old h → Holds self.new h) }
-        ensures crash { (h : History) → Carries self.old h → Crashes self.old self.new (LeftEither (site_of self.old) h (marked h collector mark)) }
+        ensures crash { (h : History) → Carries self.old h → Crashes self.old self.new (LeftMarked (site_of self.old) h collector mark) }
         ensures lasts { (h : History) → Stands self.old h → Lasts self.old self.new h }
         ensures usable { OnOk result (is_down self.old ≡ false) }
+        ensures idle { is_down self.old ≡ true → (erase_of self.new ≡ erase_of self.old) × (once_state self.new ≡ once_state self.old) × (is_down self.new ≡ true) }
         ensures still_usable { OnOk result (is_down self.new ≡ false) }
         ensures falls { is_down self.old ≡ false → is_down self.new ≡ true → result ≡ Err MarkError.Fault }
         ensures quiet { result ≢ Err MarkError.Fault → E.fault_count (erase_of self.new) ≡ E.fault_count (erase_of self.old) }

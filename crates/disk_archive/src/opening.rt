@@ -1,13 +1,14 @@
 //! Disks are opened as an archive, as a crash may have left them.
 
-ghost use Rattle.std.specs.Prelude.{◌≡◌, ◌≢◌, ◌↔◌, ◌<◌, ◌≤◌, ℕ, List, length, IfOk, OnOk, IfErr, Err, false};
-ghost use Rattle.disk_models.specs.Erase.{Counts};
+ghost use Rattle.std.specs.Prelude.{◌≡◌, ◌≢◌, ◌↔◌, ◌⊎◌, ◌<◌, ◌≤◌, ℕ, List, length, IfOk, OnOk, IfErr, Err, false};
+ghost use Rattle.disk_models.specs.Erase.{Counts, MayLeave};
 ghost use Rattle.disk_models.specs.Left.{CrashPair, IsFound, Left, LeftNow};
 ghost use Rattle.disk_models.specs.Once.{OnceState, settled_in};
-ghost use Rattle.page_journal.specs.Journal.{disk_of, home_pages, note_of};
+ghost use Rattle.page_journal.specs.Journal.{disk_of, home_pages, needs_recovery, note_of};
 ghost use Rattle.page_journal.specs.Layout.{home_place};
 ghost use Rattle.page_journal.specs.Recovers.{Recovers};
 ghost use Rattle.buffer_pool.specs.Pool.{journal_of};
+ghost use Rattle.page_tx.specs.Device.{KeepsDevice};
 ghost use Rattle.page_tx.specs.Start.{Start};
 ghost use Rattle.route_meaning.specs.History.{History};
 ghost use Rattle.archive_head.specs.Head.{IsHead, head_octets};
@@ -17,9 +18,11 @@ ghost use Rattle.archive_pages.specs.Carried.{Bears, Represents};
 ghost use Rattle.archive_pages.specs.Places.{AreSettings};
 ghost use Rattle.disk_archive.specs.Mirrors.{Mirrors};
 ghost use Rattle.disk_archive.specs.Trees.{TreeLies};
+ghost use Rattle.disk_archive.specs.inner.Guarding.{GuardedAt, MeansOr};
 ghost use Rattle.disk_archive.specs.inner.Recalling.{HasRoot, RecallRefusal};
 
 use crate::archive::Archive;
+use crate::guarded::{Before, Guarded};
 use crate::looks::Looks;
 use crate::open_error::OpenError;
 use crate::recalling::{has_root, read_head, recall};
@@ -33,6 +36,7 @@ use page_journal::Refused as Handed;
 use page_tx::{Pages, Tx};
 use sequencer::Sequencer;
 use std::alloc::Global;
+use std::marker::{Brand, PhantomData};
 use std::sync::Arc;
 
 /// What an archive keeps in memory.
@@ -69,6 +73,41 @@ fn remember<P: Pages>(alloc: Global, pages: &mut P, settings: Settings) -> Resul
     Ok(Memory { head, sequencer })
 }
 
+// The same, of pages that are looked at, and of what a crash leaves while they are read.
+fn remember_on<E: EraseDisk + Drop, B: Before>(
+    alloc: Global,
+    looks: Looks<E>,
+    settings: Settings,
+) -> (Looks<E>, Result<Memory, OpenError>)
+    requires some { 0 < home_pages (journal_of looks.pool) }
+    requires few { settings.collectors ≤ 16 }
+    requires usable { needs_recovery (journal_of looks.pool) ≡ false }
+    ensures lanes { IfOk result.1 (λ memory. length memory.head.lanes ≡ settings.collectors) }
+    ensures numbers { IfOk result.1 (λ memory. length memory.sequencer ≡ settings.collectors) }
+    ensures valid { IfOk result.1 (λ memory. IsHead memory.head) }
+    ensures rooted { IfOk result.1 (λ memory. HasRoot (home_pages (journal_of looks.pool)) settings memory.head) }
+    ensures first { IfOk result.1 (λ memory. (start : Start) (shown : List (List ℕ)) → GuardedAt E.EraseDisk B.clock B.left looks start shown → page_at shown 0 ≡ head_octets memory.head) }
+    ensures bears { IfOk result.1 (λ memory. (count : ℕ) (o : OnceState) (start : Start) (shown : List (List ℕ)) (h : History) → GuardedAt E.EraseDisk B.clock B.left looks start shown → Represents (TreeLies count) settings (settled_in o) shown h
+        → Bears (TreeLies count) settings (settled_in o) memory.head shown h) }
+    ensures mirrors { IfOk result.1 (λ memory. (count : ℕ) (o : OnceState) (start : Start) (shown : List (List ℕ)) (h : History) → GuardedAt E.EraseDisk B.clock B.left looks start shown → Represents (TreeLies count) settings (settled_in o) shown h
+        → Mirrors memory.sequencer h) }
+    ensures sound { (count : ℕ) (o : OnceState) (start : Start) (shown : List (List ℕ)) (h : History) → GuardedAt E.EraseDisk B.clock B.left looks start shown → Represents (TreeLies count) settings (settled_in o) shown h
+        → (page : ℕ) → result.1 ≡ Err (OpenError.BadNode page) → ⊥ }
+    ensures refused { IfErr result.1 RecallRefusal }
+    ensures shown { (start : Start) (shown : List (List ℕ)) → GuardedAt E.EraseDisk B.clock B.left looks start shown → GuardedAt E.EraseDisk B.clock B.left result.0 start shown }
+    ensures homes { home_pages (journal_of result.0.pool) ≡ home_pages (journal_of looks.pool) }
+    ensures down { needs_recovery (journal_of result.0.pool) ≡ needs_recovery (journal_of looks.pool) }
+    ensures device { KeepsDevice (E.honest (disk_of (journal_of looks.pool))) (E.honest (disk_of (journal_of result.0.pool))) (E.fault_count (disk_of (journal_of looks.pool))) (E.fault_count (disk_of (journal_of result.0.pool))) (result.1 ≡ Err OpenError.Fault) }
+{
+    let mut guarded: Guarded<E, B> = Guarded {
+        looks,
+        of: PhantomData,
+    };
+    let memory = remember(alloc, &mut guarded, settings);
+    let Guarded { looks, .. } = guarded;
+    (looks, memory)
+}
+
 impl<E: EraseDisk + Drop, O: OnceDisk + Drop> Archive<E, O> {
     ghost use Rattle.disk_archive.specs.Archives.{Carries, Stands, site_of};
     ghost use Rattle.disk_archive.specs.Creations.{CountsOne};
@@ -77,7 +116,6 @@ impl<E: EraseDisk + Drop, O: OnceDisk + Drop> Archive<E, O> {
     ghost use Rattle.disk_archive.specs.Openings.{IsWant, NamesArchive, ReadsAs};
     ghost use Rattle.disk_archive.specs.Sites.{IsNoted, LeftCarries, Rests, Site};
     ghost use Rattle.disk_archive.specs.inner.Looking.{LooksAt};
-    ghost use Rattle.disk_archive.specs.inner.Restoring.{MeansSince};
 
     // The archive of what is in memory, once the first blank block is found.
     fn assemble(
@@ -128,17 +166,19 @@ impl<E: EraseDisk + Drop, O: OnceDisk + Drop> Archive<E, O> {
     }
 
     // Opens both disks, where nothing is said of what they were before.
-    fn reopen(
+    fn reopen<B: Before>(
         alloc: Global,
         erase: E,
         once: Arc<O>,
         pen: O::Pen,
     ) -> Result<Self, Refused<E, O, OpenError>>
+        requires clock { B.clock ≡ (E.model erase).clock }
+        requires left { (c : ℕ → ℕ) → MayLeave (E.model erase) c → B.left c }
+        ensures left { E.honest erase → (homes : ℕ) (note : List ℕ) (pages : List (List ℕ)) → Recovers homes note (E.model erase).octet pages
+            → MeansOr (E.model (erase_after result)) B.clock B.left homes note pages }
         ensures carries { E.honest erase → O.honest once.value pen → IfOk result (λ archive. (site : Site) (h : History) → ReadsAs site (O.block_count once.value) (E.model erase) (O.model pen) h → Carries archive h) }
         ensures site { E.honest erase → IfOk result (λ archive. (site : Site) (h : History) → ReadsAs site (O.block_count once.value) (E.model erase) (O.model pen) h → site_of archive ≡ site) }
         ensures noted { E.honest erase → IfOk result (λ archive. IsNoted (site_of archive)) }
-        ensures means { E.honest erase → ((i : ℕ) → ¬ (E.model erase).unsynced i) → (homes : ℕ) (note : List ℕ) (pages : List (List ℕ)) → Recovers homes note (E.model erase).octet pages
-            → MeansSince (E.model (erase_after result)) (E.model erase).clock homes note pages }
         ensures undamaged { E.honest erase → (site : Site) (h : History) → ReadsAs site (O.block_count once.value) (E.model erase) (O.model pen) h → home_place site.homes ≤ E.octet_count erase → IfErr (outcome result) IsWant }
         ensures named { E.honest erase → OnOk result (NamesArchive (E.octet_count erase) (E.model erase).octet (O.block_count once.value)) }
         ensures unnamed { E.honest erase → outcome result ≡ Err OpenError.NotAJournal → NamesArchive (E.octet_count erase) (E.model erase).octet (O.block_count once.value) → ⊥ }
@@ -150,23 +190,21 @@ impl<E: EraseDisk + Drop, O: OnceDisk + Drop> Archive<E, O> {
         ensures counted { outcome result ≡ Err OpenError.Fault → CountsOne (E.fault_count erase) (E.fault_count (erase_after result)) (O.pen_fault_count pen) (O.pen_fault_count (pen_after result)) }
     {
         match restore(alloc, erase, once.blocks()) {
-            Ok(
-                Restored {
-                    mut looks,
-                    settings,
-                },
-            ) => match remember(alloc, &mut looks, settings) {
-                Ok(memory) => Archive::assemble(alloc, looks, once, pen, settings, memory),
-                Err(error) => {
-                    let Looks { pool, .. } = looks;
-                    Err(Refused {
-                        erase: pool.into_disk(),
-                        once,
-                        pen,
-                        error,
-                    })
+            Ok(Restored { looks, settings }) => {
+                let (looks, memory) = remember_on::<E, B>(alloc, looks, settings);
+                match memory {
+                    Ok(memory) => Archive::assemble(alloc, looks, once, pen, settings, memory),
+                    Err(error) => {
+                        let Looks { pool, .. } = looks;
+                        Err(Refused {
+                            erase: pool.into_disk(),
+                            once,
+                            pen,
+                            error,
+                        })
+                    }
                 }
-            },
+            }
             Err(Handed { disk, error }) => Err(Refused {
                 erase: disk,
                 once,
@@ -193,11 +231,11 @@ impl<E: EraseDisk + Drop, O: OnceDisk + Drop> Archive<E, O> {
         // Disks of an archive that had to be opened again: what stood of its history stands.
         ensures stands { E.honest erase → O.honest once.value pen → IfOk result (λ archive. (site : Site) (h : History) → Rests site (E.model erase) (O.model pen) h → site.blocks ≡ O.block_count once.value → IsNoted site → Stands archive h) }
 
-        // Of disks of which nothing is unsynced each crash inside the call leaves it too, and so does one after a refusal.
-        ensures crash { E.honest erase → ((i : ℕ) → ¬ (E.model erase).unsynced i) → (site : Site) (h : History) → ReadsAs site (O.block_count once.value) (E.model erase) (O.model pen) h
-            → (left : Left) → CrashPair (E.model erase) (E.model (erase_after result)) (O.model pen) (O.model pen) (O.model (pen_after result)) left → LeftCarries site h left }
-        ensures kept { E.honest erase → O.honest once.value pen → ((i : ℕ) → ¬ (E.model erase).unsynced i) → (site : Site) (h : History) → ReadsAs site (O.block_count once.value) (E.model erase) (O.model pen) h
-            → (left : Left) → LeftNow (E.model (erase_after result)) (O.model (pen_after result)) left → LeftCarries site h left }
+        // What a crash inside the call leaves, or one after it, could be left before the call, or carries what the disks read as.
+        ensures inside { E.honest erase → O.honest once.value pen → (site : Site) (h : History) → ReadsAs site (O.block_count once.value) (E.model erase) (O.model pen) h
+            → (left : Left) → CrashPair (E.model erase) (E.model (erase_after result)) (O.model pen) (O.model pen) (O.model (pen_after result)) left → LeftNow (E.model erase) (O.model pen) left ⊎ LeftCarries site h left }
+        ensures after { E.honest erase → O.honest once.value pen → (site : Site) (h : History) → ReadsAs site (O.block_count once.value) (E.model erase) (O.model pen) h
+            → (left : Left) → LeftNow (E.model (erase_after result)) (O.model (pen_after result)) left → LeftNow (E.model erase) (O.model pen) left ⊎ LeftCarries site h left }
 
         // Disks that carry a history are refused for want of a device or of memory alone, and those that name no archive are not opened.
         ensures undamaged { E.honest erase → (site : Site) (h : History) → ReadsAs site (O.block_count once.value) (E.model erase) (O.model pen) h → home_place site.homes ≤ E.octet_count erase → IfErr (outcome result) IsWant }
@@ -212,6 +250,6 @@ impl<E: EraseDisk + Drop, O: OnceDisk + Drop> Archive<E, O> {
         ensures quiet { outcome result ≢ Err OpenError.Fault → (E.fault_count (erase_after result) ≡ E.fault_count erase) × (O.pen_fault_count (pen_after result) ≡ O.pen_fault_count pen) }
         ensures counted { outcome result ≡ Err OpenError.Fault → CountsOne (E.fault_count erase) (E.fault_count (erase_after result)) (O.pen_fault_count pen) (O.pen_fault_count (pen_after result)) }
     {
-        Archive::reopen(alloc, erase, once, pen)
+        Archive::reopen::<Brand>(alloc, erase, once, pen)
     }
 }

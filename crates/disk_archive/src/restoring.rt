@@ -1,6 +1,7 @@
 //! The journal of an archive is opened, and its note read.
 
 ghost use Rattle.std.specs.Prelude.{◌≡◌, ◌≤◌, ℕ, List, IfOk, OnOk, IfErr, Err, IfSome, IfNone, false};
+ghost use Rattle.disk_models.specs.Erase.{MayLeave};
 ghost use Rattle.disk_models.specs.Serves.{Serves};
 ghost use Rattle.page_journal.specs.Layout.{home_place};
 ghost use Rattle.page_journal.specs.Recovers.{Recovers};
@@ -10,7 +11,8 @@ ghost use Rattle.archive_pages.specs.declared.settings.Settings.{Settings};
 ghost use Rattle.archive_pages.specs.Places.{AreSettings, tree_low};
 ghost use Rattle.disk_archive.specs.Notes.{note_octets};
 ghost use Rattle.disk_archive.specs.Openings.{IsWant, NamesArchive};
-ghost use Rattle.disk_archive.specs.inner.Restoring.{MeansSince, Restores, disk_restored, of_opening, restored};
+ghost use Rattle.disk_archive.specs.inner.Guarding.{MeansOr};
+ghost use Rattle.disk_archive.specs.inner.Restoring.{Restores, disk_restored, of_opening, restored};
 
 use crate::looks::Looks;
 use crate::mapping::map_pages;
@@ -102,14 +104,14 @@ pub(crate) fn restore<E: EraseDisk + Drop>(
     ensures rings { IfOk result (λ found. tree_low found.settings ≤ home_pages (journal_of found.looks.pool)) }
     ensures usable { IfOk result (λ found. needs_recovery (journal_of found.looks.pool) ≡ false) }
 
-    // What the disk reads as is what is looked at, and what each crash leaves.
+    // What the disk reads as is what is looked at.
     ensures looks { E.honest erase → IfOk result (λ found. (homes : ℕ) (note : List ℕ) (pages : List (List ℕ)) → Recovers homes note (E.model erase).octet pages
-        → Restores E.EraseDisk found.looks homes note pages (E.model (disk_of (journal_of found.looks.pool))).clock) }
+        → Restores E.EraseDisk found.looks homes note pages) }
     ensures found { E.honest erase → IfOk result (λ found. (pages : List (List ℕ)) × Recovers (home_pages (journal_of found.looks.pool)) (note_of (journal_of found.looks.pool)) (E.model erase).octet pages) }
-    ensures crash { E.honest erase → ((i : ℕ) → ¬ (E.model erase).unsynced i) → IfOk result (λ found. (homes : ℕ) (note : List ℕ) (pages : List (List ℕ)) → Recovers homes note (E.model erase).octet pages
-        → Restores E.EraseDisk found.looks homes note pages (E.model erase).clock) }
-    ensures refused_crash { E.honest erase → ((i : ℕ) → ¬ (E.model erase).unsynced i) → (homes : ℕ) (note : List ℕ) (pages : List (List ℕ)) → Recovers homes note (E.model erase).octet pages
-        → IfErr result (λ refused. MeansSince (E.model refused.disk) (E.model erase).clock homes note pages) }
+
+    // What a crash leaves could be left before, or means what the disk reads as.
+    ensures left { E.honest erase → (homes : ℕ) (note : List ℕ) (pages : List (List ℕ)) → Recovers homes note (E.model erase).octet pages
+        → MeansOr (E.model (disk_restored result)) (E.model erase).clock (MayLeave (E.model erase)) homes note pages }
 
     ensures named { E.honest erase → OnOk result (NamesArchive (E.octet_count erase) (E.model erase).octet blocks) }
     ensures unnamed { E.honest erase → IfErr result (λ refused. refused.error ≡ OpenError.NotAJournal → NamesArchive (E.octet_count erase) (E.model erase).octet blocks → ⊥) }

@@ -1,4 +1,5 @@
 pub mod Refusals
 pub mod FileArchives
 pub mod Disks
+pub mod Slots
 pub mod inner

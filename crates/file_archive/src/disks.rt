@@ -6,6 +6,8 @@ ghost use Rattle.disk_files.specs.Pens.{IsFreshPen, pen_identity};
 ghost use Rattle.disk_files.specs.Refusals.{IsOfSize};
 ghost use Rattle.disk_files.specs.Sizes.{AreBlocks, ArePages};
 
+use crate::faults::OpenFault;
+use crate::slots::check_slots;
 use disk_files::{Failures, FileErase, FileError, FileOnce, FilePen, Part};
 use std::alloc::{AllocError, Global};
 use std::fs::File;
@@ -13,10 +15,10 @@ use std::rt::Files;
 use std::sync::Arc;
 
 /// The octets of a page.
-const PAGE: u64 = 16_384;
+pub(crate) const PAGE: u64 = 16_384;
 
 /// The pages of the journal, which stand before the home pages.
-const JOURNAL_PAGES: u64 = 265;
+pub(crate) const JOURNAL_PAGES: u64 = 265;
 
 /// Fewer pages than these are octets that a file can have.
 const TOO_MANY_PAGES: u64 = 1 << 49;
@@ -108,6 +110,23 @@ impl FileDisks {
                 failures,
             }),
             _ => Err(FileError::OutOfMemory),
+        }
+    }
+
+    /// Checks that each open slot of the journal has the number of its place, counted from 1. An opening lays the slots over the home pages
+    /// by these numbers, so another one would let an old page come back. Nothing is written.
+    ///
+    /// # Errors
+    ///
+    /// `Archive`: the page of the header with another number, counted from the disk's first page, or that the disk is too small for a
+    /// journal. `Failed`: a device failed.
+    pub fn check_slots(&mut self) -> Result<(), OpenFault>
+        ensures size { size_of (erase_in self.new) ≡ size_of (erase_in self.old) }
+        ensures blocks { once_in self.new ≡ once_in self.old }
+    {
+        match check_slots(&mut self.erase) {
+            Ok(()) => Ok(()),
+            Err(why) => Err(OpenFault::of(why, &self.failures)),
         }
     }
 }

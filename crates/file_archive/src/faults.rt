@@ -63,7 +63,10 @@ pub enum OpenFault {
 
 impl OpenFault {
     /// Why no archive is opened on the files of a folder.
-    pub(crate) fn of(error: OpenError, failures: &Failures) -> OpenFault {
+    pub(crate) fn of(error: OpenError, failures: &Failures) -> OpenFault
+        ensures archive { (why : OpenError) → result ≡ open_faults.Archive why → why ≡ error }
+        ensures no_file { (why : FileError) → ¬ (result ≡ open_faults.File why) }
+    {
         match (error, failures.first()) {
             (OpenError::Fault, Some(failure)) => OpenFault::Failed(failure),
             _ => OpenFault::Archive(error),

@@ -8,6 +8,7 @@ mod files;
 mod folder;
 mod opening;
 mod refusals;
+mod slots;
 
 pub use disks::FileDisks;
 pub use faults::{CreateFault, OpenFault};

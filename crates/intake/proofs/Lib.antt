@@ -3,6 +3,7 @@ pub mod Pieces
 pub mod Images
 pub mod Copying
 pub mod Entries
+pub mod Passing
 pub mod Filling
 pub mod Untouched
 pub mod Spanning

@@ -1,7 +1,9 @@
 -- Calls that set no page, one after another.
-use Rattle.std.proofs.Common.{ℕ, ◌+◌, refl, ◌∙◌, ap, min}
+use Rattle.std.proofs.Common.{◌≡◌, ℕ, ◌+◌, Result, Err, IfErr, refl, sym, ◌∙◌, ap, subst, min}
 use Rattle.page_tx.specs.declared.pages.Pages.{Ghosts}
 use Rattle.page_tx.specs.Device.{KeepsDevice}
+use Rattle.intake.specs.declared.error.ReadError.{ReadError}
+use Rattle.intake.specs.declared.error.ReadError.TheVariants as reads
 use Rattle.intake.specs.Calls.{OnlyReads}
 
 pub keeps_then : (a b c : Type 0) (m n o : ℕ) (one two : Type 0) → KeepsDevice a b m n one → (one → ⊥) → KeepsDevice b c n o two → KeepsDevice a c m o two
@@ -43,3 +45,7 @@ reads_as pages a b one two r to from = record {
   down = r.down;
   device = keeps_as (pages.honest a) (pages.honest b) (pages.faults a) (pages.faults b) one two r.device to from;
 }
+
+-- a refusal that is passed on is the one that came
+pub passed_on : {T U : Type 0} (r : Result T ReadError) (s : Result U ReadError) (e : ReadError) (page : ℕ) → IfErr r (λ x. x ≡ e) → s ≡ Err e → r ≡ Err (reads.BadNode page) → s ≡ Err (reads.BadNode page)
+passed_on {T} {U} r s e page told was is = was ∙ ap (λ (x : ReadError). Err x) (sym (subst (λ (r : Result T ReadError). IfErr r (λ x. x ≡ e)) is told))

@@ -63,25 +63,38 @@ reads_more f g size first at octets piece lt fits ends next low high new reads k
           ap g i ∙ (new (k - length octets) (omega arith) ∙ sym (get_or-append_right octets piece (length octets) k 0 refl ge))
     ]
 
+-- a place is wrapped once, or on the way
+pub wrapped_twice : (size first n k : ℕ) → first < size → n + k ≤ size → wrapped size (wrapped size (first + n) + k) ≡ wrapped size (first + (n + k))
+wrapped_twice size first n k lt few =
+    elim (wrapped_is size (first + n)) [
+      | inl v ↦ let v1 = v.1 in ap (wrapped size) (omega arith)
+      | inr v ↦ let v0 = v.0 in let v1 = v.1 in elim (wrapped_is size (wrapped size (first + n) + k)) [
+        | inl w ↦ let w1 = w.1 in elim (wrapped_is size (first + (n + k))) [
+          | inl u ↦ let u0 = u.0 in absurd (omega arith)
+          | inr u ↦ let u1 = u.1 in omega arith
+        ]
+        | inr w ↦ let w0 = w.0 in let w1 = w.1 in absurd (omega arith)
+      ]
+    ]
+
+-- Octets stand, and others after them: all of them stand.
+pub reads_both : (f : ℕ → ℕ) (size first : ℕ) (front rest : List ℕ) → first < size → length front + length rest ≤ size → Reads f size first front → Reads f size (wrapped size (first + length front)) rest → Reads f size first (front ++ rest)
+reads_both f size first front rest lt fits one other k below =
+    elim (cases_lt k (length front)) [
+      | inl low ↦ one k low ∙ sym (get_or_append_left front rest 0 k low)
+      | inr ge ↦
+          let len = length-append front rest in
+          let place : wrapped size (first + k) ≡ wrapped size (wrapped size (first + length front) + (k - length front)) =
+          ap (λ (n : ℕ). wrapped size (first + n)) (let e : k ≡ length front + (k - length front) = omega arith in e) ∙ sym (wrapped_twice size first (length front) (k - length front) lt (omega arith)) in
+          ap f place ∙ (other (k - length front) (omega arith) ∙ sym (get_or-append_right front rest (length front) k 0 refl ge))
+    ]
+
 -- The first octets are dropped.
 pub reads_later : (f : ℕ → ℕ) (size first : ℕ) (front rest : List ℕ) → first < size → length front + length rest ≤ size → Reads f size first (front ++ rest) → Reads f size (wrapped size (first + length front)) rest
 reads_later f size first front rest lt fits reads k below =
     let here : f (wrapped size (first + (length front + k))) ≡ get_or rest k 0 = reads (length front + k) (omega (arith, length-append front rest)) ∙ get_or-append-add front rest k 0 in
-    let same : wrapped size (wrapped size (first + length front) + k) ≡ wrapped size (first + (length front + k)) = twice size first (length front) k lt (omega arith) in
+    let same : wrapped size (wrapped size (first + length front) + k) ≡ wrapped size (first + (length front + k)) = wrapped_twice size first (length front) k lt (omega arith) in
     ap f same ∙ here
-  where
-    twice : (size first n k : ℕ) → first < size → n + k < size → wrapped size (wrapped size (first + n) + k) ≡ wrapped size (first + (n + k))
-    twice size first n k lt few =
-        elim (wrapped_is size (first + n)) [
-          | inl v ↦ let v1 = v.1 in ap (wrapped size) (omega arith)
-          | inr v ↦ let v0 = v.0 in let v1 = v.1 in elim (wrapped_is size (wrapped size (first + n) + k)) [
-            | inl w ↦ let w1 = w.1 in elim (wrapped_is size (first + (n + k))) [
-              | inl u ↦ let u0 = u.0 in absurd (omega arith)
-              | inr u ↦ let u1 = u.1 in omega arith
-            ]
-            | inr w ↦ let w0 = w.0 in let w1 = w.1 in absurd (omega arith)
-          ]
-        ]
 
 pub reads_same : (f g : ℕ → ℕ) (size first : ℕ) (octets : List ℕ) → first < size → length octets ≤ size → ((i : ℕ) → i < size → g i ≡ f i) → Reads f size first octets → Reads g size first octets
 reads_same f g size first octets lt few same reads k below = same (wrapped size (first + k)) (low size first k lt (omega arith)) ∙ reads k below

@@ -4,7 +4,7 @@ use Rattle.std.specs.List.{AllByRecursion}
 use Rattle.std.specs.Int.{w64, to_be_bytes}
 use Rattle.route_model.specs.Admission.{Admitted, IsAdmission}
 use Rattle.intake.specs.declared.ring.Ring.{Ring}
-use Rattle.intake.specs.Ring.{sized, entry, wrapped, size_of, StandsIn}
+use Rattle.intake.specs.Ring.{sized, entry, octets_for, wrapped, size_of, StandsIn}
 
 -- the page of a place, which is counted from the first octet that is used
 abbrev pub page_of : Ring → ℕ → ℕ
@@ -48,3 +48,13 @@ pub record BreaksAt (pages : List (List ℕ)) (ring : Ring) (at : ℕ) : Type 0 
   pub before : TellsTimes pages ring at times
   pub inside : at < ring.used
   pub none : (time next : ℕ) → next ≤ ring.used → TellsTimes pages ring next (times ++ time ∷ []) → ⊥
+
+-- These admissions stand one after another from the first used octet on, and no further one within the used octets, though some are left.
+-- It would begin on this page.
+pub record BreaksOn (pages : List (List ℕ)) (ring : Ring) (page : ℕ) : Type 0 where
+  pub before : List Admitted
+  pub valid : AllByRecursion IsAdmission before
+  pub octets : StandsIn pages ring (flat_map entry before)
+  pub inside : octets_for before < ring.used
+  pub none : (a : Admitted) → IsAdmission a → octets_for (before ++ a ∷ []) ≤ ring.used → StandsIn pages ring (flat_map entry (before ++ a ∷ [])) → ⊥
+  pub place : page ≡ page_of ring (octets_for before)

@@ -3,6 +3,7 @@
 #![tactic(auto)]
 
 mod appending;
+mod counting;
 mod drafting;
 mod encoded;
 mod error;

@@ -5,7 +5,7 @@ ghost use Rattle.std.specs.Prelude.{◌≤◌};
 ghost use Rattle.archive_pages.specs.Places.{AreSettings};
 ghost use Rattle.rha.specs.inner.Made.{settings_for};
 
-use crate::opening::open;
+use crate::opening::{open, open_for_check};
 use crate::refusals::{tell_no_file, tell_unanswered, tell_unmade, tell_unopened};
 use archive_pages::Settings;
 use file_archive::{FileArchive, FileDisks};
@@ -101,7 +101,7 @@ pub(crate) fn ask<E: Write>(rt: &HostRuntime, asked: &Question<'_>, err: &mut Ou
 /// Checks the archive of a folder.
 pub(crate) fn check<E: Write>(rt: &HostRuntime, asked: &Checking<'_>, err: &mut Output<E>) -> u8 {
     let alloc = rt.alloc();
-    let Some(mut archive) = open(rt, asked.folder, err) else {
+    let Some(mut archive) = open_for_check(rt, asked.folder, err) else {
         return 1;
     };
     let Ok(buffer) = BufWriter::new(alloc, rt.stdout()) else {

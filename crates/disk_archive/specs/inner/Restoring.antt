@@ -1,12 +1,10 @@
 -- What is found on an erasable disk whose journal is opened.
-use Rattle.std.specs.Prelude.{◌≡◌, ◌≤◌, ℕ, List, Result, Ok, Err}
+use Rattle.std.specs.Prelude.{◌≡◌, ℕ, List, Result, Ok, Err}
 use Rattle.disk_models.specs.declared.erase.EraseDisk.{Ghosts}
-use Rattle.disk_models.specs.Erase.{DiskState}
 use Rattle.page_journal.specs.declared.error.OpenError.{OpenError as JournalError}
 use Rattle.page_journal.specs.declared.error.OpenError.TheVariants as journals
 use Rattle.page_journal.specs.declared.refused.Refused.{Refused as Handed}
 use Rattle.page_journal.specs.Journal.{disk_of, home_pages, note_of}
-use Rattle.page_journal.specs.Recovers.{Recovers}
 use Rattle.buffer_pool.specs.Pool.{journal_of}
 use Rattle.disk_archive.specs.declared.looks.Looks.{Looks}
 use Rattle.disk_archive.specs.declared.open_error.OpenError.{OpenError}
@@ -21,16 +19,11 @@ of_opening journals.NotAJournal = openings.NotAJournal
 of_opening (journals.BadNode page) = openings.BadSlot page
 of_opening journals.OutOfMemory = openings.OutOfMemory
 
--- The disk named these home pages and this note, and these pages are looked at, which whatever a crash left since that clock means.
-pub record Restores {E : Type 0} (device : Ghosts E) (looks : Looks E device) (count : ℕ) (told : List ℕ) (pages : List (List ℕ)) (clock : ℕ) : Type 0 where
+-- The disk named these home pages and this note, and these pages are looked at.
+pub record Restores {E : Type 0} (device : Ghosts E) (looks : Looks E device) (count : ℕ) (told : List ℕ) (pages : List (List ℕ)) : Type 0 where
   pub homes : home_pages (journal_of looks.pool) ≡ count
   pub note : note_of (journal_of looks.pool) ≡ told
-  pub looked : LooksAt device looks (record { note = told; pages = pages; clock = clock }) pages
-
--- Whatever a crash left since that clock, which isn't above the disk's, means these pages.
-pub record MeansSince (e : DiskState) (clock homes : ℕ) (note : List ℕ) (pages : List (List ℕ)) : Type 0 where
-  pub later : clock ≤ e.clock
-  pub each : (c : ℕ → ℕ) → e.left_since clock c → Recovers homes note c pages
+  pub looked : LooksAt device looks (record { note = told; pages = pages; clock = (device.model (disk_of (journal_of looks.pool))).clock }) pages
 
 -- the disk that is looked at, or the one that is handed back
 abbrev pub disk_restored : {E : Type 0} {device : Ghosts E} → Result (Restored E device) (Handed E OpenError) → E

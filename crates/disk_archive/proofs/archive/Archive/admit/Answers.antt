@@ -4,7 +4,7 @@ use Rattle.interleaving_core.proofs.api.Right.{begins_given}
 use Rattle.disk_archive.specs.declared.error.AdmitError.TheVariants as admits
 use Rattle.disk_archive.proofs.Limiting.{not_both}
 use Rattle.disk_archive.proofs.Outcomes.{err_then, from_result, ok_both, ok_then, if_ok_as}
-use Rattle.disk_archive.proofs.Lasting.{held_ok, held_err, lasts_of}
+use Rattle.disk_archive.proofs.Lasting.{down_still, held_ok, held_err, lasts_of}
 use Rattle.disk_archive.proofs.archive.Archive.admit.Goals as goal
 
 pub returns-clause-ok : goal.returns-clause-ok
@@ -61,3 +61,6 @@ returns-clause-quiet g c other = c.try_admit.ensures.device.quiet other
 
 pub returns-clause-counted : goal.returns-clause-counted
 returns-clause-counted g c told = c.try_admit.ensures.device.counted told
+
+pub returns-clause-idle : goal.returns-clause-idle
+returns-clause-idle g c down = down_still c.args.self.now _ down (c.try_admit.ensures.recovery down)

@@ -6,7 +6,7 @@ use Rattle.interleaving_core.specs.Does.{last_moment}
 use Rattle.interleaving_core.specs.Headline.{IsAnswered}
 use Rattle.route_meaning.specs.History.{applied, settled}
 use Rattle.disk_archive.proofs.Asking.{answered_of, below_of, watermark_of}
-use Rattle.disk_archive.proofs.Lasting.{held_err}
+use Rattle.disk_archive.proofs.Lasting.{down_still, held_err}
 use Rattle.disk_archive.proofs.Steps.{crashes_weaker, lasts_steps}
 use Rattle.disk_archive.proofs.archive.Archive.answer.Goals as goal
 
@@ -34,3 +34,6 @@ returns-clause-below g c = below_of c.args.self.now c.try_answer.result (λ h. l
 
 pub returns-clause-above : goal.returns-clause-above
 returns-clause-above g c = watermark_of c.args.self.now c.try_answer.result (last_moment c.args.query) c.try_answer.ensures.told c.try_answer.ensures.above c.try_answer.ensures.watermark
+
+pub returns-clause-idle : goal.returns-clause-idle
+returns-clause-idle g c down = down_still c.args.self.now _ down (c.try_answer.ensures.idle down)

@@ -7,7 +7,7 @@ use Rattle.interleaving_core.specs.Does.{last_moment}
 use Rattle.interleaving_core.specs.Headline.{IsAnswered}
 use Rattle.route_meaning.specs.History.{applied, settled}
 use Rattle.disk_archive.proofs.Asking.{answered_of, below_of, watermark_of, reads_idle}
-use Rattle.disk_archive.proofs.Lasting.{held_err}
+use Rattle.disk_archive.proofs.Lasting.{down_still, held_err}
 use Rattle.disk_archive.proofs.Steps.{crashes_weaker, lasts_steps}
 use Rattle.disk_archive.proofs.archive.Archive.answer_with.Goals as goal
 
@@ -41,3 +41,6 @@ returns-clause-reads g c honest h held from =
     ⊎_elim (λ k. c.try_answer_with.ensures.reads h k from)
     (λ w. reads_idle c.args.self.now c.try_answer_with.new.self c.args.reader.now c.try_answer_with.new.reader (c.try_answer_with.ensures.idle w.unusable) (c.try_answer_with.ensures.unread w.unusable) from)
     (held honest)
+
+pub returns-clause-idle : goal.returns-clause-idle
+returns-clause-idle g c down = down_still c.args.self.now _ down (c.try_answer_with.ensures.idle down)

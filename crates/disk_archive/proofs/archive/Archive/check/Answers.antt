@@ -3,7 +3,7 @@ use Rattle.route_meaning.proofs.api.Beginning.{Begins-refl}
 use Rattle.disk_archive.specs.Archives.{site_of}
 use Rattle.disk_archive.specs.Sites.{LeftCarries, LeftEither, LeftFrom}
 use Rattle.disk_archive.proofs.Counts.{counted_of}
-use Rattle.disk_archive.proofs.Lasting.{held_err}
+use Rattle.disk_archive.proofs.Lasting.{down_still, held_err}
 use Rattle.disk_archive.proofs.Steps.{crashes_weaker, lasts_steps}
 use Rattle.disk_archive.proofs.archive.Archive.check.Goals as goal
 
@@ -25,3 +25,6 @@ returns-clause-lasts g c =
     lasts_steps a z g.met.E.EraseDisk.sound c.try_check.ensures.honest.0 c.try_check.ensures.idle
     (λ h k. (h, Begins-refl h, inl (c.try_check.ensures.carries h k)))
     (λ h k. crashes_weaker a z (LeftEither (site_of a) h h) (LeftFrom (site_of a) h) (λ left either. (h, Begins-refl h, ⊎_elim (λ was. was) (λ is. is) either)) (c.try_check.ensures.crash h k))
+
+pub returns-clause-idle : goal.returns-clause-idle
+returns-clause-idle g c down = down_still c.args.self.now _ down (c.try_check.ensures.idle down)

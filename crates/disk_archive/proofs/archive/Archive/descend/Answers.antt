@@ -9,7 +9,7 @@ use Rattle.disk_archive.specs.Descents.{Descends}
 use Rattle.disk_archive.specs.declared.descending.Descent.{Descent}
 use Rattle.disk_archive.proofs.Turning.{gathered_of}
 use Rattle.disk_archive.proofs.Asking.{answered_of, below_of, watermark_of}
-use Rattle.disk_archive.proofs.Lasting.{held_err}
+use Rattle.disk_archive.proofs.Lasting.{down_still, held_err}
 use Rattle.disk_archive.proofs.Steps.{crashes_weaker, lasts_steps}
 use Rattle.disk_archive.proofs.archive.Archive.descend.Goals as goal
 
@@ -49,3 +49,6 @@ returns-clause-quiet g c other = c.try_descend.ensures.device.quiet other
 
 pub returns-clause-counted : goal.returns-clause-counted
 returns-clause-counted g c told = c.try_descend.ensures.device.counted told
+
+pub returns-clause-idle : goal.returns-clause-idle
+returns-clause-idle g c down = down_still c.args.self.now _ down (c.try_descend.ensures.idle down)

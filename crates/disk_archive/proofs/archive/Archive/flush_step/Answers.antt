@@ -2,7 +2,7 @@ use Rattle.std.proofs.Common.{⊎_elim}
 use Rattle.route_meaning.proofs.api.Beginning.{Begins-refl}
 use Rattle.disk_archive.specs.Archives.{site_of}
 use Rattle.disk_archive.specs.Sites.{LeftCarries, LeftEither, LeftFrom}
-use Rattle.disk_archive.proofs.Lasting.{held_err}
+use Rattle.disk_archive.proofs.Lasting.{down_still, held_err}
 use Rattle.disk_archive.proofs.Steps.{crashes_weaker, lasts_steps}
 use Rattle.disk_archive.proofs.archive.Archive.flush_step.Goals as goal
 
@@ -27,3 +27,6 @@ returns-clause-quiet g c other = c.try_flush.ensures.device.quiet other
 
 pub returns-clause-counted : goal.returns-clause-counted
 returns-clause-counted g c told = c.try_flush.ensures.device.counted told
+
+pub returns-clause-idle : goal.returns-clause-idle
+returns-clause-idle g c down = down_still c.args.self.now _ down (c.try_flush.ensures.idle down)

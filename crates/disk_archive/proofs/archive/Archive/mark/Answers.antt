@@ -5,10 +5,9 @@ use Rattle.route_meaning.specs.History.{History}
 use Rattle.interleaving_core.specs.Steps.{marked, IsMarkAbove}
 use Rattle.interleaving_core.proofs.api.GoingOn.{begins_marked}
 use Rattle.disk_archive.specs.Archives.{Carries, GoesOn, Stands, site_of}
-use Rattle.disk_archive.specs.Sites.{LeftEither, LeftFrom}
-use Rattle.disk_archive.specs.inner.Marked.{LeftMarked}
+use Rattle.disk_archive.specs.Sites.{LeftFrom, LeftMarked}
 use Rattle.disk_archive.proofs.Outcomes.{err_then, from_result, ok_both}
-use Rattle.disk_archive.proofs.Lasting.{held_ok, held_err}
+use Rattle.disk_archive.proofs.Lasting.{down_still, held_ok, held_err}
 use Rattle.disk_archive.proofs.Marks.{not_both}
 use Rattle.disk_archive.proofs.Steps.{crashes_weaker, lasts_steps}
 use Rattle.disk_archive.proofs.archive.Archive.mark.Goals as goal
@@ -25,13 +24,6 @@ returns-clause-err g c =
     let a = c.args.self.now in
     let z = c.try_mark.new.self in
     err_then c.try_mark.result _ _ (λ step h held. held_err a z h c.try_mark.ensures.honest.1 c.try_mark.ensures.idle (step h) held) c.try_mark.ensures.err
-
-pub returns-clause-crash : goal.returns-clause-crash
-returns-clause-crash g c h k =
-    let a = c.args.self.now in
-    let z = c.try_mark.new.self in
-    crashes_weaker a z (LeftMarked (site_of a) h c.args.collector c.args.mark) (LeftEither (site_of a) h (marked h c.args.collector c.args.mark))
-    (λ left either. ⊎_elim (λ was. inl was) (λ is. inr is.1) either) (c.try_mark.ensures.crash h k)
 
 pub returns-clause-lasts : goal.returns-clause-lasts
 returns-clause-lasts g c =
@@ -66,3 +58,6 @@ returns-clause-quiet g c other = c.try_mark.ensures.device.quiet other
 
 pub returns-clause-counted : goal.returns-clause-counted
 returns-clause-counted g c told = c.try_mark.ensures.device.counted told
+
+pub returns-clause-idle : goal.returns-clause-idle
+returns-clause-idle g c down = down_still c.args.self.now _ down (c.try_mark.ensures.idle down)

@@ -1,4 +1,4 @@
-use Rattle.disk_archive.proofs.Reopened.{crash_read, kept_read, ok_weaker, reads_found, stands_read}
+use Rattle.disk_archive.proofs.Reopened.{after_read, inside_read, ok_weaker, reads_found, stands_read}
 use Rattle.disk_archive.proofs.archive.Archive.open.Goals as goal
 
 pub returns-clause-found : goal.returns-clause-found
@@ -7,9 +7,9 @@ returns-clause-found g c honest pen = ok_weaker _ _ c.reopen.result (λ a carrie
 pub returns-clause-stands : goal.returns-clause-stands
 returns-clause-stands g c honest pen = ok_weaker _ _ c.reopen.result (λ a carries site h rests count noted. stands_read a site _ _ _ h rests count noted (λ x r. carries site x r)) (c.reopen.ensures.carries honest pen)
 
-pub returns-clause-crash : goal.returns-clause-crash
-returns-clause-crash g c honest settled site h r left pair = crash_read site _ _ _ _ _ _ h r (c.reopen.ensures.means honest settled site.homes site.note r.carries.pages r.carries.means) left pair
+pub returns-clause-inside : goal.returns-clause-inside
+returns-clause-inside g c honest pen site h r left pair = inside_read site _ _ _ _ _ _ h r (c.reopen.ensures.unburnt pen) (c.reopen.ensures.left honest site.homes site.note r.carries.pages r.carries.means) left pair
 
-pub returns-clause-kept : goal.returns-clause-kept
-returns-clause-kept g c honest pen settled site h r left now =
-    kept_read site _ _ _ _ _ h r (g.met.E.EraseDisk.sound _ (c.reopen.ensures.erase.0 honest)) (c.reopen.ensures.unburnt pen) (c.reopen.ensures.means honest settled site.homes site.note r.carries.pages r.carries.means) left now
+pub returns-clause-after : goal.returns-clause-after
+returns-clause-after g c honest pen site h r left now =
+    after_read site _ _ _ _ _ h r (g.met.E.EraseDisk.sound _ (c.reopen.ensures.erase.0 honest)) (c.reopen.ensures.unburnt pen) (c.reopen.ensures.left honest site.homes site.note r.carries.pages r.carries.means) left now

@@ -1,4 +1,4 @@
-use Rattle.std.proofs.Common.{rules, ◌≡◌, ℕ, List, Option, refl, sym, ◌∙◌, ap, subst, true≢false, Err, IfOk, IsOk, IsErr}
+use Rattle.std.proofs.Common.{rules, ◌≡◌, ◌⊎◌, ℕ, List, Option, refl, sym, ◌∙◌, ap, subst, true≢false, Err, IfOk, IsOk, IsErr}
 use Rattle.disk_models.specs.Once.{OnceState, Grows}
 use Rattle.once_store.specs.Readers.{reader_disk}
 use Rattle.once_store.specs.Shelves.{pen_of}
@@ -12,11 +12,13 @@ use Rattle.archive_pages.specs.Places.{tree_low}
 use Rattle.disk_archive.specs.declared.check_error.CheckError.TheVariants as checks
 use Rattle.disk_archive.specs.Archives.{erase_state, once_of, once_state}
 use Rattle.disk_archive.specs.Checks.{IsAllRead, IsBadBlock, IsBadPage, in_use_of}
+use Rattle.disk_archive.specs.Rings.{IsBadRing}
 use Rattle.disk_archive.specs.inner.Asking.{HasTree}
 use Rattle.disk_archive.proofs.Calling.{Ready, start_of, grows_none, unwritten, kept}
 use Rattle.disk_archive.proofs.Asking.{rises_applied, lies_known, reads_well}
 use Rattle.disk_archive.proofs.Counts.{at_disk}
 use Rattle.disk_archive.proofs.Faults.{keeps_same, one_told}
+use Rattle.disk_archive.proofs.Waiting.{rings_read}
 use Rattle.disk_archive.proofs.ReadFaults.{check_memory_no_fault, check_need_no_fault, fails_none, fails_pen, fails_read, look_stays, read_then}
 use Rattle.disk_archive.proofs.archive.Archive.try_check.Goals as goal
 
@@ -103,7 +105,7 @@ returns-clause-finds g c h k =
       timely = rises_applied h;
       kept = k.bears.kept;
     } in
-    c.count_by.ensures.finds (applied h) tree k.bears.numbered k.valid.applied
+    c.count_by.ensures.finds (applied h) tree (rings_read a h k) k.bears.numbered k.valid.applied
 
 pub returns-clause-read : goal.returns-clause-read
 returns-clause-read g c honest pages maps =
@@ -125,9 +127,15 @@ returns-clause-bad g c honest pages maps page e =
     let well = reads_well g.O.OnceDisk c.in_ok-reader.reader c.in_ok-seen.seen (once_of a) c.in_ok-reader.ensures.disk (c.in_ok-seen.ensures.seen honest.1) c.in_ok-reader.ensures.none in
     let known = g.O.OnceDisk.known c.in_ok-seen.seen in
     let blocks = g.O.OnceDisk.block_count (reader_disk c.in_ok-reader.reader) in
-    let bad = subst (λ (b : ℕ). IsBadPage pages known blocks a.head.root a.head.applied (record { recorded_on = 0; pages = a.head.fresh; blocks = a.head.block; burnt = b }) page) c.next-burnt.ensures.next (c.count_by.ensures.bad start pages s0 well page e) in
-    at_disk g.O.OnceDisk c.in_ok-reader.reader c.in_ok-seen.seen (once_of a) (once_state a).settled (λ (f : ℕ → Option (List ℕ)) (n : ℕ). IsBadPage pages f n a.head.root a.head.applied (in_use_of a) page)
+    let bad = subst (λ (b : ℕ). IsBadPage pages known blocks a.head.root a.head.applied (record { recorded_on = 0; pages = a.head.fresh; blocks = a.head.block; burnt = b }) page ⊎ IsBadRing pages a.settings a.head page) c.next-burnt.ensures.next (c.count_by.ensures.bad start pages s0 well page e) in
+    at_disk g.O.OnceDisk c.in_ok-reader.reader c.in_ok-seen.seen (once_of a) (once_state a).settled (λ (f : ℕ → Option (List ℕ)) (n : ℕ). IsBadPage pages f n a.head.root a.head.applied (in_use_of a) page ⊎ IsBadRing pages a.settings a.head page)
     c.in_ok-reader.ensures.disk (c.in_ok-seen.ensures.known honest.1) bad
+
+pub returns-clause-rings : goal.returns-clause-rings
+returns-clause-rings g c honest pages maps =
+    let a = c.args.self.now in
+    let start : Start = record { note = note_of (journal_of (pool_of a.tx)); pages = pages; clock = (erase_state a).clock } in
+    c.count_by.ensures.rings start pages (c.in_ok-begin.ensures.shown honest.0 pages maps)
 
 pub returns-clause-damaged : goal.returns-clause-damaged
 returns-clause-damaged g c honest pages maps block e =

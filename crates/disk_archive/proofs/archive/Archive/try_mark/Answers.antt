@@ -4,8 +4,8 @@ use Rattle.page_tx.specs.Start.{Start}
 use Rattle.interleaving_core.specs.Steps.{marked}
 use Rattle.interleaving_core.proofs.api.GoingOn.{begins_marked}
 use Rattle.disk_archive.specs.Archives.{once_state, site_of}
-use Rattle.disk_archive.specs.Sites.{LeftEither}
-use Rattle.disk_archive.specs.inner.Marked.{LeftMarked, mark_of_commit}
+use Rattle.disk_archive.specs.Sites.{LeftEither, LeftMarked}
+use Rattle.disk_archive.specs.inner.Marked.{mark_of_commit}
 use Rattle.disk_archive.proofs.Mirroring.{intake_at, mark_there, mirror_marked}
 use Rattle.disk_archive.proofs.Outcomes.{on_each_err}
 use Rattle.disk_archive.proofs.Calling.{Ready, start_of, grows_none, unwritten, written, kept, refused, done}

@@ -1,14 +1,9 @@
-use Rattle.std.proofs.Common.{◌≡◌, ℕ, IfErr, Err, Result, map, arith, rules, sym, ◌∙◌, ap, subst}
-use Rattle.intake.specs.declared.error.ReadError.{ReadError}
-use Rattle.intake.specs.declared.error.ReadError.TheVariants as reads
+use Rattle.std.proofs.Common.{◌≡◌, ℕ, IfErr, map, arith, rules, sym, ◌∙◌, subst}
 use Rattle.intake.specs.Ring.{time_of}
 use Rattle.intake.specs.Standing.{TellsTimes}
 use Rattle.intake.proofs.Telling.{tells_one, breaks_none, holds_tells}
+use Rattle.intake.proofs.Untouched.{passed_on}
 use Rattle.intake.proofs.ring.Ring.waiting_times.Goals as goal
-
--- a refusal that is passed on is the one that came
-passed_on : {T U : Type 0} (r : Result T ReadError) (s : Result U ReadError) (e : ReadError) (page : ℕ) → IfErr r (λ x. x ≡ e) → s ≡ Err e → r ≡ Err (reads.BadNode page) → s ≡ Err (reads.BadNode page)
-passed_on {T} {U} r s e page told was is = was ∙ ap (λ (x : ReadError). Err x) (sym (subst (λ (r : Result T ReadError). IfErr r (λ x. x ≡ e)) is told))
 
 pub returns-in_err-time-clause-breaks : goal.returns-in_err-time-clause-breaks
 returns-in_err-time-clause-breaks g c page is start shown are =

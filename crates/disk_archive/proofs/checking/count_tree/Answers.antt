@@ -13,7 +13,7 @@ use Rattle.disk_archive.proofs.Asking.{at_root}
 use Rattle.disk_archive.proofs.Counts.{as_many, finds_none, known_of, passed, passed_node, told_is, within_of}
 use Rattle.disk_archive.proofs.Faults.{done_not_told, keeps_told, one_told}
 use Rattle.disk_archive.proofs.ReadFaults.{check_either, read_done, read_pages, read_refused, read_then}
-use Rattle.disk_archive.proofs.checking.count_by.Goals as goal
+use Rattle.disk_archive.proofs.checking.count_tree.Goals as goal
 
 pub returns-in_err-root-clause-finds : goal.returns-in_err-root-clause-finds
 returns-in_err-root-clause-finds g c ps t number few =

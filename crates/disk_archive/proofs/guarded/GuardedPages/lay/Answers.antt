@@ -1,6 +1,6 @@
 use Rattle.std.proofs.Common.{arith}
 use Rattle.disk_archive.proofs.Looking.{all_new}
-use Rattle.disk_archive.proofs.looks.LooksPages.lay.Goals as goal
+use Rattle.disk_archive.proofs.guarded.GuardedPages.lay.Goals as goal
 
 pub returns-then-len-gt31-clause-refused : goal.returns-then-len-gt31-clause-refused
 returns-then-len-gt31-clause-refused g c =

@@ -1,0 +1,12 @@
+pub mod Machine
+pub mod Ran
+pub mod Meanings
+pub mod Cuts
+pub mod Resting
+pub mod Following
+pub mod Held
+pub mod Looking
+pub mod Scenes
+pub mod Promising
+pub mod Lasting
+pub mod Promised

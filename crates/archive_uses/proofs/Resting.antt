@@ -1,0 +1,120 @@
+-- What is true after each use: an archive carries the history of a run, or whatever a crash may leave carries that of one.
+use Rattle.std.proofs.Common.{◌≡◌, ℕ, List, true, refl, sym, ◌∙◌, subst}
+use Rattle.disk_models.specs.declared.erase.EraseDisk.{Ghosts as EraseGhosts}
+use Rattle.disk_models.specs.declared.once.OnceDisk.{Ghosts as OnceGhosts}
+use Rattle.disk_models.specs.Erase.{IsSound}
+use Rattle.disk_models.specs.Once.{settled_in}
+use Rattle.disk_models.specs.Left.{HasSettled, IsFound, Left, LeftNow, present}
+use Rattle.disk_models.proofs.api.Pairs.{found_left, present_now}
+use Rattle.page_journal.specs.Recovers.{Recovers}
+use Rattle.page_journal.proofs.api.Kept.{kept_recovers}
+use Rattle.buffer_pool.specs.Pool.{journal_of}
+use Rattle.page_tx.specs.Tx.{pool_of}
+use Rattle.route_meaning.specs.History.{History}
+use Rattle.archive_pages.proofs.api.Bearing.{bears_grown}
+use Rattle.disk_archive.specs.declared.archive.Archive.{Archive}
+use Rattle.disk_archive.specs.Archives.{Carries, erase_of, erase_state, once_of, once_state, pen_in, site_of}
+use Rattle.disk_archive.specs.Openings.{ReadsAs}
+use Rattle.disk_archive.specs.Sites.{IsNoted, LeftCarries, Site}
+use Rattle.disk_archive.specs.Trees.{TreeLies}
+use Rattle.disk_archive.proofs.api.Trees.{tree_grows}
+use Rattle.archive_uses.specs.Use.{Use}
+use Rattle.archive_uses.proofs.Ran.{Ran}
+
+-- the sound law of an erasable disk
+abbrev pub AllSound : {E : Type 0} → EraseGhosts E → Type 0
+AllSound {E} erase = (d : E) → erase.honest d → IsSound (erase.model d)
+
+-- both disks rest: whatever a crash may leave of them now carries the history of a run that the uses are
+pub record Resting {E O Pen Seen : Type 0} (erase : EraseGhosts E) (once : OnceGhosts O Pen Seen) (collectors : ℕ) (Q : History → Type 0) (past : List Use) (e : E) (o : O) (pen : Pen) : Type 0 where
+  pub honest_erase : erase.honest e
+  pub honest_once : once.honest o pen
+  pub site : Site
+  pub noted : IsNoted site
+  pub count : site.blocks ≡ once.block_count o
+  pub rests : (left : Left) → LeftNow (erase.model e) (once.model pen) left → (g : History) × Ran collectors Q past true g × LeftCarries site g left
+
+-- what a crash left of them
+pub record Lying (collectors : ℕ) (Q : History → Type 0) (past : List Use) (blocks : ℕ) (left : Left) : Type 0 where
+  pub site : Site
+  pub noted : IsNoted site
+  pub count : site.blocks ≡ blocks
+  pub history : History
+  pub run : Ran collectors Q past true history
+  pub carries : LeftCarries site history left
+
+-- what is carried is carried where more is settled
+pub left_grows : (site : Site) (g : History) (left other : Left) → other.erase ≡ left.erase → HasSettled left.once other → LeftCarries site g left → LeftCarries site g other
+left_grows site g left other same has k =
+    let r = k.carries in
+    record {
+      pages = k.pages;
+      means = subst (λ (f : ℕ → ℕ). Recovers site.homes site.note f k.pages) (sym same) k.means;
+      carries = record {
+        head = r.head;
+        valid = r.valid;
+        first = r.first;
+        bears = bears_grown (TreeLies site.blocks) (tree_grows site.blocks) site.settings (settled_in left.once) (settled_in other.once) has r.head k.pages g r.bears;
+      };
+    }
+
+-- whatever a crash may leave of an archive now carries the history that the archive carries
+pub carried_is_left : {E O Pen Seen : Type 0} {erase : EraseGhosts E} {once : OnceGhosts O Pen Seen} (a : Archive E O Pen Seen erase once) (h : History) → Carries a h → (left : Left) → LeftNow (erase_state a) (once_state a) left → LeftCarries (site_of a) h left
+carried_is_left {erase = erase} a h k left now = record {
+  pages = k.pages;
+  means = kept_recovers erase (journal_of (pool_of a.tx)) k.pages k.maps.keeps left.erase now.erase;
+  carries = record {
+    head = a.head;
+    valid = k.valid;
+    first = k.first;
+    bears = bears_grown (TreeLies (site_of a).blocks) (tree_grows (site_of a).blocks) a.settings (settled_in (once_state a)) (settled_in left.once) now.settled a.head k.pages h k.bears;
+  };
+}
+
+-- an archive that carries the history of a run rests, after a use that is a crash
+pub carried_rests : {E O Pen Seen : Type 0} (erase : EraseGhosts E) (once : OnceGhosts O Pen Seen) (n : ℕ) (Q : History → Type 0) (past : List Use) (a : Archive E O Pen Seen erase once) (h : History) → Ran n Q past true h → Carries a h → Resting erase once n Q past (erase_of a) (once_of a) (pen_in a)
+carried_rests erase once n Q past a h run k = record {
+  honest_erase = k.honest.0;
+  honest_once = k.honest.1;
+  site = site_of a;
+  noted = k.noted;
+  count = refl;
+  rests = λ left now. (h, run, carried_is_left a h k left now);
+}
+
+-- the run goes on
+pub rests_on : {E O Pen Seen : Type 0} (erase : EraseGhosts E) (once : OnceGhosts O Pen Seen) (n : ℕ) (Q : History → Type 0) (past next : List Use) (e : E) (o : O) (pen : Pen) → ((g : History) → Ran n Q past true g → Ran n Q next true g) → Resting erase once n Q past e o pen → Resting erase once n Q next e o pen
+rests_on erase once n Q past next e o pen on r = record {
+  honest_erase = r.honest_erase;
+  honest_once = r.honest_once;
+  site = r.site;
+  noted = r.noted;
+  count = r.count;
+  rests = λ left now. (let f = r.rests left now in (f.0, on f.0 f.1, f.2));
+}
+
+-- a crash comes
+pub rests_left : {E O Pen Seen : Type 0} (erase : EraseGhosts E) (once : OnceGhosts O Pen Seen) (n : ℕ) (Q : History → Type 0) (past : List Use) (e : E) (o : O) (pen : Pen) (left : Left) → Resting erase once n Q past e o pen → LeftNow (erase.model e) (once.model pen) left → Lying n Q past (once.block_count o) left
+rests_left erase once n Q past e o pen left r now =
+    let f = r.rests left now in
+    record { site = r.site; noted = r.noted; count = r.count; history = f.0; run = f.1; carries = f.2 }
+
+-- and both disks are found as it left them
+pub lying_found : {E O Pen Seen : Type 0} (erase : EraseGhosts E) (once : OnceGhosts O Pen Seen) (n : ℕ) (Q : History → Type 0) (past : List Use) (blocks : ℕ) (e : E) (o : O) (pen : Pen) (left : Left) → Lying n Q past blocks left → IsFound (erase.model e) (once.model pen) left → once.block_count o ≡ blocks → erase.honest e → once.honest o pen → Resting erase once n Q past e o pen
+lying_found erase once n Q past blocks e o pen left l found count honest_erase honest_once = record {
+  honest_erase = honest_erase;
+  honest_once = honest_once;
+  site = l.site;
+  noted = l.noted;
+  count = l.count ∙ sym count;
+  rests = λ other now. (
+      let kept = found_left (erase.model e) (once.model pen) left found other now in
+      (l.history, l.run, left_grows l.site l.history left other kept.0 kept.1 l.carries)
+      );
+}
+
+-- what they read as
+pub rests_reads : {E O Pen Seen : Type 0} (erase : EraseGhosts E) (once : OnceGhosts O Pen Seen) (n : ℕ) (Q : History → Type 0) (past : List Use) (e : E) (o : O) (pen : Pen) (r : Resting erase once n Q past e o pen) → (g : History) × Ran n Q past true g × ReadsAs r.site (once.block_count o) (erase.model e) (once.model pen) g
+rests_reads erase once n Q past e o pen r =
+    let f = r.rests (present (erase.model e) (once.model pen)) (present_now (erase.model e) (once.model pen)) in
+    (f.0, f.1, record { count = r.count; noted = r.noted; carries = f.2 })
