@@ -1,14 +1,18 @@
 //! Worked examples of questions: the octets of records, request lines, and the lines that answer them.
 
-use crate::asking::ask;
-use crate::made::loaded;
+use crate::asking::{answers_as, ask};
+use crate::be;
+use crate::made::{Made, Reader, checks_as, loaded, reader_of};
 use std::alloc::Global;
-use std::test::Fail;
 use test_octets::octets;
 
 /// A message of 192.0.2.1, AS 65001: an UPDATE that announces 10.0.0.0/8 by 65001 65002, at 1704067200.
 const UPDATE: &str = "65920080 0010 0001 0000003D FDE9 FC00 0000 0001 C0000201 C0000202
     FFFFFFFFFFFFFFFFFFFFFFFFFFFFFFFF 002D 02 0000 0014 40010100 4002060202FDE9FDEA 400304C0000201 080A";
+
+/// An UPDATE without prefixes.
+const EMPTY: &str = "65920080 0010 0001 00000027 FDE9 FC00 0000 0001 C0000201 C0000202
+    FFFFFFFFFFFFFFFFFFFFFFFFFFFFFFFF 0017 02 0000 0000";
 
 /// The session of the peer ends.
 const SESSION_DOWN: &str =
@@ -114,32 +118,91 @@ const EXAMPLES: [Example; 4] = [
 ];
 
 // The octets of records.
-fn stream(alloc: Global, records: &[&str]) -> Result<Vec<u8>, Fail> {
+fn stream(alloc: Global, records: &[&str]) -> Option<Vec<u8>> {
     let mut stream = Vec::new(alloc);
     for record in records {
-        stream.extend_from_slice(&octets(alloc, record)?)?;
+        stream.extend_from_slice(&octets(alloc, record).ok()?).ok()?;
     }
-    Ok(stream)
+    Some(stream)
 }
 
-// Whether all request lines of an example are answered by their lines.
-fn is_answered(alloc: Global, example: &Example) -> Result<bool, Fail> {
-    let mut archive = loaded(alloc, &stream(alloc, example.records)?)?;
-    let mut reader = archive.reader(1)?;
-    for (line, lines) in example.answers {
-        if ask(alloc, &mut archive, &mut reader, line)?.as_str() != *lines {
-            return Ok(false);
+/// The first of these lines that isn't answered by its lines.
+fn wrongly_answered(
+    alloc: Global,
+    archive: &mut Made,
+    answers: &[(&'static str, &'static str)],
+) -> Option<&'static str> {
+    let Some(mut reader) = reader_of(archive, 1) else {
+        return Some("no reader");
+    };
+    for (line, lines) in answers {
+        if !answers_as(alloc, archive, &mut reader, line, lines) {
+            return Some(line);
         }
     }
-    Ok(true)
+    None
+}
+
+/// The first request line of an example that isn't answered by its lines.
+fn wrong_line(alloc: Global, example: &Example) -> Option<&'static str> {
+    let octets = stream(alloc, example.records).unwrap_or(Vec::new(alloc));
+    match loaded(alloc, &octets) {
+        Some(mut archive) => wrongly_answered(alloc, &mut archive, example.answers),
+        None => Some("not loaded"),
+    }
 }
 
 #[test]
-fn examples_are_answered(rt: HostRuntime) -> Result<(), Fail> {
-    for (number, example) in EXAMPLES.iter().enumerate() {
-        assert!(rt; is_answered(rt.alloc(), example)?, "{number}");
+fn examples_are_answered(rt: HostRuntime) {
+    for example in &EXAMPLES {
+        let wrong = wrong_line(rt.alloc(), example);
+        be(&rt, wrong.is_none(), wrong.unwrap_or(""));
     }
-    Ok(())
+}
+
+/// Records that are loaded with the mark 1704067201, and the line that a check writes then.
+struct Checked {
+    name: &'static str,
+    records: &'static [&'static str],
+    line: &'static str,
+}
+
+const CHECKED: [Checked; 4] = [
+    Checked {
+        name: "no record",
+        records: &[],
+        line: "ok|0|1704067201\n",
+    },
+    Checked {
+        name: "one route",
+        records: &[UPDATE],
+        line: "ok|1|1704067201\n",
+    },
+    Checked {
+        name: "a record without changes",
+        records: &[EMPTY],
+        line: "ok|0|1704067201\n",
+    },
+    Checked {
+        name: "two prefixes, and the end of a session",
+        records: &[TWO_PREFIXES, SESSION_DOWN],
+        line: "ok|3|1704067201\n",
+    },
+];
+
+fn is_checked(alloc: Global, checked: &Checked) -> Option<bool> {
+    checks_as(alloc, &stream(alloc, checked.records)?, checked.line)
+}
+
+#[test]
+fn changes_and_watermark_are_told(rt: HostRuntime) {
+    for checked in &CHECKED {
+        be(
+            &rt,
+            is_checked(rt.alloc(), checked) == Some(true),
+            checked.name,
+        );
+    }
 }
 
 /// Request lines of 257 prefixes, how many lines their answers have, and the last of these.
@@ -162,24 +225,50 @@ const CUT: [(&str, usize, &str); 3] = [
     ),
 ];
 
-fn many_prefixes(alloc: Global) -> Result<Vec<u8>, Fail> {
-    let mut octets = octets(alloc, MANY)?;
+fn many_prefixes(alloc: Global) -> Option<Vec<u8>> {
+    let mut octets = octets(alloc, MANY).ok()?;
     for third in 0..=255u8 {
-        octets.extend_from_slice(&[24, 10, 0, third])?;
+        octets.extend_from_slice(&[24, 10, 0, third]).ok()?;
     }
-    octets.extend_from_slice(&[24, 10, 1, 0])?;
-    Ok(octets)
+    octets.extend_from_slice(&[24, 10, 1, 0]).ok()?;
+    Some(octets)
+}
+
+/// Whether an answer to the line has so many lines, of which this one is the last.
+fn is_cut(
+    alloc: Global,
+    archive: &mut Made,
+    reader: &mut Reader,
+    line: &str,
+    count: usize,
+    ending: &str,
+) -> bool {
+    match ask(alloc, archive, reader, line) {
+        Some(told) => {
+            told.as_str().lines().count() == count && told.as_str().lines().last() == Some(ending)
+        }
+        None => false,
+    }
+}
+
+/// The first line whose answer isn't cut as it has to be.
+fn wrongly_cut(alloc: Global, archive: &mut Made) -> Option<&'static str> {
+    let Some(mut reader) = reader_of(archive, 1) else {
+        return Some("no reader");
+    };
+    for (line, count, ending) in &CUT {
+        if !is_cut(alloc, archive, &mut reader, line, *count, ending) {
+            return Some(line);
+        }
+    }
+    None
 }
 
 #[test]
-fn answers_of_256_rows_name_where_to_go_on(rt: HostRuntime) -> Result<(), Fail> {
+fn answers_of_256_rows_name_where_to_go_on(rt: HostRuntime) {
     let alloc = rt.alloc();
-    let mut archive = loaded(alloc, &many_prefixes(alloc)?)?;
-    let mut reader = archive.reader(1)?;
-    for (line, count, ending) in &CUT {
-        let told = ask(alloc, &mut archive, &mut reader, line)?;
-        assert_eq!(rt; told.as_str().lines().count(), *count, "{line}");
-        assert!(rt; told.as_str().lines().last() == Some(*ending), "{line}");
-    }
-    Ok(())
+    let octets = many_prefixes(alloc).unwrap_or(Vec::new(alloc));
+    let mut archive = loaded(alloc, &octets).expect(&rt, "an archive");
+    let wrong = wrongly_cut(alloc, &mut archive);
+    be(&rt, wrong.is_none(), wrong.unwrap_or(""));
 }

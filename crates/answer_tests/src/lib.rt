@@ -15,3 +15,12 @@ mod numbers;
 mod past;
 #[cfg(test)]
 mod said;
+
+#[cfg(test)]
+use std::process::Abort;
+
+/// Ends a test that is wrong, with what was tried. Proofs learn nothing of it, which keeps them short.
+#[cfg(test)]
+fn be(rt: &impl Abort, holds: bool, name: &str) {
+    assert!(rt; holds, "{name}");
+}

@@ -6,10 +6,9 @@ use disk_memory::{MemErase, MemOnce};
 use memory_archive::MemArchive;
 use once_store::ShelfReader;
 use route_model::Mark;
-use service::{Input, LoadSettings, Output, Status, load};
+use service::{Input, LoadSettings, Output, Status, check, load};
 use std::alloc::Global;
 use std::sync::Arc;
-use std::test::Fail;
 
 // The octets of a page.
 const PAGE: u64 = 16_384;
@@ -25,48 +24,68 @@ pub(crate) type Made = Archive<MemErase, MemOnce>;
 pub(crate) type Reader = ShelfReader<MemOnce>;
 
 /// An archive of so many collectors, each with a ring of nine pages.
-pub(crate) fn made(alloc: Global, collectors: u8) -> Result<Made, Fail> {
+pub(crate) fn made(alloc: Global, collectors: u8) -> Option<Made> {
     let settings = Settings {
         collectors,
         ring: 9,
     };
     if !settings.is_within() {
-        return Err(Fail::from("no such settings"));
+        return None;
     }
     let homes = u64::from(collectors) * 9 + 1 + TREE_PAGES;
     let erase = MemErase::new(alloc, (265 + homes) * PAGE);
     let (once, pen) = MemOnce::new(alloc, BLOCKS);
-    match Archive::create(alloc, erase, Arc::new(alloc, once)?, pen, settings) {
-        Ok(archive) => Ok(archive),
-        Err(refused) => Err(refused.error.into()),
-    }
+    Archive::create(alloc, erase, Arc::new(alloc, once).ok()?, pen, settings).ok()
 }
 
-/// An archive of one collector into which these octets are loaded, with the mark 1704067201.
-pub(crate) fn loaded(alloc: Global, octets: &[u8]) -> Result<Made, Fail> {
-    let mut archive = MemArchive {
-        archive: made(alloc, 1)?,
-    };
+/// A reader that keeps so many blocks of the archive, 1 to 1,024.
+pub(crate) fn reader_of(archive: &Made, blocks: usize) -> Option<Reader> {
+    if blocks < 1 || blocks > 1_024 {
+        return None;
+    }
+    archive.reader(blocks).ok()
+}
+
+fn load_into(alloc: Global, archive: &mut MemArchive, octets: &[u8]) -> Status {
     let how = LoadSettings {
         collector: 0,
         limit: 1000,
         mark: Mark::new(1_704_067_201),
         resume: false,
     };
-    let mut out = Vec::new(alloc);
-    let mut err = Vec::new(alloc);
+    let mut out: Vec<u8> = Vec::new(alloc);
+    let mut err: Vec<u8> = Vec::new(alloc);
     let mut lines = Output::new(&mut out);
     let mut refusals = Output::new(&mut err);
     let mut file = Input::new(octets);
-    match load(
-        alloc,
-        &mut archive,
-        how,
-        &mut file,
-        &mut lines,
-        &mut refusals,
-    ) {
-        Status::Done => Ok(archive.archive),
-        Status::Refused | Status::Failed => Err(Fail::from("not loaded")),
+    load(alloc, archive, how, &mut file, &mut lines, &mut refusals)
+}
+
+/// An archive of one collector into which these octets are loaded, with the mark 1704067201.
+fn loaded_into(alloc: Global, octets: &[u8]) -> Option<MemArchive> {
+    let archive = made(alloc, 1)?;
+    let mut archive = MemArchive { archive };
+    match load_into(alloc, &mut archive, octets) {
+        Status::Done => Some(archive),
+        Status::Refused | Status::Failed => None,
     }
+}
+
+/// The same without its calls for feeds and questions.
+pub(crate) fn loaded(alloc: Global, octets: &[u8]) -> Option<Made> {
+    let MemArchive { archive } = loaded_into(alloc, octets)?;
+    Some(archive)
+}
+
+/// Whether a check of an archive into which these octets are loaded writes this line.
+pub(crate) fn checks_as(alloc: Global, octets: &[u8], line: &str) -> Option<bool> {
+    let mut archive = loaded_into(alloc, octets)?;
+    let mut out: Vec<u8> = Vec::new(alloc);
+    let mut err: Vec<u8> = Vec::new(alloc);
+    let mut lines = Output::new(&mut out);
+    let mut refusals = Output::new(&mut err);
+    let status = check(alloc, &mut archive, &mut lines, &mut refusals);
+    drop(lines);
+    drop(refusals);
+    Some(status == Status::Done && out.as_slice() == line.as_bytes() && err.is_empty())
 }

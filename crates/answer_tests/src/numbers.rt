@@ -5,7 +5,6 @@ use interleaving_core::Query;
 use route_meaning::{EventsQuestion, RowsQuestion, Select, Spot};
 use route_model::{Address, Admission, Change, Moment, Peer, Prefix};
 use std::alloc::Global;
-use std::test::Fail;
 
 /// Numbers that follow from a seed (Knuth's MMIX), and the second that a history has come to.
 #[derive(Drop)]
@@ -70,10 +69,10 @@ impl Numbers {
         }
     }
 
-    fn change(&mut self, alloc: Global, collector: u8) -> Result<Change, Fail> {
+    fn change(&mut self, alloc: Global, collector: u8) -> Option<Change> {
         let peer = self.peer(collector);
         let prefix = self.prefix();
-        Ok(match self.below(10) {
+        Some(match self.below(10) {
             0 => Change::Withdraw(peer, prefix),
             1 => Change::Down(peer),
             _ => Change::Announce(peer, prefix, route_of(alloc, self.below(100_000))?),
@@ -81,22 +80,22 @@ impl Numbers {
     }
 
     // What a collector tells at the time of the clock or a little before.
-    fn admission(&mut self, alloc: Global, collector: u8) -> Result<Admission, Fail> {
+    fn admission(&mut self, alloc: Global, collector: u8) -> Option<Admission> {
         let seconds = self.clock.saturating_sub(self.below(2));
         let mut changes = Vec::new(alloc);
         for _ in 0..self.below(4) {
-            changes.push(self.change(alloc, collector)?)?;
+            changes.push(self.change(alloc, collector)?).ok()?;
         }
-        Ok(Admission::new(moment_of(seconds), changes)?)
+        Admission::new(moment_of(seconds), changes).ok()
     }
 
     /// One or two admissions of a collector.
-    pub(crate) fn batch(&mut self, alloc: Global, collector: u8) -> Result<Vec<Admission>, Fail> {
+    pub(crate) fn batch(&mut self, alloc: Global, collector: u8) -> Option<Vec<Admission>> {
         let mut batch = Vec::new(alloc);
         for _ in 0..=self.below(2) {
-            batch.push(self.admission(alloc, collector)?)?;
+            batch.push(self.admission(alloc, collector)?).ok()?;
         }
-        Ok(batch)
+        Some(batch)
     }
 
     fn select(&mut self) -> Select {

@@ -1,87 +1,104 @@
 //! Answers that lie in blocks.
 
 use crate::asking::ask;
-use crate::made::{Made, Reader, made};
+use crate::be;
+use crate::made::{Made, Reader, made, reader_of};
 use crate::said::{moment_of, peer_of, prefix_of, route_of};
 use disk_archive::Step;
 use route_model::{Admission, Change, Mark};
 use std::alloc::Global;
-use std::test::Fail;
 
 // How many seconds the history has. At each of them a route takes the place of the one before.
 const SECONDS: u32 = 60;
 
-// Applies all that may be applied.
-fn apply_all(archive: &mut Made) -> Result<(), Fail> {
+// Applies all that may be applied. None where that failed.
+fn apply_all(archive: &mut Made) -> Option<()> {
     for _ in 0..1_000u32 {
-        if archive.apply_step()? == Step::Idle {
-            return Ok(());
+        if archive.apply_step().ok()? == Step::Idle {
+            return Some(());
         }
     }
-    Err(Fail::from("changes without end"))
+    None
 }
 
-// An archive of one peer, which announces 10.1.0.0/16 at each second. A route has its second as its MED.
-fn announced(alloc: Global) -> Result<Made, Fail> {
+// A record of one peer, which announces 10.1.0.0/16. A route has its second as its MED.
+fn announcement(alloc: Global, second: u32) -> Option<Admission> {
+    let route = route_of(alloc, second)?;
+    let change = Change::Announce(peer_of(0, 65001), prefix_of(1, 0, 16), route);
+    let mut changes = Vec::new(alloc);
+    changes.push(change).ok()?;
+    Admission::new(moment_of(second), changes).ok()
+}
+
+// Gives and applies the record of a second. None where that failed.
+fn announce(alloc: Global, archive: &mut Made, second: u32) -> Option<()> {
+    let admission = announcement(alloc, second)?;
+    archive.admit(0, &[admission]).ok()?;
+    archive
+        .mark(0, Mark::at(moment_of(second.saturating_add(1))))
+        .ok()?;
+    apply_all(archive)
+}
+
+// An archive to which the record of each second was given.
+fn announced(alloc: Global) -> Option<Made> {
     let mut archive = made(alloc, 1)?;
     for second in 0..SECONDS {
-        let change = Change::Announce(
-            peer_of(0, 65001),
-            prefix_of(1, 0, 16),
-            route_of(alloc, second)?,
-        );
-        let changes = vec![in alloc; change]?;
-        let admission = Admission::new(moment_of(second), changes)?;
-        archive.admit(0, &[admission])?;
-        archive.mark(0, Mark::at(moment_of(second + 1)))?;
-        apply_all(&mut archive)?;
+        announce(alloc, &mut archive, second)?;
     }
-    Ok(archive)
+    Some(archive)
 }
 
-// The field of this number of each line.
-fn fields(alloc: Global, lines: &str, number: usize) -> Result<String, Fail> {
+// Whether the field of this number of each line, with a space behind each, is this text.
+fn has_fields(alloc: Global, lines: &str, number: usize, wanted: &str) -> Option<bool> {
     let mut fields = String::new(alloc);
     for line in lines.lines() {
-        fields.push_str(line.split('|').nth(number).unwrap_or("-"))?;
-        fields.push(' ')?;
+        fields
+            .push_str(line.split('|').nth(number).unwrap_or("-"))
+            .ok()?;
+        fields.push(' ').ok()?;
     }
-    Ok(fields)
+    Some(fields.as_str() == wanted)
 }
 
-// The MEDs of the routes that are answered at a second, and whether they are those that were announced at it.
-fn is_told(
-    alloc: Global,
-    archive: &mut Made,
-    reader: &mut Reader,
-    second: u32,
-) -> Result<bool, Fail> {
-    let line = format!(in alloc; "at {second} route 0 192.0.2.1 65001 10.1.0.0/16")?;
+// Whether the route that is answered at a second has the MED of the one that was announced at it.
+fn is_told(alloc: Global, archive: &mut Made, reader: &mut Reader, second: u32) -> Option<bool> {
+    let line = format!(in alloc; "at {second} route 0 192.0.2.1 65001 10.1.0.0/16").ok()?;
     let told = ask(alloc, archive, reader, &line)?;
-    let wanted = format!(in alloc; "{second} - ")?;
-    Ok(fields(alloc, &told, 8)? == wanted)
+    let wanted = format!(in alloc; "{second} - ").ok()?;
+    has_fields(alloc, &told, 8, &wanted)
 }
 
 // Backwards, so that a reader of one block has another one than it is asked for.
-#[test]
-fn what_was_said_long_ago_is_read_in_blocks(rt: HostRuntime) -> Result<(), Fail> {
-    let alloc = rt.alloc();
-    let mut archive = announced(alloc)?;
-    for capacity in [1usize, 1_024] {
-        let mut reader = archive.reader(capacity)?;
-        for back in 0..SECONDS {
-            let second = SECONDS - 1 - back;
-            assert!(rt;
-                is_told(alloc, &mut archive, &mut reader, second)?,
-                "{second}"
-            );
+fn are_told(alloc: Global, archive: &mut Made, reader: &mut Reader) -> bool {
+    for back in 0..SECONDS {
+        if is_told(alloc, archive, reader, SECONDS - 1 - back) != Some(true) {
+            return false;
         }
-        // Of the 60 routes a leaf has room for 15 or 16.
-        assert!(rt; reader.kept() >= capacity.min(2));
-        let line = "history 3 58 0 192.0.2.1 65001 10.1.0.0/16 skip 54";
-        let told = ask(alloc, &mut archive, &mut reader, line)?;
-        assert!(rt; fields(alloc, &told, 1)?.as_str() == "57 58 2 ");
-        assert!(rt; fields(alloc, &told, 5)?.as_str() == "57 58 - ");
     }
-    Ok(())
+    true
+}
+
+// Whether the history is told from a second on, up to a second.
+fn is_history_told(alloc: Global, archive: &mut Made, reader: &mut Reader) -> Option<bool> {
+    let line = "history 3 58 0 192.0.2.1 65001 10.1.0.0/16 skip 54";
+    let told = ask(alloc, archive, reader, line)?;
+    Some(has_fields(alloc, &told, 1, "57 58 2 ")? && has_fields(alloc, &told, 5, "57 58 - ")?)
+}
+
+// Whether all is answered through a reader that keeps so many blocks. Of the 60 routes a leaf has room for 15 or 16.
+fn is_read_by(alloc: Global, archive: &mut Made, capacity: usize) -> Option<bool> {
+    let mut reader = reader_of(archive, capacity)?;
+    let are_told = are_told(alloc, archive, &mut reader);
+    let has_kept = reader.kept() >= capacity.min(2);
+    Some(are_told && has_kept && is_history_told(alloc, archive, &mut reader)?)
+}
+
+#[test]
+fn what_was_said_long_ago_is_read_in_blocks(rt: HostRuntime) {
+    let mut archive = announced(rt.alloc()).expect(&rt, "an archive");
+    let by_one = is_read_by(rt.alloc(), &mut archive, 1);
+    be(&rt, by_one == Some(true), "a reader of one block");
+    let by_many = is_read_by(rt.alloc(), &mut archive, 1_024);
+    be(&rt, by_many == Some(true), "a reader of 1,024 blocks");
 }

@@ -5,7 +5,6 @@ use route_model::{
     SharedRoute,
 };
 use std::alloc::Global;
-use std::test::Fail;
 
 // How many numbers a path has. A leaf has room for 15 routes by such paths.
 const LONG: usize = 240;
@@ -29,12 +28,12 @@ pub(crate) fn moment_of(seconds: u32) -> Moment {
 }
 
 /// A route of nearly 1,000 octets, which this MED tells from others.
-pub(crate) fn route_of(alloc: Global, med: u32) -> Result<SharedRoute, Fail> {
-    let numbers = AsNumbers::new(vec![in alloc; 65001u32; LONG]?);
-    let others = Attributes::try_new(Vec::new(alloc)).ok_or("attributes out of order")?;
+pub(crate) fn route_of(alloc: Global, med: u32) -> Option<SharedRoute> {
+    let numbers = AsNumbers::new(vec![in alloc; 65001u32; LONG].ok()?);
+    let others = Attributes::try_new(Vec::new(alloc))?;
     let route = Route {
         origin: Origin::Igp,
-        path: Path::new(vec![in alloc; Segment::Sequence(numbers)]?),
+        path: Path::new(vec![in alloc; Segment::Sequence(numbers)].ok()?),
         next_hop: NextHop::One(Address::V4([192, 0, 2, 1])),
         med: Some(med),
         local_pref: None,
@@ -42,5 +41,5 @@ pub(crate) fn route_of(alloc: Global, med: u32) -> Result<SharedRoute, Fail> {
         aggregator: None,
         others,
     };
-    Ok(SharedRoute::new(alloc, route)?)
+    SharedRoute::new(alloc, route).ok()
 }

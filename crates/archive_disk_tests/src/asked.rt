@@ -1,31 +1,39 @@
 //! Lines that are asked of an archive.
 
-use archive_calls::RouteArchive;
 use interleaving_core::Query;
-use service::{Output, Request, Status, ask, read_request};
+use memory_archive::MemArchive;
+use service::{Output, Request, ask, read_request};
 use std::alloc::Global;
-use std::test::Fail;
 
-/// The lines that answer a question.
-pub(crate) fn answer<A: RouteArchive>(
-    alloc: Global,
-    archive: &mut A,
-    line: &str,
-) -> Result<Vec<u8>, Fail> {
-    let mut out = Vec::new(alloc);
-    let mut err = Vec::new(alloc);
+/// The lines that a request line is answered or refused by. None where standard error was told something.
+pub(crate) fn answer(alloc: Global, archive: &mut MemArchive, line: &str) -> Option<Vec<u8>> {
+    let mut out: Vec<u8> = Vec::new(alloc);
+    let mut err: Vec<u8> = Vec::new(alloc);
     let mut lines = Output::new(&mut out);
     let mut refusals = Output::new(&mut err);
-    match ask(alloc, archive, line, &mut lines, &mut refusals) {
-        Status::Done => Ok(out),
-        _ => Err(Fail::from("no answer")),
+    ask(alloc, archive, line, &mut lines, &mut refusals);
+    drop(lines);
+    drop(refusals);
+    if err.is_empty() { Some(out) } else { None }
+}
+
+/// Whether a request line is answered or refused by these lines.
+pub(crate) fn answers_as(
+    alloc: Global,
+    archive: &mut MemArchive,
+    line: &str,
+    lines: &[u8],
+) -> bool {
+    match answer(alloc, archive, line) {
+        Some(told) => told.as_slice() == lines,
+        None => false,
     }
 }
 
 /// The question of a line.
-pub(crate) fn query_of(alloc: Global, line: &str) -> Result<Query, Fail> {
-    match read_request(alloc, line)? {
-        Request::Question(query) => Ok(query),
-        _ => Err(Fail::from("no question")),
+pub(crate) fn query_of(alloc: Global, line: &str) -> Option<Query> {
+    match read_request(alloc, line) {
+        Ok(Request::Question(query)) => Some(query),
+        _ => None,
     }
 }

@@ -1,18 +1,13 @@
 //! An archive is checked: what it counts, and what it finds where one octet of it is another.
 
-use crate::made::{Made, PAGE, made, mark_at, vectors};
-use archive_pages::Settings;
-use disk_archive::{Archive, CheckError, Flush, Step};
+use crate::be;
+use crate::disks::{Both, given_up, opened};
+use crate::given::SETTINGS;
+use crate::made::{Made, PAGE, apply_all, flush_all, give, made, mark_at, set_mark, vectors};
+use disk_archive::CheckError;
 use disk_memory::{Failure, MemErase, MemOnce, MemPen, Torn};
 use disk_models::{Block, EraseDisk, OnceDisk};
 use std::alloc::Global;
-use std::sync::Arc;
-use std::test::Fail;
-
-const SETTINGS: Settings = Settings {
-    collectors: 1,
-    ring: 9,
-};
 
 /// So many changes of one prefix: with their keys, stamps and routes they fill the leaf of one column three times.
 const CHANGES: usize = 700;
@@ -119,163 +114,204 @@ const BLOCKS: [Change; 4] = [
     },
 ];
 
-/// Applies all that may be applied.
-fn apply_all(archive: &mut Made) -> Result<(), Fail> {
-    for _ in 0..1_000 {
-        if archive.apply_step()? == Step::Idle {
-            return Ok(());
-        }
-    }
-    Err(Fail::from("changes without end"))
-}
-
-/// Writes all pages home.
-fn flush_all(archive: &mut Made) -> Result<(), Fail> {
-    for _ in 0..1_000 {
-        if archive.flush_step()? == Flush::Clean {
-            return Ok(());
-        }
-    }
-    Err(Fail::from("pages without end"))
-}
+/// The family of the first peer of the first admission that waits, on the ring's first page: behind the entry's length, the time, the count
+/// of peers and the collector.
+const WAITING: [Change; 1] = [Change {
+    name: "the first admission that waits has a peer of no family",
+    place: 1,
+    at: 15,
+    bits: 0x40,
+    found: CheckError::BadNode(1),
+}];
 
 /// An archive whose changes are all applied and home.
-fn filled(alloc: Global) -> Result<Made, Fail> {
+fn filled(alloc: Global) -> Option<Made> {
     let mut archive = made(alloc, SETTINGS)?;
-    archive.admit(0, &vectors(alloc, CHANGES, 0)?)?;
-    archive.mark(0, mark_at(1_704_067_201))?;
+    give(&mut archive, 0, &vectors(alloc, CHANGES, 0)?)?;
+    set_mark(&mut archive, 1_704_067_201)?;
     apply_all(&mut archive)?;
     flush_all(&mut archive)?;
-    Ok(archive)
+    Some(archive)
 }
 
-/// The archive on these disks.
-fn opened(alloc: Global, erase: MemErase, once: MemOnce, pen: MemPen) -> Result<Made, Fail> {
-    match Archive::open(alloc, erase, Arc::new(alloc, once)?, pen) {
-        Ok(archive) => Ok(archive),
-        Err(refused) => Err(refused.error.into()),
+/// Whether a check counts so many changes, or finds this.
+fn checks_as(archive: &mut Made, answer: Result<u64, CheckError>) -> bool {
+    archive.check() == answer
+}
+
+/// The octet of a disk at a place. None where it can't be read.
+fn octet_at(alloc: Global, disk: &mut MemErase, at: u64) -> Option<u8> {
+    if at >= disk.size() {
+        return None;
     }
+    let Ok(mut octets) = vec![in alloc; 0u8; 1] else {
+        return None;
+    };
+    disk.read(at, &mut octets).ok()?;
+    octets.first().copied()
 }
 
 /// Changes one octet of a home page.
-fn change_page(alloc: Global, disk: &mut MemErase, change: &Change) -> Result<(), Fail> {
+fn change_page(alloc: Global, disk: &mut MemErase, change: &Change) -> Option<()> {
     if change.place > 1_000 || change.at >= PAGE {
-        return Err(Fail::from("no such octet"));
+        return None;
     }
     let at = (265 + change.place) * PAGE + change.at;
+    let was = octet_at(alloc, disk, at)?;
     if disk.size() < at + 1 {
-        return Err(Fail::from("no such page"));
+        return None;
     }
-    let mut octet = vec![in alloc; 0u8; 1]?;
-    disk.read(at, &mut octet)?;
-    octet[0] ^= change.bits;
-    disk.write_at(at, &octet)?;
-    disk.sync()?;
-    Ok(())
+    disk.write_at(at, &[was ^ change.bits]).ok()?;
+    disk.sync().ok()
 }
 
 /// The same block, but for the octet that is changed.
-fn changed_block(alloc: Global, block: &Block, change: &Change) -> Result<Block, Fail> {
+fn changed_block(alloc: Global, block: &Block, change: &Change) -> Option<Block> {
     if change.at >= 16_384 {
-        return Err(Fail::from("no such octet"));
+        return None;
     }
-    let mut changed = Block::from_slice(alloc, block.octets())?;
+    let mut changed = Block::from_slice(alloc, block.octets()).ok()?;
     let at = change.at as usize;
     let octet = block.octets()[at] ^ change.bits;
     changed.put(at, &[octet]);
-    Ok(changed)
+    Some(changed)
 }
 
 /// Burns a block that is blank.
-fn burn(disk: &MemOnce, pen: &mut MemPen, number: u64, block: &Block) -> Result<(), Fail> {
-    if number >= disk.blocks() || !disk.blank(pen, number)? {
-        return Err(Fail::from("no blank block"));
+fn burn(disk: &MemOnce, pen: &mut MemPen, number: u64, block: &Block) -> Option<()> {
+    if number >= disk.blocks() {
+        return None;
     }
-    disk.burn(pen, number, block)?;
-    Ok(())
-}
-
-/// Another disk on which the same blocks are settled, but for one octet of one of them.
-fn burnt_anew(alloc: Global, pen: &MemPen, change: &Change) -> Result<(MemOnce, MemPen), Fail> {
-    let (disk, mut anew) = MemOnce::new(alloc, 5);
-    for was in pen.settled() {
-        let number = was.number();
-        if number == change.place {
-            let changed = changed_block(alloc, was.block(), change)?;
-            burn(&disk, &mut anew, number, &changed)?;
-        } else {
-            burn(&disk, &mut anew, number, was.block())?;
-        }
+    match disk.blank(pen, number) {
+        Ok(true) => disk.burn(pen, number, block).ok(),
+        _ => None,
     }
-    disk.settle(&mut anew)?;
-    Ok((disk, anew))
+}
+
+/// Burns a block as it was, but for the octet that is changed, where it is that block.
+fn burn_anew(
+    alloc: Global,
+    disk: &MemOnce,
+    pen: &mut MemPen,
+    number: u64,
+    block: &Block,
+    change: &Change,
+) -> Option<()> {
+    if number == change.place {
+        burn(disk, pen, number, &changed_block(alloc, block, change)?)
+    } else {
+        burn(disk, pen, number, block)
+    }
+}
+
+/// The same disks, but for one octet of one of the blocks.
+fn burnt_anew(alloc: Global, disks: &Both, change: &Change) -> Option<Both> {
+    let (once, mut pen) = MemOnce::new(alloc, 5);
+    for was in disks.pen.settled() {
+        burn_anew(alloc, &once, &mut pen, was.number(), was.block(), change)?;
+    }
+    once.settle(&mut pen).ok()?;
+    let erase = disks.erase.copy().ok()?;
+    Some(Both { erase, once, pen })
 }
 
 #[test]
-fn an_archive_to_which_nothing_was_given_has_no_change(rt: HostRuntime) -> Result<(), Fail> {
-    let mut archive = made(rt.alloc(), SETTINGS)?;
-    assert_eq!(rt; archive.check(), Ok(0));
-    Ok(())
+fn an_archive_to_which_nothing_was_given_has_no_change(rt: HostRuntime) {
+    let mut archive = made(rt.alloc(), SETTINGS).expect(&rt, "an archive");
+    be(&rt, checks_as(&mut archive, Ok(0)), "no change");
 }
 
-#[test]
-fn what_waits_is_not_counted(rt: HostRuntime) -> Result<(), Fail> {
-    let alloc = rt.alloc();
-    let mut archive = made(alloc, SETTINGS)?;
-    archive.admit(0, &vectors(alloc, 2, 0)?)?;
-    assert_eq!(rt; archive.check(), Ok(0));
-    archive.mark(0, mark_at(1_704_067_201))?;
-    apply_all(&mut archive)?;
-    assert_eq!(rt; archive.check(), Ok(2));
-    Ok(())
-}
-
-#[test]
-fn changes_of_the_past_are_counted(rt: HostRuntime) -> Result<(), Fail> {
-    let alloc = rt.alloc();
+/// Whether changes are counted, also where the archive is opened again. They fill three blocks.
+fn are_counted(alloc: Global) -> Option<bool> {
     let mut archive = filled(alloc)?;
-    assert_eq!(rt; archive.check(), Ok(700));
-    let (erase, once, pen) = archive.into_disks();
-    assert!(rt; pen.settled().len() >= 3);
-    let mut again = opened(alloc, erase, *once, pen)?;
-    assert_eq!(rt; again.check(), Ok(700));
-    Ok(())
+    let is_counted = checks_as(&mut archive, Ok(700));
+    let disks = given_up(archive);
+    let are_blocks = disks.pen.settled().len() >= 3;
+    let mut again = opened(alloc, disks)?;
+    Some(is_counted && are_blocks && checks_as(&mut again, Ok(700)))
 }
 
 #[test]
-fn a_changed_octet_of_a_page_is_found(rt: HostRuntime) -> Result<(), Fail> {
-    let alloc = rt.alloc();
-    let (erase, once, pen) = filled(alloc)?.into_disks();
+fn changes_of_the_past_are_counted(rt: HostRuntime) {
+    be(&rt, are_counted(rt.alloc()) == Some(true), "700 changes");
+}
+
+/// Whether a check of these disks finds what was changed.
+fn is_found_on(alloc: Global, disks: Both, change: &Change) -> Option<bool> {
+    let mut archive = opened(alloc, disks)?;
+    Some(checks_as(&mut archive, Err(change.found)))
+}
+
+/// Whether a changed octet of a home page is found.
+fn is_page_found(alloc: Global, disks: &Both, change: &Change) -> Option<bool> {
+    let mut changed = disks.copy()?;
+    change_page(alloc, &mut changed.erase, change)?;
+    is_found_on(alloc, changed, change)
+}
+
+/// An archive in whose ring all changes wait.
+fn waiting(alloc: Global) -> Option<Made> {
+    let mut archive = made(alloc, SETTINGS)?;
+    give(&mut archive, 0, &vectors(alloc, 3, 0)?)?;
+    flush_all(&mut archive)?;
+    Some(archive)
+}
+
+/// Whether a changed octet of an admission that waits is found, and nothing where none is changed.
+fn is_waiting_found(alloc: Global, change: &Change) -> Option<bool> {
+    let disks = given_up(waiting(alloc)?);
+    let mut whole = opened(alloc, disks.copy()?)?;
+    let is_whole = checks_as(&mut whole, Ok(0));
+    Some(is_whole && is_page_found(alloc, &disks, change)?)
+}
+
+#[test]
+fn a_changed_octet_of_an_admission_that_waits_is_found(rt: HostRuntime) {
+    for change in &WAITING {
+        let is_found = is_waiting_found(rt.alloc(), change);
+        be(&rt, is_found == Some(true), change.name);
+    }
+}
+
+#[test]
+fn a_changed_octet_of_a_page_is_found(rt: HostRuntime) {
+    let archive = filled(rt.alloc()).expect(&rt, "an archive");
+    let disks = given_up(archive);
     for change in &PAGES {
-        let mut pages = erase.copy()?;
-        change_page(alloc, &mut pages, change)?;
-        let (blocks, anew) = once.copy(&pen)?;
-        let mut archive = opened(alloc, pages, blocks, anew)?;
-        assert_eq!(rt; archive.check(), Err(change.found), "{}", change.name);
+        let is_found = is_page_found(rt.alloc(), &disks, change);
+        be(&rt, is_found == Some(true), change.name);
     }
-    Ok(())
+}
+
+/// Whether a changed octet of a block is found.
+fn is_block_found(alloc: Global, disks: &Both, change: &Change) -> Option<bool> {
+    is_found_on(alloc, burnt_anew(alloc, disks, change)?, change)
 }
 
 #[test]
-fn a_changed_octet_of_a_block_is_found(rt: HostRuntime) -> Result<(), Fail> {
-    let alloc = rt.alloc();
-    let (erase, _once, pen) = filled(alloc)?.into_disks();
+fn a_changed_octet_of_a_block_is_found(rt: HostRuntime) {
+    let archive = filled(rt.alloc()).expect(&rt, "an archive");
+    let disks = given_up(archive);
     for change in &BLOCKS {
-        let (blocks, anew) = burnt_anew(alloc, &pen, change)?;
-        let mut archive = opened(alloc, erase.copy()?, blocks, anew)?;
-        assert_eq!(rt; archive.check(), Err(change.found), "{}", change.name);
+        let is_found = is_block_found(rt.alloc(), &disks, change);
+        be(&rt, is_found == Some(true), change.name);
     }
-    Ok(())
 }
 
-// The writes of creating an archive are the first twelve.
+/// Whether an archive that must be opened again, since its first write failed, isn't checked.
+fn is_unchecked(alloc: Global) -> Option<bool> {
+    let mut disks = given_up(made(alloc, SETTINGS)?);
+    disks.fail(alloc, Failure::Write(0, Torn::Half))?;
+    let mut archive = opened(alloc, disks)?;
+    let is_refused = archive.mark(0, mark_at(5)).is_err();
+    Some(is_refused && checks_as(&mut archive, Err(CheckError::NeedsRecovery)))
+}
+
 #[test]
-fn an_archive_that_must_be_opened_again_is_not_checked(rt: HostRuntime) -> Result<(), Fail> {
-    let alloc = rt.alloc();
-    let (mut erase, once, pen) = made(alloc, SETTINGS)?.into_disks();
-    erase.set_script(vec![in alloc; Failure::Write(0, Torn::Half)]?);
-    let mut archive = opened(alloc, erase, *once, pen)?;
-    assert!(rt; archive.mark(0, mark_at(5)).is_err());
-    assert_eq!(rt; archive.check(), Err(CheckError::NeedsRecovery));
-    Ok(())
+fn an_archive_that_must_be_opened_again_is_not_checked(rt: HostRuntime) {
+    be(
+        &rt,
+        is_unchecked(rt.alloc()) == Some(true),
+        "a failed write",
+    );
 }

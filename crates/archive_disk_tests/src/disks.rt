@@ -1,12 +1,11 @@
 //! Both disks below an archive: given up, torn by a crash, and opened again.
 
-use crate::made::Made;
+use crate::made::{Made, one};
 use disk_archive::{Archive, OpenError, Refused};
 use disk_memory::{Call, Failure, MemErase, MemOnce, MemPen, OnceFailure, Torn, crash_both};
 use disk_models::{EraseDisk, OnceDisk};
-use std::alloc::{AllocError, Global};
+use std::alloc::Global;
 use std::sync::Arc;
-use std::test::Fail;
 
 /// How many kinds of torn ranges there are.
 pub(crate) const KINDS: u8 = 4;
@@ -21,17 +20,22 @@ pub(crate) const IN_TURN: u8 = 4;
 const RANGES: u8 = 40;
 
 /// What a torn range holds: the last kind is octets that nobody wrote, an open gate's first of all.
-pub(crate) fn torn(alloc: Global, kind: u8) -> Result<Torn, AllocError> {
-    Ok(match kind {
+pub(crate) fn torn(alloc: Global, kind: u8) -> Option<Torn> {
+    Some(match kind {
         0 => Torn::Old,
         1 => Torn::New,
         2 => Torn::Half,
-        _ => Torn::Octets(Vec::from_slice(alloc, &[0xA5, 1, 2, 3, 4, 5, 6, 7, 8, 9])?),
+        _ => Torn::Octets(Vec::from_slice(alloc, &[0xA5, 1, 2, 3, 4, 5, 6, 7, 8, 9]).ok()?),
     })
 }
 
+/// A write that fails and leaves this kind.
+pub(crate) fn failed_write(alloc: Global, number: u64, kind: u8) -> Option<Failure> {
+    Some(Failure::Write(number, torn(alloc, kind)?))
+}
+
 // What the ranges hold after a crash.
-fn choice(alloc: Global, crash: u8) -> Result<Vec<Torn>, AllocError> {
+fn choice(alloc: Global, crash: u8) -> Option<Vec<Torn>> {
     let mut choice = Vec::new(alloc);
     for place in 0..RANGES {
         let kind = if crash < KINDS {
@@ -39,9 +43,9 @@ fn choice(alloc: Global, crash: u8) -> Result<Vec<Torn>, AllocError> {
         } else {
             place.wrapping_add(crash) % KINDS
         };
-        choice.push(torn(alloc, kind)?)?;
+        choice.push(torn(alloc, kind)?).ok()?;
     }
-    Ok(choice)
+    Some(choice)
 }
 
 /// How many writes and syncs were made of an erasable disk.
@@ -61,33 +65,43 @@ pub(crate) struct Both {
 
 impl Both {
     /// The same disks once more. No failure is to come.
-    pub(crate) fn copy(&self) -> Result<Both, AllocError> {
-        let erase = self.erase.copy()?;
-        let (once, pen) = self.once.copy(&self.pen)?;
-        Ok(Both { erase, once, pen })
+    pub(crate) fn copy(&self) -> Option<Both> {
+        let erase = self.erase.copy().ok()?;
+        let (once, pen) = self.once.copy(&self.pen).ok()?;
+        Some(Both { erase, once, pen })
     }
 
     /// The disks behind a crash now.
-    pub(crate) fn crash(&self, alloc: Global, crash: u8) -> Result<Both, AllocError> {
+    pub(crate) fn crash(&self, alloc: Global, crash: u8) -> Option<Both> {
         let choice = choice(alloc, crash)?;
-        let (erase, once, pen) = crash_both(&self.erase, &self.once, &self.pen, &choice, &choice)?;
-        Ok(Both { erase, once, pen })
+        let (erase, once, pen) = crash_both(
+            &self.erase,
+            &self.once,
+            &self.pen,
+            &choice,
+            &choice,
+        ).ok()?;
+        Some(Both { erase, once, pen })
     }
 
     /// Lets a call of the erasable disk fail.
-    pub(crate) fn fail(&mut self, alloc: Global, failure: Failure) -> Result<(), AllocError> {
-        self.erase.set_script(vec![in alloc; failure]?);
-        Ok(())
+    pub(crate) fn fail(&mut self, alloc: Global, failure: Failure) -> Option<()> {
+        self.erase.set_script(one(alloc, failure)?);
+        Some(())
     }
 
-    /// Lets a call of the write-once disk fail.
-    pub(crate) fn fail_once(
-        &mut self,
-        alloc: Global,
-        failure: OnceFailure,
-    ) -> Result<(), AllocError> {
-        self.pen.set_script(vec![in alloc; failure]?);
-        Ok(())
+    /// The same disks once more, of which a call of the erasable one is to fail.
+    pub(crate) fn failing(&self, alloc: Global, failure: Failure) -> Option<Both> {
+        let mut disks = self.copy()?;
+        disks.fail(alloc, failure)?;
+        Some(disks)
+    }
+
+    /// The same, of which a call of the write-once one is to fail.
+    pub(crate) fn failing_once(&self, alloc: Global, failure: OnceFailure) -> Option<Both> {
+        let mut disks = self.copy()?;
+        disks.pen.set_script(one(alloc, failure)?);
+        Some(disks)
     }
 
     /// How many writes and syncs these disks have more than what they were before.
@@ -133,35 +147,41 @@ pub(crate) struct Unopened {
     pub(crate) error: OpenError,
 }
 
-/// What opening these disks answers.
-pub(crate) fn open(alloc: Global, disks: Both) -> Result<Result<Made, Unopened>, AllocError> {
+/// What opening these disks answers. None where there is no memory.
+pub(crate) fn open(alloc: Global, disks: Both) -> Option<Result<Made, Unopened>> {
     let Both { erase, once, pen } = disks;
-    Ok(
-        match Archive::open(alloc, erase, Arc::new(alloc, once)?, pen) {
-            Ok(archive) => Ok(archive),
-            Err(
-                Refused {
-                    erase,
-                    once,
-                    pen,
-                    error,
-                },
-            ) => Err(Unopened {
-                disks: Both {
-                    erase,
-                    once: *once,
-                    pen,
-                },
+    let once = Arc::new(alloc, once).ok()?;
+    Some(match Archive::open(alloc, erase, once, pen) {
+        Ok(archive) => Ok(archive),
+        Err(
+            Refused {
+                erase,
+                once,
+                pen,
                 error,
-            }),
-        },
-    )
+            },
+        ) => Err(Unopened {
+            disks: Both {
+                erase,
+                once: *once,
+                pen,
+            },
+            error,
+        }),
+    })
 }
 
 /// The archive on these disks, which name one.
-pub(crate) fn opened(alloc: Global, disks: Both) -> Result<Made, Fail> {
-    match open(alloc, disks)? {
-        Ok(archive) => Ok(archive),
-        Err(unopened) => Err(unopened.error.into()),
-    }
+pub(crate) fn opened(alloc: Global, disks: Both) -> Option<Made> {
+    open(alloc, disks)?.ok()
+}
+
+/// The archive on the disks behind a crash now.
+pub(crate) fn opened_behind(alloc: Global, disks: &Both, crash: u8) -> Option<Made> {
+    opened(alloc, disks.crash(alloc, crash)?)
+}
+
+/// The same archive, opened again.
+pub(crate) fn reopened(alloc: Global, archive: Made) -> Option<Made> {
+    opened(alloc, given_up(archive))
 }

@@ -1,12 +1,11 @@
 //! Calls of two collectors, and failures of both disks, drawn as if by chance.
 
-use crate::disks::{Calls, KINDS, torn};
-use crate::made::{large_route, mark_at, peer_of};
+use crate::disks::{Calls, KINDS, failed_write, torn};
+use crate::made::{admission_of, large_route, mark_at, one, peer_of};
 use disk_memory::{Failure, OnceFailure};
 use interleaving_core::Step;
-use route_model::{Address, Admission, Change, Moment, Prefix};
+use route_model::{Address, Admission, Change, Prefix};
 use std::alloc::Global;
-use std::test::Fail;
 
 /// Numbers that look like chance, each made of the one before (Knuth's MMIX).
 #[derive(Drop)]
@@ -29,40 +28,47 @@ impl Chance {
     }
 }
 
-fn draw_change(alloc: Global, chance: &mut Chance, collector: u8) -> Result<Change, Fail> {
+fn draw_change(alloc: Global, chance: &mut Chance, collector: u8) -> Option<Change> {
     let peer = peer_of(collector);
     let prefix = Prefix::containing(Address::V4([10, chance.below(4), 0, 0]), 16);
-    Ok(match chance.below(8) {
+    Some(match chance.below(8) {
         0 => Change::Down(peer),
         1 => Change::Withdraw(peer, prefix),
         number => Change::Announce(peer, prefix, large_route(alloc, number)?),
     })
 }
 
-// One or two records of one or two changes each. Some are late.
+// A record of one or two changes.
+fn draw_record(alloc: Global, chance: &mut Chance, collector: u8, now: u32) -> Option<Admission> {
+    let mut changes = one(alloc, draw_change(alloc, chance, collector)?)?;
+    if chance.below(3) == 0 {
+        changes.push(draw_change(alloc, chance, collector)?).ok()?;
+    }
+    let time = now.saturating_sub(u32::from(chance.below(4)));
+    admission_of(time, changes)
+}
+
+// One or two records. Some are late.
 fn draw_batch(
     alloc: Global,
     chance: &mut Chance,
     collector: u8,
     now: u32,
-) -> Result<Vec<Admission>, Fail> {
+) -> Option<Vec<Admission>> {
     let mut batch = Vec::new(alloc);
     for _ in 0..=chance.below(2) {
-        let mut changes = vec![in alloc; draw_change(alloc, chance, collector)?]?;
-        if chance.below(3) == 0 {
-            changes.push(draw_change(alloc, chance, collector)?)?;
-        }
-        let time = now.saturating_sub(u32::from(chance.below(4)));
-        batch.push(Admission::new(Moment::from(time), changes)?)?;
+        batch
+            .push(draw_record(alloc, chance, collector, now)?)
+            .ok()?;
     }
-    Ok(batch)
+    Some(batch)
 }
 
 /// The call of this number of an archive of two collectors, as a step of the pure machine.
-pub(crate) fn draw_call(alloc: Global, chance: &mut Chance, number: u32) -> Result<Step, Fail> {
+pub(crate) fn draw_call(alloc: Global, chance: &mut Chance, number: u32) -> Option<Step> {
     let now = number.saturating_add(100);
     let collector = chance.below(2);
-    Ok(match chance.below(8) {
+    Some(match chance.below(8) {
         0 | 1 => Step::Admit(collector, draw_batch(alloc, chance, collector, now)?),
         2 | 3 => Step::Mark(
             collector,
@@ -74,39 +80,36 @@ pub(crate) fn draw_call(alloc: Global, chance: &mut Chance, number: u32) -> Resu
 }
 
 /// A failure of the erasable disk, where an opening makes so many calls of it: mostly at one of the next calls behind those.
-pub(crate) fn draw_failure(
-    alloc: Global,
-    chance: &mut Chance,
-    opening: Calls,
-) -> Result<Failure, Fail> {
+pub(crate) fn draw_failure(alloc: Global, chance: &mut Chance, opening: Calls) -> Option<Failure> {
     let kind = chance.below(KINDS);
-    Ok(match chance.below(8) {
-        0 => Failure::Read(u64::from(chance.below(40))),
-        1 => Failure::Write(u64::from(chance.below(8)), torn(alloc, kind)?),
-        2 | 3 => Failure::Sync(opening.syncs.saturating_add(u64::from(chance.below(6)))),
+    match chance.below(8) {
+        0 => Some(Failure::Read(u64::from(chance.below(40)))),
+        1 => failed_write(alloc, u64::from(chance.below(8)), kind),
+        2 | 3 => {
+            let number = opening.syncs.saturating_add(u64::from(chance.below(6)));
+            Some(Failure::Sync(number))
+        }
         _ => {
             let number = opening.writes.saturating_add(u64::from(chance.below(20)));
-            Failure::Write(number, torn(alloc, kind)?)
+            failed_write(alloc, number, kind)
         }
-    })
+    }
 }
 
 /// Failures of the write-once disk: at a call of one kind and at the next one of that kind. A step of applying tells only of a failure at
 /// its first change, which the second one may meet then.
-pub(crate) fn draw_once_failures(
-    alloc: Global,
-    chance: &mut Chance,
-) -> Result<Vec<OnceFailure>, Fail> {
+pub(crate) fn draw_once_failures(alloc: Global, chance: &mut Chance) -> Option<Vec<OnceFailure>> {
     let call = chance.below(4);
     let first = u64::from(chance.below(2));
     let mut failures = Vec::new(alloc);
     for number in [first, first.saturating_add(1)] {
-        failures.push(match call {
+        let failure = match call {
             0 => OnceFailure::Settle(number),
             // An opening looks for a blank block once at least.
             1 => OnceFailure::Blank(number.saturating_add(1)),
             _ => OnceFailure::Burn(number, torn(alloc, chance.below(KINDS))?),
-        })?;
+        };
+        failures.push(failure).ok()?;
     }
-    Ok(failures)
+    Some(failures)
 }

@@ -1,30 +1,34 @@
 //! An archive of one collector to which one record was given, and then a second one, by calls that a device may refuse.
 
-use crate::disks::{Both, given_up, open, opened};
-use crate::made::{made, mark_at, vectors};
+use crate::disks::{Both, given_up, open, opened, reopened};
+use crate::made::{Made, give, made, mark_at, resume_of, vectors};
 use archive_pages::Settings;
 use interleaving_core::Resume;
 use std::alloc::Global;
-use std::test::Fail;
 
-const SETTINGS: Settings = Settings {
+pub(crate) const SETTINGS: Settings = Settings {
     collectors: 1,
     ring: 9,
 };
 
+// Gives a record, so many seconds behind the first moment. None where it isn't taken.
+fn give_one(alloc: Global, archive: &mut Made, behind: u8) -> Option<()> {
+    give(archive, 0, &vectors(alloc, 1, behind)?)
+}
+
 /// Disks on which one record waits. No page of them waits to go home.
-pub(crate) fn one_given(alloc: Global) -> Result<Both, Fail> {
+pub(crate) fn one_given(alloc: Global) -> Option<Both> {
     let mut archive = made(alloc, SETTINGS)?;
-    let _reply = archive.admit(0, &vectors(alloc, 1, 0)?)?;
-    Ok(given_up(opened(alloc, given_up(archive))?))
+    give_one(alloc, &mut archive, 0)?;
+    Some(given_up(reopened(alloc, archive)?))
 }
 
 /// Disks on which two records wait, each of them in an open slot.
-pub(crate) fn two_given(alloc: Global) -> Result<Both, Fail> {
+pub(crate) fn two_given(alloc: Global) -> Option<Both> {
     let mut archive = made(alloc, SETTINGS)?;
-    let _first = archive.admit(0, &vectors(alloc, 1, 0)?)?;
-    let _second = archive.admit(0, &vectors(alloc, 1, 1)?)?;
-    Ok(given_up(archive))
+    give_one(alloc, &mut archive, 0)?;
+    give_one(alloc, &mut archive, 1)?;
+    Some(given_up(archive))
 }
 
 /// Disks on which a second record may wait.
@@ -36,28 +40,35 @@ pub(crate) struct Given {
 
 /// Gives a second record, a second later, to the archive on these disks. Its header, the page of its ring and the head are written
 /// into a slot, and behind a sync the gate: four writes. To open the archive and to give the record two syncs are made each.
-pub(crate) fn give_second(alloc: Global, disks: Both) -> Result<Given, Fail> {
-    let mut archive = match open(alloc, disks)? {
-        Ok(archive) => archive,
-        Err(unopened) => {
-            return Ok(Given {
-                disks: unopened.disks,
-                is_acknowledged: false,
-            });
-        }
-    };
-    let reply = archive.admit(0, &vectors(alloc, 1, 1)?);
-    Ok(Given {
-        is_acknowledged: reply.is_ok(),
-        disks: given_up(archive),
-    })
+pub(crate) fn give_second(alloc: Global, disks: Both) -> Option<Given> {
+    match open(alloc, disks)? {
+        Ok(mut archive) => Some(Given {
+            is_acknowledged: give_one(alloc, &mut archive, 1).is_some(),
+            disks: given_up(archive),
+        }),
+        Err(unopened) => Some(Given {
+            disks: unopened.disks,
+            is_acknowledged: false,
+        }),
+    }
 }
 
 /// Where the collector goes on behind so many records.
-pub(crate) fn behind(records: u32) -> Resume {
+fn behind(records: u32) -> Resume {
     Resume {
         offered: u64::from(records),
         admitted: u64::from(records),
         mark: mark_at(1_704_067_199u32.saturating_add(records)),
     }
+}
+
+/// Whether an archive has so many records.
+pub(crate) fn has_records(archive: &Made, records: u32) -> bool {
+    resume_of(archive, 0) == Some(behind(records))
+}
+
+/// Whether so many records are there behind a crash now.
+pub(crate) fn leaves(alloc: Global, disks: &Both, crash: u8, records: u32) -> Option<bool> {
+    let archive = opened(alloc, disks.crash(alloc, crash)?)?;
+    Some(has_records(&archive, records))
 }

@@ -1,12 +1,9 @@
-//! Tests of archives on two disks in memory: how they are created, and what their calls answer one after another.
+//! Tests of archives on two disks in memory: how they are created and opened, and what their calls answer one after another, beside
+//! the pure machine.
 #![tactic(auto)]
 
 #[cfg(test)]
-mod applied;
-#[cfg(test)]
 mod asked;
-#[cfg(test)]
-mod calls;
 #[cfg(test)]
 mod checked;
 #[cfg(test)]
@@ -18,10 +15,6 @@ mod disks;
 #[cfg(test)]
 mod drawn;
 #[cfg(test)]
-mod failing;
-#[cfg(test)]
-mod full_rings;
-#[cfg(test)]
 mod given;
 #[cfg(test)]
 mod made;
@@ -32,6 +25,19 @@ mod model;
 #[cfg(test)]
 mod opened;
 #[cfg(test)]
+mod playing;
+#[cfg(test)]
+mod scripts;
+#[cfg(test)]
 mod served;
 #[cfg(test)]
 mod told;
+
+#[cfg(test)]
+use std::process::Abort;
+
+/// Ends a test that is wrong, with what was tried. Proofs learn nothing of it, which keeps them short.
+#[cfg(test)]
+fn be(rt: &impl Abort, holds: bool, name: &str) {
+    assert!(rt; holds, "{name}");
+}

@@ -1,20 +1,18 @@
-//! Mixed calls of two collectors on disks that fail and crash, beside an archive that is all in memory and never stops, and the pure
-//! machine.
+//! Mixed calls of two collectors on disks that fail and crash, beside the pure machine, which never stops.
 
 use crate::asked::answer;
+use crate::be;
 use crate::disks::{Both, CRASHES, Calls, given_up, open, opened};
 use crate::drawn::{Chance, draw_call, draw_failure, draw_once_failures};
 use crate::made::{Disks, Made, disks_of, made_on, octets_of};
-use crate::model::{Model, is_machine_at, machine_answer};
+use crate::model::Model;
 use crate::told::{State, Told, make, state_of};
-use archive_calls::RouteArchive;
 use archive_pages::Settings;
-use interleaving_core::{Machine, Step};
+use interleaving_core::Step;
 use memory_archive::MemArchive;
 use route_model::octets::u64_at;
 use std::alloc::Global;
 use std::process::Abort;
-use std::test::Fail;
 
 // How many calls a run has.
 const CALLS: u32 = 120;
@@ -23,7 +21,7 @@ const CALLS: u32 = 120;
 const RUNS: u64 = 100;
 
 // An archive on disks of 400 blocks and 200 pages for the tree, which fail at no call.
-fn created(alloc: Global) -> Result<MemArchive, Fail> {
+fn created(alloc: Global) -> Option<MemArchive> {
     let settings = Settings {
         collectors: 2,
         ring: 17,
@@ -32,10 +30,8 @@ fn created(alloc: Global) -> Result<MemArchive, Fail> {
         blocks: 400,
         ..disks_of(alloc, 235)
     };
-    match made_on(alloc, disks, settings)? {
-        Ok(archive) => Ok(MemArchive { archive }),
-        Err(refusal) => Err(refusal.into()),
-    }
+    let archive = made_on(alloc, disks, settings)?.ok()?;
+    Some(MemArchive { archive })
 }
 
 /// What an opening that nothing stops finds: the archive, how many changes the head on its home page tells as applied, and how many calls
@@ -47,17 +43,23 @@ struct Witness {
     opening: Calls,
 }
 
-fn witness_on(alloc: Global, left: &Both) -> Result<Witness, Fail> {
-    let mut disks = given_up(opened(alloc, left.copy()?)?);
-    let opening = disks.calls_since(left);
+// How many changes the head on its home page tells as applied.
+fn applied_on(alloc: Global, disks: &mut Both) -> Option<u64> {
     let head = octets_of(alloc, &mut disks.erase, 265)?;
     if head.len() < 8 {
-        return Err(Fail::from("no head"));
+        return None;
     }
+    Some(u64_at(&head, 0))
+}
+
+fn witness_on(alloc: Global, left: &Both) -> Option<Witness> {
+    let mut disks = given_up(opened(alloc, left.copy()?)?);
+    let opening = disks.calls_since(left);
+    let applied = applied_on(alloc, &mut disks)?;
     let archive = opened(alloc, disks)?;
-    Ok(Witness {
+    Some(Witness {
         disk: MemArchive { archive },
-        applied: u64_at(&head, 0),
+        applied,
         opening,
     })
 }
@@ -69,26 +71,27 @@ struct Opened {
     was_stopped: bool,
 }
 
-// Opens disks of which a call is to fail at some time, in one of three cases of the write-once one alone. Where that is in the opening, it
-// crashes, and they are opened again.
-fn reopened(
-    alloc: Global,
-    chance: &mut Chance,
-    opening: Calls,
-    mut disks: Both,
-) -> Result<Opened, Fail> {
+// Lets a call of these disks fail at some time, in one of three cases of the write-once one alone.
+fn arm(alloc: Global, chance: &mut Chance, opening: Calls, disks: &mut Both) -> Option<()> {
     if chance.below(3) > 0 {
-        disks.fail(alloc, draw_failure(alloc, chance, opening)?)?;
+        let failure = draw_failure(alloc, chance, opening)?;
+        disks.fail(alloc, failure)?;
     }
     disks.pen.set_script(draw_once_failures(alloc, chance)?);
+    Some(())
+}
+
+// Opens disks of which a call is to fail at some time. Where that is in the opening, it crashes, and they are opened again.
+fn reopened(alloc: Global, chance: &mut Chance, opening: Calls, mut disks: Both) -> Option<Opened> {
+    arm(alloc, chance, opening, &mut disks)?;
     match open(alloc, disks)? {
-        Ok(archive) => Ok(Opened {
+        Ok(archive) => Some(Opened {
             archive,
             was_stopped: false,
         }),
         Err(unopened) => {
             let left = unopened.disks.crash(alloc, chance.below(CRASHES))?;
-            Ok(Opened {
+            Some(Opened {
                 archive: opened(alloc, left)?,
                 was_stopped: true,
             })
@@ -105,42 +108,45 @@ struct Found {
     witness: MemArchive,
 }
 
-fn find(alloc: Global, chance: &mut Chance, disks: &Both) -> Result<Found, Fail> {
+fn find(alloc: Global, chance: &mut Chance, disks: &Both) -> Option<Found> {
     let left = disks.crash(alloc, chance.below(CRASHES))?;
-    let witness = witness_on(alloc, &left)?;
+    let Witness {
+        disk: witness,
+        applied,
+        opening,
+    } = witness_on(alloc, &left)?;
     let Opened {
         archive,
         was_stopped,
-    } = reopened(alloc, chance, witness.opening, left)?;
+    } = reopened(alloc, chance, opening, left)?;
     let disk = MemArchive { archive };
-    Ok(Found {
-        state: state_of(&disk, witness.applied),
+    Some(Found {
+        state: state_of(&disk, applied),
         disk,
         was_stopped,
-        witness: witness.disk,
+        witness,
     })
 }
 
-// Whether all answer alike what stood of a prefix at a moment below the watermark.
+// Whether both answer alike what stood of a prefix at a moment below the watermark.
 fn answers_alike(
     alloc: Global,
     chance: &mut Chance,
     model: &mut Model,
-    machine: &mut Machine,
     witness: &mut MemArchive,
-) -> Result<bool, Fail> {
-    let last = model.plain.settled().seconds();
-    let Some(moment) = last.checked_sub(1 + u64::from(chance.below(20))) else {
-        return Ok(true);
+    settled: u64,
+) -> Option<bool> {
+    let Some(moment) = settled.checked_sub(1 + u64::from(chance.below(20))) else {
+        return Some(true);
     };
-    let line = format!(in alloc; "at {moment} prefix 10.{}.0.0/16", chance.below(4))?;
+    let prefix = chance.below(4);
+    let line = format!(in alloc; "at {moment} prefix 10.{prefix}.0.0/16").ok()?;
     let told = answer(alloc, witness, &line)?;
-    let is_plain = told == answer(alloc, &mut model.plain, &line)?;
-    Ok(is_plain && told.as_slice() == machine_answer(alloc, machine, &line)?.as_bytes())
+    Some(!told.starts_with(b"X") && model.answers_as(&line, &told))
 }
 
 /// How often a run was stopped: in a call by either disk, or by one of both that failed, in an opening, and by crashes between two calls.
-#[derive(Clone, Copy, Debug, PartialEq, Eq)]
+#[derive(Clone, Copy)]
 struct Stops {
     erasable: u32,
     once: u32,
@@ -187,110 +193,155 @@ impl Stops {
 }
 
 // Whether the archive is behind a call that wasn't stopped what the model is.
-fn goes_on(model: &mut Model, disk: &MemArchive, step: Step, told: Told) -> Result<bool, Fail> {
+fn goes_on(model: &mut Model, disk: &MemArchive, step: Step, told: Told) -> bool {
     let applied = disk.archive.applied();
-    Ok(model.does(step, told, applied)? && model.state() == state_of(disk, applied))
+    model.does(step, told, applied) && model.state() == Some(state_of(disk, applied))
 }
 
-// What is found behind a crash, where that is what the models are: all that was told as done is there, and a call that was stopped, on
-// disks that failed, was made whole, or not at all.
+/// Whether the model is left in this state, where a call of this step was stopped, if one was.
+fn is_left(model: &mut Model, stopped: Option<Step>, state: &State) -> bool {
+    match stopped {
+        Some(step) => model.follows(step, state),
+        None => model.state() == Some(*state),
+    }
+}
+
+/// Whether the model answers as the archive that was found, after all was down.
+fn goes_on_alike(
+    alloc: Global,
+    chance: &mut Chance,
+    model: &mut Model,
+    found: &mut Found,
+) -> Option<bool> {
+    let settled = found.state.settled.seconds();
+    if !model.crash()? || found.disk.archive.applied() != found.state.applied {
+        return Some(false);
+    }
+    answers_alike(alloc, chance, model, &mut found.witness, settled)
+}
+
+// What is found behind a crash, where that is what the model is: all that was told as done is there, and a call that was stopped, on
+// a disk that failed, was made whole or not at all. None where it isn't, or there is no memory.
 fn find_alike(
     alloc: Global,
     chance: &mut Chance,
     model: &mut Model,
     disks: &Both,
     stopped: Option<Step>,
-) -> Result<Option<Found>, Fail> {
+) -> Option<Found> {
     if stopped.is_some() && !disks.erase_failed() && !disks.once_failed() {
-        return Ok(None);
+        return None;
     }
     let mut found = find(alloc, chance, disks)?;
-    let is_plain = match stopped {
-        Some(step) => model.follows(step, &found.state)?,
-        None => model.state() == found.state,
-    };
-    model.crash()?;
-    let Some(mut machine) = model.ran()? else {
-        return Ok(None);
-    };
-    let is_alike = is_plain
-        && found.disk.archive.applied() == found.state.applied
-        && is_machine_at(alloc, &mut machine, &found.state)?
-        && answers_alike(alloc, chance, model, &mut machine, &mut found.witness)?;
-    Ok(if is_alike { Some(found) } else { None })
-}
-
-// How often a run of calls is stopped: it crashes behind each call that fails, and behind each sixteenth one. None where it doesn't go as
-// the models' calls.
-fn goes_alike(alloc: Global, seed: u64) -> Result<Option<Stops>, Fail> {
-    let mut chance = Chance::new(seed);
-    let mut model = Model::new(alloc)?;
-    let mut disk = created(alloc)?;
-    let mut stops = NONE;
-    for number in 0..CALLS {
-        let step = draw_call(alloc, &mut chance, number)?;
-        let told = make(&mut disk, &step);
-        let stopped = match told {
-            Told::Stopped => Some(step),
-            _ => {
-                if !goes_on(&mut model, &disk, step, told)? {
-                    return Ok(None);
-                }
-                if number % 16 != 15 {
-                    continue;
-                }
-                None
-            }
-        };
-        let disks = given_up(disk.archive);
-        stops.count(told, &disks);
-        let Some(found) = find_alike(alloc, &mut chance, &mut model, &disks, stopped)? else {
-            return Ok(None);
-        };
-        stops.count_opening(found.was_stopped);
-        disk = found.disk;
+    let state = found.state;
+    let is_alike = is_left(model, stopped, &state)
+        && goes_on_alike(alloc, chance, model, &mut found)?;
+    if !is_alike {
+        return None;
     }
-    Ok(Some(stops))
+    Some(found)
 }
 
-// So many runs from this seed on go as the models' calls. Taken together, in each of them a failing disk stops a call seven times or more, the
+/// A run of calls: the archive, the model, and how often it was stopped.
+#[derive(Drop)]
+struct Run {
+    alloc: Global,
+    chance: Chance,
+    model: Model,
+    stops: Stops,
+}
+
+impl Run {
+    fn new(alloc: Global, seed: u64) -> Option<Run> {
+        Some(Run {
+            alloc,
+            chance: Chance::new(seed),
+            model: Model::new(alloc, 2)?,
+            stops: NONE,
+        })
+    }
+
+    // All crashes: the archive to go on with.
+    fn crash(&mut self, disk: MemArchive, told: Told, stopped: Option<Step>) -> Option<MemArchive> {
+        let disks = given_up(disk.archive);
+        self.stops.count(told, &disks);
+        let Found {
+            disk,
+            was_stopped,
+            ..
+        } = find_alike(
+            self.alloc,
+            &mut self.chance,
+            &mut self.model,
+            &disks,
+            stopped,
+        )?;
+        self.stops.count_opening(was_stopped);
+        Some(disk)
+    }
+
+    // Makes the call of this number: the archive to go on with. It crashes behind each call that fails, and behind each sixteenth one.
+    fn call(&mut self, mut disk: MemArchive, number: u32) -> Option<MemArchive> {
+        let step = draw_call(self.alloc, &mut self.chance, number)?;
+        let told = make(&mut disk, &step);
+        if told == Told::Stopped {
+            return self.crash(disk, told, Some(step));
+        }
+        if !goes_on(&mut self.model, &disk, step, told) {
+            return None;
+        }
+        if number % 16 == 15 {
+            return self.crash(disk, told, None);
+        }
+        Some(disk)
+    }
+}
+
+// How often a run of calls is stopped. None where it doesn't go as the model's calls.
+fn goes_alike(alloc: Global, seed: u64) -> Option<Stops> {
+    let mut run = Run::new(alloc, seed)?;
+    let mut disk = created(alloc)?;
+    for number in 0..CALLS {
+        disk = run.call(disk, number)?;
+    }
+    Some(run.stops)
+}
+
+// So many runs from this seed on go as the model's calls. Taken together, in each of them a failing disk stops a call seven times or more, the
 // erasable one four times; the write-once one stops ten calls in three of them, and an opening is stopped twice in each.
-fn expect_alike(rt: &impl Abort, alloc: Global, first: u64) -> Result<(), Fail> {
+fn expect_alike(rt: &impl Abort, alloc: Global, first: u64) {
     let mut all = NONE;
     for seed in first..first.saturating_add(RUNS) {
-        let stops = goes_alike(alloc, seed)?;
-        assert!(rt; stops.is_some(), "{seed}");
+        let stops = goes_alike(alloc, seed);
+        be(rt, stops.is_some(), "a run as the machine's");
         all = all.and(stops.unwrap_or(NONE));
     }
-    let Stops {
-        erasable,
-        once,
-        either,
-        opening,
-        between,
-    } = all;
-    assert!(rt;
-        erasable.saturating_add(once) >= 700,
-        "{erasable}, {once}, {either}, {opening}, {between}"
+    be(
+        rt,
+        all.erasable.saturating_add(all.once) >= 700,
+        "calls that are stopped",
     );
-    assert!(rt; erasable >= 400, "{erasable}");
-    assert!(rt; once >= 334, "{once}");
-    assert!(rt; opening >= 200, "{opening}");
-    assert!(rt; between >= 400, "{between}");
-    Ok(())
+    be(
+        rt,
+        all.erasable >= 400,
+        "calls that the erasable disk stops",
+    );
+    be(rt, all.once >= 334, "calls that the write-once disk stops");
+    be(rt, all.opening >= 200, "openings that are stopped");
+    be(rt, all.between >= 400, "crashes between two calls");
 }
 
 #[test]
-fn mixed_calls_go_on_behind_stops(rt: HostRuntime) -> Result<(), Fail> {
-    expect_alike(&rt, rt.alloc(), 0)
+fn mixed_calls_go_on_behind_stops(rt: HostRuntime) {
+    expect_alike(&rt, rt.alloc(), 0);
 }
 
 #[test]
-fn other_mixed_calls_go_on_behind_stops(rt: HostRuntime) -> Result<(), Fail> {
-    expect_alike(&rt, rt.alloc(), RUNS)
+fn other_mixed_calls_go_on_behind_stops(rt: HostRuntime) {
+    expect_alike(&rt, rt.alloc(), RUNS);
 }
 
 #[test]
-fn further_mixed_calls_go_on_behind_stops(rt: HostRuntime) -> Result<(), Fail> {
-    expect_alike(&rt, rt.alloc(), 2 * RUNS)
+fn further_mixed_calls_go_on_behind_stops(rt: HostRuntime) {
+    expect_alike(&rt, rt.alloc(), 2 * RUNS);
 }

@@ -1,162 +1,236 @@
-//! What an archive on disks is compared with: the plain archive, call by call, and the pure machine, run through all steps at once.
+//! What an archive on disks is compared with: the pure machine, step by step, and run through all steps at once.
 
 use crate::asked::query_of;
-use crate::told::{State, Told, make, state_of, told_of};
-use archive::Archive as Plain;
-use interleaving_core::{Answer, Machine, Query, Reach, Reply, Step, run};
-use route_model::Mark;
-use service::write_answer;
+use crate::told::{State, Told, told_of};
+use interleaving_core::{Answer, Machine, Query, Ran, Reach, Reply, Resume, Step, run};
+use route_meaning::{RowsQuestion, Select};
+use route_model::{Mark, Moment};
+use service::{write_answer, write_events};
 use std::alloc::Global;
-use std::test::Fail;
 
-// More changes than a run has.
-const WAITING: u32 = 1_000;
+// More changes than wait at any time.
+const WAITING: u32 = 2_000;
 
-const COLLECTORS: u8 = 2;
-
-/// The plain archive, and the steps by which the machine comes to the same, with what is told of each.
+/// The pure machine, how many changes it applied, where each record has one at least, and the steps by which it came there, with what was
+/// told of each.
 #[derive(Drop)]
 pub(crate) struct Model {
     alloc: Global,
-    pub(crate) plain: Plain,
-    /// How many changes the plain archive applied: each record has one at least.
+    collectors: u8,
+    machine: Machine,
     applied: u64,
     steps: Vec<Step>,
     told: Vec<Told>,
+    /// Whether there was memory for all of them.
+    is_whole: bool,
 }
 
 impl Model {
-    pub(crate) fn new(alloc: Global) -> Result<Model, Fail> {
-        Ok(Model {
+    pub(crate) fn new(alloc: Global, collectors: u8) -> Option<Model> {
+        Some(Model {
             alloc,
-            plain: Plain::plain(alloc, COLLECTORS)?,
+            collectors,
+            machine: Machine::created(alloc, collectors).ok()?,
             applied: 0,
             steps: Vec::new(alloc),
             told: Vec::new(alloc),
+            is_whole: true,
         })
     }
 
-    pub(crate) fn state(&self) -> State {
-        state_of(&self.plain, self.applied)
+    // What the machine replies to a question that is gone over in one turn.
+    fn reply_to(&mut self, query: Query) -> Option<Reply> {
+        match self.machine.begin(query) {
+            Ok(Reply::Begun(number)) => self.machine.turn(number, Reach::End).ok(),
+            _ => None,
+        }
     }
 
-    fn remember(&mut self, step: Step, told: Told) -> Result<(), Fail> {
-        self.steps.push(step)?;
-        self.told.push(told)?;
-        Ok(())
+    /// The settled watermark, which is told where the last moment of all is asked of. None where there is no memory.
+    pub(crate) fn settled(&mut self) -> Option<Mark> {
+        let all = Query::Rows(RowsQuestion {
+            moment: Moment::from(u32::MAX),
+            select: Select::All,
+            after: None,
+        });
+        settled_in(&self.reply_to(all)?)
     }
 
-    // The plain archive applies a change at a time, until so many are applied.
-    fn catch_up(&mut self, applied: u64) {
-        for _ in 0..WAITING {
-            if self.applied >= applied {
-                break;
-            }
-            if make(&mut self.plain, &Step::Apply(0)) != Told::Applied {
-                break;
-            }
+    /// What the machine tells of itself.
+    pub(crate) fn state(&mut self) -> Option<State> {
+        Some(State {
+            first: self.machine.resume(0),
+            second: self.machine.resume(1),
+            settled: self.settled()?,
+            applied: self.applied,
+        })
+    }
+
+    // Makes a step.
+    fn make(&mut self, step: &Step) -> Told {
+        let reply = match step {
+            Step::Admit(collector, batch) => self.machine.admit(*collector, batch).ok(),
+            Step::Mark(collector, mark) => Some(self.machine.mark(*collector, *mark)),
+            Step::Apply(_) => self.machine.apply(0).ok(),
+            Step::Flush => Some(self.machine.flush()),
+            _ => None,
+        };
+        let told = match &reply {
+            Some(reply) => told_of(reply),
+            None => Told::Refused,
+        };
+        if told == Told::Applied {
             self.applied = self.applied.saturating_add(1);
         }
+        told
+    }
+
+    // Applies a change at a time, until so many are applied.
+    fn catch_up(&mut self, applied: u64) {
+        for _ in 0..WAITING {
+            if self.applied >= applied || self.make(&Step::Apply(0)) != Told::Applied {
+                return;
+            }
+        }
+    }
+
+    fn remember(&mut self, step: Step, told: Told) {
+        self.is_whole &= self.steps.push(step).is_ok() && self.told.push(told).is_ok();
     }
 
     // Makes a step. One that applies a change goes on until so many are applied.
-    fn make(&mut self, step: Step, applied: u64) -> Result<Told, Fail> {
+    fn make_until(&mut self, step: Step, applied: u64) -> Told {
         let before = self.applied;
-        let told = make(&mut self.plain, &step);
-        let step = match told {
-            Told::Applied => {
-                self.applied = before.saturating_add(1);
-                self.catch_up(applied);
-                Step::Apply(self.applied.saturating_sub(before).saturating_sub(1))
-            }
-            _ => step,
-        };
-        self.remember(step, told)?;
-        Ok(told)
+        let told = self.make(&step);
+        if told == Told::Applied {
+            self.catch_up(applied);
+            let more = self.applied.saturating_sub(before).saturating_sub(1);
+            self.remember(Step::Apply(more), told);
+        } else {
+            self.remember(step, told);
+        }
+        told
     }
 
     /// Whether the model does as was told, and so many changes are applied then. A step of the disks' archive applies one or more.
-    pub(crate) fn does(&mut self, step: Step, told: Told, applied: u64) -> Result<bool, Fail> {
-        Ok(self.make(step, applied)? == told && self.applied == applied)
+    pub(crate) fn does(&mut self, step: Step, told: Told, applied: u64) -> bool {
+        self.make_until(step, applied) == told && self.applied == applied
+    }
+
+    /// Whether the model does as was told. Where that applies a change it goes on until all is settled up to this mark.
+    pub(crate) fn does_up_to(&mut self, step: &Step, told: Told, settled: Mark) -> bool {
+        if self.make(step) != told {
+            return false;
+        }
+        if told != Told::Applied {
+            return true;
+        }
+        for _ in 0..WAITING {
+            if self.settled() == Some(settled) {
+                return true;
+            }
+            if self.make(step) != Told::Applied {
+                return false;
+            }
+        }
+        false
     }
 
     /// Whether what was found behind a call that was stopped is what the model is then: the call was made whole, or not at all.
-    pub(crate) fn follows(&mut self, step: Step, found: &State) -> Result<bool, Fail> {
-        if self.state() == *found {
-            return Ok(true);
+    pub(crate) fn follows(&mut self, step: Step, found: &State) -> bool {
+        if self.state() == Some(*found) {
+            return true;
         }
-        let _told = self.make(step, found.applied)?;
-        Ok(self.state() == *found)
+        let _told = self.make_until(step, found.applied);
+        self.state() == Some(*found)
     }
 
-    /// All goes down, and comes up again.
-    pub(crate) fn crash(&mut self) -> Result<(), Fail> {
-        self.remember(Step::Crash, Told::Crashed)?;
-        self.remember(Step::Recover, Told::Recovered)
+    // A run of all steps from the beginning.
+    fn ran(&self) -> Option<Ran> {
+        let machine = Machine::created(self.alloc, self.collectors).ok()?;
+        run(self.alloc, machine, &self.steps).ok()
     }
 
-    /// The machine behind a run of all steps, where each of them tells what was told.
-    pub(crate) fn ran(&self) -> Result<Option<Machine>, Fail> {
-        let ran = run(
-            self.alloc,
-            Machine::created(self.alloc, COLLECTORS)?,
-            &self.steps,
-        )?;
-        let told = ran.replies.iter().map(told_of);
-        if !told.eq(self.told.iter().copied()) {
-            return Ok(None);
+    /// All goes down, and comes up again. Whether each step of a run through all steps tells what was told, and its machine, with which it
+    /// goes on, tells the same of itself.
+    pub(crate) fn crash(&mut self) -> Option<bool> {
+        let before = self.state();
+        self.remember(Step::Crash, Told::Crashed);
+        self.remember(Step::Recover, Told::Recovered);
+        let Ran { machine, replies } = self.ran()?;
+        self.machine = machine;
+        Some(self.is_whole && are_told(&replies, &self.told) && self.state() == before)
+    }
+
+    /// The lines by which the machine answers or refuses the question of a line.
+    pub(crate) fn answer(&mut self, line: &str) -> Option<String> {
+        let Some(query) = query_of(self.alloc, line) else {
+            return None;
+        };
+        let reply = self.reply_to(query)?;
+        reply_lines(self.alloc, &query, &reply)
+    }
+
+    /// Whether the machine answers or refuses the question of a line by these lines.
+    pub(crate) fn answers_as(&mut self, line: &str, lines: &[u8]) -> bool {
+        match self.answer(line) {
+            Some(told) => told.as_bytes() == lines,
+            None => false,
         }
-        Ok(Some(ran.machine))
+    }
+
+    /// Where a collector goes on, if there is one of this number.
+    pub(crate) fn resume(&self, collector: u8) -> Option<Resume> {
+        self.machine.resume(collector)
+    }
+
+    /// Applies all that may be applied.
+    pub(crate) fn apply_all(&mut self) {
+        let _reply = self.machine.apply(u64::from(WAITING));
     }
 }
 
-// What the machine replies to a question.
-fn reply_of(machine: &mut Machine, query: Query) -> Result<Reply, Fail> {
-    match machine.begin(query)? {
-        Reply::Begun(number) => Ok(machine.turn(number, Reach::End)?),
-        _ => Err(Fail::from("a question isn't begun")),
+// The lines of a reply to a question.
+fn reply_lines(alloc: Global, query: &Query, reply: &Reply) -> Option<String> {
+    match reply {
+        Reply::Done(answer) => lines_of(alloc, query, answer),
+        Reply::AboveWatermark(settled) => above(alloc, *settled),
+        _ => None,
     }
 }
 
-// What the machine replies to the question of a line.
-fn reply_to(alloc: Global, machine: &mut Machine, line: &str) -> Result<Reply, Fail> {
-    match query_of(alloc, line) {
-        Ok(query) => reply_of(machine, query),
-        Err(refusal) => Err(refusal),
+// The line of a moment that isn't below the settled watermark.
+fn above(alloc: Global, settled: Mark) -> Option<String> {
+    let seconds = settled.seconds();
+    format!(in alloc; "X|24|AboveWatermark|{seconds}\n").ok()
+}
+
+// The settled watermark, where a reply tells it.
+fn settled_in(reply: &Reply) -> Option<Mark> {
+    match reply {
+        Reply::AboveWatermark(settled) => Some(*settled),
+        _ => None,
     }
 }
 
-// The settled watermark of the machine, which it tells where the last moment of all is asked of.
-fn settled_of(alloc: Global, machine: &mut Machine) -> Result<Mark, Fail> {
-    match reply_to(alloc, machine, "at 4294967295 all")? {
-        Reply::AboveWatermark(settled) => Ok(settled),
-        _ => Err(Fail::from("all moments are settled")),
-    }
+// Whether the replies tell this.
+fn are_told(replies: &[Reply], told: &[Told]) -> bool {
+    replies.len() == told.len()
+        && replies
+            .iter()
+            .zip(told.iter())
+            .all(|(reply, told)| told_of(reply) == *told)
 }
 
-/// Whether the machine tells of itself what an archive does.
-pub(crate) fn is_machine_at(
-    alloc: Global,
-    machine: &mut Machine,
-    state: &State,
-) -> Result<bool, Fail> {
-    Ok(
-        machine.resume(0) == state.first
-            && machine.resume(1) == state.second
-            && settled_of(alloc, machine)? == state.settled,
-    )
-}
-
-/// The lines by which the machine answers a question of a moment.
-pub(crate) fn machine_answer(
-    alloc: Global,
-    machine: &mut Machine,
-    line: &str,
-) -> Result<String, Fail> {
+// The lines of an answer.
+fn lines_of(alloc: Global, query: &Query, answer: &Answer) -> Option<String> {
     let mut lines = String::new(alloc);
-    match reply_to(alloc, machine, line)? {
-        Reply::Done(Answer::Rows(rows)) => write_answer(&mut lines, &rows)?,
-        _ => return Err(Fail::from("no rows")),
+    match (query, answer) {
+        (Query::Rows(_), Answer::Rows(rows)) => write_answer(&mut lines, rows).ok()?,
+        (Query::Events(question), Answer::Events(events)) => {
+            write_events(&mut lines, question.skip, events).ok()?;
+        }
+        _ => return None,
     }
-    Ok(lines)
+    Some(lines)
 }

@@ -1,57 +1,32 @@
 //! Disks are opened as an archive: as they were given up, behind a crash, and where they name none.
 
-use crate::calls::{Act, SCRIPTS, Script, is_done, resume_of};
-use crate::disks::{Both, IN_TURN, KINDS, Unopened, given_up, open, opened, torn};
-use crate::given::{behind, give_second, one_given, two_given};
+use crate::be;
+use crate::disks::{
+    Both, IN_TURN, KINDS, Unopened, failed_write, given_up, open, opened, reopened,
+};
+use crate::given::{give_second, has_records, leaves, one_given, two_given};
 use crate::made::{PAGE, made, octets_of};
 use archive_pages::Settings;
 use disk_archive::OpenError;
 use disk_memory::{Failure, MemErase, MemOnce, OnceFailure};
 use disk_models::EraseDisk;
 use std::alloc::Global;
-use std::test::Fail;
 
 const SETTINGS: Settings = Settings {
     collectors: 2,
     ring: 9,
 };
 
-// Whether all of a script goes as it says where the archive is opened before each act. Then no page waits to go home.
-fn is_played_anew(alloc: Global, script: &Script) -> Result<bool, Fail> {
-    let settings = Settings {
-        collectors: script.collectors,
-        ring: 17,
-    };
-    let mut archive = made(alloc, settings)?;
-    for act in script.acts {
-        archive = opened(alloc, given_up(archive))?;
-        let act = match act {
-            Act::Flush(_) => &Act::Flush(0),
-            _ => act,
-        };
-        if !is_done(alloc, &mut archive, act)? {
-            return Ok(false);
-        }
-    }
-    Ok(true)
+// Whether an archive that is opened twice has its settings.
+fn is_as_made(alloc: Global) -> Option<bool> {
+    let once = reopened(alloc, made(alloc, SETTINGS)?)?;
+    let twice = reopened(alloc, once)?;
+    Some(twice.collectors() == 2 && twice.ring() == 9)
 }
 
 #[test]
-fn an_archive_goes_on_where_it_was_given_up(rt: HostRuntime) -> Result<(), Fail> {
-    for script in &SCRIPTS {
-        assert!(rt; is_played_anew(rt.alloc(), script)?, "{}", script.name);
-    }
-    Ok(())
-}
-
-#[test]
-fn an_archive_is_opened_as_it_was_made(rt: HostRuntime) -> Result<(), Fail> {
-    let alloc = rt.alloc();
-    let once = opened(alloc, given_up(made(alloc, SETTINGS)?))?;
-    let twice = opened(alloc, given_up(once))?;
-    assert_eq!(rt; twice.collectors(), 2);
-    assert_eq!(rt; twice.ring(), 9);
-    Ok(())
+fn an_archive_is_opened_as_it_was_made(rt: HostRuntime) {
+    be(&rt, is_as_made(rt.alloc()) == Some(true), "an archive");
 }
 
 /// A write that fails, if one does, with the kind of what it leaves; the kind of what a crash leaves; and how many records are there
@@ -112,26 +87,28 @@ const CRASHED: [Crash; 9] = [
     },
 ];
 
-// How many records are there behind the crash, and whether the second one was acknowledged.
-fn is_found(alloc: Global, disks: &Both, crash: &Crash) -> Result<bool, Fail> {
-    let mut disks = disks.copy()?;
-    if let Some((number, kind)) = crash.failing {
-        disks.fail(alloc, Failure::Write(number, torn(alloc, kind)?))?;
+// The disks of which the write fails.
+fn armed(alloc: Global, disks: &Both, crash: &Crash) -> Option<Both> {
+    match crash.failing {
+        Some((number, kind)) => disks.failing(alloc, failed_write(alloc, number, kind)?),
+        None => disks.copy(),
     }
-    let given = give_second(alloc, disks)?;
-    let archive = opened(alloc, given.disks.crash(alloc, crash.crash)?)?;
-    let is_right = resume_of(&archive, 0)? == behind(crash.records);
-    Ok(is_right && given.is_acknowledged == crash.failing.is_none())
+}
+
+// Whether so many records are there behind the crash, and the second one was acknowledged where no write failed.
+fn is_found(alloc: Global, disks: &Both, crash: &Crash) -> Option<bool> {
+    let given = give_second(alloc, armed(alloc, disks, crash)?)?;
+    let is_there = leaves(alloc, &given.disks, crash.crash, crash.records)?;
+    Some(is_there && given.is_acknowledged == crash.failing.is_none())
 }
 
 #[test]
-fn a_crash_leaves_a_batch_whole_or_not_at_all(rt: HostRuntime) -> Result<(), Fail> {
-    let alloc = rt.alloc();
-    let disks = one_given(alloc)?;
-    for (row, crash) in CRASHED.iter().enumerate() {
-        assert!(rt; is_found(alloc, &disks, crash)?, "{row}");
+fn a_crash_leaves_a_batch_whole_or_not_at_all(rt: HostRuntime) {
+    let disks = one_given(rt.alloc()).expect(&rt, "disks");
+    for crash in &CRASHED {
+        let is_found = is_found(rt.alloc(), &disks, crash);
+        be(&rt, is_found == Some(true), "a crash");
     }
-    Ok(())
 }
 
 /// Octets that are written over those of a disk, and what opening it answers.
@@ -232,76 +209,93 @@ const WRITTEN: [Written; 14] = [
     },
 ];
 
-fn write_over(disk: &mut MemErase, at: u64, octets: &[u8]) -> Result<(), Fail> {
-    let Some(end) = at.checked_add(octets.len() as u64) else {
-        return Err(Fail::from("no such place"));
-    };
+// Writes octets over those of a disk. None where it has no such place.
+fn write_over(disk: &mut MemErase, at: u64, octets: &[u8]) -> Option<()> {
+    let end = at.checked_add(octets.len() as u64)?;
     if end > disk.size() {
-        return Err(Fail::from("no such place"));
+        return None;
     }
-    Ok(disk.write_at(at, octets)?)
+    disk.write_at(at, octets).ok()
 }
 
 // Whether opening disks answers so.
-fn is_answered(alloc: Global, disks: Both, answer: Result<(), OpenError>) -> Result<bool, Fail> {
-    Ok(match open(alloc, disks)? {
+fn is_answered(alloc: Global, disks: Both, answer: Result<(), OpenError>) -> Option<bool> {
+    Some(match open(alloc, disks)? {
         Ok(_) => answer == Ok(()),
         Err(unopened) => answer == Err(unopened.error),
     })
 }
 
+// Whether these disks are refused once the octets are written over theirs.
+fn is_written(alloc: Global, named: &Both, written: &Written) -> Option<bool> {
+    let mut disks = named.copy()?;
+    write_over(&mut disks.erase, written.at, written.octets)?;
+    is_answered(alloc, disks, written.answer)
+}
+
 #[test]
-fn a_disk_that_names_no_archive_is_refused(rt: HostRuntime) -> Result<(), Fail> {
-    let alloc = rt.alloc();
-    let named = given_up(made(alloc, SETTINGS)?);
+fn a_disk_that_names_no_archive_is_refused(rt: HostRuntime) {
+    let archive = made(rt.alloc(), SETTINGS).expect(&rt, "an archive");
+    let named = given_up(archive);
     for written in &WRITTEN {
-        let mut disks = named.copy()?;
-        write_over(&mut disks.erase, written.at, written.octets)?;
-        assert!(rt;
-            is_answered(alloc, disks, written.answer)?,
-            "{}",
-            written.name
-        );
+        let is_answered = is_written(rt.alloc(), &named, written);
+        be(&rt, is_answered == Some(true), written.name);
     }
-    Ok(())
 }
 
 // A disk of so many pages, with the identity page and the head of another one.
-fn cut(alloc: Global, disk: &mut MemErase, pages: u64) -> Result<MemErase, Fail> {
+fn cut(alloc: Global, disk: &mut MemErase, pages: u64) -> Option<MemErase> {
     let mut cut = MemErase::new(alloc, pages.min(65_536) * PAGE);
     for page in [0, 265] {
         write_over(&mut cut, page * PAGE, &octets_of(alloc, disk, page)?)?;
     }
-    Ok(cut)
+    Some(cut)
 }
 
+// Whether an opening answers so where the disk has so many pages.
+fn is_cut(
+    alloc: Global,
+    named: &mut Both,
+    pages: u64,
+    answer: Result<(), OpenError>,
+) -> Option<bool> {
+    let mut disks = named.copy()?;
+    disks.erase = cut(alloc, &mut named.erase, pages)?;
+    is_answered(alloc, disks, answer)
+}
+
+// 265 pages and 39 home pages.
 #[test]
-fn a_disk_that_is_too_small_is_refused(rt: HostRuntime) -> Result<(), Fail> {
+fn a_disk_that_is_too_small_is_refused(rt: HostRuntime) {
     let alloc = rt.alloc();
-    let mut named = given_up(made(alloc, SETTINGS)?);
+    let archive = made(alloc, SETTINGS).expect(&rt, "an archive");
+    let mut named = given_up(archive);
     let refused = Err(OpenError::NotAJournal);
-    // 265 pages and 39 home pages.
-    for (pages, answer) in [(304, Ok(())), (303, refused)] {
-        let mut disks = named.copy()?;
-        disks.erase = cut(alloc, &mut named.erase, pages)?;
-        assert!(rt; is_answered(alloc, disks, answer)?, "{pages}");
-    }
+    be(
+        &rt,
+        is_cut(alloc, &mut named, 304, Ok(())) == Some(true),
+        "304 pages",
+    );
+    be(
+        &rt,
+        is_cut(alloc, &mut named, 303, refused) == Some(true),
+        "303 pages",
+    );
     named.erase = MemErase::new(alloc, 304 * PAGE);
-    assert!(rt; is_answered(alloc, named, refused)?);
-    Ok(())
+    be(
+        &rt,
+        is_answered(alloc, named, refused) == Some(true),
+        "no octets",
+    );
 }
 
 // These disks, which aren't opened.
-fn hand_back(alloc: Global, disks: Both) -> Result<Unopened, Fail> {
-    match open(alloc, disks)? {
-        Ok(_) => Err(Fail::from("opened")),
-        Err(unopened) => Ok(unopened),
-    }
+fn hand_back(alloc: Global, disks: Both) -> Option<Unopened> {
+    open(alloc, disks)?.err()
 }
 
-#[test]
-fn disks_that_are_refused_are_handed_back(rt: HostRuntime) -> Result<(), Fail> {
-    let alloc = rt.alloc();
+// Whether an erasable disk is handed back that is opened with a write-once disk of another size, and is opened with its own then.
+fn is_handed_back(alloc: Global) -> Option<bool> {
     let Both { erase, once, pen } = one_given(alloc)?;
     let (other, other_pen) = MemOnce::new(alloc, 4);
     let others = Both {
@@ -310,77 +304,70 @@ fn disks_that_are_refused_are_handed_back(rt: HostRuntime) -> Result<(), Fail> {
         pen: other_pen,
     };
     let Unopened { disks, error } = hand_back(alloc, others)?;
-    assert_eq!(rt; error, OpenError::NotAJournal);
     let Both { erase, .. } = disks;
     let archive = opened(alloc, Both { erase, once, pen })?;
-    assert_eq!(rt; resume_of(&archive, 0)?, behind(1));
-    Ok(())
+    Some(error == OpenError::NotAJournal && has_records(&archive, 1))
 }
 
-// These disks, which aren't opened for a failed call.
-fn refused_once(alloc: Global, disks: Both) -> Result<Both, Fail> {
-    let Unopened { disks, error } = hand_back(alloc, disks)?;
-    match error {
-        OpenError::Fault => Ok(disks),
-        _ => Err(error.into()),
-    }
+#[test]
+fn disks_that_are_refused_are_handed_back(rt: HostRuntime) {
+    be(&rt, is_handed_back(rt.alloc()) == Some(true), "disks");
 }
 
 // Whether both records are there behind each of these crashes.
-fn are_left(alloc: Global, disks: &Both, crashes: &[u8]) -> Result<bool, Fail> {
+fn are_left(alloc: Global, disks: &Both, crashes: &[u8]) -> Option<bool> {
     for crash in crashes {
-        let archive = opened(alloc, disks.crash(alloc, *crash)?)?;
-        if resume_of(&archive, 0)? != behind(2) {
-            return Ok(false);
+        if !leaves(alloc, disks, *crash, 2)? {
+            return Some(false);
         }
     }
-    Ok(true)
+    Some(true)
 }
 
-// Whether opening these disks is refused for this failure, and both records are there behind each of these crashes.
-fn stops_whole(
-    alloc: Global,
-    disks: &Both,
-    failure: Failure,
-    crashes: &[u8],
-) -> Result<bool, Fail> {
-    let mut disks = disks.copy()?;
-    disks.fail(alloc, failure)?;
-    are_left(alloc, &refused_once(alloc, disks)?, crashes)
+// Whether opening these disks is refused for a failed call, and both records are there behind each of these crashes.
+fn stops_whole(alloc: Global, disks: Option<Both>, crashes: &[u8]) -> Option<bool> {
+    let Unopened { disks, error } = hand_back(alloc, disks?)?;
+    Some(error == OpenError::Fault && are_left(alloc, &disks, crashes)?)
 }
 
 // Two open slots of two images: they go home by four writes, and both gates are closed.
 #[test]
-fn an_opening_that_is_stopped_at_a_write_loses_nothing(rt: HostRuntime) -> Result<(), Fail> {
+fn an_opening_that_is_stopped_at_a_write_loses_nothing(rt: HostRuntime) {
     let alloc = rt.alloc();
-    let disks = two_given(alloc)?;
+    let disks = two_given(alloc).expect(&rt, "disks");
     for number in 0..6 {
         for kind in 0..KINDS {
-            let failure = Failure::Write(number, torn(alloc, kind)?);
-            let is_whole = stops_whole(alloc, &disks, failure, &[0, 1, 2, 3, IN_TURN])?;
-            assert!(rt; is_whole, "{number}, {kind}");
+            let failure = failed_write(alloc, number, kind).expect(&rt, "a failure");
+            let failing = disks.failing(alloc, failure);
+            let is_whole = stops_whole(alloc, failing, &[0, 1, 2, 3, IN_TURN]);
+            be(&rt, is_whole == Some(true), "a write");
         }
     }
-    Ok(())
 }
 
 // A sync stands before all, one behind the images, and one behind each gate. Read are the identity page, eight gates, three parts of
 // both headers, and the images.
 #[test]
-fn an_opening_that_is_stopped_elsewhere_loses_nothing(rt: HostRuntime) -> Result<(), Fail> {
+fn an_opening_that_is_stopped_elsewhere_loses_nothing(rt: HostRuntime) {
     let alloc = rt.alloc();
-    let disks = two_given(alloc)?;
+    let disks = two_given(alloc).expect(&rt, "disks");
     for number in 0..4 {
-        let failure = Failure::Sync(number);
-        let is_whole = stops_whole(alloc, &disks, failure, &[0, 1, 2, 3, IN_TURN])?;
-        assert!(rt; is_whole, "sync {number}");
+        let failing = disks.failing(alloc, Failure::Sync(number));
+        let is_whole = stops_whole(alloc, failing, &[0, 1, 2, 3, IN_TURN]);
+        be(&rt, is_whole == Some(true), "a sync");
     }
     for number in 0..19 {
-        let is_whole = stops_whole(alloc, &disks, Failure::Read(number), &[IN_TURN])?;
-        assert!(rt; is_whole, "read {number}");
+        let failing = disks.failing(alloc, Failure::Read(number));
+        be(
+            &rt,
+            stops_whole(alloc, failing, &[IN_TURN]) == Some(true),
+            "a read",
+        );
     }
-    let mut failing = disks.copy()?;
-    failing.fail_once(alloc, OnceFailure::Blank(0))?;
-    assert!(rt; are_left(alloc, &refused_once(alloc, failing)?, &[IN_TURN])?);
-    Ok(())
+    let failing = disks.failing_once(alloc, OnceFailure::Blank(0));
+    be(
+        &rt,
+        stops_whole(alloc, failing, &[IN_TURN]) == Some(true),
+        "a look",
+    );
 }

@@ -1,12 +1,13 @@
 //! A load, a question and a check over an archive on disks in memory, by a worked example: its octets, and the lines that come of
 //! it.
 
+use crate::be;
 use crate::made::made;
 use archive_pages::Settings;
 use memory_archive::MemArchive;
 use route_model::Mark;
 use service::{Input, LoadSettings, Output, Status, ask, check, load};
-use std::test::Fail;
+use std::alloc::Global;
 
 /// At 1704067200 peer 192.0.2.1 of AS 65001 announces 10.0.0.0/8: an MRT record of type BGP4MP, in 73 octets.
 const FIRST: [u8; 73] = [
@@ -24,42 +25,43 @@ E|1
 ok|1|1704067201
 ";
 
-#[test]
-fn a_record_is_loaded_its_route_is_answered_and_it_is_counted(rt: HostRuntime) -> Result<(), Fail> {
-    let alloc = rt.alloc();
+fn empty(alloc: Global) -> Option<MemArchive> {
     let settings = Settings {
         collectors: 1,
         ring: 16,
     };
-    let mut archive = MemArchive {
-        archive: made(alloc, settings)?,
-    };
+    let archive = made(alloc, settings)?;
+    Some(MemArchive { archive })
+}
+
+// Loads the record, asks and checks: whether each of them is done.
+fn serve(alloc: Global, archive: &mut MemArchive, out: &mut Vec<u8>, err: &mut Vec<u8>) -> bool {
     let how = LoadSettings {
         collector: 0,
         limit: 1000,
         mark: Mark::new(1_704_067_201),
         resume: false,
     };
-    let mut out = Vec::new(alloc);
-    let mut err = Vec::new(alloc);
-    let mut lines = Output::new(&mut out);
-    let mut refusals = Output::new(&mut err);
+    let mut lines = Output::new(out);
+    let mut refusals = Output::new(err);
     let mut file = Input::new(FIRST.as_slice());
-    let loaded = load(
-        alloc,
-        &mut archive,
-        how,
-        &mut file,
-        &mut lines,
-        &mut refusals,
-    );
+    let loaded = load(alloc, archive, how, &mut file, &mut lines, &mut refusals);
     let line = "at 1704067200 prefix 10.0.0.0/8";
-    let asked = ask(alloc, &mut archive, line, &mut lines, &mut refusals);
-    let checked = check(alloc, &mut archive, &mut lines, &mut refusals);
-    assert_eq!(rt; loaded, Status::Done);
-    assert_eq!(rt; asked, Status::Done);
-    assert_eq!(rt; checked, Status::Done);
-    assert!(rt; out.as_slice() == LINES.as_bytes());
-    assert!(rt; err.is_empty());
-    Ok(())
+    let asked = ask(alloc, archive, line, &mut lines, &mut refusals);
+    let checked = check(alloc, archive, &mut lines, &mut refusals);
+    loaded == Status::Done && asked == Status::Done && checked == Status::Done
+}
+
+// Whether all of it is written.
+fn is_served(alloc: Global) -> Option<bool> {
+    let mut archive = empty(alloc)?;
+    let mut out: Vec<u8> = Vec::new(alloc);
+    let mut err: Vec<u8> = Vec::new(alloc);
+    let is_done = serve(alloc, &mut archive, &mut out, &mut err);
+    Some(is_done && out.as_slice() == LINES.as_bytes() && err.is_empty())
+}
+
+#[test]
+fn a_record_is_loaded_its_route_is_answered_and_it_is_counted(rt: HostRuntime) {
+    be(&rt, is_served(rt.alloc()) == Some(true), "a record");
 }

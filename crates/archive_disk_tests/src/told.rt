@@ -3,20 +3,25 @@
 use archive_calls as calls;
 use archive_calls::{AdmitError, MarkError, RouteArchive, Trouble};
 use interleaving_core::{BatchReply, Reply, Resume, Step};
+use memory_archive::MemArchive;
 use route_model::{Admission, Mark};
 
 /// What a call or a step tells.
-#[derive(Clone, Copy, Debug, PartialEq, Eq)]
+#[derive(Clone, Copy, PartialEq, Eq)]
 pub(crate) enum Told {
     /// How many records were offered until now, the numbers from which and to below which they are admitted, and how many are late.
     Taken(u64, u64, u64, usize),
     Marked,
     MarkBack,
+    NoCollector,
     Applied,
     Idle,
     Flushed,
     Crashed,
     Recovered,
+    /// A batch has too many octets, or more than its ring has room for.
+    TooLarge,
+    IntakeFull,
     /// A device failed.
     Stopped,
     /// Something else was the matter.
@@ -24,7 +29,7 @@ pub(crate) enum Told {
 }
 
 /// What an archive tells of itself, and how many changes are applied.
-#[derive(Clone, Copy, Debug, PartialEq, Eq)]
+#[derive(Clone, Copy, PartialEq, Eq)]
 pub(crate) struct State {
     pub(crate) first: Option<Resume>,
     pub(crate) second: Option<Resume>,
@@ -32,7 +37,7 @@ pub(crate) struct State {
     pub(crate) applied: u64,
 }
 
-pub(crate) fn state_of<A: RouteArchive>(archive: &A, applied: u64) -> State {
+pub(crate) fn state_of(archive: &MemArchive, applied: u64) -> State {
     State {
         first: archive.resume(0),
         second: archive.resume(1),
@@ -52,6 +57,7 @@ pub(crate) fn told_of(reply: &Reply) -> Told {
         Reply::Taken(batch) => told_of_batch(batch),
         Reply::Marked => Told::Marked,
         Reply::MarkBack => Told::MarkBack,
+        Reply::NoCollector => Told::NoCollector,
         Reply::Applied => Told::Applied,
         Reply::Idle => Told::Idle,
         Reply::Flushed => Told::Flushed,
@@ -68,37 +74,48 @@ fn trouble_told(trouble: Trouble) -> Told {
     }
 }
 
-fn admit<A: RouteArchive>(archive: &mut A, collector: u8, batch: &[Admission]) -> Told {
+fn admit(archive: &mut MemArchive, collector: u8, batch: &[Admission]) -> Told {
     match archive.admit(collector, batch) {
         Ok(reply) => told_of_batch(&reply),
         Err(AdmitError::Trouble(trouble)) => trouble_told(trouble),
-        Err(_) => Told::Refused,
+        Err(AdmitError::NoCollector) => Told::NoCollector,
+        Err(AdmitError::BatchTooLarge) => Told::TooLarge,
+        Err(AdmitError::IntakeFull) => Told::IntakeFull,
+        Err(AdmitError::CounterFull) => Told::Refused,
     }
 }
 
-fn mark<A: RouteArchive>(archive: &mut A, collector: u8, mark: Mark) -> Told {
+fn mark(archive: &mut MemArchive, collector: u8, mark: Mark) -> Told {
     match archive.mark(collector, mark) {
         Ok(()) => Told::Marked,
         Err(MarkError::MarkBack) => Told::MarkBack,
+        Err(MarkError::NoCollector) => Told::NoCollector,
         Err(MarkError::Trouble(trouble)) => trouble_told(trouble),
-        Err(MarkError::NoCollector) => Told::Refused,
+    }
+}
+
+fn apply(archive: &mut MemArchive) -> Told {
+    match archive.apply_step() {
+        Ok(calls::Step::Applied) => Told::Applied,
+        Ok(calls::Step::Idle) => Told::Idle,
+        Err(trouble) => trouble_told(trouble),
+    }
+}
+
+fn flush(archive: &mut MemArchive) -> Told {
+    match archive.flush_step() {
+        Ok(_) => Told::Flushed,
+        Err(trouble) => trouble_told(trouble),
     }
 }
 
 /// Makes the call that a step is of.
-pub(crate) fn make<A: RouteArchive>(archive: &mut A, step: &Step) -> Told {
+pub(crate) fn make(archive: &mut MemArchive, step: &Step) -> Told {
     match step {
         Step::Admit(collector, batch) => admit(archive, *collector, batch),
         Step::Mark(collector, seconds) => mark(archive, *collector, *seconds),
-        Step::Apply(_) => match archive.apply_step() {
-            Ok(calls::Step::Applied) => Told::Applied,
-            Ok(calls::Step::Idle) => Told::Idle,
-            Err(trouble) => trouble_told(trouble),
-        },
-        Step::Flush => match archive.flush_step() {
-            Ok(_) => Told::Flushed,
-            Err(trouble) => trouble_told(trouble),
-        },
+        Step::Apply(_) => apply(archive),
+        Step::Flush => flush(archive),
         _ => Told::Refused,
     }
 }

@@ -1,19 +1,18 @@
-//! Feeds and questions as lines: worked examples from outside, and what is done where a reader or a writer fails.
+//! Feeds and questions as lines: worked examples from outside.
 
+use crate::be;
+use crate::desk::{answers_as, feeds_as, loaded, loaded_of, loads_as};
+use crate::pure::{Pure, Rings};
 use crate::samples::{
-    EARLIER, EMPTY, LONG_PREFIX, MANY, NOTIFICATION, PEER_TABLE, RIB, SKIPPED, TOO_LONG, UPDATE,
-    cut_stream, many_updates, stream, two_tables,
+    EARLIER, EMPTY, LONG_PREFIX, NOTIFICATION, PEER_TABLE, RIB, SKIPPED, TOO_LONG, UPDATE,
+    cut_stream, many_prefixes, many_updates, stream, two_tables,
 };
-use archive::{Answer, Archive, Query, Turn};
+use archive_calls::RouteArchive;
+use interleaving_core::{Answer, Query};
 use route_meaning::{RowsQuestion, Select};
 use route_model::{Mark, Moment};
-use service::{
-    End, FeedStop, Input, LoadSettings, Output, Status, ask, feed, load, reply, tell_lost,
-    tell_outside, write_answer,
-};
+use service::{End, FeedStop, LoadSettings, Status, reply, write_answer};
 use std::alloc::Global;
-use std::io::{Error, ErrorKind, Read, Write};
-use std::test::Fail;
 
 pub(crate) const QUESTION: &str = "at 1704067200 prefix 10.0.0.0/8";
 
@@ -41,109 +40,6 @@ L|0|1704067199|1704067200
 F|8|2|3|1|1
 S|1704067200
 ";
-
-/// What a load or a question wrote, and its status.
-#[derive(Drop)]
-pub(crate) struct Told {
-    out: Vec<u8>,
-    err: Vec<u8>,
-    pub(crate) status: Status,
-}
-
-impl Told {
-    pub(crate) fn is(&self, out: &str, err: &str, status: Status) -> bool {
-        self.out.as_slice() == out.as_bytes()
-            && self.err.as_slice() == err.as_bytes()
-            && self.status == status
-    }
-}
-
-/// Loads octets: what standard error was told, and the status.
-fn load_to<W: Write>(
-    alloc: Global,
-    archive: &mut Archive,
-    how: LoadSettings,
-    octets: &[u8],
-    out: &mut Output<W>,
-) -> (Vec<u8>, Status) {
-    let mut err = Vec::new(alloc);
-    let mut file = Input::new(octets);
-    let mut told = Output::new(&mut err);
-    let status = load(alloc, archive, how, &mut file, out, &mut told);
-    (err, status)
-}
-
-fn load_octets(alloc: Global, archive: &mut Archive, how: LoadSettings, octets: &[u8]) -> Told {
-    let mut out = Vec::new(alloc);
-    let (err, status) = load_to(alloc, archive, how, octets, &mut Output::new(&mut out));
-    Told { out, err, status }
-}
-
-/// Loads octets of collector 0 in batches of at most 1000 admissions, and sets the mark 1704067201.
-pub(crate) fn load_marked(alloc: Global, archive: &mut Archive, octets: &[u8]) -> Told {
-    let how = LoadSettings {
-        collector: 0,
-        limit: 1000,
-        mark: Mark::new(1_704_067_201),
-        resume: false,
-    };
-    load_octets(alloc, archive, how, octets)
-}
-
-/// Asks a question: what standard error was told, and the status.
-fn ask_to<W: Write>(
-    alloc: Global,
-    archive: &mut Archive,
-    line: &str,
-    out: &mut Output<W>,
-) -> (Vec<u8>, Status) {
-    let mut err = Vec::new(alloc);
-    let status = ask(alloc, archive, line, out, &mut Output::new(&mut err));
-    (err, status)
-}
-
-/// What standard error shows where standard output takes no more.
-pub(crate) const UNWRITTEN: &str = "rha: 29 Outside: standard output: write: write zero\n";
-
-/// The same where what is written is kept in a buffer first.
-pub(crate) const UNBUFFERED: &str =
-    "rha: 29 Outside: standard output: write: failed to write the buffered data\n";
-
-pub(crate) fn ask_line(alloc: Global, archive: &mut Archive, line: &str) -> Told {
-    let mut out = Vec::new(alloc);
-    let (err, status) = ask_to(alloc, archive, line, &mut Output::new(&mut out));
-    Told { out, err, status }
-}
-
-/// Feeds what the reader gives: how the feed ended.
-fn feed_to<R: Read, W: Write>(
-    alloc: Global,
-    archive: &mut Archive,
-    collector: u8,
-    reader: &mut Input<R>,
-    out: &mut Output<W>,
-) -> End {
-    feed(alloc, archive, collector, 2, false, reader, out)
-}
-
-/// What a feed wrote, and how it ended.
-fn feed_from<R: Read + Drop>(
-    alloc: Global,
-    archive: &mut Archive,
-    collector: u8,
-    reader: R,
-) -> (Vec<u8>, End) {
-    let mut out = Vec::new(alloc);
-    let mut file = Input::new(reader);
-    let end = feed_to(
-        alloc,
-        archive,
-        collector,
-        &mut file,
-        &mut Output::new(&mut out),
-    );
-    (out, end)
-}
 
 /// Records that are loaded into an empty archive, and what is written then.
 struct Example {
@@ -332,11 +228,11 @@ const EXAMPLES: [Example; 13] = [
 ];
 
 /// Whether the example's lines are written, and its answer.
-fn is_as_wanted(alloc: Global, example: &Example) -> Result<bool, Fail> {
-    let mut archive = Archive::plain(alloc, 1)?;
+fn is_as_wanted(alloc: Global, example: &Example) -> Option<bool> {
+    let mut archive = Pure::new(alloc, 1)?;
     let octets = cut_stream(alloc, example.records, example.cut)?;
     let mark = match example.mark {
-        Some(seconds) => Some(Mark::new(seconds).ok_or("no mark")?),
+        Some(seconds) => Mark::new(seconds),
         None => None,
     };
     let how = LoadSettings {
@@ -345,45 +241,59 @@ fn is_as_wanted(alloc: Global, example: &Example) -> Result<bool, Fail> {
         mark,
         resume: false,
     };
-    let loaded = load_octets(alloc, &mut archive, how, &octets);
-    let answered = match example.answer {
-        Some(answer) => ask_line(alloc, &mut archive, QUESTION).is(answer, "", Status::Done),
-        None => true,
-    };
-    Ok(answered && loaded.is(example.lines, example.err, example.status))
+    let is_loaded = loads_as(
+        alloc,
+        &mut archive,
+        how,
+        &octets,
+        example.lines,
+        example.err,
+        example.status,
+    );
+    Some(match example.answer {
+        Some(answer) => {
+            is_loaded && answers_as(alloc, &mut archive, QUESTION, answer, Status::Done)
+        }
+        None => is_loaded,
+    })
 }
 
 #[test]
-fn examples_are_loaded_and_answered(rt: HostRuntime) -> Result<(), Fail> {
+fn examples_are_loaded_and_answered(rt: HostRuntime) {
     for example in &EXAMPLES {
-        assert!(rt; is_as_wanted(rt.alloc(), example)?, "{}", example.name);
+        let is_right = is_as_wanted(rt.alloc(), example);
+        be(&rt, is_right == Some(true), example.name);
     }
-    Ok(())
 }
 
 /// Whether a load of the octets in batches without a limit of number writes these lines.
-fn loads_as(alloc: Global, octets: &[u8], lines: &str) -> Result<bool, Fail> {
-    let mut archive = Archive::plain(alloc, 1)?;
+fn fits_as(alloc: Global, octets: Option<Vec<u8>>, lines: &str) -> Option<bool> {
+    let mut archive = Pure::new(alloc, 1)?;
     let how = LoadSettings {
         collector: 0,
         limit: 100_000,
         mark: None,
         resume: false,
     };
-    Ok(load_octets(alloc, &mut archive, how, octets).is(lines, "", Status::Done))
+    Some(loads_as(alloc, &mut archive, how, &octets?, lines, "", Status::Done))
 }
 
+const MANY_LINES: &str = "B|0|3692|3692\nB|3692|3693|3693\nF|3693|3693|0|0|0\nS|1704067200\n";
+
+// Each admission has 4 octets before it: 131,072 and 131,072 fit, 131,072 and 131,073 don't.
+const ONE_BATCH: &str = "B|0|2|2\nF|3|2|0|0|0\nS|1704067200\n";
+
+const TWO_BATCHES: &str = "B|0|1|1\nB|1|2|2\nF|3|2|0|0|0\nS|1704067200\n";
+
 #[test]
-fn batches_are_offered_before_they_are_too_large(rt: HostRuntime) -> Result<(), Fail> {
+fn batches_are_offered_before_they_are_too_large(rt: HostRuntime) {
     let alloc = rt.alloc();
-    let many = "B|0|3692|3692\nB|3692|3693|3693\nF|3693|3693|0|0|0\nS|1704067200\n";
-    assert!(rt; loads_as(alloc, &many_updates(alloc)?, many)?);
-    // Each admission has 4 octets before it: 131,072 and 131,072 fit, 131,072 and 131,073 don't.
-    let one = "B|0|2|2\nF|3|2|0|0|0\nS|1704067200\n";
-    assert!(rt; loads_as(alloc, &two_tables(alloc, 0, 0)?, one)?);
-    let two = "B|0|1|1\nB|1|2|2\nF|3|2|0|0|0\nS|1704067200\n";
-    assert!(rt; loads_as(alloc, &two_tables(alloc, 0, 1)?, two)?);
-    Ok(())
+    let many = fits_as(alloc, many_updates(alloc), MANY_LINES);
+    be(&rt, many == Some(true), "many updates");
+    let one = fits_as(alloc, two_tables(alloc, 0, 0), ONE_BATCH);
+    be(&rt, one == Some(true), "one batch");
+    let two = fits_as(alloc, two_tables(alloc, 0, 1), TWO_BATCHES);
+    be(&rt, two == Some(true), "two batches");
 }
 
 /// Records that are fed for a collector, in batches of two, and what is written then.
@@ -437,20 +347,50 @@ const FEEDS: [Fed; 5] = [
 ];
 
 /// Whether the records are fed with these lines and this end.
-fn is_fed(alloc: Global, archive: &mut Archive, fed: &Fed) -> Result<bool, Fail> {
+fn is_fed(alloc: Global, archive: &mut Pure, fed: &Fed) -> Option<bool> {
     let octets = cut_stream(alloc, fed.records, fed.cut)?;
-    let (out, end) = feed_from(alloc, archive, fed.collector, octets.as_slice());
-    Ok(end == fed.end && out.as_slice() == fed.lines.as_bytes())
+    Some(feeds_as(alloc, archive, fed.collector, &octets, fed.lines, fed.end))
+}
+
+/// The lines of the first feed that isn't as it has to be.
+fn wrongly_fed(alloc: Global) -> Option<&'static str> {
+    let Some(mut archive) = Pure::new(alloc, 2) else {
+        return Some("no memory");
+    };
+    for fed in &FEEDS {
+        if is_fed(alloc, &mut archive, fed) != Some(true) {
+            return Some(fed.lines);
+        }
+    }
+    None
 }
 
 #[test]
-fn feeds_go_on_behind_earlier_ones(rt: HostRuntime) -> Result<(), Fail> {
-    let alloc = rt.alloc();
-    let mut archive = Archive::plain(alloc, 2)?;
-    for fed in &FEEDS {
-        assert!(rt; is_fed(alloc, &mut archive, fed)?, "{}", fed.lines);
-    }
-    Ok(())
+fn feeds_go_on_behind_earlier_ones(rt: HostRuntime) {
+    let wrong = wrongly_fed(rt.alloc());
+    be(&rt, wrong.is_none(), wrong.unwrap_or(""));
+}
+
+/// Whether a feed of one UPDATE into such rings writes these lines, and ends so.
+fn is_taken_by(alloc: Global, rings: Rings, lines: &str, end: End) -> Option<bool> {
+    let mut archive = Pure::new(alloc, 1)?;
+    archive.rings = rings;
+    let octets = stream(alloc, &[UPDATE])?;
+    Some(feeds_as(alloc, &mut archive, 0, &octets, lines, end))
+}
+
+#[test]
+fn a_full_ring_is_made_room_in(rt: HostRuntime) {
+    let lines = "B|0|1|1\nF|1|1|0|0|0\n";
+    let is_taken = is_taken_by(rt.alloc(), Rings::Full, lines, End::Well);
+    be(&rt, is_taken == Some(true), "a ring that is full");
+}
+
+#[test]
+fn a_ring_that_stays_full_ends_the_feed(rt: HostRuntime) {
+    let end = End::Refused(FeedStop::IntakeFull);
+    let is_given_up = is_taken_by(rt.alloc(), Rings::FullForGood, "X|23|IntakeFull\n", end);
+    be(&rt, is_given_up == Some(true), "a ring that stays full");
 }
 
 /// Lines that are asked, what is answered, and the status.
@@ -473,243 +413,52 @@ const QUESTIONS: [(&str, &str, Status); 4] = [
     ),
 ];
 
-/// An archive of the one UPDATE, with the mark 1704067201.
-fn loaded(alloc: Global) -> Result<Archive, Fail> {
-    let mut archive = Archive::plain(alloc, 1)?;
-    let octets = stream(alloc, &[UPDATE])?;
-    match load_marked(alloc, &mut archive, &octets).status {
-        Status::Done => Ok(archive),
-        Status::Refused | Status::Failed => Err(Fail::from("not loaded")),
+/// The first line that isn't answered as it has to be.
+fn wrongly_answered(alloc: Global) -> Option<&'static str> {
+    let Some(mut archive) = loaded_of(alloc, &[UPDATE]) else {
+        return Some("not loaded");
+    };
+    for (line, lines, status) in &QUESTIONS {
+        if !answers_as(alloc, &mut archive, line, lines, *status) {
+            return Some(line);
+        }
     }
-}
-
-/// Whether the reply to the question is its answer.
-fn is_replied(alloc: Global, archive: &mut Archive) -> bool {
-    match reply(alloc, archive, QUESTION) {
-        Ok(text) => text.as_str() == ANSWER,
-        Err(_) => false,
+    match reply(alloc, &mut archive, QUESTION) {
+        Ok(text) if text.as_str() == ANSWER => None,
+        _ => Some("the reply"),
     }
 }
 
 #[test]
-fn questions_are_answered_below_the_watermark(rt: HostRuntime) -> Result<(), Fail> {
-    let alloc = rt.alloc();
-    let mut archive = loaded(alloc)?;
-    for (line, lines, status) in &QUESTIONS {
-        assert!(rt;
-            ask_line(alloc, &mut archive, line).is(lines, "", *status),
-            "{line}"
-        );
-    }
-    assert!(rt; is_replied(alloc, &mut archive));
-    Ok(())
-}
-
-/// The record of 257 prefixes.
-pub(crate) fn many_prefixes(alloc: Global) -> Result<Vec<u8>, Fail> {
-    let mut octets = stream(alloc, &[MANY])?;
-    for third in 0..=255 {
-        octets.extend_from_slice(&[24, 10, 0, third])?;
-    }
-    octets.extend_from_slice(&[24, 10, 1, 0])?;
-    Ok(octets)
+fn questions_are_answered_below_the_watermark(rt: HostRuntime) {
+    let wrong = wrongly_answered(rt.alloc());
+    be(&rt, wrong.is_none(), wrong.unwrap_or(""));
 }
 
 /// The lines of all rows at 1704067200.
-fn lines_of_all(alloc: Global, archive: &Archive) -> Result<String, Fail> {
-    let all = RowsQuestion {
+fn lines_of_all(alloc: Global, archive: &mut Pure) -> Option<String> {
+    let all = Query::Rows(RowsQuestion {
         moment: Moment::from(1_704_067_200),
         select: Select::All,
         after: None,
-    };
-    let mut cursor = archive.start(Query::Rows(all));
-    let Ok(Turn::Done(Answer::Rows(answer))) = archive.descend(&mut cursor) else {
-        return Err(Fail::from("no rows"));
+    });
+    let Ok(Answer::Rows(answer)) = archive.answer(all) else {
+        return None;
     };
     let mut text = String::new(alloc);
-    write_answer(&mut text, &answer)?;
-    Ok(text)
+    write_answer(&mut text, &answer).ok()?;
+    Some(text)
 }
 
 /// Whether all rows of a file of 257 are 256 lines, and one that names the last of them.
-fn is_cut_at_256(alloc: Global) -> Result<bool, Fail> {
-    let octets = many_prefixes(alloc)?;
-    let mut archive = Archive::plain(alloc, 1)?;
-    load_marked(alloc, &mut archive, &octets);
-    let text = lines_of_all(alloc, &archive)?;
+fn is_cut_at_256(alloc: Global) -> Option<bool> {
+    let mut archive = loaded(alloc, &many_prefixes(alloc)?)?;
+    let text = lines_of_all(alloc, &mut archive)?;
     let last = "\nM|0|192.0.2.1|65001|10.0.255.0/24\n";
-    Ok(text.as_str().lines().count() == 257 && text.as_str().ends_with(last))
+    Some(text.as_str().lines().count() == 257 && text.as_str().ends_with(last))
 }
 
 #[test]
-fn long_answers_name_their_last_row(rt: HostRuntime) -> Result<(), Fail> {
-    assert!(rt; is_cut_at_256(rt.alloc())?);
-    Ok(())
-}
-
-/// A reader of these octets, which then fails.
-#[derive(Drop)]
-struct Failing<'a> {
-    octets: &'a [u8],
-}
-
-impl Read for Failing<'_> {
-    fn read(&mut self, buf: &mut [u8]) -> std::io::Result<usize> {
-        if self.octets.is_empty() {
-            return Err(Error::from(ErrorKind::BrokenPipe));
-        }
-        self.octets.read(buf)
-    }
-}
-
-/// A reader of these octets, one at a time, each behind an interruption.
-#[derive(Drop)]
-struct Slow<'a> {
-    octets: &'a [u8],
-    interrupted: bool,
-}
-
-impl Read for Slow<'_> {
-    fn read(&mut self, buf: &mut [u8]) -> std::io::Result<usize> {
-        self.interrupted = !self.interrupted;
-        if self.interrupted {
-            return Err(Error::from(ErrorKind::Interrupted));
-        }
-        let Some(first) = buf.get_mut(..1) else {
-            return Ok(0);
-        };
-        self.octets.read(first)
-    }
-}
-
-/// A writer of one octet at a time, each behind an interruption.
-#[derive(Drop)]
-struct SlowOut<'a> {
-    octets: &'a mut Vec<u8>,
-    interrupted: bool,
-}
-
-impl Write for SlowOut<'_> {
-    fn write(&mut self, buf: &[u8]) -> std::io::Result<usize> {
-        self.interrupted = !self.interrupted;
-        if self.interrupted {
-            return Err(Error::from(ErrorKind::Interrupted));
-        }
-        let Some(first) = buf.get(..1) else {
-            return Ok(0);
-        };
-        self.octets.write(first)
-    }
-
-    fn flush(&mut self) -> std::io::Result<()> {
-        Ok(())
-    }
-}
-
-/// Whether octets may come and go one at a time, with interruptions.
-fn is_fed_slowly(alloc: Global) -> Result<bool, Fail> {
-    let mut archive = Archive::plain(alloc, 1)?;
-    let octets = stream(alloc, &[LONG_PREFIX, UPDATE])?;
-    let mut reader = Input::new(Slow {
-        octets: &octets,
-        interrupted: false,
-    });
-    let mut out: Vec<u8> = Vec::new(alloc);
-    let mut writer = Output::new(SlowOut {
-        octets: &mut out,
-        interrupted: false,
-    });
-    let end = feed_to(alloc, &mut archive, 0, &mut reader, &mut writer);
-    drop(writer);
-    let lines = "X|15|Malformed|0\nB|0|1|1\nF|2|1|0|1|0\n";
-    Ok(end == End::Well && out.as_slice() == lines.as_bytes())
-}
-
-/// Whether a reader that fails ends its feed, which is told, and remembers why.
-fn is_given_up(alloc: Global) -> Result<bool, Fail> {
-    let mut archive = Archive::plain(alloc, 1)?;
-    let octets = stream(alloc, &[UPDATE, UPDATE])?;
-    let mut reader = Input::new(Failing { octets: &octets });
-    let mut out: Vec<u8> = Vec::new(alloc);
-    let end = feed_to(
-        alloc,
-        &mut archive,
-        0,
-        &mut reader,
-        &mut Output::new(&mut out),
-    );
-    let lines = "B|0|2|2\nX|29|Outside\n";
-    Ok(
-        end == End::Refused(FeedStop::Outside)
-            && reader.failure().is_some()
-            && out.as_slice() == lines.as_bytes(),
-    )
-}
-
-/// Whether a writer of four octets ends a feed and fails what comes behind it. A load tells it, a question no more.
-fn is_failed(alloc: Global) -> Result<bool, Fail> {
-    let mut archive = Archive::plain(alloc, 1)?;
-    let octets = stream(alloc, &[UPDATE])?;
-    let mut small = [0u8; 4];
-    let full: &mut [u8] = &mut small;
-    let mut full = Output::new(full);
-    let mut reader = Input::new(octets.as_slice());
-    let end = feed_to(alloc, &mut archive, 0, &mut reader, &mut full);
-    let how = LoadSettings {
-        collector: 0,
-        limit: 1000,
-        mark: None,
-        resume: false,
-    };
-    let (told, loaded) = load_to(alloc, &mut archive, how, &[], &mut full);
-    let (untold, asked) = ask_to(alloc, &mut archive, QUESTION, &mut full);
-    Ok(
-        end == End::Refused(FeedStop::Outside)
-            && loaded == Status::Failed
-            && told.as_slice() == UNWRITTEN.as_bytes()
-            && asked == Status::Failed
-            && untold.is_empty(),
-    )
-}
-
-/// Whether a question whose answer doesn't fit is told as failed.
-fn is_too_long(alloc: Global) -> Result<bool, Fail> {
-    let mut small = [0u8; 4];
-    let full: &mut [u8] = &mut small;
-    let (told, asked) = ask_to(alloc, &mut loaded(alloc)?, QUESTION, &mut Output::new(full));
-    Ok(asked == Status::Failed && told.as_slice() == UNWRITTEN.as_bytes())
-}
-
-/// Whether standard error has the system's reasons: of a file that isn't there, and of one that can't be read on.
-fn are_reasons_told(alloc: Global) -> Result<bool, Fail> {
-    let mut archive = Archive::plain(alloc, 1)?;
-    let mut file = Input::new(Failing { octets: &[] });
-    let mut lines: Vec<u8> = Vec::new(alloc);
-    feed_to(
-        alloc,
-        &mut archive,
-        0,
-        &mut file,
-        &mut Output::new(&mut lines),
-    );
-    let missing = Error::from(ErrorKind::NotFound);
-    let mut err: Vec<u8> = Vec::new(alloc);
-    let mut told = Output::new(&mut err);
-    let code = tell_outside(alloc, &mut told, "a.mrt", "open", &missing);
-    tell_lost(alloc, "a.mrt", &file, &mut told);
-    let lines = "rha: 29 Outside: a.mrt: open: entity not found
-rha: 29 Outside: a.mrt: read: broken pipe
-";
-    Ok(code == 1 && err.as_slice() == lines.as_bytes())
-}
-
-#[test]
-fn failures_outside_are_told(rt: HostRuntime) -> Result<(), Fail> {
-    let alloc = rt.alloc();
-    assert!(rt; is_fed_slowly(alloc)?);
-    assert!(rt; is_given_up(alloc)?);
-    assert!(rt; is_failed(alloc)?);
-    assert!(rt; is_too_long(alloc)?);
-    assert!(rt; are_reasons_told(alloc)?);
-    Ok(())
+fn long_answers_name_their_last_row(rt: HostRuntime) {
+    be(&rt, is_cut_at_256(rt.alloc()) == Some(true), "257 rows");
 }

@@ -1,4 +1,4 @@
-//! Tests of archive and service: worked examples from outside, and what is done where a reader or a writer fails.
+//! Tests of service: worked examples from outside over the pure machine, and what is done where a reader or a writer fails.
 #![tactic(auto)]
 
 #[cfg(test)]
@@ -6,13 +6,15 @@ mod checks;
 #[cfg(test)]
 mod commands;
 #[cfg(test)]
-mod feeds;
+mod desk;
 #[cfg(test)]
-mod full_rings;
+mod failures;
+#[cfg(test)]
+mod feeds;
 #[cfg(test)]
 mod lines;
 #[cfg(test)]
-mod plain;
+mod pure;
 #[cfg(test)]
 mod questions;
 #[cfg(test)]
@@ -23,3 +25,12 @@ mod running;
 mod samples;
 #[cfg(test)]
 mod usage;
+
+#[cfg(test)]
+use std::process::Abort;
+
+/// Ends a test that is wrong, with what was tried. Proofs learn nothing of it, which keeps them short.
+#[cfg(test)]
+fn be(rt: &impl Abort, holds: bool, name: &str) {
+    assert!(rt; holds, "{name}");
+}

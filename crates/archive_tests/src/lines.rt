@@ -1,6 +1,7 @@
 //! Request lines as they are read, and lines as they are written.
 
-use archive::{Admitted, Query, Receipt};
+use crate::be;
+use interleaving_core::{BatchReply, Query, Receipt};
 use route_meaning::{RowsQuestion, Select, Spot};
 use route_model::{Address, Mark, Moment, Peer, Prefix};
 use sequencer::Late;
@@ -9,7 +10,6 @@ use service::{
     write_error, write_reason, write_refusal, write_refused_record, write_settled,
 };
 use std::alloc::Global;
-use std::test::Fail;
 
 /// Lines that ask nothing.
 const NO_REQUESTS: [&str; 63] = [
@@ -88,25 +88,38 @@ fn ten_at_7(after: Option<Spot>) -> Request {
     Request::Question(question)
 }
 
-#[test]
-fn lines_are_read_word_by_word(rt: HostRuntime) -> Result<(), Fail> {
-    let alloc = rt.alloc();
-    let spot = Spot {
+/// A spot behind which a question goes on.
+fn last_spot() -> Spot {
+    Spot {
         peer: Peer {
             collector: 15,
             address: Address::V4([192, 0, 2, 1]),
             as_number: 4_294_967_295,
         },
         prefix: Prefix::containing(Address::V4([10, 0, 0, 0]), 8),
-    };
-    let first = read_request(alloc, "at 7 prefix 10.0.0.0/8");
-    assert!(rt; first == Ok(ten_at_7(None)));
-    let line = "at 7 prefix 10.1.2.3/8 after 15 192.0.2.1 4294967295 10.0.0.0/8";
-    assert!(rt; read_request(alloc, line) == Ok(ten_at_7(Some(spot))));
-    for line in &NO_REQUESTS {
-        assert!(rt; read_request(alloc, line) == Err(RequestError::BadRequest));
     }
-    Ok(())
+}
+
+/// Whether a line asks this.
+fn is_read(alloc: Global, line: &str, request: Request) -> bool {
+    read_request(alloc, line) == Ok(request)
+}
+
+/// Whether a line asks nothing.
+fn is_no_request(alloc: Global, line: &str) -> bool {
+    read_request(alloc, line) == Err(RequestError::BadRequest)
+}
+
+#[test]
+fn lines_are_read_word_by_word(rt: HostRuntime) {
+    let alloc = rt.alloc();
+    let line = "at 7 prefix 10.0.0.0/8";
+    be(&rt, is_read(alloc, line, ten_at_7(None)), line);
+    let line = "at 7 prefix 10.1.2.3/8 after 15 192.0.2.1 4294967295 10.0.0.0/8";
+    be(&rt, is_read(alloc, line, ten_at_7(Some(last_spot()))), line);
+    for line in &NO_REQUESTS {
+        be(&rt, is_no_request(alloc, line), line);
+    }
 }
 
 /// The lines of what is written below.
@@ -121,7 +134,7 @@ rha: 12 BadText: --mark is none
 ";
 
 /// Writes each of the lines once.
-fn write_all(told: &mut Output<&mut Vec<u8>>, admitted: &Admitted) {
+fn write_all(told: &mut Output<&mut Vec<u8>>, admitted: &BatchReply) {
     write_admitted(told, admitted);
     let counts = FeedCounts {
         records: 5,
@@ -139,28 +152,34 @@ fn write_all(told: &mut Output<&mut Vec<u8>>, admitted: &Admitted) {
 }
 
 /// A batch of three records, of which the second came late.
-fn admitted(alloc: Global) -> Result<Admitted, Fail> {
-    let late = Late {
+fn admitted(alloc: Global) -> Option<BatchReply> {
+    let mut late = Vec::new(alloc);
+    late.push(Late {
         index: 1,
         time: Moment::from(99),
         mark: Mark::at(Moment::from(100)),
+    })
+    .ok()?;
+    let receipt = Receipt {
+        collector: 0,
+        from: 0,
+        to: 2,
     };
-    Ok(Admitted {
-        receipt: Receipt {
-            collector: 0,
-            from: 0,
-            to: 2,
-        },
+    Some(BatchReply {
+        receipt,
         offered: 3,
-        late: vec![in alloc; late]?,
+        late,
     })
 }
 
-#[test]
-fn lines_are_written(rt: HostRuntime) -> Result<(), Fail> {
-    let alloc = rt.alloc();
+/// Whether all lines are written.
+fn are_written(alloc: Global) -> Option<bool> {
     let mut out: Vec<u8> = Vec::new(alloc);
     write_all(&mut Output::new(&mut out), &admitted(alloc)?);
-    assert!(rt; out.as_slice() == LINES.as_bytes());
-    Ok(())
+    Some(out.as_slice() == LINES.as_bytes())
+}
+
+#[test]
+fn lines_are_written(rt: HostRuntime) {
+    be(&rt, are_written(rt.alloc()) == Some(true), "lines");
 }

@@ -1,13 +1,14 @@
 //! Questions of each kind: worked examples from outside, and answers that are cut.
 
-use crate::feeds::{ask_line, load_marked, many_prefixes};
+use crate::be;
+use crate::desk::{answers_as, loaded, loaded_of};
+use crate::pure::Pure;
 use crate::samples::{
-    EARLIER, IPV6, OTHER_PATH, SESSION_DOWN, TWO_PREFIXES, UPDATE, WITHDRAWAL, many_updates, stream,
+    EARLIER, IPV6, OTHER_PATH, SESSION_DOWN, TWO_PREFIXES, UPDATE, WITHDRAWAL, many_prefixes,
+    many_updates,
 };
-use archive::Archive;
 use service::{Status, reply};
 use std::alloc::Global;
-use std::test::Fail;
 
 /// Records that are loaded into an empty archive of one collector with the mark 1704067201, and what is answered then.
 struct Example {
@@ -147,49 +148,64 @@ const EXAMPLES: [Example; 4] = [
     },
 ];
 
-/// An archive of one collector that these octets are loaded into, with the mark 1704067201.
-fn archive_of(alloc: Global, octets: &[u8]) -> Result<Archive, Fail> {
-    let mut archive = Archive::plain(alloc, 1)?;
-    match load_marked(alloc, &mut archive, octets).status {
-        Status::Done => Ok(archive),
-        Status::Refused | Status::Failed => Err(Fail::from("not loaded")),
+/// The first of these lines that isn't answered so.
+fn wrongly_answered(
+    alloc: Global,
+    archive: &mut Pure,
+    answers: &[(&'static str, &'static str)],
+    status: Status,
+) -> Option<&'static str> {
+    for (line, lines) in answers {
+        if !answers_as(alloc, archive, line, lines, status) {
+            return Some(line);
+        }
     }
+    None
 }
 
-/// Whether the line is answered so.
-fn is_answered(alloc: Global, archive: &mut Archive, line: &str, lines: &str) -> bool {
-    ask_line(alloc, archive, line).is(lines, "", Status::Done)
+/// The first line of an example that isn't answered as it has to be.
+fn wrong_line(alloc: Global, example: &Example) -> Option<&'static str> {
+    match loaded_of(alloc, example.records) {
+        Some(mut archive) => {
+            wrongly_answered(alloc, &mut archive, example.answers, Status::Done)
+        }
+        None => Some(example.name),
+    }
 }
 
 #[test]
-fn examples_are_answered(rt: HostRuntime) -> Result<(), Fail> {
-    let alloc = rt.alloc();
+fn examples_are_answered(rt: HostRuntime) {
     for example in &EXAMPLES {
-        let mut archive = archive_of(alloc, &stream(alloc, example.records)?)?;
-        for (line, lines) in example.answers {
-            assert!(rt;
-                is_answered(alloc, &mut archive, line, lines),
-                "{}: {line}",
-                example.name
-            );
-        }
+        let wrong = wrong_line(rt.alloc(), example);
+        be(&rt, wrong.is_none(), wrong.unwrap_or(""));
     }
-    Ok(())
 }
 
 /// Whether an answer to the line has so many lines, of which this one is the last.
-fn is_cut(
+fn is_cut(alloc: Global, archive: &mut Pure, line: &str, count: usize, ending: &str) -> bool {
+    match reply(alloc, archive, line) {
+        Ok(text) => {
+            text.as_str().lines().count() == count && text.as_str().lines().last() == Some(ending)
+        }
+        Err(_) => false,
+    }
+}
+
+/// The first of these lines whose answer isn't cut so.
+fn wrongly_cut(
     alloc: Global,
-    archive: &mut Archive,
-    line: &str,
-    count: usize,
-    ending: &str,
-) -> Result<bool, Fail> {
-    let text = match reply(alloc, archive, line) {
-        Ok(text) => text,
-        Err(_) => return Err(Fail::from("no answer")),
+    octets: Option<Vec<u8>>,
+    answers: &[(&'static str, usize, &'static str)],
+) -> Option<&'static str> {
+    let Some(mut archive) = loaded(alloc, &octets.unwrap_or(Vec::new(alloc))) else {
+        return Some("not loaded");
     };
-    Ok(text.as_str().lines().count() == count && text.as_str().lines().last() == Some(ending))
+    for (line, count, ending) in answers {
+        if !is_cut(alloc, &mut archive, line, *count, ending) {
+            return Some(line);
+        }
+    }
+    None
 }
 
 /// Lines that are asked of 257 prefixes, how many lines their answers have, and the last of these.
@@ -218,16 +234,9 @@ const CUT: [(&str, usize, &str); 4] = [
 ];
 
 #[test]
-fn answers_of_256_rows_name_where_to_go_on(rt: HostRuntime) -> Result<(), Fail> {
-    let alloc = rt.alloc();
-    let mut archive = archive_of(alloc, &many_prefixes(alloc)?)?;
-    for (line, count, ending) in &CUT {
-        assert!(rt;
-            is_cut(alloc, &mut archive, line, *count, ending)?,
-            "{line}"
-        );
-    }
-    Ok(())
+fn answers_of_256_rows_name_where_to_go_on(rt: HostRuntime) {
+    let wrong = wrongly_cut(rt.alloc(), many_prefixes(rt.alloc()), &CUT);
+    be(&rt, wrong.is_none(), wrong.unwrap_or(""));
 }
 
 /// Lines that are asked of a history of 3,693 events, how many lines their answers have, and the last of these.
@@ -261,16 +270,9 @@ const CUT_HISTORIES: [(&str, usize, &str); 5] = [
 ];
 
 #[test]
-fn histories_of_256_events_name_where_to_go_on(rt: HostRuntime) -> Result<(), Fail> {
-    let alloc = rt.alloc();
-    let mut archive = archive_of(alloc, &many_updates(alloc)?)?;
-    for (line, count, ending) in &CUT_HISTORIES {
-        assert!(rt;
-            is_cut(alloc, &mut archive, line, *count, ending)?,
-            "{line}"
-        );
-    }
-    Ok(())
+fn histories_of_256_events_name_where_to_go_on(rt: HostRuntime) {
+    let wrong = wrongly_cut(rt.alloc(), many_updates(rt.alloc()), &CUT_HISTORIES);
+    be(&rt, wrong.is_none(), wrong.unwrap_or(""));
 }
 
 /// Lines that are refused, and what is told of them.
@@ -287,14 +289,9 @@ const REFUSED: [(&str, &str); 6] = [
 ];
 
 #[test]
-fn refusals_of_lines_are_told(rt: HostRuntime) -> Result<(), Fail> {
-    let alloc = rt.alloc();
-    let mut archive = archive_of(alloc, &stream(alloc, &[UPDATE])?)?;
-    for (line, lines) in &REFUSED {
-        assert!(rt;
-            ask_line(alloc, &mut archive, line).is(lines, "", Status::Refused),
-            "{line}"
-        );
-    }
-    Ok(())
+fn refusals_of_lines_are_told(rt: HostRuntime) {
+    let archive = loaded_of(rt.alloc(), &[UPDATE]);
+    let mut archive = archive.expect(&rt, "memory for the archive");
+    let wrong = wrongly_answered(rt.alloc(), &mut archive, &REFUSED, Status::Refused);
+    be(&rt, wrong.is_none(), wrong.unwrap_or(""));
 }

@@ -1,19 +1,16 @@
 //! Loads that go on where an earlier one of the same file ended.
 
+use crate::be;
+use crate::desk::loads_as;
+use crate::pure::Pure;
 use crate::samples::{EARLIER, EMPTY, LONG_PREFIX, UPDATE, cut_stream};
-use archive::Archive;
-use service::{Input, LoadSettings, Output, Status, load};
+use service::{LoadSettings, Status};
 use std::alloc::Global;
-use std::test::Fail;
 
 /// Five records, of which the second is refused and the third comes late: four admissions.
 const RECORDS: [&str; 5] = [UPDATE, LONG_PREFIX, EARLIER, UPDATE, EMPTY];
 
-/// The octets of the first three records, 73, 77 and 73, and ten of the fourth.
-const CUT: usize = 233;
-
 /// A load of the file, and what it writes.
-#[derive(Drop)]
 struct Part {
     cut: Option<usize>,
     resume: bool,
@@ -21,36 +18,9 @@ struct Part {
     status: Status,
 }
 
-/// Loads the file in these parts into one archive, in batches of at most two: whether each writes its lines.
-fn loads_as(alloc: Global, parts: &[Part]) -> Result<bool, Fail> {
-    let mut archive = Archive::plain(alloc, 1)?;
-    let mut right = true;
-    for part in parts {
-        let octets = cut_stream(alloc, &RECORDS, part.cut)?;
-        let how = LoadSettings {
-            collector: 0,
-            limit: 2,
-            mark: None,
-            resume: part.resume,
-        };
-        let mut out = Vec::new(alloc);
-        let mut err = Vec::new(alloc);
-        let status = load(
-            alloc,
-            &mut archive,
-            how,
-            &mut Input::new(octets.as_slice()),
-            &mut Output::new(&mut out),
-            &mut Output::new(&mut err),
-        );
-        right &= out.as_slice() == part.lines.as_bytes() && err.is_empty() && status == part.status;
-    }
-    Ok(right)
-}
-
-/// What the first three records write where the file is cut behind them.
+/// What the first three records write where the file is cut behind them: 73, 77 and 73 octets, and ten of the fourth.
 const CUT_SHORT: Part = Part {
-    cut: Some(CUT),
+    cut: Some(233),
     resume: false,
     lines: "X|15|Malformed|1
 B|0|1|2
@@ -62,21 +32,21 @@ S|1704067200
     status: Status::Refused,
 };
 
-#[test]
-fn a_resumed_load_drops_what_was_offered(rt: HostRuntime) -> Result<(), Fail> {
-    let rest = Part {
+/// What was offered is dropped where the load goes on.
+const RESUMED: [Part; 2] = [
+    CUT_SHORT,
+    Part {
         cut: None,
         resume: true,
         lines: "X|15|Malformed|1\nB|1|3|4\nF|5|2|0|1|0\nS|1704067200\n",
         status: Status::Done,
-    };
-    assert!(rt; loads_as(rt.alloc(), &[CUT_SHORT, rest])?);
-    Ok(())
-}
+    },
+];
 
-#[test]
-fn a_load_that_is_not_resumed_drops_nothing(rt: HostRuntime) -> Result<(), Fail> {
-    let again = Part {
+/// Nothing is dropped where it doesn't.
+const ANEW: [Part; 2] = [
+    CUT_SHORT,
+    Part {
         cut: None,
         resume: false,
         lines: "X|15|Malformed|1
@@ -87,14 +57,12 @@ F|5|3|1|1|0
 S|1704067200
 ",
         status: Status::Done,
-    };
-    assert!(rt; loads_as(rt.alloc(), &[CUT_SHORT, again])?);
-    Ok(())
-}
+    },
+];
 
-#[test]
-fn a_resumed_load_of_a_loaded_file_offers_nothing(rt: HostRuntime) -> Result<(), Fail> {
-    let whole = Part {
+/// A file that was loaded whole offers nothing more.
+const WHOLE: [Part; 2] = [
+    Part {
         cut: None,
         resume: true,
         lines: "X|15|Malformed|1
@@ -105,13 +73,53 @@ F|5|3|1|1|0
 S|1704067200
 ",
         status: Status::Done,
-    };
-    let again = Part {
+    },
+    Part {
         cut: None,
         resume: true,
         lines: "X|15|Malformed|1\nF|5|0|0|1|0\nS|1704067200\n",
         status: Status::Done,
+    },
+];
+
+/// Whether a part of the file, in batches of at most two, writes its lines.
+fn is_loaded(alloc: Global, archive: &mut Pure, part: &Part) -> Option<bool> {
+    let octets = cut_stream(alloc, &RECORDS, part.cut)?;
+    let how = LoadSettings {
+        collector: 0,
+        limit: 2,
+        mark: None,
+        resume: part.resume,
     };
-    assert!(rt; loads_as(rt.alloc(), &[whole, again])?);
-    Ok(())
+    Some(loads_as(alloc, archive, how, &octets, part.lines, "", part.status))
+}
+
+/// Whether the file is loaded in these parts into one archive, each with its lines.
+fn are_loaded(alloc: Global, parts: &[Part]) -> Option<bool> {
+    let mut archive = Pure::new(alloc, 1)?;
+    for part in parts {
+        if !is_loaded(alloc, &mut archive, part)? {
+            return Some(false);
+        }
+    }
+    Some(true)
+}
+
+#[test]
+fn a_resumed_load_drops_what_was_offered(rt: HostRuntime) {
+    be(
+        &rt,
+        are_loaded(rt.alloc(), &RESUMED) == Some(true),
+        "resumed",
+    );
+}
+
+#[test]
+fn a_load_that_is_not_resumed_drops_nothing(rt: HostRuntime) {
+    be(&rt, are_loaded(rt.alloc(), &ANEW) == Some(true), "anew");
+}
+
+#[test]
+fn a_resumed_load_of_a_loaded_file_offers_nothing(rt: HostRuntime) {
+    be(&rt, are_loaded(rt.alloc(), &WHOLE) == Some(true), "whole");
 }

@@ -1,8 +1,11 @@
 //! Commands as the program runs them over an archive: what is written, what is written out when, and the exit status.
 
-use crate::feeds::{ANSWER, QUESTION, UNBUFFERED};
+use crate::be;
+use crate::desk::loaded_of;
+use crate::failures::UNBUFFERED;
+use crate::feeds::{ANSWER, QUESTION};
+use crate::pure::Pure;
 use crate::samples::{EARLIER, LONG_PREFIX, UPDATE, cut_stream, stream};
-use archive::Archive;
 use route_model::Mark;
 use service::{
     Creation, Input, Loading, Output, Question, Refusal, ask_line, load_file, tell_created,
@@ -11,7 +14,6 @@ use service::{
 use std::alloc::Global;
 use std::io::{BufWriter, Write};
 use std::net::{Ipv4Addr, SocketAddrV4};
-use std::test::Fail;
 
 /// A file that is loaded, and a line that is asked behind it: what each writes, and its exit status.
 struct Ran {
@@ -92,85 +94,110 @@ fn loading(collector: u8, resume: bool) -> Loading<'static> {
     }
 }
 
-/// Loads octets, as collector 0's and in batches of two, with the mark 1704067201: what standard error is told, and the
-/// exit status.
+/// Loads octets as a collector's, in batches of two, with the mark 1704067201: the exit status.
 fn load_to<W: Write + Drop>(
     alloc: Global,
-    archive: &mut Archive,
+    archive: &mut Pure,
     asked: &Loading<'_>,
     octets: &[u8],
-    out: W,
-) -> (Vec<u8>, u8) {
-    let mut err = Vec::new(alloc);
+    out: &mut Output<W>,
+    err: &mut Vec<u8>,
+) -> u8 {
     let mut file = Input::new(octets);
-    let mut told = Output::new(&mut err);
-    let code = load_file(
+    load_file(alloc, archive, asked, &mut file, out, &mut Output::new(err))
+}
+
+/// Asks a line: the exit status. None where there is no memory for the line.
+fn ask_to<W: Write + Drop>(
+    alloc: Global,
+    archive: &mut Pure,
+    line: &str,
+    out: &mut Output<W>,
+    err: &mut Vec<u8>,
+) -> Option<u8> {
+    let asked = Question {
+        folder: "a",
+        line: String::from_str(alloc, line).ok()?,
+    };
+    Some(ask_line(alloc, archive, &asked, out, &mut Output::new(err)))
+}
+
+/// Whether octets are loaded with these lines and this status.
+fn loads_as(
+    alloc: Global,
+    archive: &mut Pure,
+    asked: &Loading<'_>,
+    octets: &[u8],
+    lines: &str,
+    refusals: &str,
+    code: u8,
+) -> bool {
+    let mut out: Vec<u8> = Vec::new(alloc);
+    let mut err: Vec<u8> = Vec::new(alloc);
+    let ended = load_to(
         alloc,
         archive,
         asked,
-        &mut file,
-        &mut Output::new(out),
-        &mut told,
+        octets,
+        &mut Output::new(&mut out),
+        &mut err,
     );
-    drop(told);
-    (err, code)
+    ended == code && out.as_slice() == lines.as_bytes() && err.as_slice() == refusals.as_bytes()
 }
 
-/// Asks a line: what standard error is told, and the exit status.
-fn ask_to<W: Write + Drop>(
-    alloc: Global,
-    archive: &mut Archive,
-    line: &str,
-    out: W,
-) -> Result<(Vec<u8>, u8), Fail> {
-    let asked = Question {
-        folder: "a",
-        line: String::from_str(alloc, line)?,
-    };
-    let mut err = Vec::new(alloc);
-    let mut told = Output::new(&mut err);
-    let code = ask_line(alloc, archive, &asked, &mut Output::new(out), &mut told);
-    drop(told);
-    Ok((err, code))
+/// Whether a line is answered so, with this status.
+fn answers_as(alloc: Global, archive: &mut Pure, line: &str, answer: &str, code: u8) -> bool {
+    let mut out: Vec<u8> = Vec::new(alloc);
+    let mut err: Vec<u8> = Vec::new(alloc);
+    let ended = ask_to(alloc, archive, line, &mut Output::new(&mut out), &mut err);
+    ended == Some(code) && out.as_slice() == answer.as_bytes() && err.is_empty()
 }
 
 /// Whether the file is loaded, and the line asked behind it, with these lines and statuses.
-fn is_run(alloc: Global, archive: &mut Archive, ran: &Ran) -> Result<bool, Fail> {
+fn is_run(alloc: Global, archive: &mut Pure, ran: &Ran) -> Option<bool> {
     let octets = cut_stream(alloc, ran.records, ran.cut)?;
-    let mut out: Vec<u8> = Vec::new(alloc);
-    let (err, code) = load_to(alloc, archive, &loading(0, ran.resume), &octets, &mut out);
-    let mut answer: Vec<u8> = Vec::new(alloc);
-    let (answer_err, answer_code) = ask_to(alloc, archive, ran.line, &mut answer)?;
-    Ok(
-        code == ran.code
-            && out.as_slice() == ran.lines.as_bytes()
-            && err.is_empty()
-            && answer_code == ran.answer_code
-            && answer.as_slice() == ran.answer.as_bytes()
-            && answer_err.is_empty(),
+    let asked = loading(0, ran.resume);
+    Some(
+        loads_as(alloc, archive, &asked, &octets, ran.lines, "", ran.code)
+            && answers_as(alloc, archive, ran.line, ran.answer, ran.answer_code),
     )
 }
 
-#[test]
-fn loads_and_questions_have_statuses(rt: HostRuntime) -> Result<(), Fail> {
-    let alloc = rt.alloc();
-    let mut archive = Archive::plain(alloc, 1)?;
+/// The lines of the first load that doesn't go as it has to.
+fn wrongly_run(alloc: Global) -> Option<&'static str> {
+    let Some(mut archive) = Pure::new(alloc, 1) else {
+        return Some("no memory");
+    };
     for ran in &RUNS {
-        assert!(rt; is_run(alloc, &mut archive, ran)?, "{}", ran.lines);
+        if is_run(alloc, &mut archive, ran) != Some(true) {
+            return Some(ran.lines);
+        }
     }
-    Ok(())
+    None
 }
 
 #[test]
-fn a_collector_that_is_not_there_is_told(rt: HostRuntime) -> Result<(), Fail> {
-    let alloc = rt.alloc();
-    let mut archive = Archive::plain(alloc, 1)?;
+fn loads_and_questions_have_statuses(rt: HostRuntime) {
+    let wrong = wrongly_run(rt.alloc());
+    be(&rt, wrong.is_none(), wrong.unwrap_or(""));
+}
+
+/// Whether a load of a collector that isn't there is refused.
+fn is_no_collector(alloc: Global) -> Option<bool> {
+    let mut archive = Pure::new(alloc, 1)?;
     let octets = stream(alloc, &[UPDATE])?;
-    let mut out: Vec<u8> = Vec::new(alloc);
-    let (err, code) = load_to(alloc, &mut archive, &loading(1, false), &octets, &mut out);
-    assert!(rt; code == 1 && out.is_empty());
-    assert!(rt; err.as_slice() == "rha: 22 NoCollector\n".as_bytes());
-    Ok(())
+    let asked = loading(1, false);
+    let told = "rha: 22 NoCollector\n";
+    Some(loads_as(alloc, &mut archive, &asked, &octets, "", told, 1))
+}
+
+#[test]
+fn a_collector_that_is_not_there_is_told(rt: HostRuntime) {
+    be(
+        &rt,
+        is_no_collector(rt.alloc()) == Some(true),
+        "no collector",
+    );
 }
 
 /// A writer that puts a tilde where it is told to write out what it buffers.
@@ -189,54 +216,64 @@ impl Write for Marking<'_> {
     }
 }
 
-#[test]
-fn lines_are_written_out_as_soon_as_they_are_true(rt: HostRuntime) -> Result<(), Fail> {
-    let alloc = rt.alloc();
-    let mut archive = Archive::plain(alloc, 1)?;
-    let octets = stream(alloc, &[UPDATE, EARLIER, LONG_PREFIX, UPDATE])?;
-    let mut out: Vec<u8> = Vec::new(alloc);
-    let marking = Marking { octets: &mut out };
-    let (err, code) = load_to(alloc, &mut archive, &loading(0, false), &octets, marking);
-    let lines = "B|0|1|2
+const WRITTEN_OUT: &str = "B|0|1|2
 L|1|1704067199|1704067200
 ~X|15|Malformed|2
 ~B|1|2|3
 ~F|4|2|1|1|0
 ~S|1704067201
 ~";
-    assert!(rt; code == 0 && err.is_empty());
-    assert!(rt; out.as_slice() == lines.as_bytes());
-    Ok(())
+
+/// Whether each line of a load is written out as soon as it is true.
+fn is_written_out(alloc: Global) -> Option<bool> {
+    let mut archive = Pure::new(alloc, 1)?;
+    let octets = stream(alloc, &[UPDATE, EARLIER, LONG_PREFIX, UPDATE])?;
+    let mut out: Vec<u8> = Vec::new(alloc);
+    let mut err: Vec<u8> = Vec::new(alloc);
+    let mut lines = Output::new(Marking { octets: &mut out });
+    let asked = loading(0, false);
+    let code = load_to(alloc, &mut archive, &asked, &octets, &mut lines, &mut err);
+    drop(lines);
+    Some(code == 0 && err.is_empty() && out.as_slice() == WRITTEN_OUT.as_bytes())
+}
+
+#[test]
+fn lines_are_written_out_as_soon_as_they_are_true(rt: HostRuntime) {
+    be(&rt, is_written_out(rt.alloc()) == Some(true), "lines");
 }
 
 /// Whether a writer of four octets, which shows its fault when it is written out, gives a load status 1, and is told
 /// once.
-fn is_load_told(alloc: Global, archive: &mut Archive, octets: &[u8]) -> Result<bool, Fail> {
+fn is_load_told(alloc: Global, octets: &[u8]) -> Option<bool> {
+    let mut archive = Pure::new(alloc, 1)?;
     let mut small = [0u8; 4];
     let full: &mut [u8] = &mut small;
-    let out = BufWriter::new(alloc, full)?;
-    let (err, code) = load_to(alloc, archive, &loading(0, false), octets, out);
-    Ok(code == 1 && err.as_slice() == UNBUFFERED.as_bytes())
+    let mut out = Output::new(BufWriter::new(alloc, full).ok()?);
+    let mut err: Vec<u8> = Vec::new(alloc);
+    let asked = loading(0, false);
+    let code = load_to(alloc, &mut archive, &asked, octets, &mut out, &mut err);
+    Some(code == 1 && err.as_slice() == UNBUFFERED.as_bytes())
 }
 
 /// The same of a question, whose answer has more octets.
-fn is_answer_told(alloc: Global, archive: &mut Archive) -> Result<bool, Fail> {
+fn is_answer_told(alloc: Global) -> Option<bool> {
+    let mut archive = loaded_of(alloc, &[UPDATE])?;
     let mut small = [0u8; 4];
     let full: &mut [u8] = &mut small;
-    let (err, code) = ask_to(alloc, archive, "watermark", BufWriter::new(alloc, full)?)?;
-    Ok(code == 1 && err.as_slice() == UNBUFFERED.as_bytes())
+    let mut out = Output::new(BufWriter::new(alloc, full).ok()?);
+    let mut err: Vec<u8> = Vec::new(alloc);
+    let code = ask_to(alloc, &mut archive, "watermark", &mut out, &mut err);
+    Some(code == Some(1) && err.as_slice() == UNBUFFERED.as_bytes())
 }
 
 #[test]
-fn what_cannot_be_written_out_is_told_once(rt: HostRuntime) -> Result<(), Fail> {
+fn what_cannot_be_written_out_is_told_once(rt: HostRuntime) {
     let alloc = rt.alloc();
-    let mut archive = Archive::plain(alloc, 1)?;
     // The first fails at its batch, the second, which has none, at its end.
-    let octets = stream(alloc, &[UPDATE])?;
-    assert!(rt; is_load_told(alloc, &mut archive, &octets)?);
-    assert!(rt; is_load_told(alloc, &mut archive, &[])?);
-    assert!(rt; is_answer_told(alloc, &mut archive)?);
-    Ok(())
+    let update = stream(alloc, &[UPDATE]).unwrap_or(Vec::new(alloc));
+    be(&rt, is_load_told(alloc, &update) == Some(true), "a batch");
+    be(&rt, is_load_told(alloc, &[]) == Some(true), "an end");
+    be(&rt, is_answer_told(alloc) == Some(true), "an answer");
 }
 
 const MADE: Creation<'static> = Creation {
@@ -247,43 +284,50 @@ const MADE: Creation<'static> = Creation {
     blocks: 65,
 };
 
-/// Whether a new archive is told, and where it can't be, standard error is.
-fn is_creation_told(alloc: Global) -> Result<bool, Fail> {
-    let mut out: Vec<u8> = Vec::new(alloc);
-    let mut err: Vec<u8> = Vec::new(alloc);
-    let mut told = Output::new(&mut err);
-    let code = tell_created(alloc, &MADE, &mut Output::new(&mut out), &mut told);
-    let mut small = [0u8; 4];
-    let full: &mut [u8] = &mut small;
-    let full = BufWriter::new(alloc, full)?;
-    let failed = tell_created(alloc, &MADE, &mut Output::new(full), &mut told);
-    drop(told);
-    Ok(
-        code == 0
-            && out.as_slice() == "created 1 16 64 65\n".as_bytes()
-            && failed == 1
-            && err.as_slice() == UNBUFFERED.as_bytes(),
-    )
+/// Where connections are taken.
+fn bound() -> SocketAddrV4 {
+    SocketAddrV4::new(Ipv4Addr::from_octets([192, 0, 2, 100]), 17_900)
 }
 
-/// Whether where connections are taken is told, and where it can't be, standard error is.
-fn is_listening_told(alloc: Global) -> Result<bool, Fail> {
-    let bound = SocketAddrV4::new(Ipv4Addr::from_octets([192, 0, 2, 100]), 17_900);
+/// What stands before a command.
+#[derive(Clone, Copy)]
+enum Before {
+    /// A new archive is made.
+    Made,
+    /// Connections are taken.
+    Listening,
+}
+
+/// Tells of it: the exit status.
+fn tell_to<W: Write + Drop>(
+    alloc: Global,
+    before: Before,
+    out: &mut Output<W>,
+    err: &mut Vec<u8>,
+) -> u8 {
+    let mut refusals = Output::new(err);
+    match before {
+        Before::Made => tell_created(alloc, &MADE, out, &mut refusals),
+        Before::Listening => tell_listening(alloc, &bound(), out, &mut refusals),
+    }
+}
+
+/// Whether it is told by this line.
+fn is_told(alloc: Global, before: Before, line: &str) -> bool {
     let mut out: Vec<u8> = Vec::new(alloc);
     let mut err: Vec<u8> = Vec::new(alloc);
-    let mut told = Output::new(&mut err);
-    let code = tell_listening(alloc, &bound, &mut Output::new(&mut out), &mut told);
+    let code = tell_to(alloc, before, &mut Output::new(&mut out), &mut err);
+    code == 0 && out.as_slice() == line.as_bytes() && err.is_empty()
+}
+
+/// Whether standard error is told where that line can't be written out.
+fn is_untold(alloc: Global, before: Before) -> Option<bool> {
     let mut small = [0u8; 4];
     let full: &mut [u8] = &mut small;
-    let full = BufWriter::new(alloc, full)?;
-    let failed = tell_listening(alloc, &bound, &mut Output::new(full), &mut told);
-    drop(told);
-    Ok(
-        code == 0
-            && out.as_slice() == "listening 192.0.2.100:17900\n".as_bytes()
-            && failed == 1
-            && err.as_slice() == UNBUFFERED.as_bytes(),
-    )
+    let mut out = Output::new(BufWriter::new(alloc, full).ok()?);
+    let mut err: Vec<u8> = Vec::new(alloc);
+    let code = tell_to(alloc, before, &mut out, &mut err);
+    Some(code == 1 && err.as_slice() == UNBUFFERED.as_bytes())
 }
 
 /// Whether a folder without an archive is told.
@@ -294,9 +338,17 @@ fn is_refusal_told(alloc: Global) -> bool {
 }
 
 #[test]
-fn what_stands_before_a_command_is_told(rt: HostRuntime) -> Result<(), Fail> {
-    assert!(rt; is_creation_told(rt.alloc())?);
-    assert!(rt; is_listening_told(rt.alloc())?);
-    assert!(rt; is_refusal_told(rt.alloc()));
-    Ok(())
+fn what_stands_before_a_command_is_told(rt: HostRuntime) {
+    let alloc = rt.alloc();
+    let is_made = is_told(alloc, Before::Made, "created 1 16 64 65\n");
+    be(&rt, is_made, "a new archive");
+    let is_listening = is_told(alloc, Before::Listening, "listening 192.0.2.100:17900\n");
+    be(&rt, is_listening, "connections");
+    be(&rt, is_untold(alloc, Before::Made) == Some(true), "no room");
+    be(
+        &rt,
+        is_untold(alloc, Before::Listening) == Some(true),
+        "no room",
+    );
+    be(&rt, is_refusal_told(alloc), "a folder without an archive");
 }

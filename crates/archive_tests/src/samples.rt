@@ -1,7 +1,6 @@
 //! Records as octets: the worked examples of feeds and loads.
 
 use std::alloc::Global;
-use std::test::Fail;
 use test_octets::octets;
 
 /// A message of 192.0.2.1, AS 65001: an UPDATE that announces 10.0.0.0/8 by 65001 65002, at 1704067200.
@@ -66,7 +65,7 @@ pub(crate) const RIB: &str =
 pub(crate) const TOO_LONG: &str = "65920080 0010 0001 00020001";
 
 /// An UPDATE that announces 257 prefixes, which are to follow: 10.0.0.0/24 to 10.1.0.0/24.
-pub(crate) const MANY: &str = "65920080 0010 0001 0000043F FDE9 FC00 0000 0001 C0000201 C0000202
+const MANY: &str = "65920080 0010 0001 0000043F FDE9 FC00 0000 0001 C0000201 C0000202
     FFFFFFFFFFFFFFFFFFFFFFFFFFFFFFFF 042F 02 0000 0014 40010100 4002060202FDE9FDEA 400304C0000201";
 
 /// A peer table of 46 peers of AS 65001, which are to follow: 8 octets and 11 for each.
@@ -75,87 +74,127 @@ const MANY_PEERS: &str = "65920080 000D 0001 00000202 C0000202 0000 002E";
 /// How many peers it has.
 const PEERS: u16 = 46;
 
-/// Adds the octets that a text of hexadecimal digits spells.
-fn add_octets(alloc: Global, out: &mut Vec<u8>, text: &str) -> Result<(), Fail> {
-    out.extend_from_slice(&octets(alloc, text)?)?;
-    Ok(())
+/// Octets that are put together, and whether there was memory for all of them.
+#[derive(Drop)]
+struct Gathered {
+    alloc: Global,
+    octets: Vec<u8>,
+    is_whole: bool,
+}
+
+impl Gathered {
+    fn new(alloc: Global) -> Gathered {
+        Gathered {
+            alloc,
+            octets: Vec::new(alloc),
+            is_whole: true,
+        }
+    }
+
+    fn add(&mut self, octets: &[u8]) {
+        self.is_whole &= self.octets.extend_from_slice(octets).is_ok();
+    }
+
+    /// Adds the octets that hexadecimal digits stand for.
+    fn add_text(&mut self, text: &str) {
+        match octets(self.alloc, text) {
+            Ok(octets) => self.add(&octets),
+            Err(_) => self.is_whole = false,
+        }
+    }
+
+    /// Adds a peer table of 46 peers: 10.0.0.0 to 10.0.0.45.
+    fn add_peers(&mut self) {
+        self.add_text(MANY_PEERS);
+        for peer in 0..PEERS {
+            self.add_text("00 C0000201 0A00");
+            self.add(&peer.to_be_bytes());
+            self.add_text("FDE9");
+        }
+    }
+
+    /// Adds the RIB entry of a peer: an empty path by 192.0.2.1, and an attribute of type 99 with 2,802 octets and so many
+    /// more, the peer's number at their front.
+    fn add_entry(&mut self, peer: u16, more: u8) {
+        self.add(&peer.to_be_bytes());
+        self.add_text("65920000");
+        self.add(&(2820 + more as u16).to_be_bytes());
+        self.add_text("40010100 400200 400304C0000201 D063");
+        self.add(&(2802 + more as u16).to_be_bytes());
+        self.add(&peer.to_be_bytes());
+        for _ in 0..2800 + more as u16 {
+            self.add(&[0]);
+        }
+    }
+
+    /// Adds a RIB record of 10.0.0.0/8 with an entry of each of the 46 peers, the last with so many octets more. Its
+    /// admission has 14 octets and for each entry 22 for the peer, 2 and 2,817 for the route, and 8 for the change: 131,068
+    /// and these.
+    fn add_entries(&mut self, more: u8) {
+        self.add_text("65920080 000D 0002");
+        // 8 octets, and 2,828 for each entry.
+        self.add(&(130_096 + more as u32).to_be_bytes());
+        self.add_text("00000000 08 0A 002E");
+        for peer in 0..PEERS - 1 {
+            self.add_entry(peer, 0);
+        }
+        self.add_entry(PEERS - 1, more);
+    }
+
+    /// The octets, where there was memory for all.
+    fn end(self) -> Option<Vec<u8>> {
+        if self.is_whole {
+            Some(self.octets)
+        } else {
+            None
+        }
+    }
 }
 
 /// The octets of records.
-pub(crate) fn stream(alloc: Global, records: &[&str]) -> Result<Vec<u8>, Fail> {
-    let mut out = Vec::new(alloc);
+pub(crate) fn stream(alloc: Global, records: &[&str]) -> Option<Vec<u8>> {
+    let mut out = Gathered::new(alloc);
     for record in records {
-        add_octets(alloc, &mut out, record)?;
+        out.add_text(record);
     }
-    Ok(out)
-}
-
-/// Adds a peer table of 46 peers: 10.0.0.0 to 10.0.0.45.
-fn add_peers(alloc: Global, out: &mut Vec<u8>) -> Result<(), Fail> {
-    add_octets(alloc, out, MANY_PEERS)?;
-    for peer in 0..PEERS {
-        add_octets(alloc, out, "00 C0000201 0A00")?;
-        out.extend_from_slice(&peer.to_be_bytes())?;
-        add_octets(alloc, out, "FDE9")?;
-    }
-    Ok(())
-}
-
-/// Adds the RIB entry of a peer: an empty path by 192.0.2.1, and an attribute of type 99 with 2,802 octets and so many
-/// more, the peer's number at their front.
-fn add_entry(alloc: Global, out: &mut Vec<u8>, peer: u16, more: u8) -> Result<(), Fail> {
-    out.extend_from_slice(&peer.to_be_bytes())?;
-    add_octets(alloc, out, "65920000")?;
-    out.extend_from_slice(&(2820 + more as u16).to_be_bytes())?;
-    add_octets(alloc, out, "40010100 400200 400304C0000201 D063")?;
-    out.extend_from_slice(&(2802 + more as u16).to_be_bytes())?;
-    out.extend_from_slice(&peer.to_be_bytes())?;
-    for _ in 0..2800 + more as u16 {
-        out.push(0)?;
-    }
-    Ok(())
-}
-
-/// Adds a RIB record of 10.0.0.0/8 with an entry of each of the 46 peers, the last with so many octets more. Its
-/// admission has 14 octets and for each entry 22 for the peer, 2 and 2,817 for the route, and 8 for the change: 131,068
-/// and these.
-fn add_entries(alloc: Global, out: &mut Vec<u8>, more: u8) -> Result<(), Fail> {
-    add_octets(alloc, out, "65920080 000D 0002")?;
-    // 8 octets, and 2,828 for each entry.
-    out.extend_from_slice(&(130_096 + more as u32).to_be_bytes())?;
-    add_octets(alloc, out, "00000000 08 0A 002E")?;
-    for peer in 0..PEERS - 1 {
-        add_entry(alloc, out, peer, 0)?;
-    }
-    add_entry(alloc, out, PEERS - 1, more)
+    out.end()
 }
 
 /// The octets of records, of which so many are left where the stream is cut.
-pub(crate) fn cut_stream(
-    alloc: Global,
-    records: &[&str],
-    cut: Option<usize>,
-) -> Result<Vec<u8>, Fail> {
+pub(crate) fn cut_stream(alloc: Global, records: &[&str], cut: Option<usize>) -> Option<Vec<u8>> {
     let mut octets = stream(alloc, records)?;
-    octets.truncate(cut.unwrap_or(octets.len()));
-    Ok(octets)
+    if let Some(cut) = cut {
+        octets.truncate(cut);
+    }
+    Some(octets)
 }
 
 /// 3,693 records, of which each admission has 67 octets: 3,692 of them are a batch of 262,132.
-pub(crate) fn many_updates(alloc: Global) -> Result<Vec<u8>, Fail> {
+pub(crate) fn many_updates(alloc: Global) -> Option<Vec<u8>> {
     let one = stream(alloc, &[UPDATE])?;
-    let mut octets = Vec::new(alloc);
+    let mut out = Gathered::new(alloc);
     for _ in 0..3693 {
-        octets.extend_from_slice(&one)?;
+        out.add(&one);
     }
-    Ok(octets)
+    out.end()
 }
 
 /// Two tables, each of one admission of 131,068 octets and so many more.
-pub(crate) fn two_tables(alloc: Global, first: u8, second: u8) -> Result<Vec<u8>, Fail> {
-    let mut octets = Vec::new(alloc);
-    add_peers(alloc, &mut octets)?;
-    add_entries(alloc, &mut octets, first)?;
-    add_entries(alloc, &mut octets, second)?;
-    Ok(octets)
+pub(crate) fn two_tables(alloc: Global, first: u8, second: u8) -> Option<Vec<u8>> {
+    let mut out = Gathered::new(alloc);
+    out.add_peers();
+    out.add_entries(first);
+    out.add_entries(second);
+    out.end()
+}
+
+/// The record of 257 prefixes.
+pub(crate) fn many_prefixes(alloc: Global) -> Option<Vec<u8>> {
+    let mut out = Gathered::new(alloc);
+    out.add_text(MANY);
+    for third in 0..=255u8 {
+        out.add(&[24, 10, 0, third]);
+    }
+    out.add(&[24, 10, 1, 0]);
+    out.end()
 }

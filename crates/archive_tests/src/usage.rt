@@ -1,13 +1,15 @@
 //! What `clap` tells of a command line: help, the version, and why words aren't accepted.
 
+use crate::be;
+use crate::commands::words_of;
 use clap::error::ErrorKind;
 use service::{CommandError, command};
 use std::alloc::Global;
-use std::test::Fail;
 
 /// Words of which `clap` tells something: the kind of its error, the exit status, and the text, whose end several share.
 struct Shown {
-    words: &'static [&'static str],
+    /// With lines between them.
+    words: &'static str,
     kind: ErrorKind,
     code: u8,
     text: &'static str,
@@ -179,8 +181,8 @@ Arguments:
 Options:
   -h, --help  Print help
 
-Reads every page and block that answers come from, and counts the changes in them. What waits in the rings
-isn't read. Nothing that is answered later is changed.
+Reads all that waits, and every page and block that answers come from, and counts the changes in these. Before
+that it looks at the journal's open slots. Nothing that is answered later is changed.
 Prints `ok|CHANGES|SETTLED`: how many changes are applied, and the settled watermark.
 
 Example:
@@ -212,56 +214,56 @@ const MORE_END: &str = "\n\nFor more information, try '--help'.\n";
 /// Help and the version.
 const ASKED_FOR: [Shown; 8] = [
     Shown {
-        words: &["rha", "--help"],
+        words: "rha|--help",
         kind: ErrorKind::DisplayHelp,
         code: 0,
         text: HELP,
         end: "",
     },
     Shown {
-        words: &["rha", "-h"],
+        words: "rha|-h",
         kind: ErrorKind::DisplayHelp,
         code: 0,
         text: HELP,
         end: "",
     },
     Shown {
-        words: &["rha", "create", "--help"],
+        words: "rha|create|--help",
         kind: ErrorKind::DisplayHelp,
         code: 0,
         text: CREATE_HELP,
         end: "",
     },
     Shown {
-        words: &["rha", "load", "--help"],
+        words: "rha|load|--help",
         kind: ErrorKind::DisplayHelp,
         code: 0,
         text: LOAD_HELP,
         end: "",
     },
     Shown {
-        words: &["rha", "ask", "--help"],
+        words: "rha|ask|--help",
         kind: ErrorKind::DisplayHelp,
         code: 0,
         text: ASK_HELP,
         end: "",
     },
     Shown {
-        words: &["rha", "serve", "--help"],
+        words: "rha|serve|--help",
         kind: ErrorKind::DisplayHelp,
         code: 0,
         text: SERVE_HELP,
         end: "",
     },
     Shown {
-        words: &["rha", "check", "--help"],
+        words: "rha|check|--help",
         kind: ErrorKind::DisplayHelp,
         code: 0,
         text: CHECK_HELP,
         end: "",
     },
     Shown {
-        words: &["rha", "--version"],
+        words: "rha|--version",
         kind: ErrorKind::DisplayVersion,
         code: 0,
         text: "rha 0.3.0\n",
@@ -272,120 +274,105 @@ const ASKED_FOR: [Shown; 8] = [
 /// Words that aren't accepted.
 const WRONG: [Shown; 15] = [
     Shown {
-        words: &["rha"],
+        words: "rha",
         kind: ErrorKind::MissingSubcommand,
         code: 2,
         text: "error: 'rha' requires a subcommand but one was not provided\n  [subcommands: create, load, ask, serve, check]",
         end: USAGE_END,
     },
     Shown {
-        words: &["rha", "try", "a.mrt", "at"],
+        words: "rha|try|a.mrt|at",
         kind: ErrorKind::InvalidSubcommand,
         code: 2,
         text: "error: unrecognized subcommand 'try'",
         end: USAGE_END,
     },
     Shown {
-        words: &["rha", "help"],
+        words: "rha|help",
         kind: ErrorKind::InvalidSubcommand,
         code: 2,
         text: "error: unrecognized subcommand 'help'",
         end: USAGE_END,
     },
     Shown {
-        words: &["rha", "create", "a"],
+        words: "rha|create|a",
         kind: ErrorKind::MissingRequiredArgument,
         code: 2,
         text: "error: the following required arguments were not provided:\n  --collectors <N>\n  --ring <P>\n  --pages <N>\n  --blocks <N>",
         end: CREATE_END,
     },
     Shown {
-        words: &["rha", "load", "a", "a.mrt"],
+        words: "rha|load|a|a.mrt",
         kind: ErrorKind::MissingRequiredArgument,
         code: 2,
         text: "error: the following required arguments were not provided:\n  --collector <C>",
         end: "\n\nUsage: rha load --collector <C> <DIR> <FILE>\n\nFor more information, try '--help'.\n",
     },
     Shown {
-        words: &["rha", "load", "a", "--collector", "0"],
+        words: "rha|load|a|--collector|0",
         kind: ErrorKind::MissingRequiredArgument,
         code: 2,
         text: "error: the following required arguments were not provided:\n  <FILE>",
         end: "\n\nUsage: rha load --collector <C> <DIR> <FILE>\n\nFor more information, try '--help'.\n",
     },
     Shown {
-        words: &["rha", "ask", "a"],
+        words: "rha|ask|a",
         kind: ErrorKind::MissingRequiredArgument,
         code: 2,
         text: "error: the following required arguments were not provided:\n  <WORD>...",
         end: ASK_END,
     },
     Shown {
-        words: &["rha", "serve", "a"],
+        words: "rha|serve|a",
         kind: ErrorKind::MissingRequiredArgument,
         code: 2,
         text: "error: the following required arguments were not provided:\n  --listen <ADDRESS:PORT>\n  --workers <N>",
         end: SERVE_END,
     },
     Shown {
-        words: &["rha", "serve", "a", "127.0.0.1:0", "--workers=1"],
+        words: "rha|serve|a|127.0.0.1:0|--workers=1",
         kind: ErrorKind::UnknownArgument,
         code: 2,
         text: "error: unexpected argument '127.0.0.1:0' found",
         end: SERVE_END,
     },
     Shown {
-        words: &["rha", "check"],
+        words: "rha|check",
         kind: ErrorKind::MissingRequiredArgument,
         code: 2,
         text: "error: the following required arguments were not provided:\n  <DIR>",
         end: CHECK_END,
     },
     Shown {
-        words: &["rha", "check", "a", "b"],
+        words: "rha|check|a|b",
         kind: ErrorKind::UnknownArgument,
         code: 2,
         text: "error: unexpected argument 'b' found",
         end: CHECK_END,
     },
     Shown {
-        words: &["rha", "check", "a", "--collector=0"],
+        words: "rha|check|a|--collector=0",
         kind: ErrorKind::UnknownArgument,
         code: 2,
         text: "error: unexpected argument '--collector' found\n\n  tip: to pass '--collector' as a value, use '-- --collector'",
         end: CHECK_END,
     },
     Shown {
-        words: &[
-            "rha",
-            "load",
-            "a",
-            "--collector=0",
-            "--collector=0",
-            "a.mrt",
-        ],
+        words: "rha|load|a|--collector=0|--collector=0|a.mrt",
         kind: ErrorKind::ArgumentConflict,
         code: 2,
         text: "error: the argument '--collector <C>' cannot be used multiple times",
         end: LOAD_END,
     },
     Shown {
-        words: &[
-            "rha",
-            "load",
-            "a",
-            "--collector=0",
-            "--resume",
-            "--resume",
-            "a.mrt",
-        ],
+        words: "rha|load|a|--collector=0|--resume|--resume|a.mrt",
         kind: ErrorKind::ArgumentConflict,
         code: 2,
         text: "error: the argument '--resume' cannot be used multiple times",
         end: LOAD_END,
     },
     Shown {
-        words: &["rha", "load", "a", "--collector=0", "--resume=no", "a.mrt"],
+        words: "rha|load|a|--collector=0|--resume=no|a.mrt",
         kind: ErrorKind::TooManyValues,
         code: 2,
         text: "error: unexpected value 'no' for '--resume' found; no more were expected",
@@ -394,123 +381,132 @@ const WRONG: [Shown; 15] = [
 ];
 
 /// An option whose number is beyond its limits, or is none, behind words that want it, and what is told of it.
-const BEYOND: [(&[&str], &str); 16] = [
+const BEYOND: [(&str, &str); 16] = [
     (
-        &["rha", "create", "a", "--collectors=0"],
+        "rha|create|a|--collectors=0",
         "'0' for '--collectors <N>': 0 is not in 1..=16",
     ),
     (
-        &["rha", "create", "a", "--collectors=17"],
+        "rha|create|a|--collectors=17",
         "'17' for '--collectors <N>': 17 is not in 1..=16",
     ),
     (
-        &["rha", "create", "a", "--ring=8"],
+        "rha|create|a|--ring=8",
         "'8' for '--ring <P>': 8 is not in 9..=65535",
     ),
     (
-        &["rha", "create", "a", "--ring=65536"],
+        "rha|create|a|--ring=65536",
         "'65536' for '--ring <P>': 65536 is not in 9..=65535",
     ),
     (
-        &["rha", "create", "a", "--pages=0"],
+        "rha|create|a|--pages=0",
         "'0' for '--pages <N>': 0 is not in 1..=1000000000",
     ),
     (
-        &["rha", "create", "a", "--pages=1000000001"],
+        "rha|create|a|--pages=1000000001",
         "'1000000001' for '--pages <N>': 1000000001 is not in 1..=1000000000",
     ),
     (
-        &["rha", "create", "a", "--blocks=0"],
+        "rha|create|a|--blocks=0",
         "'0' for '--blocks <N>': 0 is not in 1..=1000000000",
     ),
     (
-        &["rha", "create", "a", "--blocks=1000000001"],
+        "rha|create|a|--blocks=1000000001",
         "'1000000001' for '--blocks <N>': 1000000001 is not in 1..=1000000000",
     ),
     (
-        &["rha", "load", "a", "--collector=16"],
+        "rha|load|a|--collector=16",
         "'16' for '--collector <C>': 16 is not in 0..=15",
     ),
     (
-        &["rha", "load", "a", "--collector=256"],
+        "rha|load|a|--collector=256",
         "'256' for '--collector <C>': 256 is not in 0..=15",
     ),
     (
-        &["rha", "load", "a", "--collector="],
+        "rha|load|a|--collector=",
         "'' for '--collector <C>': cannot parse integer from empty string",
     ),
     (
-        &["rha", "load", "a", "--collector=one"],
+        "rha|load|a|--collector=one",
         "'one' for '--collector <C>': invalid digit found in string",
     ),
     (
-        &["rha", "load", "a", "--batch=0"],
+        "rha|load|a|--batch=0",
         "'0' for '--batch <N>': 0 is not in 1..=1000",
     ),
     (
-        &["rha", "load", "a", "--batch=1001"],
+        "rha|load|a|--batch=1001",
         "'1001' for '--batch <N>': 1001 is not in 1..=1000",
     ),
     (
-        &["rha", "serve", "a", "--workers=0"],
+        "rha|serve|a|--workers=0",
         "'0' for '--workers <N>': 0 is not in 1..=16",
     ),
     (
-        &["rha", "serve", "a", "--workers=17"],
+        "rha|serve|a|--workers=17",
         "'17' for '--workers <N>': 17 is not in 1..=16",
     ),
 ];
 
-/// Whether `clap` tells this of the words, with this kind and status.
+/// Whether `clap` tells of the words by an error of this kind, with this status and these three parts of a text.
 fn is_told(
     alloc: Global,
-    words: &[&str],
+    words: &str,
     kind: ErrorKind,
     code: u8,
-    parts: &[&str],
-) -> Result<bool, Fail> {
-    let Err(error) = command(alloc, words) else {
-        return Ok(false);
+    front: &str,
+    text: &str,
+    end: &str,
+) -> Option<bool> {
+    let words = words_of(alloc, words)?;
+    let Err(error) = command(alloc, words.as_slice()) else {
+        return Some(false);
     };
-    let same = match &error {
+    let is_kind = match &error {
         CommandError::Usage(told) => told.kind() == kind,
         CommandError::BadMark | CommandError::BadListen | CommandError::OutOfMemory => false,
     };
-    let shown = format!(in alloc; "{error}")?;
-    let text = parts.join(alloc, "")?;
-    Ok(same && error.code() == code && shown.as_str() == text.as_str())
+    let shown = format!(in alloc; "{error}").ok()?;
+    let told = shown.as_str().strip_prefix(front)?.strip_suffix(end)?;
+    Some(is_kind && error.code() == code && told == text)
 }
 
-fn is_shown(alloc: Global, wanted: &Shown) -> Result<bool, Fail> {
-    let parts = [wanted.text, wanted.end];
-    is_told(alloc, wanted.words, wanted.kind, wanted.code, &parts)
-}
-
-fn is_beyond(alloc: Global, words: &[&str], told: &str) -> Result<bool, Fail> {
-    let parts = ["error: invalid value ", told, MORE_END];
-    is_told(alloc, words, ErrorKind::ValueValidation, 2, &parts)
+/// Whether it is told as it has to be.
+fn is_shown(alloc: Global, wanted: &Shown) -> bool {
+    let Shown {
+        words,
+        kind,
+        code,
+        text,
+        end,
+    } = *wanted;
+    is_told(alloc, words, kind, code, "", text, end) == Some(true)
 }
 
 #[test]
-fn help_is_shown(rt: HostRuntime) -> Result<(), Fail> {
+fn help_is_shown(rt: HostRuntime) {
     for wanted in &ASKED_FOR {
-        assert!(rt; is_shown(rt.alloc(), wanted)?, "{}", wanted.text);
+        be(&rt, is_shown(rt.alloc(), wanted), wanted.text);
     }
-    Ok(())
 }
 
 #[test]
-fn other_words_are_refused(rt: HostRuntime) -> Result<(), Fail> {
+fn other_words_are_refused(rt: HostRuntime) {
     for wanted in &WRONG {
-        assert!(rt; is_shown(rt.alloc(), wanted)?, "{}", wanted.text);
+        be(&rt, is_shown(rt.alloc(), wanted), wanted.text);
     }
-    Ok(())
+}
+
+/// Whether a number beyond its limits is refused so.
+fn is_beyond(alloc: Global, words: &str, told: &str) -> bool {
+    let front = "error: invalid value ";
+    let kind = ErrorKind::ValueValidation;
+    is_told(alloc, words, kind, 2, front, told, MORE_END) == Some(true)
 }
 
 #[test]
-fn numbers_beyond_their_limits_are_refused(rt: HostRuntime) -> Result<(), Fail> {
+fn numbers_beyond_their_limits_are_refused(rt: HostRuntime) {
     for (words, told) in &BEYOND {
-        assert!(rt; is_beyond(rt.alloc(), words, told)?, "{told}");
+        be(&rt, is_beyond(rt.alloc(), words, told), told);
     }
-    Ok(())
 }

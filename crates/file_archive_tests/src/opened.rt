@@ -1,31 +1,28 @@
 //! What opening the archive of a folder tells, and a check of one that is damaged.
 
-use crate::folders::{create, new_name};
+use crate::be;
+use crate::folders::{create, inside, is_created, new_name, remove};
 use crate::session::{AMSTERDAM, Command, run};
 use archive_calls::{RouteArchive, Trouble};
 use disk_archive::OpenError;
 use disk_files::{FileErase, FileError, FileOnce, Part};
-use file_archive::{FileArchive, OpenFault};
+use file_archive::{FileArchive, FileDisks, OpenFault};
 use service::Status;
 use std::fs;
 use std::fs::OpenOptions;
 use std::os::unix::fs::FileExt;
-use std::test::Fail;
 
-/// Writes over the beginning of a home page, which is behind the journal's 265.
-fn spoil(rt: &HostRuntime, folder: &str, page: u64) -> Result<(), Fail> {
-    let path = format!(in rt.alloc(); "{folder}/pages.rha")?;
-    let file = OpenOptions::new().write(true).open(rt, path.as_str())?;
-    if page > 1_000 {
-        return Err(Fail::from("no such page"));
-    }
-    file.write_at(&[255; 4096], (265 + page) * 16_384)?;
-    Ok(())
+/// Writes over the beginning of a home page, which is after the journal's 265. Whether that was done.
+fn spoil(rt: &HostRuntime, folder: &str, page: u64) -> Option<bool> {
+    let path = inside(rt, folder, "pages.rha")?;
+    let file = OpenOptions::new().write(true).open(rt, path.as_str()).ok()?;
+    let at = page.checked_add(265)?.checked_mul(16_384)?;
+    Some(file.write_at(&[255; 4096], at).is_ok())
 }
 
 /// How a feed ends that is given to a new archive, which is closed then.
-fn given(rt: &HostRuntime, folder: &str) -> Result<Status, Fail> {
-    let mut archive = create(rt, folder, 20, 7)?;
+fn given(rt: &HostRuntime, folder: &str) -> Option<Status> {
+    let mut archive = create(rt, folder, 20, 7).ok()?;
     let mut out = Vec::new(rt.alloc());
     run(
         rt.alloc(),
@@ -36,75 +33,142 @@ fn given(rt: &HostRuntime, folder: &str) -> Result<Status, Fail> {
 }
 
 /// What a check of an archive tells.
-fn checked(rt: &HostRuntime, folder: &str) -> Result<Result<u64, Trouble>, Fail> {
-    let mut archive = FileArchive::open(rt.alloc(), rt, folder)?;
-    Ok(archive.check())
+fn checked(rt: &HostRuntime, folder: &str) -> Option<Result<u64, Trouble>> {
+    let mut archive = FileArchive::open(rt.alloc(), rt, folder).ok()?;
+    Some(archive.check())
+}
+
+/// Why the archive of a folder isn't opened.
+#[derive(Clone, Copy, PartialEq)]
+enum Refusal {
+    /// It is.
+    None,
+    InUse,
+    NoPages,
+    NoMap,
+    NotAJournal,
+    BadHead,
+    Other,
 }
 
 /// Why the archive of a folder isn't opened, if it isn't.
-fn refusal(rt: &HostRuntime, folder: &str) -> Option<OpenFault> {
-    FileArchive::open(rt.alloc(), rt, folder).err()
+fn why_refused(rt: &HostRuntime, folder: &str) -> Refusal {
+    match FileArchive::open(rt.alloc(), rt, folder) {
+        Ok(_) => Refusal::None,
+        Err(OpenFault::File(FileError::InUse(Part::Pages))) => Refusal::InUse,
+        Err(OpenFault::File(FileError::Missing(Part::Pages))) => Refusal::NoPages,
+        Err(OpenFault::File(FileError::Missing(Part::Map))) => Refusal::NoMap,
+        Err(OpenFault::Archive(OpenError::NotAJournal)) => Refusal::NotAJournal,
+        Err(OpenFault::Archive(OpenError::BadNode(0))) => Refusal::BadHead,
+        Err(_) => Refusal::Other,
+    }
 }
 
-/// Why an archive isn't opened while it is held, and why not behind that.
-fn refusals_of_one_held(rt: &HostRuntime, folder: &str) -> Result<[Option<OpenFault>; 2], Fail> {
-    let archive = create(rt, folder, 20, 7)?;
-    let held = refusal(rt, folder);
-    drop(archive);
-    Ok([held, refusal(rt, folder)])
+/// Whether a new archive isn't opened while it is held.
+fn is_held(rt: &HostRuntime, folder: &str) -> bool {
+    match create(rt, folder, 20, 7) {
+        Ok(_archive) => why_refused(rt, folder) == Refusal::InUse,
+        Err(_) => false,
+    }
 }
 
-// Behind the head and the nine pages of the ring page 10 is the root of the tree.
+// After the head and the nine pages of the ring page 10 is the root of the tree.
 #[test]
-fn a_damaged_page_of_the_tree_is_told_by_a_check(rt: HostRuntime) -> Result<(), Fail> {
-    let folder = new_name(&rt, "spoilt")?;
-    assert!(rt; given(&rt, folder.as_str())? == Status::Done);
-    assert!(rt; checked(&rt, folder.as_str())? == Ok(6));
-    spoil(&rt, folder.as_str(), 10)?;
-    assert!(rt; checked(&rt, folder.as_str())? == Err(Trouble::BadNode(10)));
-    fs::remove_dir_all(&rt, folder.as_str())?;
-    Ok(())
-}
-
-#[test]
-fn an_archive_is_one_process_s_at_a_time(rt: HostRuntime) -> Result<(), Fail> {
-    let folder = new_name(&rt, "held")?;
-    let [held, free] = refusals_of_one_held(&rt, folder.as_str())?;
-    assert!(rt; matches!(&held, Some(OpenFault::File(FileError::InUse(Part::Pages)))));
-    assert!(rt; free.is_none());
-    fs::remove_dir_all(&rt, folder.as_str())?;
-    Ok(())
-}
-
-#[test]
-fn a_folder_without_an_archive_is_not_opened(rt: HostRuntime) -> Result<(), Fail> {
-    let folder = new_name(&rt, "no_archive")?;
-    let told = refusal(&rt, folder.as_str());
-    assert!(rt;
-        matches!(
-            &told,
-            Some(OpenFault::File(FileError::Missing(Part::Pages)))
-        )
+fn a_damaged_page_of_the_tree_is_told_by_a_check(rt: HostRuntime) {
+    let folder = new_name(&rt, "spoilt").expect(&rt, "a name");
+    be(&rt, given(&rt, &folder) == Some(Status::Done), "a feed");
+    be(&rt, checked(&rt, &folder) == Some(Ok(6)), "a check");
+    be(&rt, spoil(&rt, &folder, 10) == Some(true), "damage");
+    be(
+        &rt,
+        checked(&rt, &folder) == Some(Err(Trouble::BadNode(10))),
+        "a check of it",
     );
-    fs::create_dir(&rt, folder.as_str())?;
-    drop(FileErase::create(rt.alloc(), &rt, folder.as_str(), 300 * 16_384)?);
-    let told = refusal(&rt, folder.as_str());
-    assert!(rt; matches!(&told, Some(OpenFault::File(FileError::Missing(Part::Map)))));
-    drop(FileOnce::create(rt.alloc(), &rt, folder.as_str(), 7)?);
-    let told = refusal(&rt, folder.as_str());
-    assert!(rt; matches!(&told, Some(OpenFault::Archive(OpenError::NotAJournal))));
-    fs::remove_dir_all(&rt, folder.as_str())?;
-    Ok(())
+    be(&rt, remove(&rt, &folder), "the folder goes");
 }
 
 #[test]
-fn a_damaged_head_is_told_as_home_page_0(rt: HostRuntime) -> Result<(), Fail> {
-    let folder = new_name(&rt, "damaged")?;
-    drop(create(&rt, folder.as_str(), 20, 7)?);
+fn an_archive_is_one_process_s_at_a_time(rt: HostRuntime) {
+    let folder = new_name(&rt, "held").expect(&rt, "a name");
+    be(&rt, is_held(&rt, &folder), "an archive that is held");
+    be(
+        &rt,
+        why_refused(&rt, &folder) == Refusal::None,
+        "one that is let go",
+    );
+    be(&rt, remove(&rt, &folder), "the folder goes");
+}
+
+/// Makes a file of pages in a new folder. Whether that was done.
+fn make_pages(rt: &HostRuntime, folder: &str) -> bool {
+    fs::create_dir(rt, folder).is_ok()
+        && FileErase::create(rt.alloc(), rt, folder, 300 * 16_384).is_ok()
+}
+
+/// Makes files of blocks in a folder. Whether that was done.
+fn make_blocks(rt: &HostRuntime, folder: &str) -> bool {
+    FileOnce::create(rt.alloc(), rt, folder, 7).is_ok()
+}
+
+#[test]
+fn a_folder_without_an_archive_is_not_opened(rt: HostRuntime) {
+    let folder = new_name(&rt, "no_archive").expect(&rt, "a name");
+    be(
+        &rt,
+        why_refused(&rt, &folder) == Refusal::NoPages,
+        "no folder",
+    );
+    be(&rt, make_pages(&rt, &folder), "pages");
+    be(&rt, why_refused(&rt, &folder) == Refusal::NoMap, "no map");
+    be(&rt, make_blocks(&rt, &folder), "blocks");
+    be(
+        &rt,
+        why_refused(&rt, &folder) == Refusal::NotAJournal,
+        "no journal",
+    );
+    be(&rt, remove(&rt, &folder), "the folder goes");
+}
+
+#[test]
+fn a_damaged_head_is_told_as_home_page_0(rt: HostRuntime) {
+    let folder = new_name(&rt, "damaged").expect(&rt, "a name");
+    be(&rt, is_created(&rt, &folder, 20, 7), "an archive");
     // The head tells a time at octet 8, and none is so great.
-    spoil(&rt, folder.as_str(), 0)?;
-    let told = refusal(&rt, folder.as_str());
-    assert!(rt; matches!(&told, Some(OpenFault::Archive(OpenError::BadNode(0)))));
-    fs::remove_dir_all(&rt, folder.as_str())?;
-    Ok(())
+    be(&rt, spoil(&rt, &folder, 0) == Some(true), "damage");
+    be(
+        &rt,
+        why_refused(&rt, &folder) == Refusal::BadHead,
+        "an opening",
+    );
+    be(&rt, remove(&rt, &folder), "the folder goes");
+}
+
+/// Opens the journal's first slot under a transaction number. It lays zeros over a page of the ring that holds nothing. Whether that was
+/// done.
+fn open_slot(rt: &HostRuntime, folder: &str, number: u8) -> Option<bool> {
+    let path = inside(rt, folder, "pages.rha")?;
+    let file = OpenOptions::new().write(true).open(rt, path.as_str()).ok()?;
+    let header = [0, 0, 0, 0, 0, 0, 0, number, 1, 0, 0, 0, 0, 0, 0, 0, 5];
+    Some(file.write_at(&header, 2 * 16_384).is_ok() && file.write_at(&[0xa5], 16_384).is_ok())
+}
+
+/// Whether a check of the journal's slots ends so.
+fn slots_are(rt: &HostRuntime, folder: &str, wanted: Result<(), OpenFault>) -> bool {
+    match FileDisks::open(rt.alloc(), rt, folder) {
+        Ok(mut disks) => disks.check_slots() == wanted,
+        Err(_) => false,
+    }
+}
+
+#[test]
+fn an_open_slot_with_another_number_is_found(rt: HostRuntime) {
+    let folder = new_name(&rt, "slots").expect(&rt, "a name");
+    be(&rt, is_created(&rt, &folder, 20, 7), "an archive");
+    be(&rt, slots_are(&rt, &folder, Ok(())), "closed slots");
+    be(&rt, open_slot(&rt, &folder, 1) == Some(true), "a slot");
+    be(&rt, slots_are(&rt, &folder, Ok(())), "its own number");
+    be(&rt, open_slot(&rt, &folder, 2) == Some(true), "a number");
+    let wrong = Err(OpenFault::Archive(OpenError::BadSlot(2)));
+    be(&rt, slots_are(&rt, &folder, wrong), "another number");
+    be(&rt, remove(&rt, &folder), "the folder goes");
 }

@@ -1,7 +1,8 @@
 //! A session of two collectors, each command of which opens the archive anew. The files are those of data/README.md, by hand, and so are
 //! the lines.
 
-use crate::folders::new_name;
+use crate::be;
+use crate::folders::{new_name, remove};
 use archive_calls::RouteArchive;
 use archive_pages::Settings;
 use file_archive::FileArchive;
@@ -9,8 +10,6 @@ use load_progress::{Counts, Meter, WatchedArchive};
 use route_model::Mark;
 use service::{Input, LoadSettings, Output, Status, ask, check, load};
 use std::alloc::Global;
-use std::fs;
-use std::test::Fail;
 use test_octets::octets;
 
 /// Two peers and 203.0.113.0/24: two announcements, another origin, a withdrawal, and two announcements again.
@@ -77,92 +76,111 @@ E|3\n",
     (Command::Check, "ok|10|1704068100\n"),
 ];
 
+/// Gives a feed of a collector to an archive, whose lines go to `lines`, with the mark 00:15:00.
+fn give<A: RouteArchive>(
+    alloc: Global,
+    archive: &mut A,
+    collector: u8,
+    feed: &str,
+    out: &mut Vec<u8>,
+) -> Option<Status> {
+    let how = LoadSettings {
+        collector,
+        limit: 1000,
+        mark: Mark::new(1_704_068_100),
+        resume: false,
+    };
+    let feed = octets(alloc, feed).ok()?;
+    let mut file = Input::new(feed.as_slice());
+    let mut err = Vec::new(alloc);
+    let mut lines = Output::new(out);
+    let mut refusals = Output::new(&mut err);
+    Some(load(alloc, archive, how, &mut file, &mut lines, &mut refusals))
+}
+
 /// Runs a command over an archive, whose lines go to `out`. What goes to standard error is left out.
 pub(crate) fn run<A: RouteArchive>(
     alloc: Global,
     archive: &mut A,
     command: &Command,
     out: &mut Vec<u8>,
-) -> Result<Status, Fail> {
+) -> Option<Status> {
     let mut err = Vec::new(alloc);
-    let mut lines = Output::new(out);
-    let mut refusals = Output::new(&mut err);
-    Ok(match command {
-        Command::Load(collector, feed) => {
-            let how = LoadSettings {
-                collector: *collector,
-                limit: 1000,
-                mark: Mark::new(1_704_068_100),
-                resume: false,
-            };
-            let feed = octets(alloc, feed)?;
-            let mut file = Input::new(feed.as_slice());
-            load(alloc, archive, how, &mut file, &mut lines, &mut refusals)
+    match command {
+        Command::Load(collector, feed) => give(alloc, archive, *collector, *feed, out),
+        Command::Ask(line) => {
+            let mut lines = Output::new(out);
+            let mut refusals = Output::new(&mut err);
+            Some(ask(alloc, archive, *line, &mut lines, &mut refusals))
         }
-        Command::Ask(line) => ask(alloc, archive, line, &mut lines, &mut refusals),
-        Command::Check => check(alloc, archive, &mut lines, &mut refusals),
-    })
+        Command::Check => {
+            let mut lines = Output::new(out);
+            let mut refusals = Output::new(&mut err);
+            Some(check(alloc, archive, &mut lines, &mut refusals))
+        }
+    }
 }
 
 /// Whether a command over the archive of a folder is well and writes just these lines.
-fn goes_well(rt: &HostRuntime, folder: &str, command: &Command, lines: &str) -> Result<bool, Fail> {
-    let mut archive = FileArchive::open(rt.alloc(), rt, folder)?;
+fn goes_well(rt: &HostRuntime, folder: &str, command: &Command, lines: &str) -> Option<bool> {
+    let mut archive = FileArchive::open(rt.alloc(), rt, folder).ok()?;
     let mut out = Vec::new(rt.alloc());
     let status = run(rt.alloc(), &mut archive, command, &mut out)?;
-    Ok(status == Status::Done && out.as_slice() == lines.as_bytes())
+    Some(status == Status::Done && out.as_slice() == lines.as_bytes())
 }
 
 /// The folder of a new archive of two collectors.
-fn made(rt: &HostRuntime, name: &str) -> Result<String, Fail> {
+fn made(rt: &HostRuntime, name: &str) -> Option<String> {
     let folder = new_name(rt, name)?;
     let settings = Settings {
         collectors: 2,
         ring: 16,
     };
-    FileArchive::create(rt.alloc(), rt, folder.as_str(), settings, 64, 64)?;
-    Ok(folder)
-}
-
-#[test]
-fn a_session_of_two_collectors_goes_on_over_openings(rt: HostRuntime) -> Result<(), Fail> {
-    let folder = made(&rt, "session")?;
-    for (command, lines) in &SESSION {
-        assert!(rt; goes_well(&rt, folder.as_str(), command, lines)?, "{lines}");
-    }
-    assert!(rt; applied(&rt, folder.as_str())? == 10);
-    fs::remove_dir_all(&rt, folder.as_str())?;
-    Ok(())
+    FileArchive::create(rt.alloc(), rt, folder.as_str(), settings, 64, 64).ok()?;
+    Some(folder)
 }
 
 /// How many changes are applied of the archive of a folder.
-fn applied(rt: &HostRuntime, folder: &str) -> Result<u64, Fail> {
-    let archive = FileArchive::open(rt.alloc(), rt, folder)?;
-    Ok(archive.applied())
-}
-
-/// Loads both files into the archive of a folder, one after another, and tells what was counted until now behind each.
-fn watched(rt: &HostRuntime, folder: &str) -> Result<[Counts; 2], Fail> {
-    let none: Option<&HostRuntime> = None;
-    let meter = Meter::new(none);
-    let mut archive = WatchedArchive::new(FileArchive::open(rt.alloc(), rt, folder)?, &meter);
-    let mut out = Vec::new(rt.alloc());
-    run(
-        rt.alloc(),
-        &mut archive,
-        &Command::Load(0, AMSTERDAM),
-        &mut out,
-    )?;
-    let first = meter.counts();
-    run(rt.alloc(), &mut archive, &Command::Load(1, TOKYO), &mut out)?;
-    Ok([first, meter.counts()])
+fn applied(rt: &HostRuntime, folder: &str) -> Option<u64> {
+    let archive = FileArchive::open(rt.alloc(), rt, folder).ok()?;
+    Some(archive.applied())
 }
 
 #[test]
-fn what_is_offered_and_applied_of_a_load_is_counted(rt: HostRuntime) -> Result<(), Fail> {
-    let folder = made(&rt, "watched")?;
-    let [first, both] = watched(&rt, folder.as_str())?;
-    assert!(rt; (first.records, first.applied) == (6, 0));
-    assert!(rt; (both.records, both.applied) == (10, 10));
-    fs::remove_dir_all(&rt, folder.as_str())?;
-    Ok(())
+fn a_session_of_two_collectors_goes_on_over_openings(rt: HostRuntime) {
+    let folder = made(&rt, "session").expect(&rt, "a folder");
+    for (command, lines) in &SESSION {
+        be(
+            &rt,
+            goes_well(&rt, &folder, command, *lines) == Some(true),
+            *lines,
+        );
+    }
+    be(&rt, applied(&rt, &folder) == Some(10), "ten changes");
+    be(&rt, remove(&rt, &folder), "the folder goes");
+}
+
+/// Whether so many records and changes were counted.
+fn are_counts(counts: Counts, records: u64, applied: u64) -> bool {
+    counts.records == records && counts.applied == applied
+}
+
+/// Loads both files into the archive of a folder, one after another. Whether what is counted after each is right.
+fn is_counted(rt: &HostRuntime, folder: &str) -> Option<bool> {
+    let none: Option<&HostRuntime> = None;
+    let meter = Meter::new(none);
+    let archive = FileArchive::open(rt.alloc(), rt, folder).ok()?;
+    let mut archive = WatchedArchive::new(archive, &meter);
+    let mut out = Vec::new(rt.alloc());
+    give(rt.alloc(), &mut archive, 0, AMSTERDAM, &mut out)?;
+    let first = meter.counts();
+    give(rt.alloc(), &mut archive, 1, TOKYO, &mut out)?;
+    Some(are_counts(first, 6, 0) && are_counts(meter.counts(), 10, 10))
+}
+
+#[test]
+fn what_is_offered_and_applied_of_a_load_is_counted(rt: HostRuntime) {
+    let folder = made(&rt, "watched").expect(&rt, "a folder");
+    be(&rt, is_counted(&rt, &folder) == Some(true), "the counts");
+    be(&rt, remove(&rt, &folder), "the folder goes");
 }

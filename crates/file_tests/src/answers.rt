@@ -1,12 +1,13 @@
-// What a step of a test answers.
+//! What a step of a test returns.
+
 use disk_models::Fault as Failed;
 
-#[derive(Clone, Copy, Debug, PartialEq, Eq)]
+#[derive(Clone, Copy, PartialEq)]
 pub(crate) enum Answer {
     Yes,
     No,
     Fault,
-    // The step couldn't be done at all.
+    /// The step couldn't be done at all.
     Harness,
 }
 

@@ -1,22 +1,22 @@
-// The layers above run over files as they do over memory: the same steps on both, and what they answer is compared.
-use crate::folders::{PAGE, folder, page_of};
+//! The layers above run over files as they do over memory: the same steps on both, and what they return is compared.
+
+use crate::be;
+use crate::folders::{PAGE, folder, remove};
 use buffer_pool::Pool;
 use disk_files::{FileErase, FileOnce};
 use disk_memory::{MemErase, MemOnce};
-use disk_models::{Block, EraseDisk, OnceDisk};
-use once_store::{Shelf, seal};
+use disk_models::{Block, EraseDisk, OnceDisk, Page};
+use once_store::{Shelf, ShelfReader, seal};
 use page_journal::Journal;
 use page_tx::{Pages, Tx};
 use std::alloc::Global;
-use std::fs;
 use std::num::NonZeroUsize;
 use std::sync::Arc;
-use std::test::Fail;
 
-// How many home pages there are.
+/// How many home pages there are.
 const HOMES: u64 = 9;
 
-// Numbers that look random, always the same.
+/// Numbers that look random, always the same.
 #[derive(Drop)]
 struct Dice(u64);
 
@@ -30,19 +30,21 @@ impl Dice {
     }
 }
 
-// A transaction over a journal that has the pages of this test.
-fn begun<D: EraseDisk + Drop>(alloc: Global, journal: Journal<D>) -> Result<Tx<D>, Fail> {
-    let capacity = NonZeroUsize::new(3).ok_or("no capacity")?;
-    let Ok(pool) = Pool::new(alloc, journal, capacity) else {
-        return Err("no memory".into());
+/// A transaction over a journal that is created on a disk, or opened.
+fn begun<D: EraseDisk + Drop>(alloc: Global, disk: D, is_new: bool) -> Option<Tx<D>> {
+    let journal = if is_new {
+        Journal::create(alloc, disk, HOMES).ok()?
+    } else {
+        Journal::open(alloc, disk).ok()?
     };
+    let pool = Pool::new(alloc, journal, NonZeroUsize::new(3)?).ok()?;
     if pool.home_pages() != HOMES {
-        return Err("other pages".into());
+        return None;
     }
-    Ok(Tx::new(alloc, pool, HOMES))
+    Some(Tx::new(alloc, pool, HOMES))
 }
 
-// The first octet of a page as it is shown.
+/// The last octet of a page as it is shown.
 fn shown<D: EraseDisk + Drop>(tx: &mut Tx<D>, n: u64) -> u8 {
     if n >= tx.home_pages() || tx.fetch(n).is_err() {
         return 255;
@@ -53,140 +55,185 @@ fn shown<D: EraseDisk + Drop>(tx: &mut Tx<D>, n: u64) -> u8 {
     }
 }
 
-// One step, and what it answered.
-fn step<D: EraseDisk + Drop>(alloc: Global, tx: &mut Tx<D>, dice: &mut Dice) -> Result<u8, Fail> {
+/// Sets a page, filled with an octet. Whether that was done; none where it can't be tried.
+fn set<D: EraseDisk + Drop>(alloc: Global, tx: &mut Tx<D>, n: u64, octet: u8) -> Option<bool> {
+    let mut page = Page::new(alloc).ok()?;
+    page.octets_mut().fill(octet);
+    if n >= tx.home_pages() {
+        return None;
+    }
+    Some(tx.set(n, page).is_ok())
+}
+
+/// One step, and what it returned.
+fn step<D: EraseDisk + Drop>(alloc: Global, tx: &mut Tx<D>, dice: &mut Dice) -> Option<u8> {
     let n = dice.roll(HOMES);
     let octet = (dice.roll(250) % 250) as u8;
-    Ok(match dice.roll(12) {
+    Some(match dice.roll(12) {
         0 => u8::from(tx.checkpoint().is_ok()),
         1 | 2 => match tx.flush_one() {
             Ok(more) => u8::from(more),
             Err(_) => 9,
         },
         3..=5 => u8::from(tx.commit().is_ok()),
-        _ => {
-            let page = page_of(alloc, octet)?;
-            if n >= tx.home_pages() {
-                return Err("no such page".into());
-            }
-            u8::from(tx.set(n, page).is_ok())
-        }
+        _ => u8::from(set(alloc, tx, n, octet)?),
     })
 }
 
-// Steps, and after each what all pages show.
-fn run<D: EraseDisk + Drop>(
+/// Whether both return the same at a step, and show the same pages then.
+fn is_alike<D: EraseDisk + Drop, E: EraseDisk + Drop>(
     alloc: Global,
-    tx: &mut Tx<D>,
-    seed: u64,
-    count: u64,
-) -> Result<Vec<u8>, Fail> {
-    let mut dice = Dice(seed);
-    let mut answers = Vec::new(alloc);
-    for _ in 0..count {
-        answers.push(step(alloc, tx, &mut dice)?)?;
-        for n in 0..HOMES {
-            answers.push(shown(tx, n))?;
+    one: &mut Tx<D>,
+    other: &mut Tx<E>,
+    dice: &mut Dice,
+) -> Option<bool> {
+    let mut same = Dice(dice.0);
+    if step(alloc, one, dice)? != step(alloc, other, &mut same)? {
+        return Some(false);
+    }
+    for n in 0..HOMES {
+        if shown(one, n) != shown(other, n) {
+            return Some(false);
         }
     }
-    Ok(answers)
+    Some(true)
 }
 
-// A journal that is made, or opened.
-fn journal<D: EraseDisk + Drop>(alloc: Global, disk: D, is_new: bool) -> Result<Journal<D>, Fail> {
-    if is_new {
-        return match Journal::create(alloc, disk, HOMES) {
-            Ok(journal) => Ok(journal),
-            Err(refused) => Err(refused.error.into()),
-        };
+/// Whether both are alike at so many steps.
+fn are_alike(
+    alloc: Global,
+    over_file: &mut Tx<FileErase>,
+    over_memory: &mut Tx<MemErase>,
+    seed: u64,
+) -> bool {
+    let mut dice = Dice(seed);
+    for _ in 0..40u32 {
+        if is_alike(alloc, over_file, over_memory, &mut dice) != Some(true) {
+            return false;
+        }
     }
-    match Journal::open(alloc, disk) {
-        Ok(journal) => Ok(journal),
-        Err(refused) => Err(refused.error.into()),
-    }
+    true
 }
 
+/// A session over a file and over memory, which opens both disks again. The disk in memory; none where the file's wasn't like it.
+fn session(rt: &HostRuntime, folder: &str, memory: MemErase, number: u64) -> Option<MemErase> {
+    let file = FileErase::open(rt.alloc(), rt, folder).ok()?;
+    let mut over_file = begun(rt.alloc(), file, number == 0)?;
+    let mut over_memory = begun(rt.alloc(), memory, number == 0)?;
+    let alike = are_alike(rt.alloc(), &mut over_file, &mut over_memory, number);
+    let file = over_file.into_pool().into_disk();
+    if !alike || file.faults() > 0 {
+        return None;
+    }
+    Some(over_memory.into_pool().into_disk())
+}
+
+/// How many octets the disks have.
+const SIZE: u64 = (265 + HOMES) * PAGE;
+
+// Several sessions: one that isn't committed is gone.
 #[test]
-fn transactions_over_files_answer_as_over_memory(rt: HostRuntime) -> Result<(), Fail> {
-    let folder = folder(&rt, "layers")?;
-    let alloc = rt.alloc();
-    let size = (265 + HOMES) * PAGE;
-    let mut memory = MemErase::new(alloc, size);
-    drop(FileErase::create(alloc, &rt, folder.as_str(), size)?);
-    // Several sessions, each of which opens both disks again: a session that isn't committed is gone.
-    for session in 0..4u64 {
-        let is_new = session == 0;
-        let file = FileErase::open(alloc, &rt, folder.as_str())?;
-        let mut over_file = begun(alloc, journal(alloc, file, is_new)?)?;
-        let mut over_memory = begun(alloc, journal(alloc, memory, is_new)?)?;
-        let wanted = run(alloc, &mut over_memory, session, 40)?;
-        let found = run(alloc, &mut over_file, session, 40)?;
-        assert!(rt; wanted == found, "session {session}");
-        memory = over_memory.into_pool().into_disk();
-        let file = over_file.into_pool().into_disk();
-        assert_eq!(rt; file.faults(), 0);
+fn transactions_over_files_answer_as_over_memory(rt: HostRuntime) {
+    let folder = folder(&rt, "layers").expect(&rt, "a folder");
+    let created = FileErase::create(rt.alloc(), &rt, &folder, SIZE).is_ok();
+    be(&rt, created, "a disk");
+    let mut memory = MemErase::new(rt.alloc(), SIZE);
+    for number in 0..4u64 {
+        memory = session(&rt, &folder, memory, number).expect(&rt, "a session");
     }
-    fs::remove_dir_all(&rt, folder.as_str())?;
-    Ok(())
+    be(&rt, memory.faults() == 0, "no fault");
+    be(&rt, remove(&rt, &folder), "the folder goes");
 }
 
-// Appends blocks, and reads all that the disk has: what was answered, and the first octets.
+/// Appends a block of an octet. It returns its number, or 99 where it isn't taken.
+fn append<O: OnceDisk + Drop>(alloc: Global, shelf: &mut Shelf<O>, octet: u8) -> Option<u64> {
+    let mut block = Block::new(alloc).ok()?;
+    block.octets_mut().fill(octet);
+    seal(&mut block);
+    Some(shelf.append(&block).unwrap_or(99))
+}
+
+/// The first octet of a block that is there, and 1,000 where it isn't.
+fn first_octet<O: OnceDisk + Drop>(reader: &mut ShelfReader<O>, seen: &mut O::Seen, n: u64) -> u64 {
+    if reader.fetch(seen, n).is_err() {
+        return 1_000;
+    }
+    match reader.block(n) {
+        Some(block) => u64::from(block.octets().first().copied().unwrap_or(0)),
+        None => 0,
+    }
+}
+
+/// Reads the first six blocks: the first octets.
+fn read_all<O: OnceDisk + Drop>(
+    alloc: Global,
+    shelf: &mut Shelf<O>,
+    answers: &mut Vec<u64>,
+) -> Option<()> {
+    let mut seen = shelf.seen().ok()?;
+    let mut reader = shelf.reader(alloc, 2).ok()?;
+    for n in 0..6u64 {
+        answers.push(first_octet(&mut reader, &mut seen, n)).ok()?;
+    }
+    Some(())
+}
+
+/// Appends blocks, and reads all that the disk has: what was returned, and the first octets.
 fn appended<O: OnceDisk + Drop>(
     alloc: Global,
     shelf: &mut Shelf<O>,
     octets: &[u8],
-    count: u64,
-) -> Result<Vec<u64>, Fail> {
+) -> Option<Vec<u64>> {
     let mut answers = Vec::new(alloc);
     for octet in octets {
-        let mut block = Block::new(alloc)?;
-        block.octets_mut().fill(*octet);
-        seal(&mut block);
-        answers.push(shelf.append(&block).unwrap_or(99))?;
+        answers.push(append(alloc, shelf, *octet)?).ok()?;
     }
-    let mut seen = shelf.seen()?;
-    let mut reader = shelf.reader(alloc, 2)?;
-    for n in 0..count {
-        let is_there = reader.fetch(&mut seen, n).is_ok();
-        let octet = reader
-            .block(n)
-            .and_then(|block| block.octets().first().copied());
-        answers.push(if is_there {
-            u64::from(octet.unwrap_or(0))
-        } else {
-            1_000
-        })?;
-    }
-    Ok(answers)
+    read_all(alloc, shelf, &mut answers)?;
+    Some(answers)
 }
 
-fn shelf<O: OnceDisk + Drop>(alloc: Global, disk: O, pen: O::Pen) -> Result<Shelf<O>, Fail> {
-    match Shelf::open(Arc::new(alloc, disk)?, pen, 0) {
-        Ok(shelf) => Ok(shelf),
-        Err(refused) => Err(refused.fault.into()),
-    }
+/// A shelf on a disk.
+fn shelf<O: OnceDisk + Drop>(alloc: Global, disk: O, pen: O::Pen) -> Option<Shelf<O>> {
+    Shelf::open(Arc::new(alloc, disk).ok()?, pen, 0).ok()
 }
+
+/// A shelf on the disk of a folder.
+fn file_shelf(rt: &HostRuntime, folder: &str) -> Option<Shelf<FileOnce>> {
+    let (disk, pen) = FileOnce::open(rt.alloc(), rt, folder).ok()?;
+    shelf(rt.alloc(), disk, pen)
+}
+
+/// Whether blocks are appended and read over files, which are opened again, as over memory.
+fn are_appended_alike(
+    rt: &HostRuntime,
+    folder: &str,
+    over_memory: &mut Shelf<MemOnce>,
+    octets: &[u8],
+) -> Option<bool> {
+    let mut over_files = file_shelf(rt, folder)?;
+    let wanted = appended(rt.alloc(), over_memory, octets)?;
+    let found = appended(rt.alloc(), &mut over_files, octets)?;
+    Some(found.as_slice() == wanted.as_slice() && over_files.faults() == 0)
+}
+
+/// A shelf on a disk of five blocks in memory.
+fn memory_shelf(alloc: Global) -> Option<Shelf<MemOnce>> {
+    let (disk, pen) = MemOnce::new(alloc, 5);
+    shelf(alloc, disk, pen)
+}
+
+/// What is appended in each session.
+const APPENDED: [&[u8]; 4] = [b"ab", b"", b"cde", b"f"];
 
 #[test]
-fn a_shelf_over_files_answers_as_over_memory(rt: HostRuntime) -> Result<(), Fail> {
-    let folder = folder(&rt, "shelf")?;
-    let alloc = rt.alloc();
-    let (disk, pen) = MemOnce::new(alloc, 5);
-    let mut over_memory = shelf(alloc, disk, pen)?;
-    drop(FileOnce::create(alloc, &rt, folder.as_str(), 5)?);
-    for octets in [
-        b"ab".as_slice(),
-        b"".as_slice(),
-        b"cde".as_slice(),
-        b"f".as_slice(),
-    ] {
-        let (disk, pen) = FileOnce::open(alloc, &rt, folder.as_str())?;
-        let mut over_files = shelf(alloc, disk, pen)?;
-        let wanted = appended(alloc, &mut over_memory, octets, 6)?;
-        let found = appended(alloc, &mut over_files, octets, 6)?;
-        assert_eq!(rt; found.as_slice(), wanted.as_slice());
-        assert_eq!(rt; over_files.faults(), 0);
+fn a_shelf_over_files_answers_as_over_memory(rt: HostRuntime) {
+    let folder = folder(&rt, "shelf").expect(&rt, "a folder");
+    let created = FileOnce::create(rt.alloc(), &rt, &folder, 5).is_ok();
+    be(&rt, created, "a disk");
+    let mut over_memory = memory_shelf(rt.alloc()).expect(&rt, "a shelf");
+    for octets in APPENDED {
+        let alike = are_appended_alike(&rt, &folder, &mut over_memory, octets);
+        be(&rt, alike == Some(true), "a session");
     }
-    fs::remove_dir_all(&rt, folder.as_str())?;
-    Ok(())
+    be(&rt, remove(&rt, &folder), "the folder goes");
 }

@@ -1,31 +1,34 @@
-// The erasable disk over a real file.
+//! The erasable disk over a real file.
+
 use crate::answers::Answer::{self, Fault, Yes};
+use crate::be;
 use crate::folders::{
-    PAGE, are_all, beside, cut, folder, has, holds, inside, octet_of, page_of, size_of,
+    PAGE, are_all, beside, cut, folder, has, holds, inside, link, octet_of, remove, remove_file,
+    size_of, write_four,
 };
 use disk_files::{Call, Failure, Failures, FileErase, FileError, Part, Reason};
 use disk_models::EraseDisk;
-use std::fs;
 use std::os::fd::AsRawFd;
-use std::os::unix::fs::symlink;
 use std::sync::Arc;
-use std::test::Fail;
 
-// A step over a disk of pages.
+/// The file of a disk.
+const FILE: &str = "pages.rha";
+
+/// A step over a disk of pages.
 #[derive(Clone, Copy)]
 enum Step {
-    // A page is filled with an octet.
+    /// A page is filled with an octet.
     Write(u64, u8),
-    // A page is read: is it filled with this octet?
+    /// A page is read: is it filled with this octet?
     Is(u64, u8),
     Sync,
-    // Its file is given another size.
+    /// Its file is given another size.
     Cut(u64),
 }
 
 use Step::{Cut, Is, Sync, Write};
 
-fn fill<D: EraseDisk>(disk: &mut D, n: u64, octet: u8) -> Answer {
+fn fill(disk: &mut FileErase, n: u64, octet: u8) -> Answer {
     let at = n.saturating_mul(PAGE);
     if at > disk.size() || disk.size() - at < PAGE {
         return Answer::Harness;
@@ -33,7 +36,7 @@ fn fill<D: EraseDisk>(disk: &mut D, n: u64, octet: u8) -> Answer {
     Answer::of(disk.write_at(at, &[octet; 16_384]))
 }
 
-fn is_filled<D: EraseDisk>(disk: &mut D, n: u64, octet: u8) -> Answer {
+fn is_filled(disk: &mut FileErase, n: u64, octet: u8) -> Answer {
     let at = n.saturating_mul(PAGE);
     if at > disk.size() || disk.size() - at < PAGE {
         return Answer::Harness;
@@ -45,297 +48,439 @@ fn is_filled<D: EraseDisk>(disk: &mut D, n: u64, octet: u8) -> Answer {
     }
 }
 
-// The first step that answers something else than the table says.
-fn first_wrong(
-    rt: &HostRuntime,
-    folder: &str,
-    disk: &mut FileErase,
-    table: &[(Step, Answer)],
-) -> Option<usize> {
-    for (k, (step, wanted)) in table.iter().enumerate() {
-        let found = match *step {
-            Write(n, octet) => fill(disk, n, octet),
-            Is(n, octet) => is_filled(disk, n, octet),
-            Sync => Answer::of(disk.sync()),
-            Cut(size) => cut(rt, folder, "pages.rha", size),
-        };
-        if found != *wanted {
-            return Some(k);
+/// Takes a step.
+fn act(rt: &HostRuntime, folder: &str, disk: &mut FileErase, step: Step) -> Answer {
+    match step {
+        Write(n, octet) => fill(disk, n, octet),
+        Is(n, octet) => is_filled(disk, n, octet),
+        Sync => Answer::of(disk.sync()),
+        Cut(size) => cut(rt, folder, FILE, size),
+    }
+}
+
+/// Whether each step returns what the table says.
+fn plays(rt: &HostRuntime, folder: &str, disk: &mut FileErase, table: &[(Step, Answer)]) -> bool {
+    for (step, wanted) in table {
+        if act(rt, folder, disk, *step) != *wanted {
+            return false;
         }
     }
-    None
+    true
 }
 
-#[test]
-fn pages_stand_at_their_places_in_the_file(rt: HostRuntime) -> Result<(), Fail> {
-    let folder = folder(&rt, "places")?;
-    let mut disk = FileErase::create(rt.alloc(), &rt, folder.as_str(), 3 * PAGE)?;
-    let table = [(Write(1, 7), Yes), (Write(2, 9), Yes)];
-    assert_eq!(rt; first_wrong(&rt, folder.as_str(), &mut disk, &table), None);
-    let wanted = [
-        (16_383, Some(0)),
-        (16_384, Some(7)),
-        (32_767, Some(7)),
-        (32_768, Some(9)),
-        (49_151, Some(9)),
-        (49_152, None),
-    ];
-    assert!(rt; holds(&rt, folder.as_str(), "pages.rha", &wanted)?);
-    fs::remove_dir_all(&rt, folder.as_str())?;
-    Ok(())
+/// A new disk of so many pages.
+fn created(rt: &HostRuntime, folder: &str, pages: u64) -> Option<FileErase> {
+    FileErase::create(rt.alloc(), rt, folder, pages.checked_mul(PAGE)?).ok()
 }
 
+/// Whether a new disk of so many pages is made, and let go.
+fn is_created(rt: &HostRuntime, folder: &str, pages: u64) -> bool {
+    created(rt, folder, pages).is_some()
+}
+
+/// The disk of a folder.
+fn opened(rt: &HostRuntime, folder: &str) -> Option<FileErase> {
+    FileErase::open(rt.alloc(), rt, folder).ok()
+}
+
+/// Why the disk of a folder isn't opened, if it isn't.
+fn not_opened(rt: &HostRuntime, folder: &str) -> Option<FileError> {
+    FileErase::open(rt.alloc(), rt, folder).err()
+}
+
+/// Why a disk of so many octets isn't created, if it isn't.
+fn not_created(rt: &HostRuntime, folder: &str, octets: u64) -> Option<FileError> {
+    FileErase::create(rt.alloc(), rt, folder, octets).err()
+}
+
+const TWO_WRITES: [(Step, Answer); 2] = [(Write(1, 7), Yes), (Write(2, 9), Yes)];
+
+const WRITTEN: [(u64, Option<u8>); 6] = [
+    (16_383, Some(0)),
+    (16_384, Some(7)),
+    (32_767, Some(7)),
+    (32_768, Some(9)),
+    (49_151, Some(9)),
+    (49_152, None),
+];
+
 #[test]
-fn pages_are_there_after_the_disk_is_opened_again(rt: HostRuntime) -> Result<(), Fail> {
-    let folder = folder(&rt, "pages")?;
-    let mut disk = FileErase::create(rt.alloc(), &rt, folder.as_str(), 2 * PAGE)?;
-    let table = [(Write(1, 7), Yes), (Sync, Yes)];
-    assert_eq!(rt; first_wrong(&rt, folder.as_str(), &mut disk, &table), None);
+fn pages_stand_at_their_places_in_the_file(rt: HostRuntime) {
+    let folder = folder(&rt, "places").expect(&rt, "a folder");
+    let mut disk = created(&rt, &folder, 3).expect(&rt, "a disk");
+    be(
+        &rt,
+        plays(&rt, &folder, &mut disk, &TWO_WRITES),
+        "two writes",
+    );
+    be(&rt, holds(&rt, &folder, FILE, &WRITTEN), "their places");
+    be(&rt, remove(&rt, &folder), "the folder goes");
+}
+
+const WRITE_AND_SYNC: [(Step, Answer); 2] = [(Write(1, 7), Yes), (Sync, Yes)];
+
+const READ_AGAIN: [(Step, Answer); 2] = [(Is(0, 0), Yes), (Is(1, 7), Yes)];
+
+#[test]
+fn pages_are_there_after_the_disk_is_opened_again(rt: HostRuntime) {
+    let folder = folder(&rt, "pages").expect(&rt, "a folder");
+    let mut disk = created(&rt, &folder, 2).expect(&rt, "a disk");
+    be(
+        &rt,
+        plays(&rt, &folder, &mut disk, &WRITE_AND_SYNC),
+        "a write",
+    );
     drop(disk);
-    let mut disk = FileErase::open(rt.alloc(), &rt, folder.as_str())?;
-    let table = [(Is(0, 0), Yes), (Is(1, 7), Yes)];
-    assert_eq!(rt; first_wrong(&rt, folder.as_str(), &mut disk, &table), None);
-    assert_eq!(rt; (disk.size(), disk.faults()), (32_768, 0));
-    fs::remove_dir_all(&rt, folder.as_str())?;
-    Ok(())
+    let mut disk = opened(&rt, &folder).expect(&rt, "the disk again");
+    be(
+        &rt,
+        plays(&rt, &folder, &mut disk, &READ_AGAIN),
+        "what was written",
+    );
+    be(
+        &rt,
+        disk.size() == 32_768 && disk.faults() == 0,
+        "its size, and no fault",
+    );
+    be(&rt, remove(&rt, &folder), "the folder goes");
 }
 
-// Why a disk can't be opened, and why one of a page can't be made.
-fn refusals(rt: &HostRuntime, folder: &str) -> (Option<FileError>, Option<FileError>) {
-    let opened = FileErase::open(rt.alloc(), rt, folder).err();
-    (
-        opened,
-        FileErase::create(rt.alloc(), rt, folder, PAGE).err(),
+const BEFORE: [(Step, Answer); 1] = [(Write(0, 5), Yes)];
+
+const AFTER: [(Step, Answer); 3] = [(Is(0, 5), Yes), (Write(1, 6), Yes), (Sync, Yes)];
+
+#[test]
+fn two_processes_in_one_archive_are_one_too_many(rt: HostRuntime) {
+    let folder = folder(&rt, "held").expect(&rt, "a folder");
+    let mut disk = created(&rt, &folder, 2).expect(&rt, "a disk");
+    be(&rt, plays(&rt, &folder, &mut disk, &BEFORE), "a write");
+    let in_use = Some(FileError::InUse(Part::Pages));
+    be(&rt, not_opened(&rt, &folder) == in_use, "an opening");
+    be(&rt, not_created(&rt, &folder, PAGE) == in_use, "a creation");
+    be(
+        &rt,
+        plays(&rt, &folder, &mut disk, &AFTER),
+        "nothing was harmed",
+    );
+    be(&rt, remove(&rt, &folder), "the folder goes");
+}
+
+#[test]
+fn an_archive_that_is_let_go_is_opened_and_not_made_again(rt: HostRuntime) {
+    let folder = folder(&rt, "let_go").expect(&rt, "a folder");
+    be(&rt, is_created(&rt, &folder, 2), "a disk");
+    be(&rt, not_opened(&rt, &folder) == None, "an opening");
+    let there = Some(FileError::Exists(Part::Pages));
+    be(&rt, not_created(&rt, &folder, PAGE) == there, "a creation");
+    be(&rt, remove(&rt, &folder), "the folder goes");
+}
+
+/// More octets than any file of this system may have: it is refused once the file is made.
+const MOST: u64 = 9_223_372_036_854_759_424;
+
+/// Sizes that no such file has.
+const NO_SIZES: [u64; 6] = [0, 1, 16_383, 16_385, 1 << 63, 18_446_744_073_709_535_232];
+
+/// Whether a size is refused once the file is made.
+fn is_not_resized(rt: &HostRuntime, folder: &str, octets: u64) -> bool {
+    matches!(
+        not_created(rt, folder, octets),
+        Some(FileError::Failed(Failure {
+            part: Part::Pages,
+            call: Call::Resize,
+            reason: Reason::System(_),
+        }))
     )
 }
 
 #[test]
-fn two_processes_in_one_archive_are_one_too_many(rt: HostRuntime) -> Result<(), Fail> {
-    let folder = folder(&rt, "held")?;
-    let mut disk = FileErase::create(rt.alloc(), &rt, folder.as_str(), 2 * PAGE)?;
-    let table = [(Write(0, 5), Yes)];
-    assert_eq!(rt; first_wrong(&rt, folder.as_str(), &mut disk, &table), None);
-    let in_use = Some(FileError::InUse(Part::Pages));
-    assert_eq!(rt; refusals(&rt, folder.as_str()), (in_use, in_use));
-    // Nothing was harmed.
-    let table = [(Is(0, 5), Yes), (Write(1, 6), Yes), (Sync, Yes)];
-    assert_eq!(rt; first_wrong(&rt, folder.as_str(), &mut disk, &table), None);
-    fs::remove_dir_all(&rt, folder.as_str())?;
-    Ok(())
-}
-
-#[test]
-fn an_archive_that_is_let_go_is_opened_and_not_made_again(rt: HostRuntime) -> Result<(), Fail> {
-    let folder = folder(&rt, "let_go")?;
-    drop(FileErase::create(rt.alloc(), &rt, folder.as_str(), 2 * PAGE)?);
-    let there = Some(FileError::Exists(Part::Pages));
-    assert_eq!(rt; refusals(&rt, folder.as_str()), (None, there));
-    fs::remove_dir_all(&rt, folder.as_str())?;
-    Ok(())
-}
-
-#[test]
-fn sizes_that_no_such_file_has_make_nothing(rt: HostRuntime) -> Result<(), Fail> {
-    let folder = folder(&rt, "no_size")?;
-    for octets in [0, 1, 16_383, 16_385, 1 << 63, 18_446_744_073_709_535_232] {
-        let refused = FileErase::create(rt.alloc(), &rt, folder.as_str(), octets).err();
-        assert_eq!(rt; refused, Some(FileError::Size(Part::Pages)));
+fn sizes_that_no_such_file_has_make_nothing(rt: HostRuntime) {
+    let folder = folder(&rt, "no_size").expect(&rt, "a folder");
+    for octets in NO_SIZES {
+        let refused = not_created(&rt, &folder, octets);
+        be(&rt, refused == Some(FileError::Size(Part::Pages)), "a size");
     }
-    // More than any file of this system may have: it is refused once the file is made.
-    let most = 9_223_372_036_854_759_424;
-    let refused = FileErase::create(rt.alloc(), &rt, folder.as_str(), most).err();
-    assert!(rt;
-        matches!(
-            refused,
-            Some(FileError::Failed(Failure {
-                part: Part::Pages,
-                call: Call::Resize,
-                reason: Reason::System(_),
-            }))
-        )
-    );
-    assert!(rt; !has(&rt, folder.as_str(), "pages.rha")?);
-    fs::remove_dir_all(&rt, folder.as_str())?;
-    Ok(())
+    be(&rt, is_not_resized(&rt, &folder, MOST), "too great a size");
+    be(&rt, has(&rt, &folder, FILE) == Some(false), "no file");
+    be(&rt, remove(&rt, &folder), "the folder goes");
 }
 
 #[test]
-fn what_is_missing_is_told(rt: HostRuntime) -> Result<(), Fail> {
-    let folder = folder(&rt, "missing")?;
-    let nowhere = inside(rt.alloc(), folder.as_str(), "nowhere")?;
+fn what_is_missing_is_told(rt: HostRuntime) {
+    let folder = folder(&rt, "missing").expect(&rt, "a folder");
+    let nowhere = inside(rt.alloc(), &folder, "nowhere").expect(&rt, "a name");
     let missing = Some(FileError::Missing(Part::Pages));
-    assert_eq!(rt; refusals(&rt, nowhere.as_str()), (missing, missing));
-    assert_eq!(rt; refusals(&rt, folder.as_str()), (missing, None));
-    fs::remove_dir_all(&rt, folder.as_str())?;
-    Ok(())
+    be(
+        &rt,
+        not_opened(&rt, &nowhere) == missing,
+        "no folder to open",
+    );
+    be(
+        &rt,
+        not_created(&rt, &nowhere, PAGE) == missing,
+        "no folder to create in",
+    );
+    be(&rt, not_opened(&rt, &folder) == missing, "no file to open");
+    be(&rt, not_created(&rt, &folder, PAGE) == None, "a file");
+    be(&rt, remove(&rt, &folder), "the folder goes");
+}
+
+/// Whether a new disk takes its file away.
+fn takes_its_file(rt: &HostRuntime, folder: &str) -> Option<bool> {
+    let disk = created(rt, folder, 1)?;
+    disk.remove(rt.alloc(), rt, folder).ok()?;
+    Some(!has(rt, folder, FILE)?)
+}
+
+/// Why a new disk doesn't take away another's file that took the name, if it doesn't.
+fn not_removed(rt: &HostRuntime, folder: &str) -> Option<FileError> {
+    let disk = created(rt, folder, 1)?;
+    if !remove_file(rt, folder, FILE) || !write_four(rt, folder, FILE) {
+        return None;
+    }
+    disk.remove(rt.alloc(), rt, folder).err()
 }
 
 #[test]
-fn a_file_is_taken_away_by_its_maker_alone(rt: HostRuntime) -> Result<(), Fail> {
-    let folder = folder(&rt, "taken")?;
-    let disk = FileErase::create(rt.alloc(), &rt, folder.as_str(), PAGE)?;
-    disk.remove(rt.alloc(), &rt, folder.as_str())?;
-    assert!(rt; !has(&rt, folder.as_str(), "pages.rha")?);
-    // Another's file isn't, though it took the name.
-    let disk = FileErase::create(rt.alloc(), &rt, folder.as_str(), PAGE)?;
-    let path = inside(rt.alloc(), folder.as_str(), "pages.rha")?;
-    fs::remove_file(&rt, path.as_str())?;
-    fs::write(&rt, path.as_str(), b"kept".as_slice())?;
-    let refused = disk.remove(rt.alloc(), &rt, folder.as_str()).err();
-    assert_eq!(rt; refused, Some(FileError::Missing(Part::Pages)));
-    assert_eq!(rt; size_of(&rt, folder.as_str(), "pages.rha")?, 4);
-    fs::remove_dir_all(&rt, folder.as_str())?;
-    Ok(())
+fn a_file_is_taken_away_by_its_maker_alone(rt: HostRuntime) {
+    let folder = folder(&rt, "taken").expect(&rt, "a folder");
+    be(
+        &rt,
+        takes_its_file(&rt, &folder) == Some(true),
+        "its own file",
+    );
+    let missing = Some(FileError::Missing(Part::Pages));
+    be(&rt, not_removed(&rt, &folder) == missing, "another's file");
+    be(&rt, size_of(&rt, &folder, FILE) == Some(4), "it stays");
+    be(&rt, remove(&rt, &folder), "the folder goes");
+}
+
+/// Why the disk of a folder isn't opened, if it isn't, where its file has so many octets.
+fn not_opened_cut(rt: &HostRuntime, folder: &str, octets: u64) -> Option<Option<FileError>> {
+    if cut(rt, folder, FILE, octets) != Yes {
+        return None;
+    }
+    Some(not_opened(rt, folder))
 }
 
 #[test]
-fn a_file_of_another_size_is_refused(rt: HostRuntime) -> Result<(), Fail> {
-    let folder = folder(&rt, "sizes")?;
-    drop(FileErase::create(rt.alloc(), &rt, folder.as_str(), 2 * PAGE)?);
+fn a_file_of_another_size_is_refused(rt: HostRuntime) {
+    let folder = folder(&rt, "sizes").expect(&rt, "a folder");
+    be(&rt, is_created(&rt, &folder, 2), "a disk");
     let size = Some(FileError::Size(Part::Pages));
-    for (octets, wanted) in [
-        (0, size),
-        (100, size),
-        (16_383, size),
-        (16_385, size),
-        (PAGE, None),
-    ] {
-        let was_cut = cut(&rt, folder.as_str(), "pages.rha", octets);
-        assert_eq!(rt; (was_cut, refusals(&rt, folder.as_str()).0), (Yes, wanted));
-    }
-    fs::remove_dir_all(&rt, folder.as_str())?;
-    Ok(())
-}
-
-// What a disk of four pages does whose file is cut within the second one, and how often it fails.
-#[test]
-fn a_file_that_was_cut_is_met(rt: HostRuntime) -> Result<(), Fail> {
-    let start = [(Write(0, 3), Yes), (Cut(PAGE + 100), Yes)];
-    // What was cut isn't read as zeros.
-    let reads = [
-        (Is(0, 3), Yes),
-        (Is(1, 0), Fault),
-        (Is(3, 0), Fault),
-        (Is(0, 3), Yes),
-    ];
-    // A write behind the cut fails, and then nothing succeeds, also where the file has its size again.
-    let writes = [
-        (Write(3, 8), Fault),
-        (Cut(4 * PAGE), Yes),
-        (Is(0, 3), Fault),
-        (Write(0, 8), Fault),
-        (Sync, Fault),
-    ];
-    // A cut that only a sync meets is a failure, too.
-    let syncs = [(Sync, Fault)];
-    let tables = [
-        (reads.as_slice(), 2),
-        (writes.as_slice(), 4),
-        (syncs.as_slice(), 1),
-    ];
-    for (table, faults) in tables {
-        let folder = folder(&rt, "cut")?;
-        let mut disk = FileErase::create(rt.alloc(), &rt, folder.as_str(), 4 * PAGE)?;
-        assert_eq!(rt; first_wrong(&rt, folder.as_str(), &mut disk, &start), None);
-        assert_eq!(rt; first_wrong(&rt, folder.as_str(), &mut disk, table), None);
-        assert_eq!(rt; disk.faults(), faults);
-        fs::remove_dir_all(&rt, folder.as_str())?;
-    }
-    Ok(())
-}
-
-#[test]
-fn a_write_behind_a_cut_does_not_make_the_file_grow(rt: HostRuntime) -> Result<(), Fail> {
-    let folder = folder(&rt, "grow")?;
-    let mut disk = FileErase::create(rt.alloc(), &rt, folder.as_str(), 4 * PAGE)?;
-    let table = [(Cut(PAGE + 100), Yes), (Write(3, 8), Fault)];
-    assert_eq!(rt; first_wrong(&rt, folder.as_str(), &mut disk, &table), None);
-    assert_eq!(rt; size_of(&rt, folder.as_str(), "pages.rha")?, 16_484);
-    fs::remove_dir_all(&rt, folder.as_str())?;
-    Ok(())
-}
-
-#[test]
-fn what_is_no_regular_file_is_refused_and_not_waited_for(rt: HostRuntime) -> Result<(), Fail> {
-    let folder = folder(&rt, "irregular")?;
-    let path = inside(rt.alloc(), folder.as_str(), "pages.rha")?;
-    let (reader, _writer) = std::io::pipe(&rt)?;
-    let fd = reader.as_raw_fd();
-    let pipe = format!(in rt.alloc(); "/proc/self/fd/{fd}")?;
-    let refused = Some(FileError::NotAFile(Part::Pages));
-    for target in ["/dev/zero", "/dev/null", "/tmp", pipe.as_str()] {
-        symlink(&rt, target, path.as_str())?;
-        assert_eq!(rt;
-            refusals(&rt, folder.as_str()),
-            (refused, refused),
-            "{target}"
+    for octets in [0, 100, 16_383, 16_385] {
+        be(
+            &rt,
+            not_opened_cut(&rt, &folder, octets) == Some(size),
+            "a size",
         );
-        fs::remove_file(&rt, path.as_str())?;
     }
-    // The same by a file that is at hand.
-    let device = beside(&rt, "/dev", "null")?;
-    assert_eq!(rt; FileErase::open_on(device).err(), refused);
-    fs::remove_dir_all(&rt, folder.as_str())?;
-    Ok(())
+    be(
+        &rt,
+        not_opened_cut(&rt, &folder, PAGE) == Some(None),
+        "a page",
+    );
+    be(&rt, remove(&rt, &folder), "the folder goes");
+}
+
+/// A disk of four pages whose file is cut within the second one.
+const IS_CUT: [(Step, Answer); 2] = [(Write(0, 3), Yes), (Cut(PAGE + 100), Yes)];
+
+/// What was cut isn't read as zeros.
+const READS: [(Step, Answer); 4] = [
+    (Is(0, 3), Yes),
+    (Is(1, 0), Fault),
+    (Is(3, 0), Fault),
+    (Is(0, 3), Yes),
+];
+
+/// A write after the cut fails, and then nothing succeeds, also where the file has its size again.
+const WRITES: [(Step, Answer); 5] = [
+    (Write(3, 8), Fault),
+    (Cut(4 * PAGE), Yes),
+    (Is(0, 3), Fault),
+    (Write(0, 8), Fault),
+    (Sync, Fault),
+];
+
+/// A cut that only a sync meets is a failure, too.
+const SYNCS: [(Step, Answer); 1] = [(Sync, Fault)];
+
+/// Whether a disk whose file is cut goes on so, and fails so often.
+fn is_met(rt: &HostRuntime, table: &[(Step, Answer)], faults: u64) -> Option<bool> {
+    let folder = folder(rt, "cut")?;
+    let mut disk = created(rt, &folder, 4)?;
+    Some(
+        plays(rt, &folder, &mut disk, &IS_CUT)
+            && plays(rt, &folder, &mut disk, table)
+            && disk.faults() == faults
+            && remove(rt, &folder),
+    )
 }
 
 #[test]
-fn a_page_reads_as_it_was_written_through_a_link(rt: HostRuntime) -> Result<(), Fail> {
-    let (folder, other) = (folder(&rt, "link")?, folder(&rt, "target")?);
-    let alloc = rt.alloc();
-    drop(FileErase::create(alloc, &rt, other.as_str(), PAGE)?);
-    let (path, target) = (
-        inside(alloc, folder.as_str(), "pages.rha")?,
-        inside(alloc, other.as_str(), "pages.rha")?,
-    );
-    symlink(&rt, target.as_str(), path.as_str())?;
-    let mut disk = FileErase::open(alloc, &rt, folder.as_str())?;
-    assert_eq!(rt;
-        FileErase::open(alloc, &rt, other.as_str()).err(),
-        Some(FileError::InUse(Part::Pages))
-    );
-    let page = page_of(alloc, 4)?;
-    assert_eq!(rt; disk.size(), PAGE);
-    disk.write_at(0, page.octets())?;
-    assert_eq!(rt;
-        octet_of(&rt, other.as_str(), "pages.rha", 16_383)?,
-        Some(4)
-    );
-    fs::remove_dir_all(&rt, folder.as_str())?;
-    fs::remove_dir_all(&rt, other.as_str())?;
-    Ok(())
+fn a_file_that_was_cut_is_met(rt: HostRuntime) {
+    be(&rt, is_met(&rt, &READS, 2) == Some(true), "by reads");
+    be(&rt, is_met(&rt, &WRITES, 4) == Some(true), "by writes");
+    be(&rt, is_met(&rt, &SYNCS, 1) == Some(true), "by a sync");
 }
+
+const CUT_AND_WRITE: [(Step, Answer); 2] = [(Cut(PAGE + 100), Yes), (Write(3, 8), Fault)];
+
+#[test]
+fn a_write_behind_a_cut_does_not_make_the_file_grow(rt: HostRuntime) {
+    let folder = folder(&rt, "grow").expect(&rt, "a folder");
+    let mut disk = created(&rt, &folder, 4).expect(&rt, "a disk");
+    be(
+        &rt,
+        plays(&rt, &folder, &mut disk, &CUT_AND_WRITE),
+        "a write after a cut",
+    );
+    be(&rt, size_of(&rt, &folder, FILE) == Some(16_484), "the size");
+    be(&rt, remove(&rt, &folder), "the folder goes");
+}
+
+/// Whether a disk is neither opened nor created where the name of its file leads to something that is no regular file.
+fn is_irregular(rt: &HostRuntime, folder: &str, target: &str) -> bool {
+    let refused = Some(FileError::NotAFile(Part::Pages));
+    link(rt, target, folder, FILE)
+        && not_opened(rt, folder) == refused
+        && not_created(rt, folder, PAGE) == refused
+        && remove_file(rt, folder, FILE)
+}
+
+/// The same of a pipe.
+fn is_pipe_irregular(rt: &HostRuntime, folder: &str) -> Option<bool> {
+    let (reader, _writer) = std::io::pipe(rt).ok()?;
+    let fd = reader.as_raw_fd();
+    let pipe = format!(in rt.alloc(); "/proc/self/fd/{fd}").ok()?;
+    Some(is_irregular(rt, folder, &pipe))
+}
+
+/// The same of a file that is at hand.
+fn not_opened_on_device(rt: &HostRuntime) -> Option<FileError> {
+    FileErase::open_on(beside(rt, "/dev", "null")?).err()
+}
+
+#[test]
+fn what_is_no_regular_file_is_refused_and_not_waited_for(rt: HostRuntime) {
+    let folder = folder(&rt, "irregular").expect(&rt, "a folder");
+    for target in ["/dev/zero", "/dev/null", "/tmp"] {
+        be(&rt, is_irregular(&rt, &folder, target), target);
+    }
+    be(&rt, is_pipe_irregular(&rt, &folder) == Some(true), "a pipe");
+    let refused = Some(FileError::NotAFile(Part::Pages));
+    be(
+        &rt,
+        not_opened_on_device(&rt) == refused,
+        "a device at hand",
+    );
+    be(&rt, remove(&rt, &folder), "the folder goes");
+}
+
+/// Makes a disk of one page in a folder, and a link to its file in another. Whether that was done.
+fn is_linked(rt: &HostRuntime, folder: &str, other: &str) -> bool {
+    is_created(rt, other, 1)
+        && match inside(rt.alloc(), other, FILE) {
+            Some(target) => link(rt, &target, folder, FILE),
+            None => false,
+        }
+}
+
+#[test]
+fn a_page_reads_as_it_was_written_through_a_link(rt: HostRuntime) {
+    let folder_of_link = folder(&rt, "link").expect(&rt, "a folder");
+    let other = folder(&rt, "target").expect(&rt, "a folder");
+    be(&rt, is_linked(&rt, &folder_of_link, &other), "a link");
+    let mut disk = opened(&rt, &folder_of_link).expect(&rt, "a disk");
+    let in_use = Some(FileError::InUse(Part::Pages));
+    be(&rt, not_opened(&rt, &other) == in_use, "the file is held");
+    be(
+        &rt,
+        disk.size() == PAGE && fill(&mut disk, 0, 4) == Yes,
+        "a write",
+    );
+    be(
+        &rt,
+        octet_of(&rt, &other, FILE, 16_383) == Some(Some(4)),
+        "what was written",
+    );
+    be(
+        &rt,
+        remove(&rt, &folder_of_link) && remove(&rt, &other),
+        "the folders go",
+    );
+}
+
+/// A disk of two pages that notes its failures here.
+fn noting(rt: &HostRuntime, folder: &str, failures: &Arc<Failures>) -> Option<FileErase> {
+    let mut disk = created(rt, folder, 2)?;
+    disk.note_in(failures).ok()?;
+    Some(disk)
+}
+
+/// Failures of a disk in a folder.
+fn failures_of(rt: &HostRuntime, folder: &str) -> Option<Arc<Failures>> {
+    let failures = Failures::new(rt.alloc(), folder).ok()?;
+    Arc::new(rt.alloc(), failures).ok()
+}
+
+/// Whether the first failure is that of a file that is shorter than it should be, at this call.
+fn is_cut_at(failures: &Failures, call: Call) -> bool {
+    failures.first()
+        == Some(Failure {
+            part: Part::Pages,
+            call,
+            reason: Reason::Cut,
+        })
+}
+
+/// Whether the first failure is told with the name of its file.
+fn is_named(rt: &HostRuntime, folder: &str, failures: &Failures) -> Option<bool> {
+    let text = failures.text(rt.alloc())?;
+    let wanted = format!(in rt.alloc();
+        "{folder}/pages.rha: write: the file is shorter than it should be"
+    );
+    Some(text == wanted.ok()?)
+}
+
+/// A page is written, and another one isn't read.
+const READ_OF_A_CUT: [(Step, Answer); 2] = [(Cut(PAGE), Yes), (Is(1, 0), Fault)];
+
+const WRITE_OF_A_CUT: [(Step, Answer); 2] = [(Write(0, 2), Fault), (Sync, Fault)];
 
 // A read that failed is kept until a write fails, and then that is.
 #[test]
-fn the_first_failure_is_kept(rt: HostRuntime) -> Result<(), Fail> {
-    let folder = folder(&rt, "kept")?;
-    let failures = Arc::new(rt.alloc(), Failures::new(rt.alloc(), folder.as_str())?)?;
-    let mut disk = FileErase::create(rt.alloc(), &rt, folder.as_str(), 2 * PAGE)?;
-    disk.note_in(&failures)?;
-    assert_eq!(rt; fill(&mut disk, 0, 1), Yes);
-    assert_eq!(rt; failures.text(rt.alloc()), None);
-    assert_eq!(rt; cut(&rt, folder.as_str(), "pages.rha", PAGE), Yes);
-    assert_eq!(rt; is_filled(&mut disk, 1, 0), Fault);
-    let kept = Failure {
-        part: Part::Pages,
-        call: Call::Read,
-        reason: Reason::Cut,
-    };
-    assert_eq!(rt; failures.first(), Some(kept));
-    assert_eq!(rt; fill(&mut disk, 0, 2), Fault);
-    assert_eq!(rt; Answer::of(disk.sync()), Fault);
-    let kept = Failure {
-        part: Part::Pages,
-        call: Call::Write,
-        reason: Reason::Cut,
-    };
-    assert_eq!(rt; failures.first(), Some(kept));
-    let text = format!(in rt.alloc();
-        "{}/pages.rha: write: the file is shorter than it should be",
-        folder.as_str()
-    )?;
-    assert_eq!(rt; failures.text(rt.alloc()), Some(text));
-    fs::remove_dir_all(&rt, folder.as_str())?;
-    Ok(())
+fn the_first_failure_is_kept(rt: HostRuntime) {
+    let folder = folder(&rt, "kept").expect(&rt, "a folder");
+    let failures = failures_of(&rt, &folder).expect(&rt, "failures");
+    let mut disk = noting(&rt, &folder, &failures).expect(&rt, "a disk");
+    let written = fill(&mut disk, 0, 1) == Yes;
+    be(
+        &rt,
+        written && failures.text(rt.alloc()) == None,
+        "no failure",
+    );
+    be(
+        &rt,
+        plays(&rt, &folder, &mut disk, &READ_OF_A_CUT),
+        "a read fails",
+    );
+    be(&rt, is_cut_at(&failures, Call::Read), "it is kept");
+    be(
+        &rt,
+        plays(&rt, &folder, &mut disk, &WRITE_OF_A_CUT),
+        "a write fails",
+    );
+    be(
+        &rt,
+        is_cut_at(&failures, Call::Write),
+        "it is kept in its place",
+    );
+    be(
+        &rt,
+        is_named(&rt, &folder, &failures) == Some(true),
+        "its text",
+    );
+    be(&rt, remove(&rt, &folder), "the folder goes");
 }

@@ -1,23 +1,24 @@
-// A file in memory that does less than it is asked for, is interrupted, and fails by a script.
+//! A file in memory that does less than it is asked for, is interrupted, and fails by a script.
+
 ghost use Rattle.std.specs.Prelude.{◌≤◌};
 
 use disk_files::{FileFacts, FileIdentity, OctetFile};
 use std::alloc::Global;
 use std::io;
 
-// What a file is to do wrong.
-#[derive(Clone, Copy, PartialEq, Eq)]
+/// What a file is to do wrong.
+#[derive(Clone, Copy, PartialEq)]
 pub(crate) enum Wrong {
     Nothing,
     Syncs,
     Settles,
     IsHeld,
     IsIrregular,
-    // Reads and writes fail once so many calls were made.
+    /// Reads and writes fail once so many calls were made.
     Moves(u64),
 }
 
-// It moves at most so many octets a call, and every third call is interrupted before it does anything.
+/// It moves at most so many octets a call, and every third call is interrupted before it does anything.
 #[derive(Drop)]
 pub(crate) struct SlowFile {
     pub(crate) octets: Vec<u8>,
@@ -36,7 +37,7 @@ impl SlowFile {
         }
     }
 
-    // Counts a call, which may be interrupted or fail.
+    /// Counts a call, which may be interrupted or fail.
     fn begin(&mut self) -> io::Result<()> {
         self.calls = self.calls.saturating_add(1);
         if self.calls % 3 == 0 {
@@ -48,7 +49,7 @@ impl SlowFile {
         }
     }
 
-    // How many octets are moved of so many at a place.
+    /// How many octets are moved of so many at a place.
     fn count(&self, at: u64, wanted: usize) -> usize
         ensures { result ≤ wanted }
     {

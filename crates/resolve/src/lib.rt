@@ -3,12 +3,10 @@
 
 mod entries;
 mod fault;
-mod feed;
 mod laws;
 mod messages;
 mod resolver;
 
 pub use fault::ResolveFault;
-pub use feed::resolve_all;
 pub use laws::feeds_have_one_meaning;
 pub use resolver::Resolver;

@@ -93,8 +93,8 @@ line isn't accepted.";
 
 /// Of `check`.
 pub(crate) const CHECK: &str =
-    "Reads every page and block that answers come from, and counts the changes in them. What waits in the rings
-isn't read. Nothing that is answered later is changed.
+    "Reads all that waits, and every page and block that answers come from, and counts the changes in these. Before
+that it looks at the journal's open slots. Nothing that is answered later is changed.
 Prints `ok|CHANGES|SETTLED`: how many changes are applied, and the settled watermark.
 
 Example:

@@ -1,31 +1,35 @@
-//! Tests of trees over a transaction over a pool and a shelf, on disks in memory.
+//! Tests of trees of versions, over transactions and shelves on disks in memory: trees that grow, looks into nodes built by hand and
+//! damaged ones, migration of leaves and columns into blocks, questions over stores of versions, and the check of a tree.
 #![tactic(auto)]
 
 #[cfg(test)]
-mod asking;
+mod check;
 #[cfg(test)]
-mod created;
+mod history;
 #[cfg(test)]
-mod failing;
+mod look;
 #[cfg(test)]
-mod generated;
+mod memory;
 #[cfg(test)]
-mod many_splits;
+mod migration;
 #[cfg(test)]
 mod octets;
 #[cfg(test)]
-mod older;
+mod past;
 #[cfg(test)]
-mod one_key;
+mod tree;
+
 #[cfg(test)]
-mod opened;
+use std::process::Abort;
+
+/// Ends a test that is wrong, with what was tried. Proofs learn nothing of it, which keeps them short.
 #[cfg(test)]
-mod plain;
+fn be(rt: &impl Abort, holds: bool, name: &str) {
+    assert!(rt; holds, "{name}");
+}
+
+/// The same in a loop, with the number of the turn.
 #[cfg(test)]
-mod refused;
-#[cfg(test)]
-mod three_levels;
-#[cfg(test)]
-mod too_high;
-#[cfg(test)]
-mod trees;
+fn be_at(rt: &impl Abort, holds: bool, name: &str, number: u64) {
+    assert!(rt; holds, "{name}: {number}");
+}

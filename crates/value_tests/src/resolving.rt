@@ -2,7 +2,7 @@
 
 use crate::be;
 use mrt_records::{Framer, Item};
-use resolve::{ResolveFault, Resolver, resolve_all};
+use resolve::{ResolveFault, Resolver};
 use route_model::Admission;
 use std::alloc::Global;
 use std::test::Fail;
@@ -227,6 +227,19 @@ fn are_as_told(
     }
 }
 
+// What each record of a feed is resolved to.
+fn record_all(
+    alloc: Global,
+    items: &[Item],
+) -> Result<Vec<Result<Option<Admission>, ResolveFault>>, Fail> {
+    let mut resolver = Resolver::new(0);
+    let mut results = Vec::new(alloc);
+    for item in items {
+        results.push(resolver.record(alloc, item))?;
+    }
+    Ok(results)
+}
+
 #[test]
 fn a_feed_is_read_as_its_records_are(rt: HostRuntime) -> Result<(), Fail> {
     let alloc = rt.alloc();
@@ -235,7 +248,7 @@ fn a_feed_is_read_as_its_records_are(rt: HostRuntime) -> Result<(), Fail> {
     for record in [RIB, PEER_TABLE, RIB, CUT_PEER_TABLE, RIB] {
         framer.feed(&octets(alloc, record)?, &mut items)?;
     }
-    let results = resolve_all(alloc, 0, &items)?;
+    let results = record_all(alloc, &items)?;
     be(
         &rt,
         are_as_told(alloc, results.as_slice())?,

@@ -1,4 +1,4 @@
-use Rattle.std.proofs.Common.{◌≡◌, ◌∙◌, refl, sym, ap, subst, Err}
+use Rattle.std.proofs.Common.{◌≡◌, ◌∙◌, refl, sym, ap, subst, Err, ⊎_elim}
 use Rattle.std.proofs.lemmas.Result.{IfErr-weaker, IfOk-weaker}
 use Rattle.board.specs.Past.{Past}
 use Rattle.disk_models.specs.Once.{OnceState}
@@ -51,7 +51,7 @@ returns-in-Err-clause-kept g c settled p r =
       count = r.count ∙ ap once.block_count (sym disk);
       noted = r.noted;
       pages = r.pages;
-      rests = λ left now. (k.0, k.1, e.kept r.erasable r.burnable settled r.site k.0 k.2 left now);
+      rests = λ left now. ⊎_elim (λ was. r.rests left was) (λ is. (k.0, k.1, is)) (e.after r.erasable r.burnable r.site k.0 k.2 left now);
       blocks = subst (λ d. AreTheSettled (once.block_count d) (once.model u.pen).settled p.blocks) (sym disk)
           (subst (λ (y : OnceState). AreTheSettled (once.block_count c.args.disks.once.value) y.settled p.blocks) (sym same) r.blocks);
     }

@@ -1,4 +1,0 @@
-pub mod Carries
-pub mod Replies
-pub mod Kept
-pub mod inner

@@ -1,0 +1,160 @@
+//! Runs, openings and creations that are stopped at each call.
+
+use super::{
+    KINDS, OLD, PAGE, checkpoint, home, made, made_journal, opened, post, post_one, scripted,
+    shows, shows_after_crash, torn,
+};
+use crate::be_at;
+use disk_memory::{Failure, MemErase, Torn};
+use disk_models::EraseDisk;
+use page_journal::{CreateError, Journal, JournalError, OpenError};
+use std::alloc::Global;
+
+/// The pages after each of three posts: of page 1, of pages 1 and 2, and of page 1 again.
+const POSTED: [[u8; 4]; 4] = [OLD, [10, 31, 12, 13], [10, 32, 41, 13], [10, 33, 41, 13]];
+
+/// Three posts. Counts those that were done.
+fn post_all(
+    alloc: Global,
+    journal: &mut Journal<MemErase>,
+    done: &mut usize,
+) -> Result<(), JournalError> {
+    post_one(alloc, journal, 1, 31)?;
+    *done = 1;
+    post(alloc, journal, 32, 41)?;
+    *done = 2;
+    post_one(alloc, journal, 1, 33)?;
+    *done = 3;
+    Ok(())
+}
+
+/// Three posts, their pages home, and a checkpoint.
+fn run(
+    alloc: Global,
+    journal: &mut Journal<MemErase>,
+    done: &mut usize,
+) -> Result<(), JournalError> {
+    post_all(alloc, journal, done)?;
+    home(alloc, journal, 1, 33)?;
+    home(alloc, journal, 2, 41)?;
+    checkpoint(journal)
+}
+
+/// Whether these pages, or those after one post more, are left by each crash.
+fn is_left(alloc: Global, disk: &MemErase, done: usize) -> bool {
+    for kind in 0..KINDS {
+        let mut states = POSTED.iter().skip(done).take(2);
+        if !states.any(|pages| shows_after_crash(alloc, disk, kind, *pages) == Some(true)) {
+            return false;
+        }
+    }
+    true
+}
+
+/// The n-th of the failures of a run: 15 writes, and then 10 syncs after the two of the opening.
+fn failure_of_a_run(alloc: Global, n: u64, kind: u8) -> Option<Failure> {
+    Some(match n {
+        0..=14 => Failure::Write(n, torn(alloc, kind).ok()?),
+        _ => Failure::Sync(n.saturating_sub(13)),
+    })
+}
+
+/// Whether a run is stopped by the n-th failure, asks then for recovery, and leaves each post whole.
+fn stops_whole(alloc: Global, n: u64, kind: u8) -> Option<bool> {
+    let disk = scripted(alloc, made(alloc)?, failure_of_a_run(alloc, n, kind)?)?;
+    let mut journal = opened(alloc, disk).ok()?;
+    let mut done = 0;
+    let first = run(alloc, &mut journal, &mut done);
+    let second = run(alloc, &mut journal, &mut 0);
+    let is_stopped = first == Err(JournalError::Fault)
+        && second == Err(JournalError::NeedsRecovery);
+    Some(is_stopped && is_left(alloc, &journal.into_disk(), done))
+}
+
+#[test]
+fn a_run_that_is_stopped_leaves_each_post_whole(rt: HostRuntime) {
+    for n in 0..25u64 {
+        for kind in 0..KINDS {
+            be_at(
+                &rt,
+                stops_whole(rt.alloc(), n, kind) == Some(true),
+                "a stop",
+                n,
+            );
+        }
+    }
+}
+
+/// The n-th of the failures of an opening with three open slots of four images. It reads the identity page, eight gates, and
+/// of each slot its number, its count, its page numbers and its images.
+fn failure_of_an_opening(alloc: Global, n: u64, kind: u8) -> Option<Failure> {
+    Some(match n {
+        0..=6 => Failure::Write(n, torn(alloc, kind).ok()?),
+        7..=11 => Failure::Sync(n.saturating_sub(7)),
+        _ => Failure::Read(n.saturating_sub(12)),
+    })
+}
+
+/// The disk that is handed back by an opening of three posts that the n-th failure stops.
+fn stopped_opening(alloc: Global, n: u64, kind: u8) -> Option<MemErase> {
+    let mut journal = made_journal(alloc)?;
+    post_all(alloc, &mut journal, &mut 0).ok()?;
+    let failure = failure_of_an_opening(alloc, n, kind)?;
+    let refused = Journal::open(alloc, scripted(alloc, journal.into_disk(), failure)?).err()?;
+    if refused.error == OpenError::Fault {
+        Some(refused.disk)
+    } else {
+        None
+    }
+}
+
+#[test]
+fn an_opening_that_is_stopped_loses_nothing(rt: HostRuntime) {
+    for n in 0..35u64 {
+        for kind in 0..KINDS {
+            let disk = stopped_opening(rt.alloc(), n, kind).expect(&rt, "a stop");
+            be_at(&rt, is_left(rt.alloc(), &disk, 3), "a stop", n);
+        }
+    }
+}
+
+/// The n-th failure of a creation: it writes eight gates and the identity page, and syncs twice.
+fn failure_of_a_creation(n: u64) -> Failure {
+    if n < 9 {
+        Failure::Write(n, Torn::Half)
+    } else {
+        Failure::Sync(n.saturating_sub(9))
+    }
+}
+
+/// A disk that is handed back by a creation that the n-th failure stops.
+fn stopped_creation(alloc: Global, n: u64) -> Option<MemErase> {
+    let disk = MemErase::new(alloc, 269 * PAGE);
+    let disk = scripted(alloc, disk, failure_of_a_creation(n))?;
+    let refused = Journal::create(alloc, disk, 4).err()?;
+    if refused.error == CreateError::Fault {
+        Some(refused.disk)
+    } else {
+        None
+    }
+}
+
+/// Whether a disk that a creation handed back after one fault takes a journal of zeros.
+fn is_created_again(alloc: Global, disk: MemErase) -> Option<bool> {
+    let faults = disk.faults();
+    let mut journal = Journal::create(alloc, disk, 4).ok()?;
+    Some(faults == 1 && journal.note() == [0; 11] && shows(alloc, &mut journal, [0; 4]))
+}
+
+#[test]
+fn a_creation_that_is_stopped_hands_the_disk_back(rt: HostRuntime) {
+    for n in 0..11u64 {
+        let disk = stopped_creation(rt.alloc(), n).expect(&rt, "a stop");
+        be_at(
+            &rt,
+            is_created_again(rt.alloc(), disk) == Some(true),
+            "a stop",
+            n,
+        );
+    }
+}

@@ -1,0 +1,777 @@
+//! Pages and blocks that someone damaged: each look answers, or names the one that isn't what it is to be.
+
+use super::answers::{
+    Comes, EARLY, In, LATE, Next, Part, Since, Versions, all_of, are_versions, at_of, found_at,
+    is_part, next_at, part_at,
+};
+use super::spelling::At;
+use super::tree::{
+    Tree, Turned, block_octets, lay_key_node, mend, octets_of, spoil, spoil_block, whole_tree,
+};
+use crate::memory::key_of;
+use crate::{be, be_at};
+use tsb_walk::{KeyVersions, NodeError};
+
+/// What a key has where the look for the next key from it on tells this, and in which block.
+fn had(key: u8, told: &(In, Comes)) -> (Option<u64>, Since) {
+    let block = match &told.0 {
+        Some(place) => Some(place.0),
+        None => None,
+    };
+    match told.1 {
+        Comes::To(next, since, value) => {
+            if next == key {
+                (block, Some((since, value)))
+            } else {
+                (block, None)
+            }
+        }
+        _ => (block, None),
+    }
+}
+
+/// Whether these are versions of a key from a stamp on; where the key has something just since then, this first.
+fn are_from(key: u8, at: At, since: &Since, part: &KeyVersions) -> bool {
+    let key = key_of(key);
+    let are_later = part
+        .entries
+        .iter()
+        .all(|entry| entry.key == key && at <= at_of(entry.stamp));
+    are_later
+        && match since {
+            Some((since, value)) if *since == at => {
+                let first = part.entries.as_slice().get(..1).unwrap_or(&[]);
+                are_versions(first, &[(at, *value)])
+            }
+            _ => true,
+        }
+}
+
+/// Whether a part of the versions of a key says the same as a look for the next key from it on.
+fn is_same_part(part: &Part, key: u8, at: At, block: Option<u64>, since: &Since) -> bool {
+    match part {
+        Ok((place, told)) => *place == block && are_from(key, at, since, told),
+        Err(_) => false,
+    }
+}
+
+/// Whether the looks for a key and for its versions tell of it what the look for the next key tells; where that is refused, they
+/// are, for the same reason.
+fn is_same(tree: &mut Tree, key: u8, at: At, wanted: &Next) -> Option<bool> {
+    let found = found_at(tree, key, at)?;
+    let part = part_at(tree, key, at)?;
+    Some(match wanted {
+        Ok(told) => {
+            let (block, since) = had(key, told);
+            found == Ok((block, since)) && is_same_part(&part, key, at, block, &since)
+        }
+        Err(error) => found.err() == Some(*error) && part.err() == Some(*error),
+    })
+}
+
+/// Whether the look for the next key tells this, and the looks for the key and for its versions the same of it.
+fn is_told(tree: &mut Tree, key: u8, at: At, wanted: &Next) -> bool {
+    next_at(tree, key, at) == Some(*wanted) && is_same(tree, key, at, wanted) == Some(true)
+}
+
+/// A page, and a key and a stamp whose way comes to it.
+const WAYS: [(u64, u8, At); 11] = [
+    (1, 0, (300, 0)),
+    (2, 7, (300, 0)),
+    (3, 15, (30, 0)),
+    (4, 8, (30, 0)),
+    (5, 200, (40, 0)),
+    (6, 0, (100, 0)),
+    (7, 14, (20, 0)),
+    (8, 15, (30, 0)),
+    (9, 0, (200, 5)),
+    (10, 8, (10, 0)),
+    (11, 16, (40, 0)),
+];
+
+/// Octets behind all entries, and at the end, where zeros stand.
+const BEHIND: [usize; 3] = [16_351, 16_352, 16_383];
+
+/// Whether all looks at a key and a stamp call the page bad of which this octet is turned.
+fn is_bad(tree: &mut Tree, n: u64, octet: usize, key: u8, at: At) -> Option<bool> {
+    let bad = NodeError::BadNode(n);
+    spoil(tree, n, octet)?;
+    Some(is_told(tree, key, at, &Err(bad)) && all_of(tree, key)?.err() == Some(bad))
+}
+
+/// Whether they do of each octet of a header, which leaves none free: kind, unit, level, count and size, keys and stamps; and of octets
+/// after the entries. The page is mended then.
+fn is_header_kept(tree: &mut Tree, n: u64, key: u8, at: At) -> Option<bool> {
+    for octet in (0..120usize).chain(BEHIND) {
+        if !is_bad(tree, n, octet, key, at)? {
+            return Some(false);
+        }
+    }
+    mend(tree, n)?;
+    Some(next_at(tree, key, at)?.is_ok())
+}
+
+#[test]
+fn a_page_with_a_damaged_header_is_bad(rt: HostRuntime) {
+    let mut tree = whole_tree(rt.alloc()).expect(&rt, "a tree");
+    for (n, key, at) in &WAYS {
+        let is_kept = is_header_kept(&mut tree, *n, *key, *at) == Some(true);
+        be_at(&rt, is_kept, "a page", *n);
+    }
+}
+
+/// Why the looks at a key and a stamp are refused, none where they answer: all of them do, or none.
+fn refusal_at(tree: &mut Tree, key: u8, at: At) -> Option<Option<NodeError>> {
+    let refusal = next_at(tree, key, at)?.err();
+    let found = found_at(tree, key, at)?.err();
+    let part = part_at(tree, key, at)?.err();
+    if found == refusal && part == refusal {
+        Some(refusal)
+    } else {
+        None
+    }
+}
+
+/// What looks at a key and a stamp tell of the tree as it was put: where, how far the look for the next key comes, what the key has,
+/// and its versions, up to when they are all.
+#[derive(Clone, Copy)]
+struct Whole {
+    place: In,
+    comes: Comes,
+    has: Since,
+    versions: Versions,
+    end: Option<At>,
+}
+
+/// The block of a place in the past.
+fn block_of(place: &In) -> Option<u64> {
+    match place {
+        Some(place) => Some(place.0),
+        None => None,
+    }
+}
+
+/// Whether looks at a key and a stamp tell what they tell of the tree as it was put.
+fn is_whole(tree: &mut Tree, key: u8, at: At, whole: &Whole) -> Option<bool> {
+    let block = block_of(&whole.place);
+    let part = part_at(tree, key, at)?;
+    Some(
+        next_at(tree, key, at)? == Ok((whole.place, whole.comes))
+            && found_at(tree, key, at)? == Ok((block, whole.has))
+            && is_part(&part, block, whole.versions, whole.end),
+    )
+}
+
+/// Whether looks that pass a page or a block of which an octet that leads on is turned tell what they told before, or all name
+/// one page or block as damaged.
+fn is_whole_or_named(tree: &mut Tree, key: u8, at: At, whole: &Whole) -> Option<bool> {
+    match refusal_at(tree, key, at)? {
+        None => is_whole(tree, key, at, whole),
+        Some(NodeError::BadNode(_) | NodeError::Damaged(_)) => Some(true),
+        Some(_) => Some(false),
+    }
+}
+
+/// Pages that lead on, what looks tell by way of them, in the order of WAYS.
+const LEADING: [Whole; 8] = [
+    Whole {
+        place: None,
+        comes: Comes::To(3, (150, 0), Some(170)),
+        has: None,
+        versions: &[],
+        end: None,
+    },
+    Whole {
+        place: None,
+        comes: Comes::Past(8),
+        has: None,
+        versions: &[],
+        end: None,
+    },
+    Whole {
+        place: None,
+        comes: Comes::To(15, (30, 0), Some(3)),
+        has: Some(((30, 0), Some(3))),
+        versions: &[((30, 0), Some(3))],
+        end: None,
+    },
+    Whole {
+        place: None,
+        comes: Comes::To(8, (10, 0), Some(1)),
+        has: Some(((10, 0), Some(1))),
+        versions: &[((50, 0), None)],
+        end: None,
+    },
+    Whole {
+        place: None,
+        comes: Comes::To(200, (40, 0), Some(4)),
+        has: Some(((40, 0), Some(4))),
+        versions: &[((40, 0), Some(4))],
+        end: None,
+    },
+    Whole {
+        place: LATE,
+        comes: Comes::To(3, (1, 0), Some(160)),
+        has: None,
+        versions: &[],
+        end: Some((199, 0)),
+    },
+    Whole {
+        place: None,
+        comes: Comes::To(14, (20, 0), Some(2)),
+        has: Some(((20, 0), Some(2))),
+        versions: &[((20, 0), Some(2))],
+        end: None,
+    },
+    Whole {
+        place: None,
+        comes: Comes::To(15, (30, 0), Some(3)),
+        has: Some(((30, 0), Some(3))),
+        versions: &[((30, 0), Some(3))],
+        end: None,
+    },
+];
+
+/// Whether, with each octet of the entries of a page turned, looks tell what they told before, or name what is damaged. The page is
+/// mended then.
+fn are_octets_read(tree: &mut Tree, n: u64, key: u8, at: At, whole: &Whole) -> Option<bool> {
+    if !is_whole(tree, key, at, whole)? {
+        return Some(false);
+    }
+    let end = octets_of(tree.alloc, n)?.len();
+    for octet in 120..end {
+        spoil(tree, n, octet)?;
+        if !is_whole_or_named(tree, key, at, whole)? {
+            return Some(false);
+        }
+    }
+    mend(tree, n)?;
+    Some(true)
+}
+
+#[test]
+fn each_octet_of_the_entries_of_a_page_that_leads_on_is_read_or_told(rt: HostRuntime) {
+    let mut tree = whole_tree(rt.alloc()).expect(&rt, "a tree");
+    for ((n, key, at), whole) in WAYS.iter().zip(LEADING.iter()) {
+        let are_read = are_octets_read(&mut tree, *n, *key, *at, whole) == Some(true);
+        be_at(&rt, are_read, "a page", *n);
+    }
+}
+
+/// Whether looks answer, or name just this page or block as damaged.
+fn is_named(refusal: Option<NodeError>, leaf: NodeError) -> bool {
+    match refusal {
+        None => true,
+        Some(error) => error == leaf,
+    }
+}
+
+/// Whether they do with each octet of the entries of a current leaf turned. It is mended then.
+fn is_leaf_named(tree: &mut Tree, n: u64, key: u8, at: At) -> Option<bool> {
+    let end = octets_of(tree.alloc, n)?.len();
+    for octet in 120..end {
+        spoil(tree, n, octet)?;
+        if !is_named(refusal_at(tree, key, at)?, NodeError::BadNode(n)) {
+            return Some(false);
+        }
+    }
+    mend(tree, n)?;
+    Some(true)
+}
+
+#[test]
+fn each_octet_of_the_entries_of_a_current_leaf_is_read_or_told(rt: HostRuntime) {
+    let mut tree = whole_tree(rt.alloc()).expect(&rt, "a tree");
+    for (n, key, at) in &WAYS[8..] {
+        let is_named = is_leaf_named(&mut tree, *n, *key, *at) == Some(true);
+        be_at(&rt, is_named, "a leaf", *n);
+    }
+}
+
+/// A page or a block, an octet of it that is turned, a key and a stamp, and what the look for the next key tells then.
+type Told = (u64, usize, u8, At, Next);
+
+/// The first octet of a number turned: what it adds.
+const FAR: u64 = 72_057_594_037_927_936;
+
+/// Whether this is told of a page of which an octet is turned. It is mended then.
+fn is_told_of_page(tree: &mut Tree, n: u64, octet: usize, key: u8, at: At, wanted: &Next) -> bool {
+    spoil(tree, n, octet).is_some() && is_told(tree, key, at, wanted) && mend(tree, n).is_some()
+}
+
+/// Whether these are told of pages.
+fn are_told_of_pages(tree: &mut Tree, wanted: &[Told]) -> bool {
+    for (n, octet, key, at, answer) in wanted {
+        if !is_told_of_page(tree, *n, *octet, *key, *at, answer) {
+            return false;
+        }
+    }
+    true
+}
+
+const CHILDREN: [Told; 23] = [
+    // The lowest key of the first child, and its page.
+    (1, 120, 0, (300, 0), Err(NodeError::BadNode(1))),
+    (1, 159, 0, (300, 0), Err(NodeError::BadNode(1))),
+    (1, 160, 0, (300, 0), Err(NodeError::BadNode(FAR + 2))),
+    (1, 167, 0, (300, 0), Err(NodeError::BadNode(3))),
+    (
+        1,
+        167,
+        15,
+        (30, 0),
+        Ok((None, Comes::To(15, (30, 0), Some(3)))),
+    ),
+    (2, 159, 7, (300, 0), Err(NodeError::BadNode(2))),
+    (2, 167, 7, (300, 0), Err(NodeError::BadNode(5))),
+    (2, 168, 7, (300, 0), Err(NodeError::BadNode(2))),
+    (3, 159, 15, (30, 0), Err(NodeError::BadNode(3))),
+    (3, 167, 15, (30, 0), Err(NodeError::BadNode(4))),
+    (4, 167, 0, (300, 0), Err(NodeError::BadNode(7))),
+    (
+        4,
+        167,
+        8,
+        (30, 0),
+        Ok((None, Comes::To(8, (10, 0), Some(1)))),
+    ),
+    (5, 167, 200, (40, 0), Err(NodeError::BadNode(9))),
+    // Those of the second one: the keys of both change, and neither page has them.
+    (1, 168, 15, (30, 0), Err(NodeError::BadNode(2))),
+    (1, 207, 0, (300, 0), Err(NodeError::BadNode(2))),
+    (1, 207, 14, (20, 0), Err(NodeError::BadNode(3))),
+    (1, 207, 15, (30, 0), Err(NodeError::BadNode(3))),
+    (
+        1,
+        215,
+        0,
+        (300, 0),
+        Ok((None, Comes::To(3, (150, 0), Some(170)))),
+    ),
+    (1, 215, 15, (30, 0), Err(NodeError::BadNode(2))),
+    (4, 207, 8, (30, 0), Err(NodeError::BadNode(6))),
+    (4, 207, 9, (30, 0), Err(NodeError::BadNode(7))),
+    (4, 215, 8, (30, 0), Err(NodeError::BadNode(6))),
+    (4, 216, 8, (30, 0), Err(NodeError::BadNode(4))),
+];
+
+#[test]
+fn a_damaged_child_is_bad_or_leads_to_what_is(rt: HostRuntime) {
+    let mut tree = whole_tree(rt.alloc()).expect(&rt, "a tree");
+    be(&rt, are_told_of_pages(&mut tree, &CHILDREN), "key nodes");
+}
+
+/// What is told of the tree as it was put: of time 1, and of now.
+const EARLY_160: Next = Ok((EARLY, Comes::To(3, (1, 0), Some(160))));
+
+const NOW_170: Next = Ok((None, Comes::To(3, (150, 0), Some(170))));
+
+const COLUMNS: [Told; 29] = [
+    // The first part: its start, its kind and its number.
+    (6, 127, 0, (300, 0), Err(NodeError::BadNode(6))),
+    (6, 135, 0, (300, 0), Err(NodeError::BadNode(6))),
+    (6, 136, 0, (300, 0), Err(NodeError::BadNode(6))),
+    (6, 137, 0, (1, 0), Err(NodeError::Damaged(FAR))),
+    (6, 144, 0, (1, 0), Err(NodeError::Damaged(1))),
+    (6, 144, 0, (300, 0), NOW_170),
+    // The second part: where it starts the first one ends.
+    (6, 152, 0, (1, 0), Err(NodeError::Damaged(0))),
+    (6, 152, 0, (100, 0), Err(NodeError::Damaged(0))),
+    (6, 152, 0, (101, 0), Err(NodeError::Damaged(3))),
+    (6, 160, 0, (100, 0), Err(NodeError::Damaged(0))),
+    (6, 160, 0, (100, 1), Err(NodeError::Damaged(3))),
+    (6, 161, 0, (1, 0), Err(NodeError::BadNode(6))),
+    (6, 169, 0, (100, 0), Err(NodeError::Damaged(2))),
+    (6, 169, 0, (1, 0), EARLY_160),
+    // The current leaf: where it starts the second part ends.
+    (6, 177, 0, (1, 0), EARLY_160),
+    (6, 177, 0, (200, 5), Err(NodeError::Damaged(3))),
+    (6, 177, 0, (201, 5), Err(NodeError::BadNode(9))),
+    (6, 185, 0, (150, 0), Err(NodeError::Damaged(3))),
+    (6, 185, 0, (200, 4), Err(NodeError::BadNode(9))),
+    (6, 186, 0, (1, 0), Err(NodeError::BadNode(6))),
+    (6, 194, 0, (1, 0), EARLY_160),
+    (6, 194, 0, (300, 0), Err(NodeError::BadNode(8))),
+    (6, 195, 0, (300, 0), Err(NodeError::BadNode(6))),
+    // Columns without a past.
+    (7, 127, 14, (20, 0), Err(NodeError::BadNode(7))),
+    (7, 136, 14, (20, 0), Err(NodeError::BadNode(7))),
+    (7, 137, 14, (20, 0), Err(NodeError::BadNode(FAR + 10))),
+    (7, 144, 14, (20, 0), Err(NodeError::BadNode(11))),
+    (7, 145, 14, (20, 0), Err(NodeError::BadNode(7))),
+    (8, 144, 15, (30, 0), Err(NodeError::BadNode(10))),
+];
+
+#[test]
+fn a_damaged_column_is_bad_or_leads_to_what_is(rt: HostRuntime) {
+    let mut tree = whole_tree(rt.alloc()).expect(&rt, "a tree");
+    be(&rt, are_told_of_pages(&mut tree, &COLUMNS), "columns");
+}
+
+/// The same of current leaves, where nothing is told of the past.
+const LEAVES: [(u64, usize, u8, At, Result<Comes, NodeError>); 25] = [
+    // The first version: its key, its stamp, its tag, its length and its value.
+    (9, 120, 0, (200, 5), Err(NodeError::BadNode(9))),
+    (9, 159, 0, (200, 5), Ok(Comes::To(2, (150, 0), Some(170)))),
+    (9, 167, 0, (200, 5), Ok(Comes::To(3, (151, 0), Some(170)))),
+    (9, 175, 0, (200, 5), Ok(Comes::To(3, (150, 1), Some(170)))),
+    (9, 176, 0, (200, 5), Err(NodeError::BadNode(9))),
+    (9, 177, 0, (200, 5), Err(NodeError::BadNode(9))),
+    (9, 178, 0, (200, 5), Err(NodeError::BadNode(9))),
+    (9, 179, 0, (200, 5), Ok(Comes::To(3, (150, 0), Some(171)))),
+    // The second one, and the third, whose stamp passes the one asked for, or falls.
+    (9, 219, 6, (300, 0), Ok(Comes::To(7, (199, 0), Some(171)))),
+    (9, 227, 6, (300, 0), Ok(Comes::To(6, (198, 0), Some(171)))),
+    (9, 287, 4, (300, 0), Ok(Comes::To(6, (199, 0), Some(171)))),
+    (9, 286, 4, (300, 0), Err(NodeError::BadNode(9))),
+    // The end of key 3: it comes later, becomes a value of no octets, or has octets.
+    (9, 347, 0, (400, 0), Ok(Comes::To(3, (150, 0), Some(170)))),
+    (9, 356, 0, (400, 0), Ok(Comes::To(3, (400, 0), None))),
+    (9, 358, 0, (400, 0), Err(NodeError::BadNode(9))),
+    (9, 359, 0, (400, 0), Err(NodeError::BadNode(9))),
+    // Other leaves.
+    (10, 159, 8, (10, 0), Ok(Comes::To(9, (10, 0), Some(1)))),
+    (10, 167, 8, (10, 0), Ok(Comes::Past(15))),
+    (10, 219, 14, (20, 0), Err(NodeError::BadNode(10))),
+    (10, 279, 8, (50, 0), Ok(Comes::To(8, (10, 0), Some(1)))),
+    (10, 299, 8, (50, 0), Err(NodeError::BadNode(10))),
+    (11, 159, 15, (30, 0), Err(NodeError::BadNode(11))),
+    (11, 167, 15, (30, 0), Ok(Comes::End)),
+    (11, 219, 16, (40, 0), Ok(Comes::To(201, (40, 0), Some(4)))),
+    (11, 239, 16, (40, 0), Ok(Comes::To(200, (40, 0), Some(5)))),
+];
+
+/// What a look for the next key tells of now.
+fn told_now(answer: &Result<Comes, NodeError>) -> Next {
+    match answer {
+        Ok(comes) => Ok((None, *comes)),
+        Err(error) => Err(*error),
+    }
+}
+
+#[test]
+fn a_damaged_leaf_is_bad_or_has_other_versions(rt: HostRuntime) {
+    let mut tree = whole_tree(rt.alloc()).expect(&rt, "a tree");
+    for (i, (n, octet, key, at, answer)) in LEAVES.iter().enumerate() {
+        let wanted = told_now(answer);
+        let is_told = is_told_of_page(&mut tree, *n, *octet, *key, *at, &wanted);
+        be_at(&rt, is_told, "a leaf", i as u64);
+    }
+}
+
+/// Whether looks at a key now call a page bad.
+fn is_bad_now(tree: &mut Tree, key: u8, n: u64) -> bool {
+    is_told(tree, key, (300, 0), &Err(NodeError::BadNode(n)))
+}
+
+#[test]
+fn a_key_node_that_names_itself_is_bad(rt: HostRuntime) {
+    let mut tree = whole_tree(rt.alloc()).expect(&rt, "a tree");
+    let laid = lay_key_node(&mut tree, 4, 2, Some(15), &[(0, 4), (8, 7)]);
+    be(
+        &rt,
+        laid.is_some() && is_bad_now(&mut tree, 0, 4),
+        "a key node",
+    );
+    // The root too, and one that names a page that there isn't.
+    let laid = lay_key_node(&mut tree, 1, 4, None, &[(0, 1), (15, 200)]);
+    be(
+        &rt,
+        laid.is_some() && is_bad_now(&mut tree, 0, 1),
+        "the root",
+    );
+    be(
+        &rt,
+        is_bad_now(&mut tree, 15, 200),
+        "a page that there isn't",
+    );
+}
+
+/// An octet of a block that is turned before the block gets its digest.
+fn turned_of(block: u64, octet: usize) -> Turned {
+    Turned {
+        block,
+        octet,
+        is_sealed: true,
+    }
+}
+
+/// Whether the tree's looks tell this where an octet of a block is turned.
+fn is_told_of_block(tree: &mut Tree, turned: Turned, key: u8, at: At, wanted: &Next) -> bool {
+    spoil_block(tree, turned).is_some() && is_told(tree, key, at, wanted)
+}
+
+/// Whether looks tell these of blocks with a digest of what they are then.
+fn are_told_of_blocks(tree: &mut Tree, wanted: &[Told]) -> bool {
+    for (n, octet, key, at, answer) in wanted {
+        if !is_told_of_block(tree, turned_of(*n, *octet), *key, *at, answer) {
+            return false;
+        }
+    }
+    true
+}
+
+/// Of each block, a key and a stamp whose way comes to it, and what they tell.
+const BLOCK_WAYS: [(u64, u8, At, Comes, In); 4] = [
+    (0, 0, (1, 0), Comes::To(3, (1, 0), Some(160)), EARLY),
+    (1, 0, (100, 0), Comes::To(3, (1, 0), Some(160)), LATE),
+    (2, 4, (199, 0), Comes::To(6, (199, 0), Some(171)), LATE),
+    (3, 0, (200, 4), Comes::To(3, (150, 0), Some(170)), LATE),
+];
+
+/// Whether looks tell what they have to where an octet of the header of a block is turned: a block may have more keys than its place; no
+/// other octet of a header is free.
+fn is_header_read(tree: &mut Tree, n: u64, octet: usize, key: u8, at: At, whole: Next) -> bool {
+    let answer = match octet {
+        48..=87 => whole,
+        _ => Err(NodeError::Damaged(n)),
+    };
+    is_told_of_block(tree, turned_of(n, octet), key, at, &answer)
+        && match all_of(tree, key) {
+            Some(all) => all.err() == answer.err(),
+            None => false,
+        }
+}
+
+/// The same of each octet of the header, and of one after the entries.
+fn is_block_read(tree: &mut Tree, n: u64, key: u8, at: At, whole: Next) -> bool {
+    for octet in 0..120usize {
+        if !is_header_read(tree, n, octet, key, at, whole) {
+            return false;
+        }
+    }
+    is_told_of_block(
+        tree,
+        turned_of(n, 16_351),
+        key,
+        at,
+        &Err(NodeError::Damaged(n)),
+    )
+}
+
+#[test]
+fn a_block_with_a_damaged_header_is_damaged(rt: HostRuntime) {
+    let mut tree = whole_tree(rt.alloc()).expect(&rt, "a tree");
+    for (n, key, at, comes, place) in &BLOCK_WAYS {
+        let is_read = is_block_read(&mut tree, *n, *key, *at, Ok((*place, *comes)));
+        be_at(&rt, is_read, "a block", *n);
+    }
+}
+
+/// Whether looks answer, or name just the block of which an octet of the entries is turned.
+fn is_block_named(tree: &mut Tree, n: u64, key: u8, at: At) -> Option<bool> {
+    let end = block_octets(tree.alloc, n)?.len();
+    for octet in 120..end {
+        spoil_block(tree, turned_of(n, octet))?;
+        if !is_named(refusal_at(tree, key, at)?, NodeError::Damaged(n)) {
+            return Some(false);
+        }
+    }
+    Some(true)
+}
+
+/// What looks tell by way of the column of the past.
+const LAST: Whole = Whole {
+    place: LATE,
+    comes: Comes::To(3, (150, 0), Some(170)),
+    has: None,
+    versions: &[],
+    end: Some((200, 5)),
+};
+
+/// The same of the column of the past, whose octets lead on.
+fn is_past_column_read(tree: &mut Tree) -> Option<bool> {
+    let end = block_octets(tree.alloc, 3)?.len();
+    for octet in 120..end {
+        spoil_block(tree, turned_of(3, octet))?;
+        if !is_whole_or_named(tree, 0, (200, 4), &LAST)? {
+            return Some(false);
+        }
+    }
+    Some(true)
+}
+
+#[test]
+fn each_octet_of_the_entries_of_a_block_is_read_or_told(rt: HostRuntime) {
+    let mut tree = whole_tree(rt.alloc()).expect(&rt, "a tree");
+    for (n, key, at, _, _) in &BLOCK_WAYS[..3] {
+        let is_named = is_block_named(&mut tree, *n, *key, *at) == Some(true);
+        be_at(&rt, is_named, "a block", *n);
+    }
+    be(
+        &rt,
+        is_past_column_read(&mut tree) == Some(true),
+        "the column",
+    );
+}
+
+/// Octets of a block that is to have another digest where they are turned.
+const UNSEALED: [usize; 6] = [0, 87, 159, 16_351, 16_352, 16_383];
+
+/// Whether looks call a block damaged of which an octet is turned, whose digest is of what it was.
+fn is_unsealed_told(tree: &mut Tree, n: u64, key: u8, at: At) -> bool {
+    for octet in UNSEALED {
+        let turned = Turned {
+            block: n,
+            octet,
+            is_sealed: false,
+        };
+        if !is_told_of_block(tree, turned, key, at, &Err(NodeError::Damaged(n))) {
+            return false;
+        }
+    }
+    true
+}
+
+#[test]
+fn a_block_without_its_digest_is_damaged(rt: HostRuntime) {
+    let mut tree = whole_tree(rt.alloc()).expect(&rt, "a tree");
+    for (n, key, at, _, _) in &BLOCK_WAYS {
+        be_at(
+            &rt,
+            is_unsealed_told(&mut tree, *n, *key, *at),
+            "a block",
+            *n,
+        );
+    }
+}
+
+const PAST_LEAVES: [Told; 20] = [
+    (0, 120, 0, (1, 0), Err(NodeError::Damaged(0))),
+    (
+        0,
+        159,
+        0,
+        (1, 0),
+        Ok((EARLY, Comes::To(2, (1, 0), Some(160)))),
+    ),
+    (
+        0,
+        167,
+        0,
+        (0, 0),
+        Ok((EARLY, Comes::To(3, (0, 0), Some(160)))),
+    ),
+    (0, 175, 0, (1, 0), Ok((EARLY, Comes::Past(8)))),
+    (0, 176, 0, (1, 0), Err(NodeError::Damaged(0))),
+    (0, 178, 0, (1, 0), Err(NodeError::Damaged(0))),
+    (
+        0,
+        179,
+        0,
+        (1, 0),
+        Ok((EARLY, Comes::To(3, (1, 0), Some(161)))),
+    ),
+    (0, 227, 4, (50, 0), Ok((EARLY, Comes::Past(8)))),
+    (
+        0,
+        279,
+        4,
+        (99, 0),
+        Ok((EARLY, Comes::To(5, (50, 0), Some(161)))),
+    ),
+    (0, 296, 4, (99, 0), Ok((EARLY, Comes::To(5, (99, 0), None)))),
+    (0, 299, 4, (99, 0), Err(NodeError::Damaged(0))),
+    (
+        1,
+        167,
+        0,
+        (100, 0),
+        Ok((LATE, Comes::To(3, (0, 0), Some(160)))),
+    ),
+    (
+        1,
+        179,
+        0,
+        (100, 0),
+        Ok((LATE, Comes::To(3, (1, 0), Some(161)))),
+    ),
+    (
+        1,
+        219,
+        0,
+        (150, 0),
+        Ok((LATE, Comes::To(2, (150, 0), Some(170)))),
+    ),
+    (
+        1,
+        227,
+        0,
+        (150, 0),
+        Ok((LATE, Comes::To(3, (1, 0), Some(160)))),
+    ),
+    (1, 236, 0, (150, 0), Err(NodeError::Damaged(1))),
+    (1, 240, 0, (150, 0), Err(NodeError::Damaged(1))),
+    (
+        2,
+        219,
+        4,
+        (199, 0),
+        Ok((LATE, Comes::To(7, (199, 0), Some(171)))),
+    ),
+    (
+        2,
+        227,
+        4,
+        (199, 0),
+        Ok((LATE, Comes::To(6, (198, 0), Some(171)))),
+    ),
+    (
+        2,
+        239,
+        4,
+        (199, 0),
+        Ok((LATE, Comes::To(6, (199, 0), Some(170)))),
+    ),
+];
+
+#[test]
+fn a_damaged_leaf_of_the_past_is_named_or_has_other_versions(rt: HostRuntime) {
+    let mut tree = whole_tree(rt.alloc()).expect(&rt, "a tree");
+    be(
+        &rt,
+        are_told_of_blocks(&mut tree, &PAST_LEAVES),
+        "leaves of the past",
+    );
+}
+
+const PAST_COLUMNS: [Told; 14] = [
+    // The first part: its start, its kind and its number.
+    (3, 127, 0, (100, 0), Err(NodeError::Damaged(3))),
+    (3, 135, 0, (100, 0), Err(NodeError::Damaged(3))),
+    (3, 136, 0, (100, 0), Err(NodeError::Damaged(3))),
+    (3, 137, 0, (100, 0), Err(NodeError::Damaged(3))),
+    (3, 144, 0, (100, 0), Err(NodeError::Damaged(0))),
+    (
+        3,
+        144,
+        4,
+        (199, 0),
+        Ok((LATE, Comes::To(6, (199, 0), Some(171)))),
+    ),
+    // The second one: where it starts the first one ends. It comes to stand in the very block of the column.
+    (3, 152, 0, (100, 0), Err(NodeError::Damaged(1))),
+    (3, 152, 4, (198, 0), Err(NodeError::Damaged(2))),
+    (3, 160, 4, (199, 0), Err(NodeError::Damaged(1))),
+    (3, 161, 4, (199, 0), Err(NodeError::Damaged(3))),
+    (3, 162, 4, (199, 0), Err(NodeError::Damaged(3))),
+    (3, 169, 4, (199, 0), Err(NodeError::Damaged(3))),
+    (
+        3,
+        169,
+        0,
+        (100, 0),
+        Ok((LATE, Comes::To(3, (1, 0), Some(160)))),
+    ),
+    (3, 170, 0, (100, 0), Err(NodeError::Damaged(3))),
+];
+
+#[test]
+fn a_damaged_column_of_the_past_is_named_or_leads_to_what_is(rt: HostRuntime) {
+    let mut tree = whole_tree(rt.alloc()).expect(&rt, "a tree");
+    be(
+        &rt,
+        are_told_of_blocks(&mut tree, &PAST_COLUMNS),
+        "a column of the past",
+    );
+}

@@ -1,0 +1,7 @@
+//! Leaves and pasts of columns that become blocks, asked at each stamp beside a plain list.
+
+mod asking;
+mod columns;
+mod leaves;
+mod refusals;
+mod rows;

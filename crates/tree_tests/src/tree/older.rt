@@ -1,0 +1,167 @@
+//! A tree of the earlier form: a column has at most one part in its page, and the block of a column has two.
+
+use super::plain::{Plain, has_all, is_alike};
+use super::{Row, Tree, disks_of, is_at, lay, takes, tree_at};
+use crate::be;
+use crate::memory::burn;
+use crate::octets::{ALL, COLUMN, CURRENT, LEAF, Part, Times, Version, column, leaf};
+use std::alloc::Global;
+use tsb_tree::open;
+use version_model::Stamp;
+
+/// The time of the last version.
+const LAST: u8 = 20;
+
+/// How many blocks the past takes: six of leaves, and one of a column for each but the first.
+const BLOCKS: u64 = 11;
+
+/// How many keys are asked for: some have no version.
+const KEYS: u16 = 16;
+
+/// The version of a time: three keys take one in turn.
+fn version_at(time: u8) -> Version {
+    (1 + time % 3, time, time)
+}
+
+/// When the k-th leaf starts.
+fn start_of(k: u8) -> u8 {
+    if k == 0 {
+        0
+    } else {
+        k.saturating_mul(3).saturating_add(1)
+    }
+}
+
+/// The versions of a leaf from a start on and before an end: those of its stamps, and of the two other keys what they have at the start.
+fn versions_in(alloc: Global, start: u8, end: u8) -> Option<Vec<Version>> {
+    let mut versions = Vec::new(alloc);
+    for time in start.saturating_sub(2).max(1)..end {
+        versions.push(version_at(time)).ok()?;
+    }
+    Some(versions)
+}
+
+/// Appends the block of the k-th leaf. It returns its part.
+fn burn_leaf(tree: &mut Tree, k: u8) -> Option<Part> {
+    let start = start_of(k);
+    let end = start_of(k.saturating_add(1));
+    let versions = versions_in(tree.alloc, start, end)?;
+    let octets = leaf(tree.alloc, ALL, Times(start, Some(end)), &versions)?;
+    Some((start, LEAF, burn(tree.alloc, &mut tree.shelf, &octets)?))
+}
+
+/// Appends the block of a column of two parts, up to an end. It returns its part.
+fn burn_column(tree: &mut Tree, end: u8, past: Part, more: Part) -> Option<Part> {
+    let octets = column(tree.alloc, ALL, Some(end), &[past, more])?;
+    Some((0, COLUMN, burn(tree.alloc, &mut tree.shelf, &octets)?))
+}
+
+/// Appends the blocks of the past. It returns the one part that has it all: each split but the first made a column of the past before it and of
+/// one leaf more.
+fn burn_past(tree: &mut Tree) -> Option<Part> {
+    let mut past = burn_leaf(tree, 0)?;
+    for k in 1..6u8 {
+        let more = burn_leaf(tree, k)?;
+        past = burn_column(tree, start_of(k.saturating_add(1)), past, more)?;
+    }
+    Some(past)
+}
+
+/// Sets the column in page 0.
+fn lay_column(tree: &mut Tree) -> Option<()> {
+    let past = burn_past(tree)?;
+    let octets = column(tree.alloc, ALL, None, &[past, (start_of(6), CURRENT, 1)])?;
+    lay(tree, 0, &octets)
+}
+
+/// Sets its current leaf in page 1.
+fn lay_leaf(tree: &mut Tree) -> Option<()> {
+    let start = start_of(6);
+    let versions = versions_in(tree.alloc, start, LAST.saturating_add(1))?;
+    let octets = leaf(tree.alloc, ALL, Times(start, None), &versions)?;
+    lay(tree, 1, &octets)
+}
+
+/// A tree of the earlier form.
+fn older(alloc: Global) -> Option<Tree> {
+    let mut tree = tree_at(alloc, disks_of(alloc, 40, 64), 2, 0, 1)?;
+    lay_column(&mut tree)?;
+    lay_leaf(&mut tree)?;
+    tree.place = open(&mut tree.tx, 0, Stamp::new(u64::from(LAST), 1)).ok()?;
+    Some(tree)
+}
+
+/// The versions of that tree.
+fn older_versions(alloc: Global) -> Option<Plain> {
+    let mut plain = Plain::new(alloc, KEYS)?;
+    for time in 1..21u8 {
+        let (key, time, value) = version_at(time);
+        let row = (Stamp::new(u64::from(time), 0), Some((1, value)));
+        plain.put(u16::from(key), row)?;
+    }
+    Some(plain)
+}
+
+/// Whether a tree answers as plain lists do, each key at each time below one.
+fn is_plain(tree: &mut Tree, plain: &Plain, times: u64) -> bool {
+    for key in 0..KEYS {
+        for time in 0..times {
+            if !is_alike(tree, plain, key, Stamp::new(time, 0)) {
+                return false;
+            }
+        }
+        if !has_all(tree, plain, key) {
+            return false;
+        }
+    }
+    true
+}
+
+#[test]
+fn a_tree_of_the_earlier_form_is_asked(rt: HostRuntime) {
+    let plain = older_versions(rt.alloc()).expect(&rt, "versions");
+    let mut tree = older(rt.alloc()).expect(&rt, "a tree");
+    be(&rt, is_at(&tree, 0, 1, 2, BLOCKS), "its blocks");
+    be(&rt, is_plain(&mut tree, &plain, 23), "what it answers");
+}
+
+/// The version of a time after those of the earlier form: of the largest size, of one of so many keys in turn.
+fn large_at(time: u64, keys: u64) -> (u16, Row) {
+    let key = u16::try_from(time.checked_rem(keys).unwrap_or(0)).unwrap_or(0);
+    let octet = u8::try_from(time % 251).unwrap_or(0);
+    (key, (Stamp::new(time, 0), Some((3_072, octet))))
+}
+
+/// Puts versions of the largest size into a tree and into plain lists, of so many keys in turn, up to a time.
+fn put_large(tree: &mut Tree, plain: &mut Plain, keys: u64, end: u64) -> Option<()> {
+    for time in tree.place.least.time().saturating_add(1)..end {
+        let (key, row) = large_at(time, keys);
+        if !takes(tree, key, &row) {
+            return None;
+        }
+        plain.put(key, row)?;
+    }
+    Some(())
+}
+
+// Beside four versions of the earlier form the leaf has room for five of the largest size.
+#[test]
+fn it_is_split_by_time_with_nothing_rewritten(rt: HostRuntime) {
+    let mut plain = older_versions(rt.alloc()).expect(&rt, "versions");
+    let mut tree = older(rt.alloc()).expect(&rt, "a tree");
+    let fit = put_large(&mut tree, &mut plain, 1, 26).is_some();
+    be(&rt, fit && is_at(&tree, 0, 1, 2, BLOCKS), "five versions");
+    let split = put_large(&mut tree, &mut plain, 1, 27).is_some();
+    be(&rt, split && is_at(&tree, 0, 1, 2, BLOCKS + 1), "the sixth");
+    be(&rt, is_plain(&mut tree, &plain, 28), "what it answers");
+}
+
+// Eleven keys don't fit one leaf.
+#[test]
+fn it_is_split_by_key_and_both_halves_have_its_past(rt: HostRuntime) {
+    let mut plain = older_versions(rt.alloc()).expect(&rt, "versions");
+    let mut tree = older(rt.alloc()).expect(&rt, "a tree");
+    let split = put_large(&mut tree, &mut plain, 11, 61).is_some();
+    be(&rt, split && tree.place.level == 2, "a split by key");
+    be(&rt, is_plain(&mut tree, &plain, 62), "what it answers");
+}
