@@ -180,8 +180,8 @@ impl<D: EraseDisk + Drop> Pool<D> {
 
     /// Replaces pages, all of them or none. They stay in memory as they are.
     ///
-    /// Memory is asked for before anything is written: after that a page for which there is none is left to its image.
-    pub fn commit(&mut self, alloc: Global, images: Vec<(u64, Page)>) -> Result<(), PostError>
+    /// It needs no memory: a page for which there is none in which to wait is left to its image.
+    pub fn commit(&mut self, images: Vec<(u64, Page)>) -> Result<(), PostError>
         requires below { AreBelow (home_pages (journal_of self.old)) (pages_of images.items) }
         requires distinct { AreDistinct (pages_of images.items) }
 
@@ -204,7 +204,7 @@ impl<D: EraseDisk + Drop> Pool<D> {
         ensures capacity { most_clean self.new ≡ most_clean self.old }
         ensures journal { SameJournal D.EraseDisk (journal_of self.old) (journal_of self.new) (IsErrOf result PostError.Fault) }
     {
-        self.journal.post(alloc, &images)?;
+        self.journal.post(&images)?;
         held::take_all(&mut self.committed, &mut self.cached, images);
         Ok(())
     }

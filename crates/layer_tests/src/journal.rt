@@ -101,7 +101,7 @@ fn post(
         return Err(JournalError::NotAJournal);
     }
     let images = [(1, filled(alloc, one)?), (2, filled(alloc, two)?)];
-    Ok(journal.post(alloc, &images)?)
+    Ok(journal.post(&images)?)
 }
 
 fn home(
@@ -139,7 +139,7 @@ fn post_one(
     if n >= journal.home_pages() {
         return Err(JournalError::NotAJournal);
     }
-    Ok(journal.post(alloc, &[(n, filled(alloc, octet)?)])?)
+    Ok(journal.post(&[(n, filled(alloc, octet)?)])?)
 }
 
 /// Whether these pages are shown after a crash that tears all unsynced ranges alike.

@@ -29,7 +29,6 @@ of_post posts.Fault = refusals.Fault
 of_post posts.TooManyImages = refusals.TooManyImages
 of_post posts.JournalFull = refusals.JournalFull
 of_post posts.NeedsRecovery = refusals.NeedsRecovery
-of_post posts.OutOfMemory = refusals.OutOfMemory
 
 -- why another call was refused
 abbrev pub of_use : UseError → JournalError

@@ -9,10 +9,11 @@ ghost use Rattle.page_journal.specs.Layout.{homes_from, pages_of, transaction, h
 ghost use Rattle.page_journal.specs.Recovers.{laid, AreBelow, AreDistinct, IsListed, Recovers, RecoversEither};
 
 use crate::error::{CreateError, OpenError, PostError, UseError};
-use crate::layout::{FIRST_HOME, IMAGES, PAGE, SLOTS};
+use crate::layout::{FIRST_HOME, IMAGES, PAGE, SLOTS, UNHOMED};
 use crate::refused::Refused;
 use crate::unhomed::Unhomed;
 use crate::{create, examine, gate, slot, unhomed};
+use arrayvec::ArrayVec;
 use disk_models::{EraseDisk, Page};
 use std::alloc::Global;
 
@@ -26,11 +27,12 @@ pub struct Journal<D: EraseDisk + Drop> {
     homes: u64,
     note: [u8; 11],
     opened: u64,
-    unhomed: Vec<Unhomed>,
+    unhomed: ArrayVec<Unhomed, UNHOMED>,
     needs_recovery: bool,
     ghost room: { home_place homes ≤ D.octet_count disk },
     ghost small: { 265 + homes < 2 ^ 50 },
     ghost eight: { opened ≤ 8 },
+    ghost few: { length unhomed.items ≤ 31 * opened },
     ghost images: { AllByRecursion (IsImage opened) unhomed.items } by { AllByRecursion-prop (IsImage opened) (λ u. Prim.hlevel props) unhomed.items },
     ghost below: { AreBelow homes (unhomed_numbers unhomed.items) } by { AllByRecursion-prop (λ n. n < homes) (λ n. Prim.hlevel props) (unhomed_numbers unhomed.items) },
 }
@@ -88,7 +90,7 @@ impl<D: EraseDisk + Drop> Journal<D> {
                 homes,
                 note,
                 opened: 0,
-                unhomed: Vec::new(alloc),
+                unhomed: ArrayVec::new(),
                 needs_recovery: false,
             }),
             Err(error) => Err(Refused { disk, error }),
@@ -128,7 +130,7 @@ impl<D: EraseDisk + Drop> Journal<D> {
                     homes: identity.homes,
                     note,
                     opened: 0,
-                    unhomed: Vec::new(alloc),
+                    unhomed: ArrayVec::new(),
                     needs_recovery: false,
                 })
             }
@@ -218,9 +220,8 @@ impl<D: EraseDisk + Drop> Journal<D> {
 
     /// Replaces pages, all of them or none. A post of no page does nothing.
     ///
-    /// At most 31 pages go into one post, and a slot must be closed. It takes that slot, and asks for memory before it
-    /// writes anything.
-    pub fn post(&mut self, alloc: Global, images: &[(u64, Page)]) -> Result<(), PostError>
+    /// At most 31 pages go into one post, and a slot must be closed. It takes that slot, and needs no memory.
+    pub fn post(&mut self, images: &[(u64, Page)]) -> Result<(), PostError>
         requires below { AreBelow (home_pages self.old) (pages_of images.now) }
         requires distinct { AreDistinct (pages_of images.now) }
 
@@ -255,14 +256,13 @@ impl<D: EraseDisk + Drop> Journal<D> {
             return Err(PostError::JournalFull);
         }
         let slot = self.opened;
-        let header = slot::header(alloc, slot + 1, images)?;
-        let after = unhomed::after_post(alloc, slot, images, &self.unhomed)?;
+        let header = slot::header(slot + 1, images);
         self.needs_recovery = true;
         slot::fill(&mut self.disk, slot, &header, images)?;
         slot::open_gate(&mut self.disk, slot)?;
         self.needs_recovery = false;
         self.opened = slot + 1;
-        self.unhomed = after;
+        unhomed::enter_all(&mut self.unhomed, slot, images);
         Ok(())
     }
 

@@ -86,7 +86,6 @@ impl From<PostError> for JournalError {
             PostError::TooManyImages => JournalError::TooManyImages,
             PostError::JournalFull => JournalError::JournalFull,
             PostError::NeedsRecovery => JournalError::NeedsRecovery,
-            PostError::OutOfMemory => JournalError::OutOfMemory,
         }
     }
 }

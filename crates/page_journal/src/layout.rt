@@ -12,6 +12,12 @@ pub const SLOTS: u64 = 8;
 /// How many images a slot has room for.
 pub const IMAGES: usize = 31;
 
+/// The most octets of a slot's header: the transaction's number, the count of images, and the number of each one's page.
+pub const HEADER_OCTETS: usize = 257;
+
+/// The most pages that were posted and aren't home: those of all slots.
+pub const UNHOMED: usize = 248;
+
 /// How many pages of the disk a slot has.
 pub const SLOT_PAGES: u64 = 33;
 

@@ -98,7 +98,7 @@ impl<D: EraseDisk + Drop> Tx<D> {
         ensures journal { SameJournal D.EraseDisk (journal_of (pool_of self.old)) (journal_of (pool_of self.new)) (IsErrOf result PostError.Fault) }
     {
         let images = mem::replace(&mut self.images, Vec::new(self.alloc));
-        self.pool.commit(self.alloc, images)
+        self.pool.commit(images)
     }
 
     /// Writes all pages of the pool home, and closes the journal's slots. The images stay as they are.

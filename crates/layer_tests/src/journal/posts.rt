@@ -115,7 +115,7 @@ fn a_post_of_32_pages_is_refused(rt: HostRuntime) {
         .expect(&rt, "a journal");
     let images = numbered(alloc, journal.home_pages(), 32, 9).expect(&rt, "images");
     be(&rt, images.len() == 32, "images of 32 pages");
-    let refused = journal.post(alloc, &images);
+    let refused = journal.post(&images);
     be(&rt, refused == Err(PostError::TooManyImages), "a refusal");
     be(
         &rt,

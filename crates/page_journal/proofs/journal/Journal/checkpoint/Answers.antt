@@ -3,7 +3,7 @@ use Rattle.page_journal.specs.Bookkeeping.{IsImage, unhomed_numbers}
 use Rattle.std.specs.List.{AllByRecursion}
 use Rattle.page_journal.specs.Recovers.{AreBelow, IsListed}
 use Rattle.page_journal.specs.declared.unhomed.Unhomed.{Unhomed}
-use Rattle.page_journal.proofs.Placing.{none_unhomed, no_numbers}
+use Rattle.page_journal.proofs.Placing.{length-unhomed_numbers, none_unhomed, no_numbers}
 use Rattle.page_journal.proofs.Keeping.{ShownAt, checkpoint_stands, checkpoint_crash, stands_carries, stands_shown}
 use Rattle.page_journal.proofs.journal.Journal.checkpoint.Goals as goal
 
@@ -53,3 +53,6 @@ pub invariant_of-self-2-clause-below : goal.invariant_of-self-2-clause-below
 invariant_of-self-2-clause-below g c =
     let self = c.args.self.now in
     subst (AreBelow self.homes) (sym (no_numbers (unhomed_numbers self.unhomed.items) c.requires)) tt
+
+pub invariant_of-self-2-clause-few : goal.invariant_of-self-2-clause-few
+invariant_of-self-2-clause-few g c = omega (arith, c.requires, length-unhomed_numbers c.args.self.now.unhomed.items)

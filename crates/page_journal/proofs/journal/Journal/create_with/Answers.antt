@@ -11,7 +11,7 @@ returns-in-Ok-clause-created g c h =
     let s = g.D.EraseDisk.model c.prepare.new.disk in
     let pages = laid c.args.first.now (homes_from (g.D.EraseDisk.model c.args.disk).octet 0 c.args.homes) in
     let stands = c.in-Ok.ensures.stands h in
-    let none = c.new.ensures.items in
+    let none = c.new.ensures in
     record {
       usable = refl;
       carries = stands_carries c.args.homes c.args.note s pages stands;

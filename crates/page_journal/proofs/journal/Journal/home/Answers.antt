@@ -11,7 +11,7 @@ use Rattle.page_journal.proofs.journal.Journal.home.Goals as goal
 
 pub returns-then-not-is_unhomed-clause-unhomed : goal.returns-then-not-is_unhomed-clause-unhomed
 returns-then-not-is_unhomed-clause-unhomed g c =
-    let numbers : unhomed_numbers c.deref.result.now ≡ unhomed_numbers c.args.self.now.unhomed.items = ap unhomed_numbers c.deref.ensures.value in
+    let numbers : unhomed_numbers c.deref.result.now ≡ unhomed_numbers c.args.self.now.unhomed.items = ap unhomed_numbers c.deref.ensures.0 in
     none_listed (unhomed_numbers c.args.self.now.unhomed.items) c.args.n
     (λ listed. true≢false (sym (c.if-not-is_unhomed.ensures.1 (subst (IsListed c.args.n) (sym numbers) listed))))
 
@@ -20,7 +20,7 @@ returns-in_err-write_at-clause-crash g c h pages keeps =
     let self = c.args.self.now in
     let s0 = g.D.EraseDisk.model self.disk in
     let s1 = g.D.EraseDisk.model c.write_at.new.self in
-    let listed : IsListed c.args.n (unhomed_numbers self.unhomed.items) = subst (IsListed c.args.n) (ap unhomed_numbers c.deref.ensures.value) (c.if-not-is_unhomed.ensures.0 refl) in
+    let listed : IsListed c.args.n (unhomed_numbers self.unhomed.items) = subst (IsListed c.args.n) (ap unhomed_numbers c.deref.ensures.0) (c.if-not-is_unhomed.ensures.0 refl) in
     home_crash self.homes self.note (open_slots self.opened) c.args.n s0 s1 self.unhomed.items pages
     (whole_page (home_place c.args.n) _ s0 s1 c.octets.ensures.size (c.write_at.ensures.within h)) keeps.carries keeps.covered listed
 
@@ -29,7 +29,7 @@ returns-clause-crash g c h pages keeps =
     let self = c.args.self.now in
     let s0 = g.D.EraseDisk.model self.disk in
     let s1 = g.D.EraseDisk.model c.write_at.new.self in
-    let listed : IsListed c.args.n (unhomed_numbers self.unhomed.items) = subst (IsListed c.args.n) (ap unhomed_numbers c.deref.ensures.value) (c.if-not-is_unhomed.ensures.0 refl) in
+    let listed : IsListed c.args.n (unhomed_numbers self.unhomed.items) = subst (IsListed c.args.n) (ap unhomed_numbers c.deref.ensures.0) (c.if-not-is_unhomed.ensures.0 refl) in
     home_crash self.homes self.note (open_slots self.opened) c.args.n s0 s1 self.unhomed.items pages
     (whole_page (home_place c.args.n) _ s0 s1 c.octets.ensures.size (c.write_at.ensures.within h)) keeps.carries keeps.covered listed
 
@@ -38,9 +38,9 @@ returns-clause-keeps g c h pages keeps is =
     let self = c.args.self.now in
     let s0 = g.D.EraseDisk.model self.disk in
     let s1 = g.D.EraseDisk.model c.write_at.new.self in
-    let listed : IsListed c.args.n (unhomed_numbers self.unhomed.items) = subst (IsListed c.args.n) (ap unhomed_numbers c.deref.ensures.value) (c.if-not-is_unhomed.ensures.0 refl) in
+    let listed : IsListed c.args.n (unhomed_numbers self.unhomed.items) = subst (IsListed c.args.n) (ap unhomed_numbers c.deref.ensures.0) (c.if-not-is_unhomed.ensures.0 refl) in
     let writes = whole_page (home_place c.args.n) _ s0 s1 c.octets.ensures.size (c.write_at.ensures.within h) in
-    let entries = c.forget.ensures in
+    let entries = c.forget.ensures.items in
     let now : octets s1.octet (home_place c.args.n) 16384 ≡ c.args.page.now =
     ap (λ m. octets s1.octet (home_place c.args.n) m) (sym c.octets.ensures.size) ∙ c.in_ok-write_at.ensures.octets h ∙ c.octets.ensures.value in
     record {
@@ -54,15 +54,15 @@ returns-clause-keeps g c h pages keeps is =
     }
 
 pub returns-clause-unhomed : goal.returns-clause-unhomed
-returns-clause-unhomed g c = ap unhomed_numbers c.forget.ensures ∙ numbers_others c.args.self.now.unhomed.items c.args.n
+returns-clause-unhomed g c = ap unhomed_numbers c.forget.ensures.items ∙ numbers_others c.args.self.now.unhomed.items c.args.n
 
 pub invariant_of-self-2-clause-images : goal.invariant_of-self-2-clause-images
 invariant_of-self-2-clause-images g c =
     let self = c.args.self.now in
-    subst (AllByRecursion (IsImage self.opened)) (sym c.forget.ensures) (all_others (IsImage self.opened) self.unhomed.items c.args.n self.images)
+    subst (AllByRecursion (IsImage self.opened)) (sym c.forget.ensures.items) (all_others (IsImage self.opened) self.unhomed.items c.args.n self.images)
 
 pub invariant_of-self-2-clause-below : goal.invariant_of-self-2-clause-below
 invariant_of-self-2-clause-below g c =
     let self = c.args.self.now in
-    subst (λ (l : List Unhomed). AreBelow self.homes (unhomed_numbers l)) (sym c.forget.ensures)
+    subst (λ (l : List Unhomed). AreBelow self.homes (unhomed_numbers l)) (sym c.forget.ensures.items)
     (below_each self.homes (unhomed_numbers (others c.args.n self.unhomed.items)) (λ m left. listed_below self.homes (unhomed_numbers self.unhomed.items) m self.below (listed_before self.unhomed.items c.args.n m left)))

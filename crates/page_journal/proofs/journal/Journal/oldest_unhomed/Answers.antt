@@ -17,15 +17,15 @@ if_below ns homes (Some n) below listed = listed_below homes ns n below listed
 
 pub returns-clause-oldest : goal.returns-clause-oldest
 returns-clause-oldest g c =
-    c.oldest.ensures.oldest ∙ ap (λ (l : List Unhomed). slice_get (unhomed_numbers l) 0) c.deref.ensures.value
+    c.oldest.ensures.oldest ∙ ap (λ (l : List Unhomed). slice_get (unhomed_numbers l) 0) c.deref.ensures.0
 
 pub returns-clause-listed : goal.returns-clause-listed
 returns-clause-listed g c =
     let ns = unhomed_numbers c.args.self.now.unhomed.items in
-    if_at ns 0 c.oldest.result (c.oldest.ensures.oldest ∙ ap (λ (l : List Unhomed). slice_get (unhomed_numbers l) 0) c.deref.ensures.value)
+    if_at ns 0 c.oldest.result (c.oldest.ensures.oldest ∙ ap (λ (l : List Unhomed). slice_get (unhomed_numbers l) 0) c.deref.ensures.0)
 
 pub returns-clause-below : goal.returns-clause-below
 returns-clause-below g c =
     let ns = unhomed_numbers c.args.self.now.unhomed.items in
     if_below ns c.args.self.now.homes c.oldest.result c.args.self.now.below
-    (if_at ns 0 c.oldest.result (c.oldest.ensures.oldest ∙ ap (λ (l : List Unhomed). slice_get (unhomed_numbers l) 0) c.deref.ensures.value))
+    (if_at ns 0 c.oldest.result (c.oldest.ensures.oldest ∙ ap (λ (l : List Unhomed). slice_get (unhomed_numbers l) 0) c.deref.ensures.0))

@@ -10,7 +10,7 @@ returns-in-Ok-clause-opened g c h pages r =
     let s = g.D.EraseDisk.model c.recover.new.disk in
     let id = c.in-Ok.identity in
     let stands = c.in-Ok.ensures.opened h pages r in
-    let none = c.new.ensures.items in
+    let none = c.new.ensures in
     record {
       usable = refl;
       carries = stands_carries id.homes id.note s pages stands;

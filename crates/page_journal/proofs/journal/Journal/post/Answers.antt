@@ -14,28 +14,28 @@ use Rattle.page_journal.proofs.journal.Journal.post.Goals as goal
 
 pub fill-requires-clause-header : goal.fill-requires-clause-header
 fill-requires-clause-header g c =
-    ap length (c.deref-2.ensures.value ∙ c.in_ok-header.ensures) ∙ length-header_octets (c.args.self.now.opened + 1) c.args.images.now
+    ap length (c.deref.ensures.0 ∙ c.header-header.ensures) ∙ length-header_octets (c.args.self.now.opened + 1) c.args.images.now
 
 pub returns-in_err-fill-clause-crash : goal.returns-in_err-fill-clause-crash
 returns-in_err-fill-clause-crash g c h pages keeps =
     let self = c.args.self.now in
     let room : self.opened < 8 = omega arith in
-    fill_crash self.homes self.note self.opened room (g.D.EraseDisk.model self.disk) (g.D.EraseDisk.model c.fill.new.disk) pages keeps.carries keeps.numbered c.args.images.now c.deref-2.result.now (c.fill.ensures.crash h)
+    fill_crash self.homes self.note self.opened room (g.D.EraseDisk.model self.disk) (g.D.EraseDisk.model c.fill.new.disk) pages keeps.carries keeps.numbered c.args.images.now c.deref.result.now (c.fill.ensures.crash h)
 
 pub returns-in_err-open_gate-clause-crash : goal.returns-in_err-open_gate-clause-crash
 returns-in_err-open_gate-clause-crash g c h pages keeps =
     let self = c.args.self.now in
     let room : self.opened < 8 = omega arith in
-    gate_crash self.homes self.note self.opened room (g.D.EraseDisk.model self.disk) (g.D.EraseDisk.model c.fill.new.disk) pages keeps.carries keeps.numbered c.args.images.now c.deref-2.result.now
-    (g.D.EraseDisk.model c.open_gate.new.disk) (λ none. let more : 0 < length c.args.images.now = search rules in absurd (omega (arith, more, none))) (omega arith) self.small c.requires.below c.requires.distinct (c.deref-2.ensures.value ∙ c.in_ok-header.ensures) (c.in_ok-fill.ensures.filled h)
+    gate_crash self.homes self.note self.opened room (g.D.EraseDisk.model self.disk) (g.D.EraseDisk.model c.fill.new.disk) pages keeps.carries keeps.numbered c.args.images.now c.deref.result.now
+    (g.D.EraseDisk.model c.open_gate.new.disk) (λ none. let more : 0 < length c.args.images.now = search rules in absurd (omega (arith, more, none))) (omega arith) self.small c.requires.below c.requires.distinct (c.deref.ensures.0 ∙ c.header-header.ensures) (c.in_ok-fill.ensures.filled h)
     (c.fill.ensures.crash h) (c.open_gate.ensures.crash (c.fill.ensures.serves.honest.0 h))
 
 pub returns-clause-crash : goal.returns-clause-crash
 returns-clause-crash g c h pages keeps =
     let self = c.args.self.now in
     let room : self.opened < 8 = omega arith in
-    gate_crash self.homes self.note self.opened room (g.D.EraseDisk.model self.disk) (g.D.EraseDisk.model c.fill.new.disk) pages keeps.carries keeps.numbered c.args.images.now c.deref-2.result.now
-    (g.D.EraseDisk.model c.open_gate.new.disk) (λ none. let more : 0 < length c.args.images.now = search rules in absurd (omega (arith, more, none))) (omega arith) self.small c.requires.below c.requires.distinct (c.deref-2.ensures.value ∙ c.in_ok-header.ensures) (c.in_ok-fill.ensures.filled h)
+    gate_crash self.homes self.note self.opened room (g.D.EraseDisk.model self.disk) (g.D.EraseDisk.model c.fill.new.disk) pages keeps.carries keeps.numbered c.args.images.now c.deref.result.now
+    (g.D.EraseDisk.model c.open_gate.new.disk) (λ none. let more : 0 < length c.args.images.now = search rules in absurd (omega (arith, more, none))) (omega arith) self.small c.requires.below c.requires.distinct (c.deref.ensures.0 ∙ c.header-header.ensures) (c.in_ok-fill.ensures.filled h)
     (c.fill.ensures.crash h) (c.open_gate.ensures.crash (c.fill.ensures.serves.honest.0 h))
 
 pub returns-clause-posted : goal.returns-clause-posted
@@ -45,15 +45,15 @@ returns-clause-posted g c h pages keeps =
     let s1 = g.D.EraseDisk.model c.fill.new.disk in
     let s2 = g.D.EraseDisk.model c.open_gate.new.disk in
     let named = c.args.images.now in
-    let header = c.deref-2.result.now in
+    let header = c.deref.result.now in
     let room : self.opened < 8 = omega arith in
     let more : 0 < length named = search rules in
     let some : ¬ (length named ≡ 0) = λ none. absurd (omega (arith, more, none)) in
     let few : length named ≤ 31 = omega arith in
-    let is_header = c.deref-2.ensures.value ∙ c.in_ok-header.ensures in
+    let is_header = c.deref.ensures.0 ∙ c.header-header.ensures in
     let fills = c.in_ok-fill.ensures.filled h in
     let opens = c.in_ok-open_gate.ensures.opened (c.fill.ensures.serves.honest.0 h) in
-    let entries = c.in_ok-after.ensures ∙ ap (unhomed_after self.opened 0 named) c.deref.ensures.value in
+    let entries = c.enter_all.ensures.items in
     let outside = post_outside self.homes self.note self.opened room s0 s1 pages keeps.carries keeps.numbered named header s2 some few self.small c.requires.below c.requires.distinct is_header fills opens in
     record {
       usable = refl;
@@ -73,10 +73,10 @@ returns-clause-taken g c some =
     record {
       usable = refl;
       opened = refl;
-      unhomed = ap unhomed_numbers (c.in_ok-after.ensures ∙ ap (unhomed_after self.opened 0 c.args.images.now) c.deref.ensures.value)
+      unhomed = ap unhomed_numbers (c.enter_all.ensures.items)
           ∙ numbers_after self.opened 0 c.args.images.now self.unhomed.items c.requires.distinct;
-      numbered = λ h. posted_number self.homes self.opened (self.opened + 1) c.args.images.now c.deref-2.result.now (g.D.EraseDisk.model self.disk) (g.D.EraseDisk.model c.fill.new.disk) (g.D.EraseDisk.model c.open_gate.new.disk)
-          (omega arith) (omega arith) self.small c.requires.below (c.deref-2.ensures.value ∙ c.in_ok-header.ensures) (c.in_ok-fill.ensures.filled h) (c.in_ok-open_gate.ensures.opened (c.fill.ensures.serves.honest.0 h));
+      numbered = λ h. posted_number self.homes self.opened (self.opened + 1) c.args.images.now c.deref.result.now (g.D.EraseDisk.model self.disk) (g.D.EraseDisk.model c.fill.new.disk) (g.D.EraseDisk.model c.open_gate.new.disk)
+          (omega arith) (omega arith) self.small c.requires.below (c.deref.ensures.0 ∙ c.header-header.ensures) (c.in_ok-fill.ensures.filled h) (c.in_ok-open_gate.ensures.opened (c.fill.ensures.serves.honest.0 h));
     }
 
 pub invariant_of-self-2-clause-images : goal.invariant_of-self-2-clause-images
@@ -84,14 +84,14 @@ invariant_of-self-2-clause-images g c =
     let self = c.args.self.now in
     let named = c.args.images.now in
     let few : length named ≤ 31 = omega arith in
-    subst (AllByRecursion (IsImage (self.opened + 1))) (sym (c.in_ok-after.ensures ∙ ap (unhomed_after self.opened 0 named) c.deref.ensures.value))
+    subst (AllByRecursion (IsImage (self.opened + 1))) (sym (c.enter_all.ensures.items))
     (images_after self.opened named self.unhomed.items few self.images)
 
 pub invariant_of-self-2-clause-below : goal.invariant_of-self-2-clause-below
 invariant_of-self-2-clause-below g c =
     let self = c.args.self.now in
     let named = c.args.images.now in
-    subst (λ (l : List Unhomed). AreBelow self.homes (unhomed_numbers l)) (sym (c.in_ok-after.ensures ∙ ap (unhomed_after self.opened 0 named) c.deref.ensures.value))
+    subst (λ (l : List Unhomed). AreBelow self.homes (unhomed_numbers l)) (sym (c.enter_all.ensures.items))
     (below_each self.homes (unhomed_numbers (unhomed_after self.opened 0 named self.unhomed.items)) (λ n listed. ⊎_elim
     (λ new. listed_below self.homes (pages_of named) n c.requires.below new)
     (λ old. listed_below self.homes (unhomed_numbers self.unhomed.items) n self.below old)
