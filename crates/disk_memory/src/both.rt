@@ -1,12 +1,12 @@
 //! Both disks after the same crash.
 
-ghost use Rattle.std.specs.Prelude.{◌≡◌, ◌++◌, [], ℕ, List, IfOk};
+ghost use Rattle.std.specs.Prelude.{◌≡◌, ◌++◌, [], ℕ, List, None, IfOk};
 ghost use Rattle.disk_models.specs.Left.{IsFound, LeftNow};
 ghost use Rattle.disk_memory.specs.Both.{left_of_all, left_of_both};
 ghost use Rattle.disk_memory.specs.Burning.{all_torn, once_state_of, torn_burnings};
-ghost use Rattle.disk_memory.specs.Memory.{calls_of, faults_of, script_of, size_of};
+ghost use Rattle.disk_memory.specs.Memory.{calls_of, faults_of, script_of, size_of, stop_of};
 ghost use Rattle.disk_memory.specs.Once.{blocks_of};
-ghost use Rattle.disk_memory.specs.Pen.{once_faults_of, once_model, once_script_of, settled_of, waiting_of};
+ghost use Rattle.disk_memory.specs.Pen.{once_faults_of, once_model, once_script_of, once_stop_of, settled_of, waiting_of};
 ghost use Rattle.disk_memory.specs.Replay.{state_of};
 
 use crate::erase::MemErase;
@@ -31,6 +31,7 @@ pub fn crash_both(
     ensures blocks { IfOk result (λ disks. blocks_of disks.1 ≡ blocks_of once.now) }
     ensures faults { IfOk result (λ disks. (faults_of disks.0 ≡ 0) × (once_faults_of disks.2 ≡ 0)) }
     ensures scripts { IfOk result (λ disks. (script_of disks.0 ≡ []) × (once_script_of disks.2 ≡ [])) }
+    ensures stops { IfOk result (λ disks. (stop_of disks.0 ≡ None) × (once_stop_of disks.2 ≡ None)) }
     ensures found { IfOk result (λ disks. IsFound (state_of (calls_of disks.0)) (once_model disks.2) (left_of_both erase_choice.now erase.now disks.2)) }
     ensures allowed { IfOk result (λ disks. LeftNow (state_of (calls_of erase.now)) (once_model pen.now) (left_of_both erase_choice.now erase.now disks.2)) }
 {
@@ -53,6 +54,7 @@ pub fn crash_all(
     ensures blocks { IfOk result (λ disks. blocks_of disks.1 ≡ blocks_of once.now) }
     ensures faults { IfOk result (λ disks. (faults_of disks.0 ≡ 0) × (once_faults_of disks.2 ≡ 0)) }
     ensures scripts { IfOk result (λ disks. (script_of disks.0 ≡ []) × (once_script_of disks.2 ≡ [])) }
+    ensures stops { IfOk result (λ disks. (stop_of disks.0 ≡ None) × (once_stop_of disks.2 ≡ None)) }
     ensures found { IfOk result (λ disks. IsFound (state_of (calls_of disks.0)) (once_model disks.2) (left_of_all torn.now erase.now disks.2)) }
     ensures allowed { IfOk result (λ disks. LeftNow (state_of (calls_of erase.now)) (once_model pen.now) (left_of_all torn.now erase.now disks.2)) }
 {

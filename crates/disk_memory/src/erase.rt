@@ -44,7 +44,7 @@ fn copies(alloc: Global, calls: &[Call]) -> Result<Vec<Call>, AllocError>
     Ok(copies)
 }
 
-/// How many calls end with the last sync: those behind it are writes.
+/// How many calls end with the last sync: those after it are writes.
 fn synced_count(calls: &[Call]) -> usize
     ensures { SplitsAtSync result calls.now }
 {

@@ -6,7 +6,7 @@ ghost use Rattle.std.specs.List.{list_any};
 
 use crate::torn::Torn;
 
-/// A call that fails, told by its kind and by its number among the calls of that kind, from 0.
+/// A call that fails, by its kind and by its number among the calls of that kind, from 0.
 #[derive(Drop)]
 pub enum Failure {
     /// A read.

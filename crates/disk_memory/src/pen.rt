@@ -29,7 +29,7 @@ pub struct MemPen {
     faults: u64,
 }
 
-/// What a crash leaves of these burns by a choice, behind those that are there.
+/// What a crash leaves of these burns by a choice, after those that are there.
 fn tear(
     alloc: Global,
     into: &mut Vec<Burn>,
@@ -44,7 +44,7 @@ fn tear(
     Ok(())
 }
 
-/// What a crash leaves of these burns that tears them all in one way, behind those that are there.
+/// What a crash leaves of these burns that tears them all in one way, after those that are there.
 fn tear_all(
     alloc: Global,
     into: &mut Vec<Burn>,

@@ -6,7 +6,7 @@ ghost use Rattle.disk_memory.specs.Torn.{torn_octets};
 use std::alloc::{AllocError, Global};
 
 /// What a range holds after a write that failed, or after a crash before it was synced. A crash tears what the write
-/// left, also where that had failed.
+/// left, even where that one failed.
 #[derive(Drop)]
 pub enum Torn {
     /// What it held before.
@@ -17,7 +17,7 @@ pub enum Torn {
     Half,
     /// A5 in every octet. A gate that was being written is open then.
     Gate,
-    /// These octets from its start on, as many as fit, and behind them what it held before.
+    /// These octets from its start on, as many as fit, and after them what it held before.
     Octets(Vec<u8>),
 }
 
