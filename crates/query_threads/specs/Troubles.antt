@@ -1,7 +1,7 @@
 -- Which troubles come to calls on an archive that carries a past, and what is so of the one that a call tells.
 use Rattle.std.specs.Prelude.{⊤}
 use Rattle.query_threads.specs.declared.refusal.Trouble.{Trouble}
-use Rattle.query_threads.specs.declared.refusal.Trouble.TheVariants.{Fault, NeedsRecovery, DamagedPage, DamagedBlock, Full, OutOfMemory}
+use Rattle.query_threads.specs.declared.refusal.Trouble.TheVariants.{Fault, NeedsRecovery, DamagedPage, DamagedBlock, CounterFull, TooHigh, PagesFull, OnceFull, OutOfMemory}
 use Rattle.query_threads.specs.declared.refusal.AdmitError.{AdmitError}
 use Rattle.query_threads.specs.declared.refusal.AdmitError.TheVariants as admits
 use Rattle.query_threads.specs.declared.refusal.MarkError.{MarkError}
@@ -15,7 +15,10 @@ BlamesNone Fault = ⊤
 BlamesNone NeedsRecovery = ⊤
 BlamesNone (DamagedPage page) = ⊥
 BlamesNone (DamagedBlock block) = ⊥
-BlamesNone Full = ⊤
+BlamesNone CounterFull = ⊤
+BlamesNone TooHigh = ⊤
+BlamesNone PagesFull = ⊤
+BlamesNone OnceFull = ⊤
 BlamesNone OutOfMemory = ⊤
 
 -- it is told as a device that failed, as an archive that must be opened again, or as want of memory: nothing is said to be damaged, and nothing to be full
@@ -24,7 +27,10 @@ IsOutside Fault = ⊤
 IsOutside NeedsRecovery = ⊤
 IsOutside (DamagedPage page) = ⊥
 IsOutside (DamagedBlock block) = ⊥
-IsOutside Full = ⊥
+IsOutside CounterFull = ⊥
+IsOutside TooHigh = ⊥
+IsOutside PagesFull = ⊥
+IsOutside OnceFull = ⊥
 IsOutside OutOfMemory = ⊤
 
 -- where a batch isn't taken for a trouble, this is so of it

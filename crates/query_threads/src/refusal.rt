@@ -21,9 +21,18 @@ pub enum Trouble {
     /// A block isn't what was put there.
     #[error("block {0} is damaged")]
     DamagedBlock(u64),
-    /// There is no room: no page or no block is left, the tree can have no level more, or so many changes can't be counted.
-    #[error("the archive is full")]
-    Full,
+    /// So many changes can't be counted.
+    #[error("the count of applied changes is full")]
+    CounterFull,
+    /// The tree would need a seventh level of key nodes.
+    #[error("the tree is too high")]
+    TooHigh,
+    /// No page is left.
+    #[error("no page is left")]
+    PagesFull,
+    /// No blank block is left.
+    #[error("no block is left")]
+    OnceFull,
     /// A growth was refused.
     #[error("out of memory")]
     OutOfMemory,

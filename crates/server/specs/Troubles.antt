@@ -1,4 +1,4 @@
--- What calls on a shared archive tell, in the words of lines.
+-- What calls on a shared archive return, in the words of lines.
 use Rattle.archive_calls.specs.declared.refusal.Trouble.{Trouble as Told}
 use Rattle.archive_calls.specs.declared.refusal.Trouble.TheVariants as told
 use Rattle.query_threads.specs.declared.refusal.Trouble.{Trouble}
@@ -12,13 +12,16 @@ use Rattle.service.specs.declared.faults.LoadStop.TheVariants as ends
 use Rattle.service.specs.declared.faults.Unanswered.{Unanswered}
 use Rattle.service.specs.declared.faults.Unanswered.TheVariants as whys
 
--- what a shared archive couldn't do; one that is full is told as one without a page left
+-- what a shared archive couldn't do
 abbrev pub of_shared : Trouble → Told
 of_shared troubles.Fault = told.Fault
 of_shared troubles.NeedsRecovery = told.NeedsRecovery
 of_shared (troubles.DamagedPage page) = told.BadNode page
 of_shared (troubles.DamagedBlock block) = told.Damaged block
-of_shared troubles.Full = told.PagesFull
+of_shared troubles.CounterFull = told.CounterFull
+of_shared troubles.TooHigh = told.TooHigh
+of_shared troubles.PagesFull = told.PagesFull
+of_shared troubles.OnceFull = told.OnceFull
 of_shared troubles.OutOfMemory = told.OutOfMemory
 
 -- why a question isn't answered

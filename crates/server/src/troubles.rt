@@ -1,4 +1,4 @@
-//! What calls on a shared archive tell, in the words of lines.
+//! What calls on a shared archive return, in the words of lines.
 
 ghost use Rattle.std.specs.Prelude.{◌≡◌};
 ghost use Rattle.server.specs.Troubles.{of_ask, of_mark, of_shared};
@@ -6,7 +6,7 @@ ghost use Rattle.server.specs.Troubles.{of_ask, of_mark, of_shared};
 use query_threads::{AskError, MarkError, Trouble};
 use service::{LoadStop, Unanswered};
 
-/// What a shared archive couldn't do. That it is full is told as of its pages: which of its stores is full isn't known.
+/// What a shared archive couldn't do.
 pub fn trouble_of(trouble: Trouble) -> archive_calls::Trouble
     ensures { result ≡ of_shared trouble }
 {
@@ -15,7 +15,10 @@ pub fn trouble_of(trouble: Trouble) -> archive_calls::Trouble
         Trouble::NeedsRecovery => archive_calls::Trouble::NeedsRecovery,
         Trouble::DamagedPage(page) => archive_calls::Trouble::BadNode(page),
         Trouble::DamagedBlock(block) => archive_calls::Trouble::Damaged(block),
-        Trouble::Full => archive_calls::Trouble::PagesFull,
+        Trouble::CounterFull => archive_calls::Trouble::CounterFull,
+        Trouble::TooHigh => archive_calls::Trouble::TooHigh,
+        Trouble::PagesFull => archive_calls::Trouble::PagesFull,
+        Trouble::OnceFull => archive_calls::Trouble::OnceFull,
         Trouble::OutOfMemory => archive_calls::Trouble::OutOfMemory,
     }
 }

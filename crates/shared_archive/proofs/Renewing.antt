@@ -135,7 +135,10 @@ fails_of away e f e' p q p' troubles.Fault same pen (inr k) = inr (subst (λ n. 
 fails_of away e f e' p q p' troubles.NeedsRecovery same pen k = absurd k
 fails_of away e f e' p q p' (troubles.DamagedPage page) same pen k = tt
 fails_of away e f e' p q p' (troubles.DamagedBlock block) same pen k = absurd k
-fails_of away e f e' p q p' troubles.Full same pen k = absurd k
+fails_of away e f e' p q p' troubles.CounterFull same pen k = absurd k
+fails_of away e f e' p q p' troubles.TooHigh same pen k = absurd k
+fails_of away e f e' p q p' troubles.PagesFull same pen k = absurd k
+fails_of away e f e' p q p' troubles.OnceFull same pen k = absurd k
 fails_of away e f e' p q p' troubles.OutOfMemory same pen k = tt
 
 -- ---- held archives

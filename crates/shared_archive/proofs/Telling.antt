@@ -92,10 +92,10 @@ module _ {E O Pen Seen : Type 0} {erase : EraseGhosts E} {once : OnceGhosts O Pe
       → (IsHonest a → (h : History) → Holds a h → (page : ℕ) → e ≡ applies.BadNode page → ⊥)
       → Tells a (of_apply e) b
   apply_tells applies.NeedsRecovery down counted falls counter few high full sound = down.0 refl
-  apply_tells applies.CounterFull down counted falls counter few high full sound = (stays_up applies.CounterFull applies.NeedsRecovery applies.Fault down falls (λ i. cc) (λ i. cc), inl (λ h on. counter (honest_going h on) h (λ _. on) refl))
-  apply_tells applies.TooHigh down counted falls counter few high full sound = (stays_up applies.TooHigh applies.NeedsRecovery applies.Fault down falls (λ i. cc) (λ i. cc), inr (inr (inl (λ honest pages has. high honest pages has refl))))
-  apply_tells applies.PagesFull down counted falls counter few high full sound = (stays_up applies.PagesFull applies.NeedsRecovery applies.Fault down falls (λ i. cc) (λ i. cc), inr (inl (few refl)))
-  apply_tells applies.OnceFull down counted falls counter few high full sound = (stays_up applies.OnceFull applies.NeedsRecovery applies.Fault down falls (λ i. cc) (λ i. cc), inr (inr (inr (λ honest. full honest refl))))
+  apply_tells applies.CounterFull down counted falls counter few high full sound = (stays_up applies.CounterFull applies.NeedsRecovery applies.Fault down falls (λ i. cc) (λ i. cc), λ h on. counter (honest_going h on) h (λ _. on) refl)
+  apply_tells applies.TooHigh down counted falls counter few high full sound = (stays_up applies.TooHigh applies.NeedsRecovery applies.Fault down falls (λ i. cc) (λ i. cc), λ honest pages has. high honest pages has refl)
+  apply_tells applies.PagesFull down counted falls counter few high full sound = (stays_up applies.PagesFull applies.NeedsRecovery applies.Fault down falls (λ i. cc) (λ i. cc), few refl)
+  apply_tells applies.OnceFull down counted falls counter few high full sound = (stays_up applies.OnceFull applies.NeedsRecovery applies.Fault down falls (λ i. cc) (λ i. cc), λ honest. full honest refl)
   apply_tells (applies.BadNode page) down counted falls counter few high full sound = (stays_up (applies.BadNode page) applies.NeedsRecovery applies.Fault down falls (λ i. cc) (λ i. cc), λ h on. sound (honest_going h on) h (λ _. on) page refl)
   apply_tells applies.Fault down counted falls counter few high full sound = failed _ _ _ _ _ refl counted
   apply_tells applies.OutOfMemory down counted falls counter few high full sound = stays_up applies.OutOfMemory applies.NeedsRecovery applies.Fault down falls (λ i. cc) (λ i. cc)

@@ -3,7 +3,7 @@ use Rattle.std.specs.Prelude.{◌≡◌, ◌⊎◌, ⊤, ℕ, Option, Some, None
 use Rattle.disk_models.specs.declared.erase.EraseDisk.{Ghosts as EraseGhosts}
 use Rattle.disk_models.specs.declared.once.OnceDisk.{Ghosts as OnceGhosts}
 use Rattle.query_threads.specs.declared.refusal.Trouble.{Trouble}
-use Rattle.query_threads.specs.declared.refusal.Trouble.TheVariants.{Fault, NeedsRecovery, DamagedPage, DamagedBlock, Full, OutOfMemory}
+use Rattle.query_threads.specs.declared.refusal.Trouble.TheVariants.{Fault, NeedsRecovery, DamagedPage, DamagedBlock, CounterFull, TooHigh, PagesFull, OnceFull, OutOfMemory}
 use Rattle.board.specs.Past.{Past}
 use Rattle.disk_archive.specs.Archives.{erase_of, is_down, pen_in}
 use Rattle.shared_archive.specs.Held.{HoldsPast}
@@ -44,7 +44,10 @@ Fails away erase erase' pen pen' Fault = Failed erase erase' ⊎ Failed pen pen'
 Fails away erase erase' pen pen' NeedsRecovery = away
 Fails away erase erase' pen pen' (DamagedPage page) = ⊤
 Fails away erase erase' pen pen' (DamagedBlock block) = ⊥
-Fails away erase erase' pen pen' Full = ⊥
+Fails away erase erase' pen pen' CounterFull = ⊥
+Fails away erase erase' pen pen' TooHigh = ⊥
+Fails away erase erase' pen pen' PagesFull = ⊥
+Fails away erase erase' pen pen' OnceFull = ⊥
 Fails away erase erase' pen pen' OutOfMemory = ⊤
 
 -- it is open

@@ -37,16 +37,16 @@ pub(crate) fn mark_refusal(refusal: MarkError) -> threads::MarkError
     }
 }
 
-// Why nothing is applied. What the archive has no room for is told alike, whether it is a count, a level, a page or a block.
+// Why nothing is applied.
 pub(crate) fn apply_trouble(refusal: ApplyError) -> Trouble
     ensures why { result ≡ of_apply refusal }
 {
     match refusal {
         ApplyError::NeedsRecovery => Trouble::NeedsRecovery,
-        ApplyError::CounterFull
-        | ApplyError::TooHigh
-        | ApplyError::PagesFull
-        | ApplyError::OnceFull => Trouble::Full,
+        ApplyError::CounterFull => Trouble::CounterFull,
+        ApplyError::TooHigh => Trouble::TooHigh,
+        ApplyError::PagesFull => Trouble::PagesFull,
+        ApplyError::OnceFull => Trouble::OnceFull,
         ApplyError::BadNode(page) => Trouble::DamagedPage(page),
         ApplyError::Fault => Trouble::Fault,
         ApplyError::OutOfMemory => Trouble::OutOfMemory,

@@ -44,10 +44,10 @@ of_mark marks.OutOfMemory = mark_refusals.Trouble troubles.OutOfMemory
 -- why nothing is applied
 abbrev pub of_apply : ApplyError → Trouble
 of_apply applies.NeedsRecovery = troubles.NeedsRecovery
-of_apply applies.CounterFull = troubles.Full
-of_apply applies.TooHigh = troubles.Full
-of_apply applies.PagesFull = troubles.Full
-of_apply applies.OnceFull = troubles.Full
+of_apply applies.CounterFull = troubles.CounterFull
+of_apply applies.TooHigh = troubles.TooHigh
+of_apply applies.PagesFull = troubles.PagesFull
+of_apply applies.OnceFull = troubles.OnceFull
 of_apply (applies.BadNode page) = troubles.DamagedPage page
 of_apply applies.Fault = troubles.Fault
 of_apply applies.OutOfMemory = troubles.OutOfMemory
