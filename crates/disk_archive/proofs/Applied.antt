@@ -20,10 +20,10 @@ use Rattle.once_store.specs.Shelves.{AllTried, next_of}
 use Rattle.disk_archive.specs.Archives.{Carries, GoesOn, Holds, IsHonest, is_down, once_of, once_state}
 use Rattle.disk_archive.specs.Blanks.{NoneBlank}
 use Rattle.disk_archive.specs.Moves.{Moves}
-use Rattle.disk_archive.specs.declared.error.CommitError.{CommitError}
-use Rattle.disk_archive.specs.declared.error.CommitError.TheVariants as commits
-use Rattle.disk_archive.specs.inner.Committing.{CommitRefusal}
-use Rattle.disk_archive.specs.inner.Applications.{ApplyRefusal, apply_of_commit}
+use Rattle.page_journal.specs.declared.error.UseError.{UseError}
+use Rattle.page_journal.specs.declared.error.UseError.TheVariants as uses
+use Rattle.page_journal.specs.Refusals.{UseRefusal}
+use Rattle.disk_archive.specs.inner.Applications.{ApplyRefusal, apply_of_use}
 use Rattle.disk_archive.specs.inner.Outcomes.{StepIs}
 
 carries_here : {E O Pen Seen : Type 0} {erase : EraseGhosts E} {once : OnceGhosts O Pen Seen} (a : Archive E O Pen Seen erase once) (h : History) → is_down a ≡ false → GoesOn a h → Carries a h
@@ -78,15 +78,13 @@ needs_recovery_of (Err e') down refused e = let same : e' ≡ applies.NeedsRecov
 
 -- ---- a commit that was refused
 
-pub commit_not_bad : (e : CommitError) (page : ℕ) → apply_of_commit e ≡ applies.BadNode page → ⊥
-commit_not_bad commits.Fault page e = cc
-commit_not_bad commits.NeedsRecovery page e = cc
-commit_not_bad commits.OutOfMemory page e = cc
+pub commit_not_bad : (e : UseError) (page : ℕ) → apply_of_use e ≡ applies.BadNode page → ⊥
+commit_not_bad uses.Fault page e = cc
+commit_not_bad uses.NeedsRecovery page e = cc
 
-pub commit_told : (down : Bool) (e : CommitError) → CommitRefusal down e → ApplyRefusal down (apply_of_commit e)
-commit_told down commits.Fault refused = tt
-commit_told down commits.NeedsRecovery refused = refused
-commit_told down commits.OutOfMemory refused = tt
+pub commit_told : (down : Bool) (e : UseError) → UseRefusal down e → ApplyRefusal down (apply_of_use e)
+commit_told down uses.Fault refused = tt
+commit_told down uses.NeedsRecovery refused = refused
 
 -- two facts that go along with two others
 pub both_same : (A B P Q : Type 0) → A ↔ B → P ↔ Q → (A × P) ↔ (B × Q)

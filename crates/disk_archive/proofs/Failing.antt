@@ -13,9 +13,9 @@ use Rattle.tsb_tree.specs.declared.error.TreeError.{TreeError}
 use Rattle.tsb_tree.specs.declared.error.TreeError.TheVariants as trees
 use Rattle.disk_archive.specs.declared.apply_error.ApplyError.{ApplyError}
 use Rattle.disk_archive.specs.declared.apply_error.ApplyError.TheVariants as applies
-use Rattle.disk_archive.specs.declared.error.CommitError.{CommitError}
-use Rattle.disk_archive.specs.declared.error.CommitError.TheVariants as commits
-use Rattle.disk_archive.specs.inner.Applications.{apply_of_commit}
+use Rattle.page_journal.specs.declared.error.UseError.{UseError}
+use Rattle.page_journal.specs.declared.error.UseError.TheVariants as uses
+use Rattle.disk_archive.specs.inner.Applications.{apply_of_use}
 use Rattle.disk_archive.specs.Failures.{CountsFailures, count_after}
 
 count_as : (a c m n : ℕ) → m ≡ n → c ≡ count_after a m → c ≡ count_after a n
@@ -79,10 +79,9 @@ apply_or (applies.BadNode page) = inr (λ is. cc)
 apply_or applies.Fault = inl refl
 apply_or applies.OutOfMemory = inr (λ is. cc)
 
-commit_or : (e : CommitError) → (e ≡ commits.Fault) ⊎ (e ≡ commits.Fault → ⊥)
-commit_or commits.Fault = inl refl
-commit_or commits.NeedsRecovery = inr (λ is. cc)
-commit_or commits.OutOfMemory = inr (λ is. cc)
+commit_or : (e : UseError) → (e ≡ uses.Fault) ⊎ (e ≡ uses.Fault → ⊥)
+commit_or uses.Fault = inl refl
+commit_or uses.NeedsRecovery = inr (λ is. cc)
 
 pages_or : (e : TreeError) → (e ≡ trees.Pages pages.Fault) ⊎ (e ≡ trees.Pages pages.Fault → ⊥)
 pages_or trees.StampBack = inr (λ is. cc)
@@ -152,11 +151,15 @@ pub counts_tree : {X O Pen Seen : Type 0} (device : OnceGhosts O Pen Seen) (r : 
 counts_tree device r p q e e' old new k s = counts_then _ _ _ _ _ _ _ _ _ (λ told. told) (counts_read r p q e e' _ k) (counts_once e' _ _ _ (or_told r _ once_or) s.quiet s.counted)
 
 -- pages are committed
-pub counts_commit : {X D : Type 0} (device : Ghosts D) (r : Result X CommitError) (old new : D) (o : ℕ) → Serves device old new (r ≡ Err commits.Fault) → CountsFailures (device.fault_count old) (device.fault_count new) o o (r ≡ Err commits.Fault)
+pub counts_commit : {X D : Type 0} (device : Ghosts D) (r : Result X UseError) (old new : D) (o : ℕ) → Serves device old new (r ≡ Err uses.Fault) → CountsFailures (device.fault_count old) (device.fault_count new) o o (r ≡ Err uses.Fault)
 counts_commit device r old new o s = counts_erase _ _ o _ (or_told r _ commit_or) s.quiet s.counted
 
 -- of the refusals of a commit a failure alone is told as one
-pub apply_fault : (e : CommitError) → apply_of_commit e ≡ applies.Fault → e ≡ commits.Fault
-apply_fault commits.Fault is = refl
-apply_fault commits.NeedsRecovery is = absurd cc
-apply_fault commits.OutOfMemory is = absurd cc
+pub apply_fault : (e : UseError) → apply_of_use e ≡ applies.Fault → e ≡ uses.Fault
+apply_fault uses.Fault is = refl
+apply_fault uses.NeedsRecovery is = absurd cc
+
+-- a commit needs no memory
+pub apply_memory : (e : UseError) → apply_of_use e ≡ applies.OutOfMemory → ⊥
+apply_memory uses.Fault is = cc
+apply_memory uses.NeedsRecovery is = cc

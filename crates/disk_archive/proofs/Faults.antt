@@ -8,8 +8,6 @@ use Rattle.page_journal.specs.Journal.{disk_of}
 use Rattle.page_journal.specs.declared.error.UseError.{UseError}
 use Rattle.page_journal.specs.declared.error.UseError.TheVariants as uses
 use Rattle.page_tx.specs.Device.{KeepsDevice}
-use Rattle.disk_archive.specs.declared.error.CommitError.{CommitError}
-use Rattle.disk_archive.specs.declared.error.CommitError.TheVariants as commits
 use Rattle.disk_archive.specs.declared.error.AdmitError.{AdmitError}
 use Rattle.disk_archive.specs.declared.error.AdmitError.TheVariants as admits
 use Rattle.disk_archive.specs.declared.mark_error.MarkError.{MarkError}
@@ -22,8 +20,8 @@ use Rattle.tsb_walk.specs.declared.error.NodeError.{NodeError}
 use Rattle.tsb_walk.specs.declared.error.NodeError.TheVariants as nodes
 use Rattle.tsb_walk.specs.Refusals.{LookRefusal as PageRefusal}
 use Rattle.disk_archive.specs.inner.Flushed.{flush_of_use}
-use Rattle.disk_archive.specs.inner.Committing.{admit_of_commit}
-use Rattle.disk_archive.specs.inner.Marked.{mark_of_commit}
+use Rattle.disk_archive.specs.inner.Committing.{admit_of_use}
+use Rattle.disk_archive.specs.inner.Marked.{mark_of_use}
 
 -- the journal is as it was
 pub keeps_same : {D : Type 0} (device : Ghosts D) (old new : Journal D device) → new ≡ old
@@ -72,20 +70,18 @@ not_taken e (inl none) is = cc
 not_taken e (inr (inl large)) is = cc
 not_taken e (inr (inr full)) is = cc
 
-pub admit_fault : (e : CommitError) → admit_of_commit e ≡ admits.Fault → e ≡ commits.Fault
-admit_fault commits.Fault is = cc
-admit_fault commits.NeedsRecovery is = absurd cc
-admit_fault commits.OutOfMemory is = absurd cc
+pub admit_fault : (e : UseError) → admit_of_use e ≡ admits.Fault → e ≡ uses.Fault
+admit_fault uses.Fault is = cc
+admit_fault uses.NeedsRecovery is = absurd cc
 
 -- nor is a mark that can't be raised
 pub not_raised : (e : MarkError) → (e ≡ marks.NoCollector) ⊎ (e ≡ marks.MarkBack) → e ≡ marks.Fault → ⊥
 not_raised e (inl none) is = cc
 not_raised e (inr back) is = cc
 
-pub mark_fault : (e : CommitError) → mark_of_commit e ≡ marks.Fault → e ≡ commits.Fault
-mark_fault commits.Fault is = cc
-mark_fault commits.NeedsRecovery is = absurd cc
-mark_fault commits.OutOfMemory is = absurd cc
+pub mark_fault : (e : UseError) → mark_of_use e ≡ marks.Fault → e ≡ uses.Fault
+mark_fault uses.Fault is = cc
+mark_fault uses.NeedsRecovery is = absurd cc
 
 pub flush_fault : (e : UseError) → flush_of_use e ≡ flushes.Fault → e ≡ uses.Fault
 flush_fault uses.Fault is = cc
@@ -116,3 +112,13 @@ need_no_fault is = cc
 
 pub above_no_fault : (e : AskError) (mark : ℕ) → e ≡ asks.AboveWatermark mark → e ≡ asks.Fault → ⊥
 above_no_fault e mark above is = cc
+
+-- a commit needs no memory
+
+pub admit_memory : (e : UseError) → admit_of_use e ≡ admits.OutOfMemory → ⊥
+admit_memory uses.Fault is = cc
+admit_memory uses.NeedsRecovery is = cc
+
+pub mark_memory : (e : UseError) → mark_of_use e ≡ marks.OutOfMemory → ⊥
+mark_memory uses.Fault is = cc
+mark_memory uses.NeedsRecovery is = cc

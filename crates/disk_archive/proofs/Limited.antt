@@ -4,9 +4,9 @@ use Rattle.std.specs.Prelude.{IfErr, IsErrAnd}
 use Rattle.std.proofs.Math.Nat.{min-le_left}
 use Rattle.disk_archive.specs.declared.apply_error.ApplyError.{ApplyError}
 use Rattle.disk_archive.specs.declared.apply_error.ApplyError.TheVariants as applies
-use Rattle.disk_archive.specs.declared.error.CommitError.{CommitError}
-use Rattle.disk_archive.specs.declared.error.CommitError.TheVariants as commits
-use Rattle.disk_archive.specs.inner.Applications.{LimitRefusal, apply_of_commit}
+use Rattle.page_journal.specs.declared.error.UseError.{UseError}
+use Rattle.page_journal.specs.declared.error.UseError.TheVariants as uses
+use Rattle.disk_archive.specs.inner.Applications.{LimitRefusal, apply_of_use}
 
 -- what is said of a refusal is said of the result that tells it
 pub on_told : {X : Type 0} (r : Result X ApplyError) (e : ApplyError) (P : ApplyError → Type 0) → IsErrAnd r (λ y. y ≡ e) → P e → IfErr r P
@@ -30,15 +30,13 @@ limits_fresh homes fresh count applies.Fault l = tt
 limits_fresh homes fresh count applies.OutOfMemory l = tt
 
 -- a commit tells of neither
-pub limits_commit : (homes next count : ℕ) (e : CommitError) → LimitRefusal homes next count (apply_of_commit e)
-limits_commit homes next count commits.Fault = tt
-limits_commit homes next count commits.NeedsRecovery = tt
-limits_commit homes next count commits.OutOfMemory = tt
+pub limits_commit : (homes next count : ℕ) (e : UseError) → LimitRefusal homes next count (apply_of_use e)
+limits_commit homes next count uses.Fault = tt
+limits_commit homes next count uses.NeedsRecovery = tt
 
-pub commit_not_high : (e : CommitError) → apply_of_commit e ≡ applies.TooHigh → ⊥
-commit_not_high commits.Fault is = cc
-commit_not_high commits.NeedsRecovery is = cc
-commit_not_high commits.OutOfMemory is = cc
+pub commit_not_high : (e : UseError) → apply_of_use e ≡ applies.TooHigh → ⊥
+commit_not_high uses.Fault is = cc
+commit_not_high uses.NeedsRecovery is = cc
 
 pub counter_of : {X : Type 0} (homes next count : ℕ) (r : Result X ApplyError) → IfErr r (LimitRefusal homes next count) → r ≡ Err applies.CounterFull → count ≡ 18446744073709551615
 counter_of homes next count (Ok x) l is = absurd cc

@@ -21,11 +21,12 @@ use Rattle.archive_pages.specs.Carried.{Bears}
 use Rattle.archive_pages.specs.Batches.{Kept, IsKeptOf, CanTake, HasLane}
 use Rattle.disk_archive.specs.Trees.{TreeLies}
 use Rattle.disk_archive.specs.Limits.{IsCounterFull, IsRingFull}
-use Rattle.disk_archive.specs.declared.error.CommitError.{CommitError}
-use Rattle.disk_archive.specs.declared.error.CommitError.TheVariants as commits
+use Rattle.page_journal.specs.declared.error.UseError.{UseError}
+use Rattle.page_journal.specs.declared.error.UseError.TheVariants as uses
 use Rattle.disk_archive.specs.declared.error.AdmitError.{AdmitError}
 use Rattle.disk_archive.specs.declared.error.AdmitError.TheVariants as admits
-use Rattle.disk_archive.specs.inner.Committing.{CommitRefusal, PlanRefusal, admit_of_commit}
+use Rattle.page_journal.specs.Refusals.{UseRefusal}
+use Rattle.disk_archive.specs.inner.Committing.{PlanRefusal, admit_of_use}
 use Rattle.disk_archive.proofs.Mirroring.{intake_at}
 use Rattle.disk_archive.proofs.Plans.{lane_at}
 
@@ -102,10 +103,9 @@ pub record IsOfCommit (e : AdmitError) : Type 0 where
   pub ring : e ≡ admits.IntakeFull → ⊥
   pub page : (n : ℕ) → e ≡ admits.BadNode n → ⊥
 
-pub commit_later : (down : Bool) (e : CommitError) → CommitRefusal down e → down ≡ false → IsOfCommit (admit_of_commit e)
-commit_later down commits.Fault r usable = record { later = record { recovery = λ e. cc; collector = λ e. cc; large = λ e. cc; counter = λ e. cc }; ring = λ e. cc; page = λ n e. cc }
-commit_later down commits.NeedsRecovery r usable = absurd (true≢false (sym r ∙ usable))
-commit_later down commits.OutOfMemory r usable = record { later = record { recovery = λ e. cc; collector = λ e. cc; large = λ e. cc; counter = λ e. cc }; ring = λ e. cc; page = λ n e. cc }
+pub commit_later : (down : Bool) (e : UseError) → UseRefusal down e → down ≡ false → IsOfCommit (admit_of_use e)
+commit_later down uses.Fault r usable = record { later = record { recovery = λ e. cc; collector = λ e. cc; large = λ e. cc; counter = λ e. cc }; ring = λ e. cc; page = λ n e. cc }
+commit_later down uses.NeedsRecovery r usable = absurd (true≢false (sym r ∙ usable))
 
 -- ---- what is told
 

@@ -26,14 +26,14 @@ use Rattle.disk_archive.specs.declared.archive.Archive.{Archive}
 use Rattle.disk_archive.specs.Archives.{Carries}
 use Rattle.disk_archive.specs.Trees.{TreeLies}
 use Rattle.disk_archive.specs.Mirrors.{Mirrors}
-use Rattle.disk_archive.specs.declared.error.CommitError.{CommitError}
-use Rattle.disk_archive.specs.declared.error.CommitError.TheVariants as commits
+use Rattle.page_journal.specs.declared.error.UseError.{UseError}
+use Rattle.page_journal.specs.declared.error.UseError.TheVariants as uses
 use Rattle.disk_archive.specs.declared.mark_error.MarkError.{MarkError}
 use Rattle.disk_archive.specs.declared.mark_error.MarkError.TheVariants as refusals
-use Rattle.disk_archive.specs.inner.Committing.{CommitRefusal}
+use Rattle.page_journal.specs.Refusals.{UseRefusal}
 use Rattle.disk_models.specs.Left.{Left}
 use Rattle.disk_archive.specs.Sites.{Site, LeftEither, LeftMarked}
-use Rattle.disk_archive.specs.inner.Marked.{mark_of_commit}
+use Rattle.disk_archive.specs.inner.Marked.{mark_of_use}
 use Rattle.disk_archive.specs.inner.Planning.{Planned}
 use Rattle.disk_archive.proofs.Mirroring.{intake_at, mark_there}
 use Rattle.disk_archive.proofs.api.Trees.{tree_framed}
@@ -132,10 +132,9 @@ pub record IsFromCommit (e : MarkError) : Type 0 where
   pub collector : e ≡ refusals.NoCollector → ⊥
   pub back : e ≡ refusals.MarkBack → ⊥
 
-pub from_commit : (down : Bool) (e : CommitError) → CommitRefusal down e → down ≡ false → IsFromCommit (mark_of_commit e)
-from_commit down commits.Fault r usable = record { usable = λ e. cc; collector = λ e. cc; back = λ e. cc }
-from_commit down commits.NeedsRecovery r usable = absurd (true≢false (sym r ∙ usable))
-from_commit down commits.OutOfMemory r usable = record { usable = λ e. cc; collector = λ e. cc; back = λ e. cc }
+pub from_commit : (down : Bool) (e : UseError) → UseRefusal down e → down ≡ false → IsFromCommit (mark_of_use e)
+from_commit down uses.Fault r usable = record { usable = λ e. cc; collector = λ e. cc; back = λ e. cc }
+from_commit down uses.NeedsRecovery r usable = absurd (true≢false (sym r ∙ usable))
 
 pub not_both : {X : Type 0} (r : Result X MarkError) → r ≡ Err refusals.NeedsRecovery → r ≡ Err refusals.MarkBack → ⊥
 not_both r down back = let e : Err refusals.NeedsRecovery ≡ Err refusals.MarkBack = sym down ∙ back in cc

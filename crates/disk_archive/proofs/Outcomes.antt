@@ -4,9 +4,9 @@ use Rattle.std.specs.Prelude.{OnOk, OnErr, IfOk, IfSome, IfNone}
 use Rattle.page_journal.specs.Refusals.{PostRefusal}
 use Rattle.page_journal.specs.declared.error.PostError.{PostError}
 use Rattle.page_journal.specs.declared.error.PostError.TheVariants as posts
-use Rattle.disk_archive.specs.declared.error.CommitError.{CommitError}
-use Rattle.disk_archive.specs.declared.error.CommitError.TheVariants as commits
-use Rattle.disk_archive.specs.inner.Committing.{CommitRefusal}
+use Rattle.page_journal.specs.declared.error.UseError.{UseError}
+use Rattle.page_journal.specs.declared.error.UseError.TheVariants as uses
+use Rattle.page_journal.specs.Refusals.{UseRefusal}
 use Rattle.std.proofs.Common.{ℕ, ◌<◌, arith, nat_cmp, is_lt}
 use Rattle.std.proofs.lemmas.Bool.Decides.{nat_tests}
 
@@ -36,12 +36,10 @@ fault_or posts.Fault P Q f g = inl (f refl)
 fault_or posts.NeedsRecovery P Q f g = inr (g (λ x. cc))
 fault_or posts.TooManyImages P Q f g = inr (g (λ x. cc))
 fault_or posts.JournalFull P Q f g = inr (g (λ x. cc))
-fault_or posts.OutOfMemory P Q f g = inr (g (λ x. cc))
 
-pub commit_refused : (down : Bool) (n closed : ℕ) (e : PostError) (r : CommitError) → PostRefusal down n closed e → (r ≡ commits.Fault → e ≡ posts.Fault) → (r ≡ commits.NeedsRecovery → e ≡ posts.NeedsRecovery) → (r ≡ commits.OutOfMemory → e ≡ posts.OutOfMemory) → CommitRefusal down r
-commit_refused down n closed e commits.Fault p f g h = let q = subst (PostRefusal down n closed) (f refl) p in q.usable
-commit_refused down n closed e commits.NeedsRecovery p f g h = subst (PostRefusal down n closed) (g refl) p
-commit_refused down n closed e commits.OutOfMemory p f g h = let q = subst (PostRefusal down n closed) (h refl) p in q.usable
+pub commit_refused : (down : Bool) (n closed : ℕ) (e : PostError) (r : UseError) → PostRefusal down n closed e → (r ≡ uses.Fault → e ≡ posts.Fault) → (r ≡ uses.NeedsRecovery → e ≡ posts.NeedsRecovery) → UseRefusal down r
+commit_refused down n closed e uses.Fault p f g = let q = subst (PostRefusal down n closed) (f refl) p in q.usable
+commit_refused down n closed e uses.NeedsRecovery p f g = subst (PostRefusal down n closed) (g refl) p
 
 pub err_then : {X E : Type 0} (r : Result X E) (P Q : Type 0) → (P → Q) → OnErr r P → OnErr r Q
 err_then (Ok x) P Q f p = tt

@@ -53,7 +53,7 @@ fn may_take(
 }
 
 impl<E: EraseDisk + Drop, O: OnceDisk + Drop> Archive<E, O> {
-    ghost use Rattle.disk_archive.specs.Archives.{Carries, GoesOn, Holds, Stands, IsHonest, erase_of, is_down, once_of, once_state, pen_in, settings_of, site_of};
+    ghost use Rattle.disk_archive.specs.Archives.{Carries, GoesOn, Holds, Stands, IsHonest, erase_of, erase_state, is_down, once_of, once_state, pen_in, settings_of, site_of};
     ghost use Rattle.disk_archive.specs.Sites.{LeftEither};
     ghost use Rattle.disk_archive.specs.Crashes.{Crashes, Lasts};
     ghost use Rattle.disk_archive.specs.Limits.{IsCounterFull, IsRingFull};
@@ -81,6 +81,7 @@ impl<E: EraseDisk + Drop, O: OnceDisk + Drop> Archive<E, O> {
         ensures ok { OnOk result ((h : History) → Carries self.old h → Carries self.new (given h collector batch.now)) }
         ensures reply { (h : History) → Carries self.old h → (i : Intake) → slice_get h.intakes collector ≡ Some i → IfOk result (IsReply i collector batch.now) }
         ensures err { OnErr result ((h : History) → Carries self.old h → GoesOn self.new h) }
+        ensures memory { (h : History) → Carries self.old h → result ≡ Err AdmitError.OutOfMemory → (erase_state self.new).clock ≡ (erase_state self.old).clock }
         ensures crash { (h : History) → Carries self.old h → Crashes self.old self.new (LeftEither (site_of self.old) h (given h collector batch.now)) }
     {
         begin(&mut self.tx)?;
@@ -121,6 +122,7 @@ impl<E: EraseDisk + Drop, O: OnceDisk + Drop> Archive<E, O> {
         ensures err { OnErr result ((h : History) → Holds self.old h → Holds self.new h) }
         ensures crash { (h : History) → Carries self.old h → Crashes self.old self.new (LeftEither (site_of self.old) h (given h collector batch.now)) }
         ensures lasts { (h : History) → Stands self.old h → Lasts self.old self.new h }
+        ensures memory { IsHonest self.old → (h : History) → Holds self.old h → result ≡ Err AdmitError.OutOfMemory → (erase_state self.new).clock ≡ (erase_state self.old).clock }
         ensures usable { OnOk result (is_down self.old ≡ false) }
         ensures idle { is_down self.old ≡ true → (erase_of self.new ≡ erase_of self.old) × (once_state self.new ≡ once_state self.old) × (is_down self.new ≡ true) }
         ensures still_usable { OnOk result (is_down self.new ≡ false) }

@@ -16,7 +16,7 @@ use interleaving_core::{Answer, Query};
 use once_store::ShelfReader;
 
 impl<E: EraseDisk + Drop, O: OnceDisk + Drop> Archive<E, O> {
-    ghost use Rattle.disk_archive.specs.Archives.{Carries, Holds, Stands, IsHonest, erase_of, is_down, once_of, once_state, settings_of, site_of};
+    ghost use Rattle.disk_archive.specs.Archives.{Carries, Holds, Stands, IsHonest, erase_of, erase_state, is_down, once_of, once_state, settings_of, site_of};
     ghost use Rattle.disk_archive.specs.Sites.{LeftCarries, LeftEither};
     ghost use Rattle.disk_archive.specs.Crashes.{Crashes, Lasts};
     ghost use Rattle.disk_archive.specs.Failures.{TellsFailure};
@@ -42,6 +42,7 @@ impl<E: EraseDisk + Drop, O: OnceDisk + Drop> Archive<E, O> {
         ensures watermark { (h : History) → Carries self.old h → settled h ≤ last_moment query → result ≡ Err (AskError.AboveWatermark (settled h)) }
         ensures carries { (h : History) → Carries self.old h → Carries self.new h }
         ensures blames { (h : History) → Carries self.old h → ReadsFrom self.old reader.old → IfErr result BlamesNone }
+        ensures still { (h : History) → Carries self.old h → (erase_state self.new).clock ≡ (erase_state self.old).clock }
         ensures crash { (h : History) → Carries self.old h → Crashes self.old self.new (LeftEither (site_of self.old) h h) }
         ensures settings { settings_of self.new ≡ settings_of self.old }
         ensures disk { once_of self.new ≡ once_of self.old }
@@ -84,6 +85,7 @@ impl<E: EraseDisk + Drop, O: OnceDisk + Drop> Archive<E, O> {
         ensures holds { (h : History) → Holds self.old h → Holds self.new h }
         ensures crash { (h : History) → Carries self.old h → Crashes self.old self.new (LeftCarries (site_of self.old) h) }
         ensures lasts { (h : History) → Stands self.old h → Lasts self.old self.new h }
+        ensures still { IsHonest self.old → (h : History) → Holds self.old h → (erase_state self.new).clock ≡ (erase_state self.old).clock }
         ensures usable { OnOk result (is_down self.old ≡ false) }
         ensures idle { is_down self.old ≡ true → (erase_of self.new ≡ erase_of self.old) × (once_state self.new ≡ once_state self.old) × (is_down self.new ≡ true) }
         ensures down { is_down self.new ≡ is_down self.old }

@@ -6,8 +6,9 @@ ghost use Rattle.page_tx.specs.declared.error.PageError.TheVariants as pages;
 ghost use Rattle.disk_archive.specs.declared.apply_error.ApplyError.TheVariants as applies;
 ghost use Rattle.disk_archive.specs.inner.Applications.{ApplyRefusal, LimitRefusal};
 
-use crate::error::{CommitError, NeedsRecovery};
+use crate::error::NeedsRecovery;
 use once_store::AppendError;
+use page_journal::UseError;
 use page_tx::PageError;
 use std::alloc::AllocError;
 use thiserror::Error;
@@ -50,16 +51,15 @@ impl From<AllocError> for ApplyError {
     }
 }
 
-impl From<CommitError> for ApplyError {
-    ghost use Rattle.disk_archive.specs.inner.Applications.{apply_of_commit};
+impl From<UseError> for ApplyError {
+    ghost use Rattle.disk_archive.specs.inner.Applications.{apply_of_use};
 
-    ghost from_gives = { λ refusal e. e ≡ apply_of_commit refusal };
+    ghost from_gives = { λ refusal e. e ≡ apply_of_use refusal };
 
-    fn from(refusal: CommitError) -> Self {
+    fn from(refusal: UseError) -> Self {
         match refusal {
-            CommitError::Fault => ApplyError::Fault,
-            CommitError::NeedsRecovery => ApplyError::NeedsRecovery,
-            CommitError::OutOfMemory => ApplyError::OutOfMemory,
+            UseError::Fault => ApplyError::Fault,
+            UseError::NeedsRecovery => ApplyError::NeedsRecovery,
         }
     }
 }

@@ -45,7 +45,7 @@ fn begin_from<E: EraseDisk + Drop>(tx: &mut Tx<E>, head: &Head) -> Result<(), Ne
 
 impl<E: EraseDisk + Drop, O: OnceDisk + Drop> Archive<E, O> {
     ghost use Rattle.disk_models.specs.Once.{Grows};
-    ghost use Rattle.disk_archive.specs.Archives.{Carries, GoesOn, Holds, Stands, IsHonest, erase_of, is_down, once_of, once_state, pen_in, settings_of, site_of};
+    ghost use Rattle.disk_archive.specs.Archives.{Carries, GoesOn, Holds, Stands, IsHonest, erase_of, erase_state, is_down, once_of, once_state, pen_in, settings_of, site_of};
     ghost use Rattle.disk_archive.specs.Blanks.{NoneBlank, unused_pages};
     ghost use Rattle.disk_archive.specs.Checks.{HasPages, root_in};
     ghost use Rattle.disk_archive.specs.Failures.{CountsFailures};
@@ -75,6 +75,7 @@ impl<E: EraseDisk + Drop, O: OnceDisk + Drop> Archive<E, O> {
         ensures still { result ≡ Ok Step.Idle → IsAsBefore self.old self.new }
         ensures err { OnErr result ((h : History) → Carries self.old h → GoesOn self.new h) }
         ensures sound { (h : History) → Carries self.old h → (page : ℕ) → result ≡ Err (ApplyError.BadNode page) → ⊥ }
+        ensures memory { (h : History) → Carries self.old h → result ≡ Err ApplyError.OutOfMemory → (erase_state self.new).clock ≡ (erase_state self.old).clock }
         ensures crash { (h : History) → Carries self.old h → CrashesOnStep self.old self.new h }
     {
         begin_from(&mut self.tx, &self.head)?;
@@ -116,6 +117,7 @@ impl<E: EraseDisk + Drop, O: OnceDisk + Drop> Archive<E, O> {
         ensures err { OnErr result ((h : History) → Holds self.old h → Holds self.new h) }
         ensures crash { (h : History) → Carries self.old h → (g : History) × ((g ≡ h) ⊎ Moves h g) × Crashes self.old self.new (LeftEither (site_of self.old) h g) }
         ensures lasts { (h : History) → Stands self.old h → Lasts self.old self.new h }
+        ensures memory { IsHonest self.old → (h : History) → Holds self.old h → result ≡ Err ApplyError.OutOfMemory → (erase_state self.new).clock ≡ (erase_state self.old).clock }
         ensures usable { OnOk result (is_down self.old ≡ false) }
         ensures down_idle { is_down self.old ≡ true → (erase_of self.new ≡ erase_of self.old) × (once_state self.new ≡ once_state self.old) × (is_down self.new ≡ true) }
         ensures still_usable { OnOk result (is_down self.new ≡ false) }

@@ -10,25 +10,22 @@ ghost use Rattle.page_journal.specs.Refusals.{UseRefusal};
 ghost use Rattle.buffer_pool.specs.Pool.{Maps, journal_of};
 ghost use Rattle.page_tx.specs.Start.{Start};
 ghost use Rattle.page_tx.specs.Tx.{Shows, named_pages, pool_of};
-ghost use Rattle.disk_archive.specs.inner.Committing.{CommitRefusal};
 
-use crate::error::{CommitError, NeedsRecovery};
+use crate::error::NeedsRecovery;
 use disk_models::EraseDisk;
 use page_journal::{PostError, UseError};
 use page_tx::Tx;
 
 // Why a post was refused that has a closed slot.
-fn refusal(error: PostError) -> CommitError
+fn refusal(error: PostError) -> UseError
     requires few { error ≢ PostError.TooManyImages }
     requires room { error ≢ PostError.JournalFull }
-    ensures fault { (result ≡ CommitError.Fault) → (error ≡ PostError.Fault) }
-    ensures recovery { (result ≡ CommitError.NeedsRecovery) → (error ≡ PostError.NeedsRecovery) }
-    ensures memory { (result ≡ CommitError.OutOfMemory) → (error ≡ PostError.OutOfMemory) }
+    ensures fault { (result ≡ UseError.Fault) → (error ≡ PostError.Fault) }
+    ensures recovery { (result ≡ UseError.NeedsRecovery) → (error ≡ PostError.NeedsRecovery) }
 {
     match error {
-        PostError::Fault => CommitError::Fault,
-        PostError::NeedsRecovery => CommitError::NeedsRecovery,
-        PostError::OutOfMemory => CommitError::OutOfMemory,
+        PostError::Fault => UseError::Fault,
+        PostError::NeedsRecovery => UseError::NeedsRecovery,
         PostError::TooManyImages | PostError::JournalFull => unreachable!(),
     }
 }
@@ -56,15 +53,15 @@ fn make_room<E: EraseDisk + Drop>(tx: &mut Tx<E>) -> Result<(), UseError>
 
 /// Makes the pages that are shown those of the pool, all of them or none. Where no slot of the journal is closed, a checkpoint
 /// comes first. After a refusal the pages are those of the start, or the archive must be opened again.
-pub(crate) fn commit<E: EraseDisk + Drop>(tx: &mut Tx<E>) -> Result<(), CommitError>
+pub(crate) fn commit<E: EraseDisk + Drop>(tx: &mut Tx<E>) -> Result<(), UseError>
     ensures crash { (start : Start) (shown : List (List ℕ)) → Shows E.EraseDisk tx.old start shown
         → Leaves (E.model (disk_of (journal_of (pool_of tx.old)))) (E.model (disk_of (journal_of (pool_of tx.new)))) (RecoversEither (home_pages (journal_of (pool_of tx.old))) start.note start.pages shown) }
     ensures ok { (start : Start) (shown : List (List ℕ)) → Shows E.EraseDisk tx.old start shown → OnOk result (Maps E.EraseDisk (pool_of tx.new) shown) }
     ensures err { (start : Start) (shown : List (List ℕ)) → Shows E.EraseDisk tx.old start shown → OnErr result ((needs_recovery (journal_of (pool_of tx.new)) ≡ true) ⊎ Maps E.EraseDisk (pool_of tx.new) start.pages) }
-    ensures refused { IfErr result (CommitRefusal (needs_recovery (journal_of (pool_of tx.old)))) }
+    ensures refused { IfErr result (UseRefusal (needs_recovery (journal_of (pool_of tx.old)))) }
     ensures usable { OnOk result (needs_recovery (journal_of (pool_of tx.new)) ≡ false) }
-    ensures falls { needs_recovery (journal_of (pool_of tx.old)) ≡ false → needs_recovery (journal_of (pool_of tx.new)) ≡ true → result ≡ Err CommitError.Fault }
-    ensures journal { SameJournal E.EraseDisk (journal_of (pool_of tx.old)) (journal_of (pool_of tx.new)) (IsErrOf result CommitError.Fault) }
+    ensures falls { needs_recovery (journal_of (pool_of tx.old)) ≡ false → needs_recovery (journal_of (pool_of tx.new)) ≡ true → result ≡ Err UseError.Fault }
+    ensures journal { SameJournal E.EraseDisk (journal_of (pool_of tx.old)) (journal_of (pool_of tx.new)) (IsErrOf result UseError.Fault) }
 {
     make_room(tx)?;
     match tx.commit() {

@@ -100,7 +100,7 @@ fn descend_by<P: Pages>(
 }
 
 impl<E: EraseDisk + Drop, O: OnceDisk + Drop> Archive<E, O> {
-    ghost use Rattle.disk_archive.specs.Archives.{Carries, Holds, Stands, IsHonest, erase_of, is_down, once_of, once_state, pen_in, settings_of, site_of};
+    ghost use Rattle.disk_archive.specs.Archives.{Carries, Holds, Stands, IsHonest, erase_of, erase_state, is_down, once_of, once_state, pen_in, settings_of, site_of};
     ghost use Rattle.disk_archive.specs.Blanks.{next_block};
     ghost use Rattle.disk_archive.specs.Sites.{LeftCarries, LeftEither};
     ghost use Rattle.disk_archive.specs.Crashes.{Crashes, Lasts};
@@ -134,6 +134,7 @@ impl<E: EraseDisk + Drop, O: OnceDisk + Drop> Archive<E, O> {
         ensures carries { (h : History) → Carries self.old h → Carries self.new h }
         ensures blames { (h : History) → Carries self.old h → IfErr result BlamesNone }
         ensures undamaged { (block : ℕ) → result ≡ Err (AskError.Damaged block) → ⊥ }
+        ensures still { (h : History) → Carries self.old h → (erase_state self.new).clock ≡ (erase_state self.old).clock }
         ensures crash { (h : History) → Carries self.old h → Crashes self.old self.new (LeftEither (site_of self.old) h h) }
         ensures disk { once_of self.new ≡ once_of self.old }
         ensures blocks { once_state self.new ≡ once_state self.old }
@@ -167,6 +168,7 @@ impl<E: EraseDisk + Drop, O: OnceDisk + Drop> Archive<E, O> {
         ensures holds { (h : History) → Holds self.old h → Holds self.new h }
         ensures crash { (h : History) → Carries self.old h → Crashes self.old self.new (LeftCarries (site_of self.old) h) }
         ensures lasts { (h : History) → Stands self.old h → Lasts self.old self.new h }
+        ensures still { IsHonest self.old → (h : History) → Holds self.old h → (erase_state self.new).clock ≡ (erase_state self.old).clock }
         ensures usable { OnOk result (is_down self.old ≡ false) }
         ensures idle { is_down self.old ≡ true → (erase_of self.new ≡ erase_of self.old) × (once_state self.new ≡ once_state self.old) × (is_down self.new ≡ true) }
         ensures unmoved { is_down self.old ≡ true → cursor.new ≡ cursor.old }

@@ -11,30 +11,6 @@ use thiserror::Error;
 #[derive(Clone, Copy, Debug, PartialEq, Eq)]
 pub(crate) struct NeedsRecovery;
 
-/// Why a transaction isn't committed.
-#[derive(Clone, Copy, Debug, PartialEq, Eq)]
-pub(crate) enum CommitError {
-    /// A device failed. The archive must be opened again, or nothing was written.
-    Fault,
-    /// An earlier write or sync failed, and the archive wasn't opened again since.
-    NeedsRecovery,
-    /// A growth was refused, before anything was written.
-    OutOfMemory,
-}
-
-impl From<UseError> for CommitError {
-    ghost use Rattle.disk_archive.specs.inner.Committing.{of_use};
-
-    ghost from_gives = { λ refusal e. e ≡ of_use refusal };
-
-    fn from(refusal: UseError) -> Self {
-        match refusal {
-            UseError::Fault => CommitError::Fault,
-            UseError::NeedsRecovery => CommitError::NeedsRecovery,
-        }
-    }
-}
-
 /// Why a batch isn't taken. The first of these that holds is told, but for a failure, and memory.
 #[derive(Clone, Copy, Debug, PartialEq, Eq, Error)]
 pub enum AdmitError {
@@ -72,16 +48,15 @@ impl From<AllocError> for AdmitError {
     }
 }
 
-impl From<CommitError> for AdmitError {
-    ghost use Rattle.disk_archive.specs.inner.Committing.{admit_of_commit};
+impl From<UseError> for AdmitError {
+    ghost use Rattle.disk_archive.specs.inner.Committing.{admit_of_use};
 
-    ghost from_gives = { λ refusal e. e ≡ admit_of_commit refusal };
+    ghost from_gives = { λ refusal e. e ≡ admit_of_use refusal };
 
-    fn from(refusal: CommitError) -> Self {
+    fn from(refusal: UseError) -> Self {
         match refusal {
-            CommitError::Fault => AdmitError::Fault,
-            CommitError::NeedsRecovery => AdmitError::NeedsRecovery,
-            CommitError::OutOfMemory => AdmitError::OutOfMemory,
+            UseError::Fault => AdmitError::Fault,
+            UseError::NeedsRecovery => AdmitError::NeedsRecovery,
         }
     }
 }

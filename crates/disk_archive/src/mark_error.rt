@@ -3,7 +3,8 @@
 ghost use Rattle.std.specs.Prelude.{◌≡◌};
 ghost use Rattle.disk_archive.specs.declared.mark_error.MarkError.TheVariants as marks;
 
-use crate::error::{CommitError, NeedsRecovery};
+use crate::error::NeedsRecovery;
+use page_journal::UseError;
 use std::alloc::AllocError;
 use thiserror::Error;
 
@@ -35,16 +36,15 @@ impl From<AllocError> for MarkError {
     }
 }
 
-impl From<CommitError> for MarkError {
-    ghost use Rattle.disk_archive.specs.inner.Marked.{mark_of_commit};
+impl From<UseError> for MarkError {
+    ghost use Rattle.disk_archive.specs.inner.Marked.{mark_of_use};
 
-    ghost from_gives = { λ refusal e. e ≡ mark_of_commit refusal };
+    ghost from_gives = { λ refusal e. e ≡ mark_of_use refusal };
 
-    fn from(refusal: CommitError) -> Self {
+    fn from(refusal: UseError) -> Self {
         match refusal {
-            CommitError::Fault => MarkError::Fault,
-            CommitError::NeedsRecovery => MarkError::NeedsRecovery,
-            CommitError::OutOfMemory => MarkError::OutOfMemory,
+            UseError::Fault => MarkError::Fault,
+            UseError::NeedsRecovery => MarkError::NeedsRecovery,
         }
     }
 }

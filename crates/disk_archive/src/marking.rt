@@ -109,7 +109,7 @@ fn plan_mark<P: Pages>(
 }
 
 impl<E: EraseDisk + Drop, O: OnceDisk + Drop> Archive<E, O> {
-    ghost use Rattle.disk_archive.specs.Archives.{Carries, GoesOn, Holds, Stands, IsHonest, erase_of, is_down, once_of, once_state, pen_in, settings_of, site_of};
+    ghost use Rattle.disk_archive.specs.Archives.{Carries, GoesOn, Holds, Stands, IsHonest, erase_of, erase_state, is_down, once_of, once_state, pen_in, settings_of, site_of};
     ghost use Rattle.disk_archive.specs.Sites.{LeftMarked};
     ghost use Rattle.disk_archive.specs.Crashes.{Crashes, Lasts};
     ghost use Rattle.disk_archive.specs.inner.Idle.{IsAsBefore};
@@ -133,6 +133,7 @@ impl<E: EraseDisk + Drop, O: OnceDisk + Drop> Archive<E, O> {
         ensures blocks { once_state self.new ≡ once_state self.old }
         ensures ok { OnOk result ((h : History) → Carries self.old h → Carries self.new (marked h collector mark)) }
         ensures err { OnErr result ((h : History) → Carries self.old h → GoesOn self.new h) }
+        ensures memory { (h : History) → Carries self.old h → result ≡ Err MarkError.OutOfMemory → (erase_state self.new).clock ≡ (erase_state self.old).clock }
         ensures crash { (h : History) → Carries self.old h → Crashes self.old self.new (LeftMarked (site_of self.old) h collector mark) }
     {
         begin(&mut self.tx)?;
@@ -157,6 +158,7 @@ impl<E: EraseDisk + Drop, O: OnceDisk + Drop> Archive<E, O> {
         ensures err { OnErr result ((h : History) → Holds self.old h → Holds self.new h) }
         ensures crash { (h : History) → Carries self.old h → Crashes self.old self.new (LeftMarked (site_of self.old) h collector mark) }
         ensures lasts { (h : History) → Stands self.old h → Lasts self.old self.new h }
+        ensures memory { IsHonest self.old → (h : History) → Holds self.old h → result ≡ Err MarkError.OutOfMemory → (erase_state self.new).clock ≡ (erase_state self.old).clock }
         ensures usable { OnOk result (is_down self.old ≡ false) }
         ensures idle { is_down self.old ≡ true → (erase_of self.new ≡ erase_of self.old) × (once_state self.new ≡ once_state self.old) × (is_down self.new ≡ true) }
         ensures still_usable { OnOk result (is_down self.new ≡ false) }

@@ -24,8 +24,8 @@ use Rattle.archive_pages.specs.Changes.{next_change}
 use Rattle.archive_pages.specs.Batches.{CanPop, HasLane}
 use Rattle.disk_archive.specs.declared.apply_error.ApplyError.{ApplyError}
 use Rattle.disk_archive.specs.declared.apply_error.ApplyError.TheVariants as applies
-use Rattle.disk_archive.specs.declared.error.CommitError.{CommitError}
-use Rattle.disk_archive.specs.declared.error.CommitError.TheVariants as commits
+use Rattle.page_journal.specs.declared.error.UseError.{UseError}
+use Rattle.page_journal.specs.declared.error.UseError.TheVariants as uses
 use Rattle.disk_archive.specs.declared.planning_changes.Front.{Front}
 use Rattle.disk_archive.specs.declared.planning_changes.Plan.{Plan}
 use Rattle.disk_archive.specs.declared.planning_changes.Application.{Application}
@@ -35,10 +35,9 @@ use Rattle.disk_archive.specs.Moves.{Moves}
 use Rattle.disk_archive.specs.inner.Planning.{Planned}
 
 -- a refusal of the commit, told of a change
-abbrev pub apply_of_commit : CommitError → ApplyError
-apply_of_commit commits.Fault = applies.Fault
-apply_of_commit commits.NeedsRecovery = applies.NeedsRecovery
-apply_of_commit commits.OutOfMemory = applies.OutOfMemory
+abbrev pub apply_of_use : UseError → ApplyError
+apply_of_use uses.Fault = applies.Fault
+apply_of_use uses.NeedsRecovery = applies.NeedsRecovery
 
 -- that the archive must be opened again is told only where it must
 abbrev pub ApplyRefusal : Bool → ApplyError → Type 0

@@ -6,7 +6,7 @@ use Rattle.page_journal.specs.Recovers.{Recovers, RecoversEither}
 use Rattle.buffer_pool.specs.Pool.{Maps, journal_of}
 use Rattle.page_tx.specs.Start.{Start}
 use Rattle.page_tx.specs.Tx.{pool_of}
-use Rattle.disk_archive.specs.inner.Committing.{CommitRefusal}
+use Rattle.page_journal.specs.Refusals.{UseRefusal}
 use Rattle.std.specs.Prelude.{Err}
 use Rattle.disk_archive.proofs.Outcomes.{on_each_err, down_or, fault_or, commit_refused}
 use Rattle.disk_archive.proofs.Staying.{usable_after, fell_by}
@@ -59,8 +59,8 @@ returns-in-Err-clause-err g c start shown s =
 
 pub returns-in-Err-clause-refused : goal.returns-in-Err-clause-refused
 returns-in-Err-clause-refused g c =
-    subst (λ b. CommitRefusal b c.refusal.result) c.in_ok-make_room.ensures.down
-    (commit_refused _ _ _ c.in-Err.error c.refusal.result c.in-Err.ensures.refused c.refusal.ensures.fault c.refusal.ensures.recovery c.refusal.ensures.memory)
+    subst (λ b. UseRefusal b c.refusal.result) c.in_ok-make_room.ensures.down
+    (commit_refused _ _ _ c.in-Err.error c.refusal.result c.in-Err.ensures.refused c.refusal.ensures.fault c.refusal.ensures.recovery)
 
 -- ---- what stays usable
 
@@ -72,4 +72,4 @@ returns-in-Ok-clause-falls g c up down = absurd (true≢false (sym down ∙ usab
 
 pub returns-in-Err-clause-falls : goal.returns-in-Err-clause-falls
 returns-in-Err-clause-falls g c up down = ap (λ x. Err x) (fell_by _ _ c.in-Err.error c.refusal.result (c.in_ok-make_room.ensures.down ∙ up) down
-    (λ other. ap (λ p. needs_recovery (journal_of p)) (c.in-Err.ensures.unchanged other)) c.refusal.ensures.recovery c.refusal.ensures.memory)
+    (λ other. ap (λ p. needs_recovery (journal_of p)) (c.in-Err.ensures.unchanged other)) c.refusal.ensures.recovery)

@@ -4,7 +4,7 @@ use Rattle.interleaving_core.proofs.api.Right.{begins_given}
 use Rattle.disk_archive.specs.declared.error.AdmitError.TheVariants as admits
 use Rattle.disk_archive.proofs.Limiting.{not_both}
 use Rattle.disk_archive.proofs.Outcomes.{err_then, from_result, ok_both, ok_then, if_ok_as}
-use Rattle.disk_archive.proofs.Lasting.{down_still, held_ok, held_err, lasts_of}
+use Rattle.disk_archive.proofs.Lasting.{down_still, held_clock, held_ok, held_err, lasts_of}
 use Rattle.disk_archive.proofs.archive.Archive.admit.Goals as goal
 
 pub returns-clause-ok : goal.returns-clause-ok
@@ -64,3 +64,6 @@ returns-clause-counted g c told = c.try_admit.ensures.device.counted told
 
 pub returns-clause-idle : goal.returns-clause-idle
 returns-clause-idle g c down = down_still c.args.self.now _ down (c.try_admit.ensures.recovery down)
+
+pub returns-clause-memory : goal.returns-clause-memory
+returns-clause-memory g c honest h held told = held_clock c.args.self.now _ h c.try_admit.ensures.recovery (λ k. c.try_admit.ensures.memory h k told) (held honest)

@@ -6,7 +6,7 @@ use Rattle.interleaving_core.specs.Does.{last_moment}
 use Rattle.interleaving_core.specs.Headline.{IsAnswered}
 use Rattle.route_meaning.specs.History.{applied, settled}
 use Rattle.disk_archive.proofs.Asking.{answered_of, below_of, watermark_of}
-use Rattle.disk_archive.proofs.Lasting.{down_still, held_err}
+use Rattle.disk_archive.proofs.Lasting.{down_still, held_clock, held_err}
 use Rattle.disk_archive.proofs.Steps.{crashes_weaker, lasts_steps}
 use Rattle.disk_archive.proofs.archive.Archive.answer.Goals as goal
 
@@ -37,3 +37,6 @@ returns-clause-above g c = watermark_of c.args.self.now c.try_answer.result (las
 
 pub returns-clause-idle : goal.returns-clause-idle
 returns-clause-idle g c down = down_still c.args.self.now _ down (c.try_answer.ensures.idle down)
+
+pub returns-clause-still : goal.returns-clause-still
+returns-clause-still g c honest h held = held_clock c.args.self.now _ h c.try_answer.ensures.idle (c.try_answer.ensures.still h) (held honest)

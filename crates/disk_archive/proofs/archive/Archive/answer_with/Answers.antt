@@ -7,7 +7,7 @@ use Rattle.interleaving_core.specs.Does.{last_moment}
 use Rattle.interleaving_core.specs.Headline.{IsAnswered}
 use Rattle.route_meaning.specs.History.{applied, settled}
 use Rattle.disk_archive.proofs.Asking.{answered_of, below_of, watermark_of, reads_idle}
-use Rattle.disk_archive.proofs.Lasting.{down_still, held_err}
+use Rattle.disk_archive.proofs.Lasting.{down_still, held_clock, held_err}
 use Rattle.disk_archive.proofs.Steps.{crashes_weaker, lasts_steps}
 use Rattle.disk_archive.proofs.archive.Archive.answer_with.Goals as goal
 
@@ -44,3 +44,6 @@ returns-clause-reads g c honest h held from =
 
 pub returns-clause-idle : goal.returns-clause-idle
 returns-clause-idle g c down = down_still c.args.self.now _ down (c.try_answer_with.ensures.idle down)
+
+pub returns-clause-still : goal.returns-clause-still
+returns-clause-still g c honest h held = held_clock c.args.self.now _ h c.try_answer_with.ensures.idle (c.try_answer_with.ensures.still h) (held honest)

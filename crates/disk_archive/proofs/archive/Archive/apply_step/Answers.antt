@@ -1,7 +1,7 @@
 use Rattle.std.proofs.Common.{ap, sym, ◌∙◌, arith}
 use Rattle.page_journal.specs.Journal.{disk_of}
 use Rattle.disk_archive.proofs.Outcomes.{err_then}
-use Rattle.disk_archive.proofs.Lasting.{down_still, held_err, lasts_by}
+use Rattle.disk_archive.proofs.Lasting.{down_still, held_clock, held_err, lasts_by}
 use Rattle.disk_archive.proofs.Applied.{applied_of, idle_of, idle_same, goes_of, never_bad, needs_recovery_of, none_blank, same_or_moved, both_same}
 use Rattle.route_meaning.specs.History.{applied}
 use Rattle.disk_archive.proofs.Counts.{changes_are}
@@ -69,3 +69,6 @@ returns-clause-pages_full g c told = let few = pages_of _ _ _ c.try_apply.result
 
 pub returns-clause-down_idle : goal.returns-clause-down_idle
 returns-clause-down_idle g c down = down_still c.args.self.now _ down (c.try_apply.ensures.recovery down)
+
+pub returns-clause-memory : goal.returns-clause-memory
+returns-clause-memory g c honest h held told = held_clock c.args.self.now _ h c.try_apply.ensures.recovery (λ k. c.try_apply.ensures.memory h k told) (held honest)

@@ -3,7 +3,7 @@ use Rattle.route_meaning.proofs.api.Beginning.{Begins-refl}
 use Rattle.disk_archive.specs.Archives.{site_of}
 use Rattle.disk_archive.specs.Sites.{LeftCarries, LeftEither, LeftFrom}
 use Rattle.disk_archive.proofs.Counts.{counted_of}
-use Rattle.disk_archive.proofs.Lasting.{down_still, held_err}
+use Rattle.disk_archive.proofs.Lasting.{down_still, held_clock, held_err}
 use Rattle.disk_archive.proofs.Steps.{crashes_weaker, lasts_steps}
 use Rattle.disk_archive.proofs.archive.Archive.check.Goals as goal
 
@@ -28,3 +28,6 @@ returns-clause-lasts g c =
 
 pub returns-clause-idle : goal.returns-clause-idle
 returns-clause-idle g c down = down_still c.args.self.now _ down (c.try_check.ensures.idle down)
+
+pub returns-clause-still : goal.returns-clause-still
+returns-clause-still g c honest h held = held_clock c.args.self.now _ h c.try_check.ensures.idle (c.try_check.ensures.still h) (held honest)

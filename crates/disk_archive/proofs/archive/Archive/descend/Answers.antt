@@ -9,7 +9,7 @@ use Rattle.disk_archive.specs.Descents.{Descends}
 use Rattle.disk_archive.specs.declared.descending.Descent.{Descent}
 use Rattle.disk_archive.proofs.Turning.{gathered_of}
 use Rattle.disk_archive.proofs.Asking.{answered_of, below_of, watermark_of}
-use Rattle.disk_archive.proofs.Lasting.{down_still, held_err}
+use Rattle.disk_archive.proofs.Lasting.{down_still, held_clock, held_err}
 use Rattle.disk_archive.proofs.Steps.{crashes_weaker, lasts_steps}
 use Rattle.disk_archive.proofs.archive.Archive.descend.Goals as goal
 
@@ -52,3 +52,6 @@ returns-clause-counted g c told = c.try_descend.ensures.device.counted told
 
 pub returns-clause-idle : goal.returns-clause-idle
 returns-clause-idle g c down = down_still c.args.self.now _ down (c.try_descend.ensures.idle down)
+
+pub returns-clause-still : goal.returns-clause-still
+returns-clause-still g c honest h held = held_clock c.args.self.now _ h c.try_descend.ensures.idle (c.try_descend.ensures.still h) (held honest)

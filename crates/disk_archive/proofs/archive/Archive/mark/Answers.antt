@@ -7,7 +7,7 @@ use Rattle.interleaving_core.proofs.api.GoingOn.{begins_marked}
 use Rattle.disk_archive.specs.Archives.{Carries, GoesOn, Stands, site_of}
 use Rattle.disk_archive.specs.Sites.{LeftFrom, LeftMarked}
 use Rattle.disk_archive.proofs.Outcomes.{err_then, from_result, ok_both}
-use Rattle.disk_archive.proofs.Lasting.{down_still, held_ok, held_err}
+use Rattle.disk_archive.proofs.Lasting.{down_still, held_clock, held_ok, held_err}
 use Rattle.disk_archive.proofs.Marks.{not_both}
 use Rattle.disk_archive.proofs.Steps.{crashes_weaker, lasts_steps}
 use Rattle.disk_archive.proofs.archive.Archive.mark.Goals as goal
@@ -61,3 +61,6 @@ returns-clause-counted g c told = c.try_mark.ensures.device.counted told
 
 pub returns-clause-idle : goal.returns-clause-idle
 returns-clause-idle g c down = down_still c.args.self.now _ down (c.try_mark.ensures.idle down)
+
+pub returns-clause-memory : goal.returns-clause-memory
+returns-clause-memory g c honest h held told = held_clock c.args.self.now _ h c.try_mark.ensures.idle (λ k. c.try_mark.ensures.memory h k told) (held honest)

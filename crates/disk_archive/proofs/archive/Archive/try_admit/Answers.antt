@@ -1,6 +1,6 @@
 use Rattle.std.proofs.Common.{rules, ◌≡◌, ◌<◌, ◌≤◌, inl, List, [], length, refl, sym, ◌∙◌, ap, subst, arith, slice_get, Err}
 use Rattle.std.specs.Prelude.{sum_by}
-use Rattle.page_journal.specs.Journal.{home_pages, needs_recovery}
+use Rattle.page_journal.specs.Journal.{disk_of, home_pages, needs_recovery}
 use Rattle.page_tx.specs.Start.{Start}
 use Rattle.route_model.specs.Admission.{Admitted}
 use Rattle.route_meaning.specs.History.{Intake}
@@ -18,10 +18,10 @@ use Rattle.disk_archive.proofs.Plans.{lane_at}
 use Rattle.disk_archive.proofs.Limiting.{ring_full, ring_room, not_full, no_counter, counter_told, plan_later, commit_later, memory_later, as_told, told_err}
 use Rattle.disk_archive.proofs.Replies.{reply_is}
 use Rattle.disk_archive.proofs.Calling.{Ready, start_of, grows_none, unwritten, written, kept, refused, done}
-use Rattle.disk_archive.specs.inner.Committing.{admit_of_commit}
+use Rattle.disk_archive.specs.inner.Committing.{admit_of_use}
 use Rattle.buffer_pool.specs.Pool.{journal_of}
 use Rattle.page_tx.specs.Tx.{pool_of}
-use Rattle.disk_archive.proofs.Faults.{admit_fault, keeps_same, keeps_served, keeps_then, keeps_told, not_taken, told_as, told_of}
+use Rattle.disk_archive.proofs.Faults.{admit_fault, admit_memory, keeps_same, keeps_served, keeps_then, keeps_told, not_taken, told_as, told_of}
 use Rattle.disk_archive.proofs.Staying.{told_fault}
 use Rattle.disk_archive.proofs.archive.Archive.try_admit.Goals as goal
 
@@ -294,7 +294,7 @@ pub returns-in_err-commit-clause-falls : goal.returns-in_err-commit-clause-falls
 returns-in_err-commit-clause-falls g c up down =
     let was = c.plan_batch.ensures.down ∙ (ap needs_recovery c.begin.ensures.same ∙ up) in
     let fell = c.in_err-commit.ensures.falls was down in
-    told_fault c.from_residual-in_err-commit.result admit_of_commit c.in_err-commit.field-0.0 c.from_residual-in_err-commit.ensures.1 (cc fell)
+    told_fault c.from_residual-in_err-commit.result admit_of_use c.in_err-commit.field-0.0 c.from_residual-in_err-commit.ensures.1 (cc fell)
 
 -- ---- how often the device failed
 
@@ -323,7 +323,7 @@ returns-in_err-commit-clause-device g c =
     let is = c.from_residual-in_err-commit.ensures.1 in
     keeps_then _ _ _ _ _ _ _ (keeps_same g.E.EraseDisk (journal_of (pool_of c.args.self.now.tx)) (journal_of (pool_of c.begin.new.tx)) c.begin.ensures.same)
     (keeps_then _ _ _ _ _ _ _ (keeps_told _ _ _ _ _ ⊥ (λ f. absurd f) (λ f. cc) c.in_ok-next.ensures.device)
-    (keeps_told _ _ _ _ _ _ (λ told. ap (λ e. Err e) (admit_fault c.in_err-commit.field-0.0 (told_as r _ admits.Fault is told))) (λ f. told_fault r admit_of_commit c.in_err-commit.field-0.0 is (cc f))
+    (keeps_told _ _ _ _ _ _ (λ told. ap (λ e. Err e) (admit_fault c.in_err-commit.field-0.0 (told_as r _ admits.Fault is told))) (λ f. told_fault r admit_of_use c.in_err-commit.field-0.0 is (cc f))
     (keeps_served g.E.EraseDisk _ _ _ c.in_err-commit.ensures.journal.serves)))
 
 pub returns-clause-device : goal.returns-clause-device
@@ -331,3 +331,20 @@ returns-clause-device g c =
     keeps_then _ _ _ _ _ _ _ (keeps_same g.E.EraseDisk (journal_of (pool_of c.args.self.now.tx)) (journal_of (pool_of c.begin.new.tx)) c.begin.ensures.same)
     (keeps_then _ _ _ _ _ _ _ (keeps_told _ _ _ _ _ ⊥ (λ f. absurd f) (λ f. cc) c.in_ok-next.ensures.device)
     (keeps_told _ _ _ _ _ _ (λ told. absurd cc) (λ f. absurd cc) (keeps_served g.E.EraseDisk _ _ _ c.in_ok-commit.ensures.journal.serves)))
+
+-- ---- where memory is refused nothing was written
+
+pub returns-in_err-kept-clause-memory : goal.returns-in_err-kept-clause-memory
+returns-in_err-kept-clause-memory g c h k told = ap (λ j. (g.E.EraseDisk.model (disk_of j)).clock) c.begin.ensures.same
+
+pub returns-in_err-next-clause-memory : goal.returns-in_err-next-clause-memory
+returns-in_err-next-clause-memory g c h k told =
+    let a = c.args.self.now in
+    let s0 = c.in_ok-begin.ensures.shown k.honest.0 k.pages k.maps in
+    let now = c.plan_batch.ensures.shown (site_of a).blocks (once_state a) (start_of a h k) k.pages h s0 k.bears in
+    now.1.clocked
+
+pub returns-in_err-commit-clause-memory : goal.returns-in_err-commit-clause-memory
+returns-in_err-commit-clause-memory g c h k told =
+    let r = c.from_residual-in_err-commit.result in
+    absurd (admit_memory c.in_err-commit.field-0.0 (told_as r _ admits.OutOfMemory c.from_residual-in_err-commit.ensures.1 told))

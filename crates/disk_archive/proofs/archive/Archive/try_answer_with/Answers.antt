@@ -297,3 +297,49 @@ returns-clause-failed g c =
     (λ told. absurd (done_not_told _ _ asks.Fault refl told))
     (λ failed. absurd (done_not_told c.answer_by.result c.in_ok-answer.answer asks.Fault r failed))
     (c.seen.ensures.counts.quiet looked) c.in_ok-seen.ensures.fresh (λ honest same_disk. c.answer_by.ensures.look (subst (λ d. g.O.OnceDisk.honest_seen d c.in_ok-seen.seen) (sym same_disk) (c.in_ok-seen.ensures.seen honest.1))) (read_then _ _ _ _ _ _ same c.answer_by.ensures.failed)
+
+-- ---- nothing is written
+
+pub returns-in_err-begin-clause-still : goal.returns-in_err-begin-clause-still
+returns-in_err-begin-clause-still g c h k =
+    absurd (true≢false (sym c.in_err-begin.ensures.down ∙ k.maps.keeps.usable))
+
+pub returns-in_err-check_settled-clause-still : goal.returns-in_err-check_settled-clause-still
+returns-in_err-check_settled-clause-still g c h k =
+    let a = c.args.self.now in
+    let start : Start = start_of a h k in
+    let s0 = c.in_ok-begin.ensures.shown k.honest.0 k.pages k.maps in
+    let homes0 = ap home_pages c.begin.ensures.same in
+    let r : Ready a h k c.begin.new.tx k.pages = record { shows = s0; homes = homes0 } in
+    r.shows.clocked
+
+pub returns-in_err-seen-clause-still : goal.returns-in_err-seen-clause-still
+returns-in_err-seen-clause-still g c h k =
+    let a = c.args.self.now in
+    let start : Start = start_of a h k in
+    let s0 = c.in_ok-begin.ensures.shown k.honest.0 k.pages k.maps in
+    let homes0 = ap home_pages c.begin.ensures.same in
+    let r : Ready a h k c.begin.new.tx k.pages = record { shows = s0; homes = homes0 } in
+    r.shows.clocked
+
+pub returns-in_err-answer-clause-still : goal.returns-in_err-answer-clause-still
+returns-in_err-answer-clause-still g c h k =
+    let a = c.args.self.now in
+    let start : Start = start_of a h k in
+    let s0 = c.in_ok-begin.ensures.shown k.honest.0 k.pages k.maps in
+    let homes0 = ap home_pages c.begin.ensures.same in
+    let s1 = c.answer_by.ensures.reads start k.pages s0 in
+    let r : Ready a h k c.answer_by.new.pages k.pages = record { shows = s1; homes = c.answer_by.ensures.homes ∙ homes0 } in
+    let pen = subst (λ d. g.O.OnceDisk.honest d (pen_of c.seen.new.self)) (sym c.seen.ensures.disk) (c.seen.ensures.honest.0 k.honest.1) in
+    r.shows.clocked
+
+pub returns-clause-still : goal.returns-clause-still
+returns-clause-still g c h k =
+    let a = c.args.self.now in
+    let start : Start = start_of a h k in
+    let s0 = c.in_ok-begin.ensures.shown k.honest.0 k.pages k.maps in
+    let homes0 = ap home_pages c.begin.ensures.same in
+    let s1 = c.answer_by.ensures.reads start k.pages s0 in
+    let r : Ready a h k c.answer_by.new.pages k.pages = record { shows = s1; homes = c.answer_by.ensures.homes ∙ homes0 } in
+    let pen = subst (λ d. g.O.OnceDisk.honest d (pen_of c.seen.new.self)) (sym c.seen.ensures.disk) (c.seen.ensures.honest.0 k.honest.1) in
+    r.shows.clocked

@@ -2,12 +2,12 @@ use Rattle.std.proofs.Common.{rules, ◌≡◌, inl, inr, refl, ◌∙◌, ap, a
 use Rattle.page_journal.specs.Journal.{disk_of, home_pages, needs_recovery}
 use Rattle.page_tx.specs.Start.{Start}
 use Rattle.disk_archive.specs.declared.apply_error.ApplyError.TheVariants as applies
-use Rattle.disk_archive.specs.declared.error.CommitError.TheVariants as commits
+use Rattle.page_journal.specs.declared.error.UseError.TheVariants as uses
 use Rattle.disk_archive.specs.Archives.{once_state}
 use Rattle.disk_archive.specs.Mirrors.{Mirrors}
-use Rattle.disk_archive.specs.inner.Applications.{apply_of_commit}
-use Rattle.disk_archive.proofs.Failing.{apply_fault, counts_commit, counts_same, counts_then, counts_told}
-use Rattle.disk_archive.proofs.Faults.{one_told}
+use Rattle.disk_archive.specs.inner.Applications.{apply_of_use}
+use Rattle.disk_archive.proofs.Failing.{apply_fault, apply_memory, counts_commit, counts_same, counts_then, counts_told}
+use Rattle.disk_archive.proofs.Faults.{one_told, told_as}
 use Rattle.disk_archive.proofs.Fronts.{nothing_is}
 use Rattle.disk_archive.proofs.Outcomes.{on_each_err}
 use Rattle.disk_archive.proofs.Calling.{Ready, start_of, grows_none, unwritten, written, kept}
@@ -151,7 +151,7 @@ pub returns-in_err-commit-clause-falls : goal.returns-in_err-commit-clause-falls
 returns-in_err-commit-clause-falls g c up down =
     let was = c.plan_changes.ensures.down ∙ (ap needs_recovery c.begin_from.ensures.same ∙ up) in
     let fell = c.in_err-commit.ensures.falls was down in
-    told_fault c.from_residual-in_err-commit.result apply_of_commit c.in_err-commit.field-0.0 c.from_residual-in_err-commit.ensures.1 (cc fell)
+    told_fault c.from_residual-in_err-commit.result apply_of_use c.in_err-commit.field-0.0 c.from_residual-in_err-commit.ensures.1 (cc fell)
 
 -- ---- what is too much
 
@@ -191,8 +191,8 @@ pub returns-in_err-commit-clause-failed : goal.returns-in_err-commit-clause-fail
 returns-in_err-commit-clause-failed g c =
     let e = c.in_err-commit.field-0.0 in
     let r : c.commit.result ≡ Err e = search rules in
-    let d : c.from_residual-in_err-commit.result ≡ Err (apply_of_commit e) = search rules in
-    counts_then _ _ _ _ _ _ ⊥ _ _ (λ told. inr (r ∙ ap Err (apply_fault e (one_told c.from_residual-in_err-commit.result (apply_of_commit e) applies.Fault d told))))
+    let d : c.from_residual-in_err-commit.result ≡ Err (apply_of_use e) = search rules in
+    counts_then _ _ _ _ _ _ ⊥ _ _ (λ told. inr (r ∙ ap Err (apply_fault e (one_told c.from_residual-in_err-commit.result (apply_of_use e) applies.Fault d told))))
     (counts_then _ _ _ _ _ _ ⊥ ⊥ ⊥ inl (counts_same _ _ _ (ap (λ j. g.E.EraseDisk.fault_count (disk_of j)) c.begin_from.ensures.same))
     (counts_told _ _ _ _ _ ⊥ (λ never. absurd never) c.plan_changes.ensures.failed))
     (counts_commit g.E.EraseDisk c.commit.result _ _ _ c.commit.ensures.journal.serves)
@@ -203,3 +203,16 @@ returns-clause-failed g c =
     (counts_then _ _ _ _ _ _ ⊥ ⊥ ⊥ inl (counts_same _ _ _ (ap (λ j. g.E.EraseDisk.fault_count (disk_of j)) c.begin_from.ensures.same))
     (counts_told _ _ _ _ _ ⊥ (λ never. absurd never) c.plan_changes.ensures.failed))
     (counts_commit g.E.EraseDisk c.commit.result _ _ _ c.commit.ensures.journal.serves)
+
+-- ---- where memory is refused nothing was written
+
+pub returns-in_err-head-clause-memory : goal.returns-in_err-head-clause-memory
+returns-in_err-head-clause-memory g c h k told =
+    let s0 = c.in_ok-begin_from.ensures.shown k.honest.0 k.pages k.maps in
+    let now = c.plan_changes.ensures.shows (start_of c.args.self.now h k) k.pages s0 in
+    now.1.clocked
+
+pub returns-in_err-commit-clause-memory : goal.returns-in_err-commit-clause-memory
+returns-in_err-commit-clause-memory g c h k told =
+    let r = c.from_residual-in_err-commit.result in
+    absurd (apply_memory c.in_err-commit.field-0.0 (told_as r _ applies.OutOfMemory c.from_residual-in_err-commit.ensures.1 told))

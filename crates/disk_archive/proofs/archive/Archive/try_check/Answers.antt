@@ -181,3 +181,37 @@ returns-clause-failed g c =
     let looked : IsOk c.seen.result = search rules in
     fails_read _ _ _ c.in_ok-seen.seen c.count_by.new.seen _ _ (λ told. told) (λ failed. failed)
     (c.seen.ensures.counts.quiet looked) c.in_ok-seen.ensures.fresh (λ honest _. look_stays g.O.OnceDisk _ _ c.in_ok-seen.seen c.count_by.new.seen c.in_ok-reader.ensures.disk (c.in_ok-seen.ensures.seen honest.1) c.count_by.ensures.look) (read_then _ _ _ _ _ _ same c.count_by.ensures.failed)
+
+-- ---- nothing is written
+
+pub returns-in_err-begin-clause-still : goal.returns-in_err-begin-clause-still
+returns-in_err-begin-clause-still g c h k =
+    absurd (true≢false (sym c.in_err-begin.ensures.down ∙ k.maps.keeps.usable))
+
+pub returns-in_err-reader-clause-still : goal.returns-in_err-reader-clause-still
+returns-in_err-reader-clause-still g c h k =
+    let a = c.args.self.now in
+    let start : Start = start_of a h k in
+    let s0 = c.in_ok-begin.ensures.shown k.honest.0 k.pages k.maps in
+    let homes0 = ap home_pages c.begin.ensures.same in
+    let r : Ready a h k c.begin.new.tx k.pages = record { shows = s0; homes = homes0 } in
+    r.shows.clocked
+
+pub returns-in_err-seen-clause-still : goal.returns-in_err-seen-clause-still
+returns-in_err-seen-clause-still g c h k =
+    let a = c.args.self.now in
+    let start : Start = start_of a h k in
+    let s0 = c.in_ok-begin.ensures.shown k.honest.0 k.pages k.maps in
+    let homes0 = ap home_pages c.begin.ensures.same in
+    let r : Ready a h k c.begin.new.tx k.pages = record { shows = s0; homes = homes0 } in
+    r.shows.clocked
+
+pub returns-clause-still : goal.returns-clause-still
+returns-clause-still g c h k =
+    let a = c.args.self.now in
+    let start : Start = start_of a h k in
+    let s0 = c.in_ok-begin.ensures.shown k.honest.0 k.pages k.maps in
+    let homes0 = ap home_pages c.begin.ensures.same in
+    let s1 = c.count_by.ensures.reads start k.pages s0 in
+    let r : Ready a h k c.count_by.new.pages k.pages = record { shows = s1; homes = c.count_by.ensures.homes ∙ homes0 } in
+    r.shows.clocked

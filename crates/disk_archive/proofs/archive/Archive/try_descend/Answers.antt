@@ -195,3 +195,38 @@ returns-clause-device g c =
 
 pub returns-clause-burnt : goal.returns-clause-burnt
 returns-clause-burnt g c = subst (λ (n : ℕ). ReadsBelow n c.in_ok-descent.descent) c.next-burnt.ensures.next c.in_ok-descent.ensures.burnt
+
+-- ---- nothing is written
+
+pub returns-in_err-begin-clause-still : goal.returns-in_err-begin-clause-still
+returns-in_err-begin-clause-still g c h k =
+    absurd (true≢false (sym c.in_err-begin.ensures.down ∙ k.maps.keeps.usable))
+
+pub returns-in_err-check_settled-clause-still : goal.returns-in_err-check_settled-clause-still
+returns-in_err-check_settled-clause-still g c h k =
+    let a = c.args.self.now in
+    let start : Start = start_of a h k in
+    let s0 = c.in_ok-begin.ensures.shown k.honest.0 k.pages k.maps in
+    let homes0 = ap home_pages c.begin.ensures.same in
+    let r : Ready a h k c.begin.new.tx k.pages = record { shows = s0; homes = homes0 } in
+    r.shows.clocked
+
+pub returns-in_err-descent-clause-still : goal.returns-in_err-descent-clause-still
+returns-in_err-descent-clause-still g c h k =
+    let a = c.args.self.now in
+    let start : Start = start_of a h k in
+    let s0 = c.in_ok-begin.ensures.shown k.honest.0 k.pages k.maps in
+    let homes0 = ap home_pages c.begin.ensures.same in
+    let s1 = c.descend_by.ensures.reads start k.pages s0 in
+    let r : Ready a h k c.descend_by.new.pages k.pages = record { shows = s1; homes = c.descend_by.ensures.homes ∙ homes0 } in
+    r.shows.clocked
+
+pub returns-clause-still : goal.returns-clause-still
+returns-clause-still g c h k =
+    let a = c.args.self.now in
+    let start : Start = start_of a h k in
+    let s0 = c.in_ok-begin.ensures.shown k.honest.0 k.pages k.maps in
+    let homes0 = ap home_pages c.begin.ensures.same in
+    let s1 = c.descend_by.ensures.reads start k.pages s0 in
+    let r : Ready a h k c.descend_by.new.pages k.pages = record { shows = s1; homes = c.descend_by.ensures.homes ∙ homes0 } in
+    r.shows.clocked

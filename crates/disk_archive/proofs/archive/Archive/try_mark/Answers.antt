@@ -5,7 +5,7 @@ use Rattle.interleaving_core.specs.Steps.{marked}
 use Rattle.interleaving_core.proofs.api.GoingOn.{begins_marked}
 use Rattle.disk_archive.specs.Archives.{once_state, site_of}
 use Rattle.disk_archive.specs.Sites.{LeftEither, LeftMarked}
-use Rattle.disk_archive.specs.inner.Marked.{mark_of_commit}
+use Rattle.disk_archive.specs.inner.Marked.{mark_of_use}
 use Rattle.disk_archive.proofs.Mirroring.{intake_at, mark_there, mirror_marked}
 use Rattle.disk_archive.proofs.Outcomes.{on_each_err}
 use Rattle.disk_archive.proofs.Calling.{Ready, start_of, grows_none, unwritten, written, kept, refused, done}
@@ -14,7 +14,7 @@ use Rattle.disk_archive.specs.declared.mark_error.MarkError.TheVariants as refus
 use Rattle.disk_archive.proofs.Steps.{crashes_weaker}
 use Rattle.buffer_pool.specs.Pool.{journal_of}
 use Rattle.page_tx.specs.Tx.{pool_of}
-use Rattle.disk_archive.proofs.Faults.{keeps_same, keeps_served, keeps_then, keeps_told, mark_fault, not_raised, told_as}
+use Rattle.disk_archive.proofs.Faults.{keeps_same, keeps_served, keeps_then, keeps_told, mark_fault, mark_memory, not_raised, told_as}
 use Rattle.disk_archive.proofs.Staying.{told_fault}
 use Rattle.disk_archive.proofs.archive.Archive.try_mark.Goals as goal
 
@@ -228,7 +228,7 @@ pub returns-in_err-commit-clause-falls : goal.returns-in_err-commit-clause-falls
 returns-in_err-commit-clause-falls g c up down =
     let was = c.plan_mark.ensures.down ∙ (ap needs_recovery c.begin.ensures.same ∙ up) in
     let fell = c.in_err-commit.ensures.falls was down in
-    told_fault c.from_residual-in_err-commit.result mark_of_commit c.in_err-commit.field-0.0 c.from_residual-in_err-commit.ensures.1 (cc fell)
+    told_fault c.from_residual-in_err-commit.result mark_of_use c.in_err-commit.field-0.0 c.from_residual-in_err-commit.ensures.1 (cc fell)
 
 -- ---- how often the device failed
 
@@ -256,7 +256,7 @@ returns-in_err-commit-clause-device g c =
     let is = c.from_residual-in_err-commit.ensures.1 in
     keeps_then _ _ _ _ _ _ _ (keeps_same g.E.EraseDisk (journal_of (pool_of c.args.self.now.tx)) (journal_of (pool_of c.begin.new.tx)) c.begin.ensures.same)
     (keeps_then _ _ _ _ _ _ _ c.plan_mark.ensures.device
-    (keeps_told _ _ _ _ _ _ (λ told. ap (λ e. Err e) (mark_fault c.in_err-commit.field-0.0 (told_as r _ refusals.Fault is told))) (λ f. told_fault r mark_of_commit c.in_err-commit.field-0.0 is (cc f))
+    (keeps_told _ _ _ _ _ _ (λ told. ap (λ e. Err e) (mark_fault c.in_err-commit.field-0.0 (told_as r _ refusals.Fault is told))) (λ f. told_fault r mark_of_use c.in_err-commit.field-0.0 is (cc f))
     (keeps_served g.E.EraseDisk _ _ _ c.in_err-commit.ensures.journal.serves)))
 
 pub returns-clause-device : goal.returns-clause-device
@@ -264,3 +264,16 @@ returns-clause-device g c =
     keeps_then _ _ _ _ _ _ _ (keeps_same g.E.EraseDisk (journal_of (pool_of c.args.self.now.tx)) (journal_of (pool_of c.begin.new.tx)) c.begin.ensures.same)
     (keeps_then _ _ _ _ _ _ _ c.plan_mark.ensures.device
     (keeps_told _ _ _ _ _ _ (λ told. absurd cc) (λ f. absurd cc) (keeps_served g.E.EraseDisk _ _ _ c.in_ok-commit.ensures.journal.serves)))
+
+-- ---- where memory is refused nothing was written
+
+pub returns-in_err-next-clause-memory : goal.returns-in_err-next-clause-memory
+returns-in_err-next-clause-memory g c h k told =
+    let s0 = c.in_ok-begin.ensures.shown k.honest.0 k.pages k.maps in
+    let s1 = c.in_err-next.ensures.same (start_of c.args.self.now h k) k.pages s0 in
+    s1.clocked
+
+pub returns-in_err-commit-clause-memory : goal.returns-in_err-commit-clause-memory
+returns-in_err-commit-clause-memory g c h k told =
+    let r = c.from_residual-in_err-commit.result in
+    absurd (mark_memory c.in_err-commit.field-0.0 (told_as r _ refusals.OutOfMemory c.from_residual-in_err-commit.ensures.1 told))
