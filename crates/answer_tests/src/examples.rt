@@ -2,17 +2,13 @@
 
 use crate::asking::{answers_as, ask};
 use crate::be;
-use crate::made::{Made, Reader, checks_as, loaded, reader_of};
+use crate::made::{Made, Reader, loaded, reader_of};
 use std::alloc::Global;
 use test_octets::octets;
 
 /// A message of 192.0.2.1, AS 65001: an UPDATE that announces 10.0.0.0/8 by 65001 65002, at 1704067200.
 const UPDATE: &str = "65920080 0010 0001 0000003D FDE9 FC00 0000 0001 C0000201 C0000202
     FFFFFFFFFFFFFFFFFFFFFFFFFFFFFFFF 002D 02 0000 0014 40010100 4002060202FDE9FDEA 400304C0000201 080A";
-
-/// An UPDATE without prefixes.
-const EMPTY: &str = "65920080 0010 0001 00000027 FDE9 FC00 0000 0001 C0000201 C0000202
-    FFFFFFFFFFFFFFFFFFFFFFFFFFFFFFFF 0017 02 0000 0000";
 
 /// The session of the peer ends.
 const SESSION_DOWN: &str =
@@ -160,51 +156,6 @@ fn examples_are_answered(rt: HostRuntime) {
     }
 }
 
-/// Records that are loaded with the mark 1704067201, and the line that a check writes then.
-struct Checked {
-    name: &'static str,
-    records: &'static [&'static str],
-    line: &'static str,
-}
-
-const CHECKED: [Checked; 4] = [
-    Checked {
-        name: "no record",
-        records: &[],
-        line: "ok|0|1704067201\n",
-    },
-    Checked {
-        name: "one route",
-        records: &[UPDATE],
-        line: "ok|1|1704067201\n",
-    },
-    Checked {
-        name: "a record without changes",
-        records: &[EMPTY],
-        line: "ok|0|1704067201\n",
-    },
-    Checked {
-        name: "two prefixes, and the end of a session",
-        records: &[TWO_PREFIXES, SESSION_DOWN],
-        line: "ok|3|1704067201\n",
-    },
-];
-
-fn is_checked(alloc: Global, checked: &Checked) -> Option<bool> {
-    checks_as(alloc, &stream(alloc, checked.records)?, checked.line)
-}
-
-#[test]
-fn changes_and_watermark_are_told(rt: HostRuntime) {
-    for checked in &CHECKED {
-        be(
-            &rt,
-            is_checked(rt.alloc(), checked) == Some(true),
-            checked.name,
-        );
-    }
-}
-
 /// Request lines of 257 prefixes, how many lines their answers have, and the last of these.
 const CUT: [(&str, usize, &str); 3] = [
     (
@@ -234,7 +185,7 @@ fn many_prefixes(alloc: Global) -> Option<Vec<u8>> {
     Some(octets)
 }
 
-/// Whether an answer to the line has so many lines, of which this one is the last.
+/// Whether an answer to the line has this many lines, of which this one is the last.
 fn is_cut(
     alloc: Global,
     archive: &mut Made,
@@ -244,8 +195,8 @@ fn is_cut(
     ending: &str,
 ) -> bool {
     match ask(alloc, archive, reader, line) {
-        Some(told) => {
-            told.as_str().lines().count() == count && told.as_str().lines().last() == Some(ending)
+        Some(text) => {
+            text.as_str().lines().count() == count && text.as_str().lines().last() == Some(ending)
         }
         None => false,
     }

@@ -6,7 +6,7 @@ use disk_memory::{MemErase, MemOnce};
 use memory_archive::MemArchive;
 use once_store::ShelfReader;
 use route_model::Mark;
-use service::{Input, LoadSettings, Output, Status, check, load};
+use service::{Input, LoadSettings, Output, Status, load};
 use std::alloc::Global;
 use std::sync::Arc;
 
@@ -23,7 +23,7 @@ pub(crate) type Made = Archive<MemErase, MemOnce>;
 
 pub(crate) type Reader = ShelfReader<MemOnce>;
 
-/// An archive of so many collectors, each with a ring of nine pages.
+/// An archive of this many collectors, each with a ring of nine pages.
 pub(crate) fn made(alloc: Global, collectors: u8) -> Option<Made> {
     let settings = Settings {
         collectors,
@@ -38,7 +38,7 @@ pub(crate) fn made(alloc: Global, collectors: u8) -> Option<Made> {
     Archive::create(alloc, erase, Arc::new(alloc, once).ok()?, pen, settings).ok()
 }
 
-/// A reader that keeps so many blocks of the archive, 1 to 1,024.
+/// A reader that keeps this many blocks of the archive, 1 to 1,024.
 pub(crate) fn reader_of(archive: &Made, blocks: usize) -> Option<Reader> {
     if blocks < 1 || blocks > 1_024 {
         return None;
@@ -75,17 +75,4 @@ fn loaded_into(alloc: Global, octets: &[u8]) -> Option<MemArchive> {
 pub(crate) fn loaded(alloc: Global, octets: &[u8]) -> Option<Made> {
     let MemArchive { archive } = loaded_into(alloc, octets)?;
     Some(archive)
-}
-
-/// Whether a check of an archive into which these octets are loaded writes this line.
-pub(crate) fn checks_as(alloc: Global, octets: &[u8], line: &str) -> Option<bool> {
-    let mut archive = loaded_into(alloc, octets)?;
-    let mut out: Vec<u8> = Vec::new(alloc);
-    let mut err: Vec<u8> = Vec::new(alloc);
-    let mut lines = Output::new(&mut out);
-    let mut refusals = Output::new(&mut err);
-    let status = check(alloc, &mut archive, &mut lines, &mut refusals);
-    drop(lines);
-    drop(refusals);
-    Some(status == Status::Done && out.as_slice() == line.as_bytes() && err.is_empty())
 }

@@ -29,8 +29,6 @@ mod playing;
 #[cfg(test)]
 mod scripts;
 #[cfg(test)]
-mod served;
-#[cfg(test)]
 mod told;
 
 #[cfg(test)]

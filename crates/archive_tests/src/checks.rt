@@ -1,4 +1,4 @@
-//! What is written of a check: that all is well, or the first damage.
+//! What is written of a check that is refused, or that can't be written.
 
 use crate::be;
 use crate::desk::loaded_of;
@@ -17,7 +17,7 @@ fn checked(alloc: Global, answer: Result<u64, Trouble>) -> Option<Pure> {
     Some(archive)
 }
 
-/// Checks, and tells what standard error shows.
+/// Checks, with standard error as octets.
 fn check_to<W: Write>(
     alloc: Global,
     archive: &mut Pure,
@@ -46,14 +46,7 @@ fn checks_as(
     )
 }
 
-#[test]
-fn changes_and_watermark_are_told(rt: HostRuntime) {
-    let line = "ok|1|1704067201\n";
-    let is_told = checks_as(rt.alloc(), Ok(1), line, "", Status::Done);
-    be(&rt, is_told == Some(true), line);
-}
-
-/// What an archive meets, and what standard error is told.
+/// What an archive meets, and the line of standard error.
 const TROUBLES: [(Trouble, &str); 5] = [
     (Trouble::Fault, "rha: 1 Fault\n"),
     (Trouble::NeedsRecovery, "rha: 5 NeedsRecovery\n"),
@@ -63,14 +56,14 @@ const TROUBLES: [(Trouble, &str); 5] = [
 ];
 
 #[test]
-fn troubles_are_told_on_standard_error(rt: HostRuntime) {
+fn troubles_are_shown_on_standard_error(rt: HostRuntime) {
     for (trouble, line) in &TROUBLES {
-        let is_told = checks_as(rt.alloc(), Err(*trouble), "", line, Status::Refused);
-        be(&rt, is_told == Some(true), line);
+        let is_shown = checks_as(rt.alloc(), Err(*trouble), "", line, Status::Refused);
+        be(&rt, is_shown == Some(true), line);
     }
 }
 
-/// Whether a check whose line doesn't fit is told as failed.
+/// Whether a check whose line doesn't fit has failed.
 fn is_unwritten(alloc: Global) -> Option<bool> {
     let mut archive = checked(alloc, Ok(1))?;
     let mut small = [0u8; 4];
@@ -81,7 +74,7 @@ fn is_unwritten(alloc: Global) -> Option<bool> {
 }
 
 #[test]
-fn nothing_is_told_where_nothing_can_be_written(rt: HostRuntime) {
+fn a_check_fails_where_nothing_can_be_written(rt: HostRuntime) {
     be(&rt, is_unwritten(rt.alloc()) == Some(true), "a full writer");
 }
 
@@ -117,20 +110,14 @@ fn runs_as(
 }
 
 #[test]
-fn a_check_has_a_status(rt: HostRuntime) {
-    let is_done = runs_as(rt.alloc(), Ok(1), "ok|1|1704067201\n", "", 0);
-    be(&rt, is_done == Some(true), "a check");
-}
-
-#[test]
 fn damage_has_status_1_and_no_line(rt: HostRuntime) {
     let damaged = Err(Trouble::Damaged(7));
     let is_done = runs_as(rt.alloc(), damaged, "", "rha: 8 Damaged\n", 1);
     be(&rt, is_done == Some(true), "damage");
 }
 
-/// Whether a check is told once that can't be written out.
-fn is_told_once(alloc: Global) -> Option<bool> {
+/// Whether standard error shows once that a check can't be written out.
+fn is_shown_once(alloc: Global) -> Option<bool> {
     let mut archive = checked(alloc, Ok(1))?;
     let mut small = [0u8; 4];
     let full: &mut [u8] = &mut small;
@@ -142,6 +129,10 @@ fn is_told_once(alloc: Global) -> Option<bool> {
 
 // A buffer shows only where it is written out that there is no room for the line.
 #[test]
-fn a_check_that_cannot_be_written_out_is_told_once(rt: HostRuntime) {
-    be(&rt, is_told_once(rt.alloc()) == Some(true), "a full buffer");
+fn a_check_that_cannot_be_written_out_is_shown_once(rt: HostRuntime) {
+    be(
+        &rt,
+        is_shown_once(rt.alloc()) == Some(true),
+        "a full buffer",
+    );
 }

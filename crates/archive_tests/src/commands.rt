@@ -63,7 +63,7 @@ const ACCEPTED: [(&str, &str); 25] = [
     ),
     ("rha|ask|a|watermark", "ask a watermark"),
     ("rha|ask|a||", "ask a  "),
-    // Behind the first word all are words.
+    // After the first word all are words.
     (
         "rha|ask|a|at|--mark|7|-x|--help|--",
         "ask a at --mark 7 -x --help --",
@@ -85,7 +85,7 @@ const ACCEPTED: [(&str, &str); 25] = [
     ("rha|check|a", "check a"),
     ("rha|check|", "check "),
     ("rha|check|--|a", "check a"),
-    // Behind two dashes alone no word is an option.
+    // After two dashes alone no word is an option.
     ("rha|check|--|--help", "check --help"),
 ];
 
@@ -140,7 +140,7 @@ impl Line {
         self.is_whole &= self.text.push_str(text).is_ok();
     }
 
-    /// Adds a word behind a space.
+    /// Adds a word after a space.
     fn word(&mut self, word: &str) {
         self.add(" ");
         self.add(word);
@@ -221,7 +221,7 @@ fn line_of(alloc: Global, invocation: &Invocation<'_>) -> Line {
     line
 }
 
-/// What is told of words that `clap` accepts, and the exit status.
+/// How words are refused that `clap` accepts, and the exit status.
 fn refusal_of(alloc: Global, error: &CommandError) -> Line {
     let mut line = Line::new(
         alloc,
@@ -261,7 +261,7 @@ fn words_of_commands_are_accepted(rt: HostRuntime) {
     }
 }
 
-/// Whether the text behind `--listen` is refused, with status 1.
+/// Whether the text after `--listen` is refused, with status 1.
 fn is_no_listen(alloc: Global, listen: &str) -> Option<bool> {
     let words = format!(in alloc; "rha|serve|a|--listen|{listen}|--workers|1").ok()?;
     is_accepted(alloc, words.as_str(), "no address 1")
@@ -274,7 +274,7 @@ fn an_address_and_port_that_are_none_are_refused(rt: HostRuntime) {
     }
 }
 
-/// Whether the text behind `--mark` is refused, with status 1.
+/// Whether the text after `--mark` is refused, with status 1.
 fn is_no_mark(alloc: Global, mark: &str) -> Option<bool> {
     let words = format!(in alloc; "rha|load|a|--collector|0|--mark|{mark}|a.mrt").ok()?;
     is_accepted(alloc, words.as_str(), "no mark 1")

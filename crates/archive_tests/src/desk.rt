@@ -78,20 +78,6 @@ pub(crate) fn loads_as(
     ended == status && out.as_slice() == lines.as_bytes() && err.as_slice() == refusals.as_bytes()
 }
 
-/// Whether a line is answered by these lines, and ends so. Standard error stays empty.
-pub(crate) fn answers_as(
-    alloc: Global,
-    archive: &mut Pure,
-    line: &str,
-    lines: &str,
-    status: Status,
-) -> bool {
-    let mut out: Vec<u8> = Vec::new(alloc);
-    let mut err: Vec<u8> = Vec::new(alloc);
-    let ended = ask_to(alloc, archive, line, &mut Output::new(&mut out), &mut err);
-    ended == status && out.as_slice() == lines.as_bytes() && err.is_empty()
-}
-
 /// Whether a feed of the octets writes these lines, and ends so.
 pub(crate) fn feeds_as(
     alloc: Global,

@@ -31,7 +31,7 @@ impl Read for Failing<'_> {
     }
 }
 
-/// A reader of these octets, one at a time, each behind an interruption.
+/// A reader of these octets, one at a time, each after an interruption.
 #[derive(Drop)]
 struct Slow<'a> {
     octets: &'a [u8],
@@ -97,7 +97,7 @@ fn is_fed_slowly(alloc: Global) -> Option<bool> {
     Some(is_well && out.as_slice() == lines.as_bytes())
 }
 
-/// Whether a reader that fails ends its feed, which is told, and remembers why.
+/// Whether a reader that fails ends its feed, as its line says, and remembers why.
 fn is_given_up(alloc: Global) -> Option<bool> {
     let mut archive = Pure::new(alloc, 1)?;
     let octets = stream(alloc, &[UPDATE, UPDATE])?;
@@ -114,7 +114,7 @@ fn is_given_up(alloc: Global) -> Option<bool> {
     )
 }
 
-/// Whether a writer of four octets ends a feed and fails what comes behind it. A load tells it, a question no more.
+/// Whether a writer of four octets ends a feed and fails what comes after it. Standard error shows it for a load, and no more for a question.
 fn fails_all<W: Write>(
     alloc: Global,
     archive: &mut Pure,
@@ -128,15 +128,15 @@ fn fails_all<W: Write>(
         mark: None,
         resume: false,
     };
-    let mut told: Vec<u8> = Vec::new(alloc);
-    let loaded = load_to(alloc, archive, how, &[], full, &mut told);
-    let mut untold: Vec<u8> = Vec::new(alloc);
-    let asked = ask_to(alloc, archive, QUESTION, full, &mut untold);
+    let mut shown: Vec<u8> = Vec::new(alloc);
+    let loaded = load_to(alloc, archive, how, &[], full, &mut shown);
+    let mut rest: Vec<u8> = Vec::new(alloc);
+    let asked = ask_to(alloc, archive, QUESTION, full, &mut rest);
     end == End::Refused(FeedStop::Outside)
         && loaded == Status::Failed
-        && told.as_slice() == UNWRITTEN.as_bytes()
+        && shown.as_slice() == UNWRITTEN.as_bytes()
         && asked == Status::Failed
-        && untold.is_empty()
+        && rest.is_empty()
 }
 
 fn is_failed(alloc: Global) -> Option<bool> {
@@ -147,20 +147,20 @@ fn is_failed(alloc: Global) -> Option<bool> {
     Some(fails_all(alloc, &mut archive, &octets, &mut Output::new(full)))
 }
 
-/// Whether a question whose answer doesn't fit is told as failed.
+/// Whether a question whose answer doesn't fit has failed.
 fn is_too_long(alloc: Global) -> Option<bool> {
     let mut archive = loaded_of(alloc, &[UPDATE])?;
     let mut small = [0u8; 4];
     let full: &mut [u8] = &mut small;
-    let mut told: Vec<u8> = Vec::new(alloc);
+    let mut shown: Vec<u8> = Vec::new(alloc);
     let asked = ask_to(
         alloc,
         &mut archive,
         QUESTION,
         &mut Output::new(full),
-        &mut told,
+        &mut shown,
     );
-    Some(asked == Status::Failed && told.as_slice() == UNWRITTEN.as_bytes())
+    Some(asked == Status::Failed && shown.as_slice() == UNWRITTEN.as_bytes())
 }
 
 /// What standard error has to show of a file that isn't there, and of one that can't be read on.
@@ -169,7 +169,7 @@ rha: 29 Outside: a.mrt: read: broken pipe
 ";
 
 /// Whether standard error has the system's reasons.
-fn are_reasons_told(alloc: Global) -> Option<bool> {
+fn are_reasons_shown(alloc: Global) -> Option<bool> {
     let mut archive = Pure::new(alloc, 1)?;
     let mut file = Input::new(Failing { octets: &[] });
     let mut lines: Vec<u8> = Vec::new(alloc);
@@ -182,19 +182,19 @@ fn are_reasons_told(alloc: Global) -> Option<bool> {
     );
     let missing = Error::from(ErrorKind::NotFound);
     let mut err: Vec<u8> = Vec::new(alloc);
-    let mut told = Output::new(&mut err);
-    let code = tell_outside(alloc, &mut told, "a.mrt", "open", &missing);
-    tell_lost(alloc, "a.mrt", &file, &mut told);
-    drop(told);
+    let mut shown = Output::new(&mut err);
+    let code = tell_outside(alloc, &mut shown, "a.mrt", "open", &missing);
+    tell_lost(alloc, "a.mrt", &file, &mut shown);
+    drop(shown);
     Some(code == 1 && err.as_slice() == REASONS.as_bytes())
 }
 
 #[test]
-fn failures_outside_are_told(rt: HostRuntime) {
+fn failures_outside_are_shown(rt: HostRuntime) {
     let alloc = rt.alloc();
     be(&rt, is_fed_slowly(alloc) == Some(true), "octet by octet");
     be(&rt, is_given_up(alloc) == Some(true), "a reader that fails");
     be(&rt, is_failed(alloc) == Some(true), "a writer that fails");
     be(&rt, is_too_long(alloc) == Some(true), "a long answer");
-    be(&rt, are_reasons_told(alloc) == Some(true), "the reasons");
+    be(&rt, are_reasons_shown(alloc) == Some(true), "the reasons");
 }

@@ -1,4 +1,5 @@
-//! Tests of service: worked examples from outside over the pure machine, and what is done where a reader or a writer fails.
+//! Tests of service: worked examples from outside, over an archive on disks in memory that is opened anew for each command line; and over
+//! the pure machine what is done where a reader or a writer fails.
 #![tactic(auto)]
 
 #[cfg(test)]
@@ -6,23 +7,31 @@ mod checks;
 #[cfg(test)]
 mod commands;
 #[cfg(test)]
+mod damaged;
+#[cfg(test)]
 mod desk;
+#[cfg(test)]
+mod disks;
 #[cfg(test)]
 mod failures;
 #[cfg(test)]
 mod feeds;
 #[cfg(test)]
+mod files;
+#[cfg(test)]
+mod gathered;
+#[cfg(test)]
 mod lines;
 #[cfg(test)]
+mod playing;
+#[cfg(test)]
 mod pure;
-#[cfg(test)]
-mod questions;
-#[cfg(test)]
-mod resumed;
 #[cfg(test)]
 mod running;
 #[cfg(test)]
 mod samples;
+#[cfg(test)]
+mod scripts;
 #[cfg(test)]
 mod usage;
 
@@ -33,4 +42,10 @@ use std::process::Abort;
 #[cfg(test)]
 fn be(rt: &impl Abort, holds: bool, name: &str) {
     assert!(rt; holds, "{name}");
+}
+
+/// The same, with the number of a line.
+#[cfg(test)]
+fn be_at(rt: &impl Abort, holds: bool, name: &str, number: u64) {
+    assert!(rt; holds, "{name}: {number}");
 }

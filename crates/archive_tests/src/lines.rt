@@ -78,7 +78,7 @@ const NO_REQUESTS: [&str; 63] = [
     "now",
 ];
 
-/// The question for 10.0.0.0/8 at the moment 7, behind this spot.
+/// The question for 10.0.0.0/8 at the moment 7, after this spot.
 fn ten_at_7(after: Option<Spot>) -> Request {
     let question = Query::Rows(RowsQuestion {
         moment: Moment::from(7),
@@ -88,7 +88,7 @@ fn ten_at_7(after: Option<Spot>) -> Request {
     Request::Question(question)
 }
 
-/// A spot behind which a question goes on.
+/// A spot after which a question goes on.
 fn last_spot() -> Spot {
     Spot {
         peer: Peer {
@@ -134,8 +134,8 @@ rha: 12 BadText: --mark is none
 ";
 
 /// Writes each of the lines once.
-fn write_all(told: &mut Output<&mut Vec<u8>>, admitted: &BatchReply) {
-    write_admitted(told, admitted);
+fn write_all(lines: &mut Output<&mut Vec<u8>>, admitted: &BatchReply) {
+    write_admitted(lines, admitted);
     let counts = FeedCounts {
         records: 5,
         admitted: 1,
@@ -143,12 +143,12 @@ fn write_all(told: &mut Output<&mut Vec<u8>>, admitted: &BatchReply) {
         refused: 3,
         skipped: 4,
     };
-    write_counts(told, &counts);
-    write_settled(told, Mark::at(Moment::from(7)));
-    write_refusal(told, &Refusal::BadRequest);
-    write_refused_record(told, &Refusal::TooLong, 8);
-    write_error(told, &Refusal::BadText);
-    write_reason(told, &Refusal::BadText, "--mark is none");
+    write_counts(lines, &counts);
+    write_settled(lines, Mark::at(Moment::from(7)));
+    write_refusal(lines, &Refusal::BadRequest);
+    write_refused_record(lines, &Refusal::TooLong, 8);
+    write_error(lines, &Refusal::BadText);
+    write_reason(lines, &Refusal::BadText, "--mark is none");
 }
 
 /// A batch of three records, of which the second came late.

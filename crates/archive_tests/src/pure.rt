@@ -30,7 +30,7 @@ pub(crate) struct Pure {
 }
 
 impl Pure {
-    /// So many collectors gave nothing.
+    /// A machine of this many collectors, which gave nothing.
     pub(crate) fn new(alloc: Global, collectors: u8) -> Option<Pure> {
         let collectors = collectors.clamp(1, 16);
         Some(Pure {
@@ -66,7 +66,7 @@ impl Pure {
     }
 }
 
-/// The settled watermark, where a reply tells it.
+/// The settled watermark, where a reply has it.
 fn settled_in(reply: &Reply) -> Option<Mark> {
     match reply {
         Reply::AboveWatermark(settled) => Some(*settled),

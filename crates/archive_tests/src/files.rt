@@ -1,0 +1,191 @@
+//! Files of records, by the names that the scripts have for them.
+
+use crate::gathered::Gathered;
+use crate::samples::{
+    AFTER_TIME, AGGREGATED, BEFORE_256, BEFORE_257, BEFORE_763, BEFORE_764, BOTH_PLACES,
+    CUT_PEER_TABLE, CUT_UPDATE, EARLIER, EMPTY, EMPTY_AFTER_TIME, ENTRIES_UNCOUNTED, EXTENDED,
+    IPV6, JOINED, LONG_PREFIX, LONGER, NOTIFICATION, OTHER_PATH, OTHER_PEER_TABLE, PEER_TABLE,
+    PEERS_UNCOUNTED, RIB, RIB_IPV6, RIB_IPV6_FULL, RIB_OF_NEXT_HOP, RIB_OF_SECOND,
+    RIB_WITHOUT_ORIGIN, SESSION_DOWN, SKIPPED, TOO_LONG, TWO_PREFIXES, UPDATE, WITHDRAWAL,
+};
+use std::alloc::Global;
+
+/// A part of what a name stands for, in hexadecimal digits.
+enum Part {
+    Octets(&'static str),
+    /// The same octets, this many times.
+    Times(u16, &'static str),
+    /// For each number from 0 to below this one: octets, the number in two octets, and octets.
+    Each(&'static str, u16, &'static str),
+}
+
+/// A name, and the parts of the record, or of the records, for which it stands.
+struct Named(&'static str, &'static [Part]);
+
+const NAMES: [Named; 45] = [
+    Named("nothing", &[]),
+    Named("update", &[Part::Octets(UPDATE)]),
+    Named("earlier", &[Part::Octets(EARLIER)]),
+    Named(
+        "update-at-60",
+        &[Part::Octets("0000003C"), Part::Octets(AFTER_TIME)],
+    ),
+    Named(
+        "last",
+        &[Part::Octets("FFFFFFFF"), Part::Octets(AFTER_TIME)],
+    ),
+    Named("empty", &[Part::Octets(EMPTY)]),
+    Named(
+        "empty-at-99",
+        &[Part::Octets("00000063"), Part::Octets(EMPTY_AFTER_TIME)],
+    ),
+    Named(
+        "empty-at-100",
+        &[Part::Octets("00000064"), Part::Octets(EMPTY_AFTER_TIME)],
+    ),
+    Named("cut-update", &[Part::Octets(CUT_UPDATE)]),
+    // The first ten octets of an UPDATE.
+    Named("begun-update", &[Part::Octets("65920080 0010 0001 0000")]),
+    Named("both-places", &[Part::Octets(BOTH_PLACES)]),
+    Named("two-prefixes", &[Part::Octets(TWO_PREFIXES)]),
+    Named("joined", &[Part::Octets(JOINED)]),
+    Named("longer", &[Part::Octets(LONGER)]),
+    Named("aggregated", &[Part::Octets(AGGREGATED)]),
+    Named("ipv6", &[Part::Octets(IPV6)]),
+    Named("extended", &[Part::Octets(EXTENDED)]),
+    Named("prefix-of-33-bits", &[Part::Octets(LONG_PREFIX)]),
+    Named("notification", &[Part::Octets(NOTIFICATION)]),
+    Named("session-down", &[Part::Octets(SESSION_DOWN)]),
+    Named("other-path", &[Part::Octets(OTHER_PATH)]),
+    Named("withdrawal", &[Part::Octets(WITHDRAWAL)]),
+    Named(
+        "path-of-763",
+        &[
+            Part::Octets(BEFORE_763),
+            Part::Octets("02FF"),
+            Part::Times(255, "FDE9"),
+            Part::Octets("02FF"),
+            Part::Times(255, "FDE9"),
+            Part::Octets("02FD"),
+            Part::Times(253, "FDE9"),
+            Part::Octets("400304C0000201 080A"),
+        ],
+    ),
+    Named(
+        "path-of-764",
+        &[
+            Part::Octets(BEFORE_764),
+            Part::Octets("02FF"),
+            Part::Times(255, "FDE9"),
+            Part::Octets("02FF"),
+            Part::Times(255, "FDE9"),
+            Part::Octets("02FE"),
+            Part::Times(254, "FDE9"),
+            Part::Octets("400304C0000201 080A"),
+        ],
+    ),
+    Named(
+        "prefixes-256",
+        &[Part::Octets(BEFORE_256), Part::Each("180A", 256, "")],
+    ),
+    Named(
+        "prefixes-257",
+        &[Part::Octets(BEFORE_257), Part::Each("180A", 257, "")],
+    ),
+    Named("updates-513", &[Part::Times(513, UPDATE)]),
+    Named("updates-2076", &[Part::Times(2076, UPDATE)]),
+    Named("skipped", &[Part::Octets(SKIPPED)]),
+    Named("too-long", &[Part::Octets(TOO_LONG)]),
+    Named("peer-table", &[Part::Octets(PEER_TABLE)]),
+    Named("cut-peer-table", &[Part::Octets(CUT_PEER_TABLE)]),
+    Named("other-peer-table", &[Part::Octets(OTHER_PEER_TABLE)]),
+    Named("peers-uncounted", &[Part::Octets(PEERS_UNCOUNTED)]),
+    Named("rib", &[Part::Octets(RIB)]),
+    Named("rib-of-second", &[Part::Octets(RIB_OF_SECOND)]),
+    Named("rib-ipv6", &[Part::Octets(RIB_IPV6)]),
+    Named("rib-ipv6-full", &[Part::Octets(RIB_IPV6_FULL)]),
+    Named("rib-without-origin", &[Part::Octets(RIB_WITHOUT_ORIGIN)]),
+    Named("rib-of-next-hop", &[Part::Octets(RIB_OF_NEXT_HOP)]),
+    Named("entries-uncounted", &[Part::Octets(ENTRIES_UNCOUNTED)]),
+    // 8 octets, and 13 for each peer, 10.0.0.0 to 10.0.17.15 of AS 65001.
+    Named(
+        "peers-4368",
+        &[
+            Part::Octets("65920080 000D 0001 0000DDD8 C0000202 0000 1110"),
+            Part::Each("02 C0000201 0A00", 4368, "0000FDE9"),
+        ],
+    ),
+    Named(
+        "peers-4369",
+        &[
+            Part::Octets("65920080 000D 0001 0000DDE5 C0000202 0000 1111"),
+            Part::Each("02 C0000201 0A00", 4369, "0000FDE9"),
+        ],
+    ),
+    // 8 octets, and 22 for each entry.
+    Named(
+        "entries-4368",
+        &[
+            Part::Octets("65920080 000D 0002 00017768 00000000 08 0A 1110"),
+            Part::Each("", 4368, "65920000 000E 40010100 400200 400304C0000201"),
+        ],
+    ),
+    Named(
+        "entries-4369",
+        &[
+            Part::Octets("65920080 000D 0002 0001777E 00000000 08 0A 1111"),
+            Part::Each("", 4369, "65920000 000E 40010100 400200 400304C0000201"),
+        ],
+    ),
+];
+
+impl Gathered {
+    /// Adds octets this many times.
+    fn add_times(&mut self, times: u16, text: &str) {
+        let octets = self.read(text);
+        for _ in 0..times {
+            self.add(&octets);
+        }
+    }
+
+    /// Adds octets before and after each number from 0 to below a count.
+    fn add_each(&mut self, before: &str, count: u16, after: &str) {
+        let before = self.read(before);
+        let after = self.read(after);
+        for number in 0..count {
+            self.add(&before);
+            self.add(&number.to_be_bytes());
+            self.add(&after);
+        }
+    }
+
+    fn add_parts(&mut self, parts: &[Part]) {
+        for part in parts {
+            match part {
+                Part::Octets(text) => self.add_hex(text),
+                Part::Times(times, text) => self.add_times(*times, text),
+                Part::Each(before, count, after) => self.add_each(before, *count, after),
+            }
+        }
+    }
+}
+
+/// What a name stands for.
+fn parts_of(name: &str) -> Option<&'static [Part]> {
+    for Named(known, parts) in &NAMES {
+        if *known == name {
+            return Some(parts);
+        }
+    }
+    None
+}
+
+/// The octets of a file, whose name is the names of its records with `+` between them. None where one of these isn't known, or there is no
+/// memory.
+pub(crate) fn file_of(alloc: Global, names: &str) -> Option<Vec<u8>> {
+    let mut file = Gathered::new(alloc);
+    for name in names.split('+') {
+        file.add_parts(parts_of(name)?);
+    }
+    file.end()
+}

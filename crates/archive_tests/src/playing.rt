@@ -1,0 +1,330 @@
+//! Scripts that are played: each command line of the program over an archive on disks in memory that is opened anew for it.
+
+use crate::damaged::damaged;
+use crate::disks::{created, reopened};
+use crate::files::file_of;
+use crate::gathered::Gathered;
+use crate::scripts::loads::LOADS;
+use crate::scripts::marks::MARKS;
+use crate::scripts::questions::QUESTIONS;
+use crate::scripts::tables::TABLES;
+use crate::scripts::updates::UPDATES;
+use crate::scripts::{DAMAGE, Script};
+use crate::{be, be_at};
+use memory_archive::MemArchive;
+use service::{
+    Input, Invocation, Loading, Output, Question, ask_line, check_archive, command, load_file,
+};
+use std::alloc::Global;
+use std::io::Read;
+use std::process::Abort;
+
+/// Octets that are read in pieces of this many at most.
+#[derive(Drop)]
+struct Pieces<'a> {
+    octets: &'a [u8],
+    most: usize,
+}
+
+impl Read for Pieces<'_> {
+    fn read(&mut self, buf: &mut [u8]) -> std::io::Result<usize> {
+        let most = self.most.min(buf.len());
+        let Some(piece) = buf.get_mut(..most) else {
+            return Ok(0);
+        };
+        self.octets.read(piece)
+    }
+}
+
+/// What a command wrote on both writers, and its exit status.
+#[derive(Drop)]
+struct Ran {
+    out: Vec<u8>,
+    err: Vec<u8>,
+    code: u8,
+}
+
+/// Loads the file that a command line names: the exit status. None where there is no such file.
+fn load(
+    alloc: Global,
+    archive: &mut MemArchive,
+    asked: &Loading<'_>,
+    most: usize,
+    out: &mut Vec<u8>,
+    err: &mut Vec<u8>,
+) -> Option<u8> {
+    let octets = file_of(alloc, asked.file)?;
+    let mut file = Input::new(Pieces {
+        octets: &octets,
+        most,
+    });
+    let mut lines = Output::new(out);
+    let mut refusals = Output::new(err);
+    Some(load_file(alloc, archive, asked, &mut file, &mut lines, &mut refusals))
+}
+
+/// Answers the line that a command line asks: the exit status.
+fn ask(
+    alloc: Global,
+    archive: &mut MemArchive,
+    asked: &Question<'_>,
+    out: &mut Vec<u8>,
+    err: &mut Vec<u8>,
+) -> u8 {
+    ask_line(
+        alloc,
+        archive,
+        asked,
+        &mut Output::new(out),
+        &mut Output::new(err),
+    )
+}
+
+/// Checks the archive: the exit status.
+fn check(alloc: Global, archive: &mut MemArchive, out: &mut Vec<u8>, err: &mut Vec<u8>) -> u8 {
+    check_archive(alloc, archive, &mut Output::new(out), &mut Output::new(err))
+}
+
+/// Runs what a command line asks for. None where that needs no archive that is there.
+fn run(
+    alloc: Global,
+    archive: &mut MemArchive,
+    asked: &Invocation<'_>,
+    most: usize,
+) -> Option<Ran> {
+    let mut out = Vec::new(alloc);
+    let mut err = Vec::new(alloc);
+    let code = match asked {
+        Invocation::Load(asked) => load(alloc, archive, asked, most, &mut out, &mut err)?,
+        Invocation::Ask(asked) => ask(alloc, archive, asked, &mut out, &mut err),
+        Invocation::Check(_) => check(alloc, archive, &mut out, &mut err),
+        Invocation::Create(_) | Invocation::Serve(_) => return None,
+    };
+    Some(Ran { out, err, code })
+}
+
+/// Runs a command line. None where it isn't accepted.
+fn run_line(alloc: Global, archive: &mut MemArchive, line: &str, most: usize) -> Option<Ran> {
+    let Ok(words): Result<Vec<&str>, _> = line.split(' ').collect(alloc) else {
+        return None;
+    };
+    match command(alloc, words.as_slice()) {
+        Ok(asked) => run(alloc, archive, &asked, most),
+        Err(_) => None,
+    }
+}
+
+/// How a script shows a status.
+fn status_line(code: u8) -> &'static str {
+    match code {
+        0 => "",
+        1 => "status 1\n",
+        _ => "another status\n",
+    }
+}
+
+impl Gathered {
+    /// Adds a command line and what it wrote, as a script shows them.
+    fn add_command(&mut self, line: &str, ran: &Ran) {
+        self.add_text("$ ");
+        self.add_text(line);
+        self.add_text("\n");
+        self.add(&ran.out);
+        if !ran.err.is_empty() {
+            self.add_text("! ");
+            self.add(&ran.err);
+        }
+        self.add_text(status_line(ran.code));
+    }
+
+    /// Adds 256 lines: in each its number, from 0 on, takes the place of `#`.
+    fn add_rows(&mut self, row: &str) {
+        let (before, after) = match row.split_once('#') {
+            Some((before, after)) => (before, after),
+            None => (row, ""),
+        };
+        let is_numbered = row.len() > before.len();
+        for number in 0..256u16 {
+            self.add_text(before);
+            if is_numbered {
+                self.add_number(number);
+            }
+            self.add_text(after);
+            self.add_text("\n");
+        }
+    }
+
+    /// Adds a line of a script; one that stands for 256 rows is written out.
+    fn add_line(&mut self, line: &str) {
+        match line.strip_prefix("256 x ") {
+            Some(row) => self.add_rows(row),
+            None => {
+                self.add_text(line);
+                self.add_text("\n");
+            }
+        }
+    }
+
+    /// Adds all lines of a script.
+    fn add_lines(&mut self, text: &str) {
+        for line in text.lines() {
+            self.add_line(line);
+        }
+    }
+
+    /// The number of the line, from 1 on, in which this differs from the other; that after the last where it doesn't.
+    fn first_difference(&self, other: &Gathered) -> u64 {
+        let mut line = 1u64;
+        for (octet, wanted) in self.octets.iter().zip(other.octets.iter()) {
+            if octet != wanted {
+                return line;
+            }
+            if *octet == b'\n' {
+                line = line.saturating_add(1);
+            }
+        }
+        line
+    }
+}
+
+/// The archive after a command line, for which it is opened anew. What the command line shows is added.
+fn after_command(
+    alloc: Global,
+    archive: MemArchive,
+    line: &str,
+    most: usize,
+    shown: &mut Gathered,
+) -> Option<MemArchive> {
+    let Some(mut archive) = reopened(alloc, archive) else {
+        return None;
+    };
+    let Some(ran) = run_line(alloc, &mut archive, line, most) else {
+        return None;
+    };
+    shown.add_command(line, &ran);
+    Some(archive)
+}
+
+/// The archive after a line of a script. What only shows something changes nothing.
+fn after(
+    alloc: Global,
+    archive: MemArchive,
+    line: &str,
+    most: usize,
+    shown: &mut Gathered,
+) -> Option<MemArchive> {
+    match line.strip_prefix("$ ") {
+        Some(command) => after_command(alloc, archive, command, most, shown),
+        None if line == DAMAGE => {
+            shown.add_line(line);
+            damaged(alloc, archive)
+        }
+        None => Some(archive),
+    }
+}
+
+/// Goes through the lines of a script, and adds what its command lines show: how many these are.
+fn show(alloc: Global, script: &Script, most: usize, shown: &mut Gathered) -> Option<u64> {
+    let Some(mut archive) = created(alloc, &script.made) else {
+        return None;
+    };
+    let mut commands = 0u64;
+    for line in script.shown.lines() {
+        let Some(next) = after(alloc, archive, line, most, shown) else {
+            return None;
+        };
+        archive = next;
+        if line.starts_with("$ ") {
+            commands = commands.saturating_add(1);
+        }
+    }
+    Some(commands)
+}
+
+/// What came of a script: how many command lines it has, whether they show what it says, and the number of the line where they don't.
+#[derive(Clone, Copy)]
+struct Played {
+    commands: u64,
+    is_right: bool,
+    line: u64,
+}
+
+fn play(alloc: Global, script: &Script, most: usize) -> Played {
+    let mut shown = Gathered::new(alloc);
+    let commands = show(alloc, script, most, &mut shown);
+    let mut wanted = Gathered::new(alloc);
+    wanted.add_lines(script.shown);
+    let is_shown = shown.octets.as_slice() == wanted.octets.as_slice();
+    Played {
+        commands: commands.unwrap_or(0),
+        is_right: commands.is_some() && shown.is_whole && wanted.is_whole && is_shown,
+        line: shown.first_difference(&wanted),
+    }
+}
+
+/// How many scripts were played, and how many command lines these have.
+#[derive(Clone, Copy)]
+struct Count {
+    scripts: u64,
+    commands: u64,
+}
+
+/// Plays scripts, with files that are read in pieces of this many octets. Ends the test where one doesn't show what it says.
+fn play_all(rt: &impl Abort, alloc: Global, scripts: &[Script], most: usize) -> Count {
+    let mut count = Count {
+        scripts: 0,
+        commands: 0,
+    };
+    for script in scripts {
+        let played = play(alloc, script, most);
+        be_at(rt, played.is_right, script.name, played.line);
+        count.scripts = count.scripts.saturating_add(1);
+        count.commands = count.commands.saturating_add(played.commands);
+    }
+    count
+}
+
+/// How many octets are read at once where a file is read as it comes: more than any has.
+const WHOLE: usize = 1_000_000;
+
+#[test]
+fn updates_are_played(rt: HostRuntime) {
+    let count = play_all(&rt, rt.alloc(), &UPDATES, WHOLE);
+    be(&rt, count.scripts == 18 && count.commands == 62, "updates");
+}
+
+#[test]
+fn tables_are_played(rt: HostRuntime) {
+    let count = play_all(&rt, rt.alloc(), &TABLES, WHOLE);
+    be(&rt, count.scripts == 13 && count.commands == 28, "tables");
+}
+
+#[test]
+fn questions_are_played(rt: HostRuntime) {
+    let count = play_all(&rt, rt.alloc(), &QUESTIONS, WHOLE);
+    be(&rt, count.scripts == 6 && count.commands == 41, "questions");
+}
+
+#[test]
+fn marks_are_played(rt: HostRuntime) {
+    let count = play_all(&rt, rt.alloc(), &MARKS, WHOLE);
+    be(&rt, count.scripts == 4 && count.commands == 27, "marks");
+}
+
+#[test]
+fn loads_are_played(rt: HostRuntime) {
+    let count = play_all(&rt, rt.alloc(), &LOADS, WHOLE);
+    be(&rt, count.scripts == 14 && count.commands == 39, "loads");
+}
+
+#[test]
+fn updates_are_read_octet_by_octet(rt: HostRuntime) {
+    let count = play_all(&rt, rt.alloc(), &UPDATES, 1);
+    be(&rt, count.scripts == 18 && count.commands == 62, "updates");
+}
+
+#[test]
+fn loads_are_read_octet_by_octet(rt: HostRuntime) {
+    let count = play_all(&rt, rt.alloc(), &LOADS, 1);
+    be(&rt, count.scripts == 14 && count.commands == 39, "loads");
+}

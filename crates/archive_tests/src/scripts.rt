@@ -1,0 +1,71 @@
+//! Scripts: what the program shows of command lines over one archive, each line of the record or of the route worked out by hand.
+
+pub(crate) mod loads;
+pub(crate) mod marks;
+pub(crate) mod questions;
+pub(crate) mod tables;
+pub(crate) mod updates;
+
+use crate::disks::Made;
+
+/// Command lines over one archive, and what each of them shows.
+pub(crate) struct Script {
+    /// What the script shows.
+    pub(crate) name: &'static str,
+    /// The archive, which has no record when the script begins.
+    pub(crate) made: Made,
+    /// The command lines after `$ `, the file of a `load` being the names of its records. After each its lines, then what standard error
+    /// shows after `! `, then the status where it isn't 0. `256 x` is before a line that stands for 256, with their numbers for `#`.
+    pub(crate) shown: &'static str,
+}
+
+/// The line of a script that stands between command lines: one octet of block 0 becomes another.
+pub(crate) const DAMAGE: &str = "~ an octet of block 0 changes";
+
+/// An archive of one collector.
+pub(crate) const PLAIN: Made = Made {
+    collectors: 1,
+    ring: 16,
+    pages: 64,
+    blocks: 64,
+};
+
+/// An archive of one collector, with room for thousands of routes.
+pub(crate) const WIDE: Made = Made {
+    collectors: 1,
+    ring: 16,
+    pages: 512,
+    blocks: 512,
+};
+
+/// An archive of one collector, whose ring is the smallest.
+pub(crate) const SMALL_RING: Made = Made {
+    collectors: 1,
+    ring: 9,
+    pages: 64,
+    blocks: 64,
+};
+
+/// An archive of two collectors, whose rings are the smallest.
+pub(crate) const OF_TWO: Made = Made {
+    collectors: 2,
+    ring: 9,
+    pages: 64,
+    blocks: 64,
+};
+
+/// An archive with two pages for its tree, which it needs to begin with.
+pub(crate) const FEW_PAGES: Made = Made {
+    collectors: 1,
+    ring: 9,
+    pages: 12,
+    blocks: 64,
+};
+
+/// An archive with two blocks.
+pub(crate) const FEW_BLOCKS: Made = Made {
+    collectors: 1,
+    ring: 16,
+    pages: 64,
+    blocks: 2,
+};
