@@ -5,7 +5,7 @@ ghost use Rattle.std.specs.Prelude.{◌≡◌, codes};
 ghost use Rattle.service.specs.Outputs.{Tells};
 ghost use Rattle.service.specs.Refusals.{TellsError, error_line};
 ghost use Rattle.service.specs.Telling.{TellsOutside};
-ghost use Rattle.rha.specs.inner.Refusals.{of_create, of_open, of_serve};
+ghost use Rattle.rha.specs.inner.Refusals.{of_create, of_open, of_serve, of_served};
 
 use archive_calls::RouteArchive;
 use disk_archive::{CreateError, OpenError};
@@ -118,6 +118,16 @@ fn tell_few_threads<E: Write>(err: &mut Output<E>) -> u8
     1
 }
 
+/// What is printed of a trouble that ended a server. Where the archive must be opened again, an earlier call failed, and that one is printed.
+fn served_refusal(trouble: Trouble) -> Refusal
+    ensures { result ≡ of_served trouble }
+{
+    match trouble {
+        Trouble::NeedsRecovery => Refusal::Fault,
+        _ => Refusal::from(trouble_of(trouble)),
+    }
+}
+
 /// Prints why a server ended otherwise than a client asked for, and which call on a file failed, if one did.
 pub(crate) fn tell_unserved<E: Write>(
     why: ServeError,
@@ -131,9 +141,7 @@ pub(crate) fn tell_unserved<E: Write>(
     let refusal = match why {
         ServeError::Threads => return tell_few_threads(err),
         ServeError::OutOfMemory => return tell_with(&Refusal::OutOfMemory, None, err),
-        // An earlier call failed, and that one is printed.
-        ServeError::Trouble(Trouble::NeedsRecovery) => Refusal::Fault,
-        ServeError::Trouble(trouble) => Refusal::from(trouble_of(trouble)),
+        ServeError::Trouble(trouble) => served_refusal(trouble),
     };
     let failure = match refusal {
         Refusal::Fault => failure,

@@ -7,6 +7,7 @@ use Rattle.disk_archive.specs.declared.open_error.OpenError.{OpenError}
 use Rattle.disk_archive.specs.declared.open_error.OpenError.TheVariants as opens
 use Rattle.serving.specs.declared.serving.ServeError.{ServeError}
 use Rattle.serving.specs.declared.serving.ServeError.TheVariants as serves
+use Rattle.query_threads.specs.declared.refusal.Trouble.{Trouble}
 use Rattle.query_threads.specs.declared.refusal.Trouble.TheVariants as shared
 use Rattle.server.specs.Troubles.{of_shared}
 use Rattle.service.specs.Faults.{of_trouble}
@@ -25,9 +26,13 @@ of_open (opens.BadSlot page) = refusals.BadNode page
 of_open (opens.BadNode page) = refusals.BadNode page
 of_open opens.OutOfMemory = refusals.OutOfMemory
 
--- why a server ended that no client stopped; where the archive must be opened again, a device failed before
+-- a trouble that ended a server; where the archive must be opened again, a device failed before
+abbrev pub of_served : Trouble → Refusal
+of_served shared.NeedsRecovery = refusals.Fault
+of_served trouble = of_trouble (of_shared trouble)
+
+-- why a server ended that no client stopped
 abbrev pub of_serve : ServeError → Refusal
 of_serve serves.OutOfMemory = refusals.OutOfMemory
 of_serve serves.Threads = refusals.Outside
-of_serve (serves.Trouble shared.NeedsRecovery) = refusals.Fault
-of_serve (serves.Trouble trouble) = of_trouble (of_shared trouble)
+of_serve (serves.Trouble trouble) = of_served trouble
