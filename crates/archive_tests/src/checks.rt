@@ -88,34 +88,6 @@ fn run_to<W: Write + Drop>(
     check_archive(alloc, archive, out, &mut Output::new(err))
 }
 
-/// Whether a check that is written through a buffer has these lines and this exit status.
-fn runs_as(
-    alloc: Global,
-    answer: Result<u64, Trouble>,
-    lines: &str,
-    refusals: &str,
-    code: u8,
-) -> Option<bool> {
-    let mut archive = checked(alloc, answer)?;
-    let mut out: Vec<u8> = Vec::new(alloc);
-    let mut err: Vec<u8> = Vec::new(alloc);
-    let mut buffered = Output::new(BufWriter::new(alloc, &mut out).ok()?);
-    let ended = run_to(alloc, &mut archive, &mut buffered, &mut err);
-    drop(buffered);
-    Some(
-        ended == code
-            && out.as_slice() == lines.as_bytes()
-            && err.as_slice() == refusals.as_bytes(),
-    )
-}
-
-#[test]
-fn damage_has_status_1_and_no_line(rt: HostRuntime) {
-    let damaged = Err(Trouble::Damaged(7));
-    let is_done = runs_as(rt.alloc(), damaged, "", "rha: 8 Damaged\n", 1);
-    be(&rt, is_done == Some(true), "damage");
-}
-
 /// Whether standard error shows once that a check can't be written out.
 fn is_shown_once(alloc: Global) -> Option<bool> {
     let mut archive = checked(alloc, Ok(1))?;

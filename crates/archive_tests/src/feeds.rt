@@ -1,11 +1,11 @@
 //! Feeds, one after another and into rings that are full, and batches that are as large as may be.
 
+use crate::be;
 use crate::desk::{feeds_as, loads_as};
 use crate::pure::{Pure, Rings};
 use crate::samples::{
     EARLIER, EMPTY, LONG_PREFIX, UPDATE, cut_stream, many_updates, stream, two_tables,
 };
-use crate::{be, be_at};
 use service::{End, FeedStop, LoadSettings, Status};
 use std::alloc::Global;
 
@@ -125,14 +125,10 @@ fn is_taken_by(alloc: Global, rings: Rings, lines: &str, end: End) -> Option<boo
 }
 
 #[test]
-fn a_full_ring_is_made_room_in(rt: HostRuntime) {
+fn a_full_ring_is_made_room_in_once(rt: HostRuntime) {
     let lines = "B|0|1|1\nF|1|1|0|0|0\n";
     let is_taken = is_taken_by(rt.alloc(), Rings::Full, lines, End::Well);
     be(&rt, is_taken == Some(true), "a ring that is full");
-}
-
-#[test]
-fn a_ring_that_stays_full_ends_the_feed(rt: HostRuntime) {
     let end = End::Refused(FeedStop::IntakeFull);
     let is_given_up = is_taken_by(rt.alloc(), Rings::FullForGood, "X|23|IntakeFull\n", end);
     be(&rt, is_given_up == Some(true), "a ring that stays full");

@@ -318,13 +318,13 @@ fn loads_are_played(rt: HostRuntime) {
 }
 
 #[test]
-fn updates_are_read_octet_by_octet(rt: HostRuntime) {
-    let count = play_all(&rt, rt.alloc(), &UPDATES, 1);
-    be(&rt, count.scripts == 18 && count.commands == 62, "updates");
-}
-
-#[test]
-fn loads_are_read_octet_by_octet(rt: HostRuntime) {
-    let count = play_all(&rt, rt.alloc(), &LOADS, 1);
-    be(&rt, count.scripts == 14 && count.commands == 39, "loads");
+fn files_are_read_octet_by_octet(rt: HostRuntime) {
+    let updates = play_all(&rt, rt.alloc(), &UPDATES, 1);
+    let loads = play_all(&rt, rt.alloc(), &LOADS, 1);
+    be(&rt, updates.scripts == 18 && loads.scripts == 14, "scripts");
+    be(
+        &rt,
+        updates.commands == 62 && loads.commands == 39,
+        "command lines",
+    );
 }

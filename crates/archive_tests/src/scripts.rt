@@ -1,4 +1,5 @@
-//! Scripts: what the program shows of command lines over one archive, each line of the record or of the route worked out by hand.
+//! Scripts: command lines over one archive, and what the program has to show of each. The lines are from outside: they were worked out
+//! by hand from the octets of the records.
 
 pub(crate) mod loads;
 pub(crate) mod marks;
@@ -10,7 +11,7 @@ use crate::disks::Made;
 
 /// Command lines over one archive, and what each of them shows.
 pub(crate) struct Script {
-    /// What the script shows.
+    /// What it is an example of.
     pub(crate) name: &'static str,
     /// The archive, which has no record when the script begins.
     pub(crate) made: Made,
@@ -54,7 +55,7 @@ pub(crate) const OF_TWO: Made = Made {
     blocks: 64,
 };
 
-/// An archive with two pages for its tree, which it needs to begin with.
+/// An archive whose tree has the two pages that it begins with, and no more.
 pub(crate) const FEW_PAGES: Made = Made {
     collectors: 1,
     ring: 9,
@@ -62,7 +63,7 @@ pub(crate) const FEW_PAGES: Made = Made {
     blocks: 64,
 };
 
-/// An archive with two blocks.
+/// An archive of two blocks.
 pub(crate) const FEW_BLOCKS: Made = Made {
     collectors: 1,
     ring: 16,
