@@ -31,8 +31,9 @@ abbrev pub IsPartOf : {X : Type 0} → List X → List X → Type 0
 IsPartOf xs [] = xs ≡ []
 IsPartOf {X} xs (y ∷ ys) = IsPartOf xs ys ⊎ ((rest : List X) × (xs ≡ y ∷ rest) × IsPartOf rest ys)
 
--- the batch stands in the history at the numbers of its receipt, but for the records that the reply calls late: those below some earlier
--- times and marks, or below one before them in the batch
+-- The batch stands in the history at the numbers of its receipt, but for the records that the reply calls late: those below some earlier
+-- times and marks, or below one before them in the batch. Any earlier ones are allowed here, since the uses alone don't say which there
+-- were: a call that failed or was cut gave its own, or didn't. `AreRun` says which, by the steps that the uses are.
 abbrev pub StandsThere : History → ℕ → List Admitted → BatchReply → Type 0
 StandsThere h c batch reply = (earlier : List ℕ) × (before : List Admitted) × (count : ℕ) × Stands h earlier before count c batch reply
 
