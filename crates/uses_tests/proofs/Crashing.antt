@@ -1,0 +1,95 @@
+-- Crashes at rest and inside calls, and what is opened after them.
+use Rattle.std.proofs.Common.{◌≡◌, ◌≤◌, ℕ, [], ◌∷◌, true, ⊎_elim, refl, sym, ◌∙◌, ap, subst}
+use Rattle.std.proofs.Math.Nat.{le_refl}
+use Rattle.std.specs.List.{AllByRecursion}
+use Rattle.disk_models.specs.declared.erase.EraseDisk.{Ghosts as EraseGhosts}
+use Rattle.disk_models.specs.declared.once.OnceDisk.{Ghosts as OnceGhosts}
+use Rattle.disk_models.specs.Erase.{IsSound}
+use Rattle.disk_models.specs.Left.{Left, LeftNow}
+use Rattle.disk_models.proofs.api.Growing.{grows_none}
+use Rattle.disk_models.proofs.api.Pairs.{now_is_pair}
+use Rattle.route_meaning.specs.History.{History}
+use Rattle.disk_archive.specs.declared.archive.Archive.{Archive}
+use Rattle.disk_archive.specs.Archives.{Carries, IsHonest, erase_of, erase_state, once_state, pen_in}
+use Rattle.archive_uses.specs.Use.Use.{closed, cut, lost, found}
+use Rattle.archive_uses.specs.Calls.{Admits, IsCut, Keeps, Steps}
+use Rattle.archive_uses.specs.Uses.{Leads, Uses}
+use Rattle.archive_uses.specs.Uses.Stage.{off, on}
+use Rattle.uses_tests.specs.inner.Taking.{IsSomewhere, Loses, Reopens, Takes, apart, fallen}
+use Rattle.uses_tests.specs.declared.acts.Returned.{Returned}
+use Rattle.std.proofs.Common.{Option, Some, None, Result}
+use Rattle.std.specs.Prelude.{IfSome}
+use Rattle.std.specs.Global.{Vec}
+use Rattle.route_model.specs.Admission.{Admitted, IsAdmission}
+use Rattle.interleaving_core.specs.declared.reply.BatchReply.{BatchReply}
+use Rattle.disk_archive.specs.declared.error.AdmitError.{AdmitError}
+use Rattle.disk_archive.specs.declared.apply_error.ApplyError.{ApplyError}
+use Rattle.disk_archive.specs.declared.applying.Step.{Step}
+use Rattle.archive_uses.specs.Use.Call.{admit, apply}
+use Rattle.uses_tests.specs.declared.acts.Act.TheVariants.{Crash, CutAdmit, CutApply}
+use Rattle.uses_tests.specs.declared.acts.Batch.{Batch}
+use Rattle.uses_tests.specs.declared.acts.Stop.{Stop}
+use Rattle.uses_tests.specs.declared.acts.Tear.{Tear}
+
+-- both disks begin again after a crash
+pub loses_found : {E O Pen Seen : Type 0} (erase : EraseGhosts E) (once : OnceGhosts O Pen Seen) (e : E) (o : O) (pen : Pen) (f : E) (p : O) (new : Pen) (l : Loses erase once e o pen f p new)
+    → Uses (fallen erase once o l.left) (found ∷ []) (apart erase once f p new)
+loses_found erase once e o pen f p new l = (apart erase once f p new, ((l.begins, l.count, l.honest_erase, l.honest_once), refl), refl)
+
+pub loses_uses : {E O Pen Seen : Type 0} (erase : EraseGhosts E) (once : OnceGhosts O Pen Seen) (e : E) (o : O) (pen : Pen) (f : E) (p : O) (new : Pen) → Loses erase once e o pen f p new
+    → Uses (apart erase once e o pen) (lost ∷ found ∷ []) (apart erase once f p new)
+loses_uses erase once e o pen f p new l = (fallen erase once o l.left, ((l.now, refl), refl), loses_found erase once e o pen f p new l)
+
+-- What a crash leaves of both disks that were taken out after a call is left inside the call.
+pub cut_left : {E O Pen Seen : Type 0} (erase : EraseGhosts E) (once : OnceGhosts O Pen Seen) → ((d : E) → IsSound (erase.model d)) → (a z : Archive E O Pen Seen erase once) (e : E) (pen : Pen) (left : Left) → Keeps a z → IsHonest a → IsSomewhere a
+    → ((h : History) → Carries a h → (erase_state a).clock ≤ (erase_state z).clock) → e ≡ erase_of z → pen ≡ pen_in z → LeftNow (erase.model e) (once.model pen) left → IsCut a z left
+cut_left {E} {O} {Pen} erase once sound a z e pen left keeps honest is later same_erase same_pen now =
+    let clock : (erase_state a).clock ≤ (erase_state z).clock = ⊎_elim
+    (λ up. later up.0 up.1)
+    (λ down. subst (λ (x : E). (erase_state a).clock ≤ (erase.model x).clock) (sym (keeps.idle honest down).0) (le_refl (erase_state a).clock))
+    is in
+    let then : LeftNow (erase_state z) (once_state z) left = subst (λ (x : E). LeftNow (erase.model x) (once_state z) left) same_erase (subst (λ (x : Pen). LeftNow (erase.model e) (once.model x) left) same_pen now) in
+    now_is_pair (erase_state a) (erase_state z) (once_state a) (once_state z) (once_state z) (sound (erase_of z)) clock (keeps.grows honest) (grows_none (once_state z)) left then
+
+-- what is true of what an option has
+pub some_then : {X : Type 0} (o : Option X) (P Q : X → Type 0) → ((x : X) → P x → Q x) → IfSome o P → IfSome o Q
+some_then (Some x) P Q then' p = then' x p
+some_then None P Q then' p = tt
+
+-- both disks are taken out, and opened after a crash
+pub takes_crash : {E O Pen Seen : Type 0} (erase : EraseGhosts E) (once : OnceGhosts O Pen Seen) (a b : Archive E O Pen Seen erase once) (e : E) (o : O) (pen : Pen) (tear : Tear) (stop : Stop) (returned : Returned)
+    → Leads {erase = erase} {once = once} closed (on a) (off e o pen) → Reopens erase once e o pen returned b → Takes a b (Crash tear stop) returned
+takes_crash erase once a b e o pen tear stop returned closes r = record {
+  uses = closed ∷ lost ∷ r.rest;
+  are = (r.rest, r.are, refl);
+  valid = (tt, (tt, r.valid));
+  leads = (apart erase once e o pen, (closes, refl), (fallen erase once o r.left, ((r.now, refl), refl), r.leads));
+}
+
+-- they are taken out after a batch, inside whose call the crash came
+pub takes_cut_admit : {E O Pen Seen : Type 0} (erase : EraseGhosts E) (once : OnceGhosts O Pen Seen) → ((d : E) → IsSound (erase.model d)) → (a z b : Archive E O Pen Seen erase once) (e : E) (o : O) (pen : Pen) (c : ℕ) (batch : Batch) (given : Vec Admitted) (tear : Tear) (result : Result BatchReply AdmitError) (returned : Returned)
+    → AllByRecursion IsAdmission given.items → Admits a z c given.items result → Leads {erase = erase} {once = once} closed (on z) (off e o pen) → Reopens erase once e o pen returned b → IsHonest a → IsSomewhere a → Takes a b (CutAdmit c batch tear) returned
+takes_cut_admit erase once sound a z b e o pen c batch given tear result returned valid did closes r honest is = record {
+  uses = cut (admit c given) ∷ r.rest;
+  are = (given, r.rest, r.are, refl);
+  valid = (valid, r.valid);
+  leads = (
+    fallen erase once o r.left,
+    (((z, result, did, cut_left erase once sound a z e pen r.left did.keeps honest is (λ h k. (did.crash h k).later) closes.0 closes.2 r.now), ap once.block_count (closes.1 ∙ did.keeps.disk)), refl),
+    r.leads,
+  );
+}
+
+-- the same of a step of applying
+pub takes_cut_apply : {E O Pen Seen : Type 0} (erase : EraseGhosts E) (once : OnceGhosts O Pen Seen) → ((d : E) → IsSound (erase.model d)) → (a z b : Archive E O Pen Seen erase once) (e : E) (o : O) (pen : Pen) (tear : Tear) (result : Result Step ApplyError) (returned : Returned)
+    → Steps a z result → Leads {erase = erase} {once = once} closed (on z) (off e o pen) → Reopens erase once e o pen returned b → IsHonest a → IsSomewhere a → Takes a b (CutApply tear) returned
+takes_cut_apply erase once sound a z b e o pen tear result returned did closes r honest is = record {
+  uses = cut apply ∷ r.rest;
+  are = (r.rest, r.are, refl);
+  valid = (tt, r.valid);
+  leads = (
+    fallen erase once o r.left,
+    (((z, result, did, cut_left erase once sound a z e pen r.left did.keeps honest is (λ h k. (did.crash h k).2.later) closes.0 closes.2 r.now), ap once.block_count (closes.1 ∙ did.keeps.disk)), refl),
+    r.leads,
+  );
+}
