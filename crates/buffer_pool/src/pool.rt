@@ -180,7 +180,7 @@ impl<D: EraseDisk + Drop> Pool<D> {
 
     /// Replaces pages, all of them or none. They stay in memory as they are.
     ///
-    /// It needs no memory: a page for which there is none in which to wait is left to its image.
+    /// It isn't refused for memory: a page that there is no room to keep is read from its image until it is written home.
     pub fn commit(&mut self, images: Vec<(u64, Page)>) -> Result<(), PostError>
         requires below { AreBelow (home_pages (journal_of self.old)) (pages_of images.items) }
         requires distinct { AreDistinct (pages_of images.items) }

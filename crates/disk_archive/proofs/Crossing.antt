@@ -1,4 +1,4 @@
--- What a crash leaves of both disks carries a history, over a call that reads, or burns, and then uses.
+-- What a crash leaves of both disks carries a history, over a call that reads, or burns, and then commits.
 use Rattle.std.proofs.Common.{◌≡◌, inl, inr, ⊎_elim, ℕ, List, refl, sym, subst, arith}
 use Rattle.disk_models.specs.Erase.{DiskState, MayLeave, Leaves, IsSound}
 use Rattle.disk_models.specs.Once.{OnceState, Grows, settled_in}

@@ -27,7 +27,7 @@ pub enum Trouble {
     /// The tree would need a seventh level of key nodes.
     #[error("the tree is too high")]
     TooHigh,
-    /// No page is left.
+    /// Too few pages are left that were never used.
     #[error("no page is left")]
     PagesFull,
     /// No blank block is left.
