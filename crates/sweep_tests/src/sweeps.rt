@@ -1,0 +1,131 @@
+//! All stops, dealt out over some tests.
+
+use crate::acts::{LONG, RISING, Script};
+use crate::disks::{Disk, WAYS};
+use crate::stage::prepare;
+use crate::stops::{Stop, Tally, goes_on};
+use crate::{be, be_at};
+use std::alloc::Global;
+use std::process::Abort;
+
+/// The stops of a life by a disk at its calls from one on and before another one, and how many lives and openings are stopped in them.
+struct Deal {
+    life: Script,
+    disk: Disk,
+    from: u64,
+    to: u64,
+    lives: u64,
+    openings: u64,
+}
+
+/// Each stop of a deal goes on, and there are as many as it says.
+fn sweep(rt: &impl Abort, alloc: Global, deal: &Deal) {
+    let stage = prepare(alloc, &deal.life).expect(rt, "a stage");
+    let mut tally = Tally {
+        lives: 0,
+        openings: 0,
+    };
+    for number in deal.from.saturating_mul(WAYS)..deal.to.saturating_mul(WAYS) {
+        let stop = Stop {
+            disk: deal.disk,
+            k: number / WAYS,
+            way: number % WAYS,
+        };
+        let goes_on = goes_on(&stage, &stop, &mut tally);
+        be_at(
+            rt,
+            goes_on == Some(true),
+            "five times a call, and a way",
+            number,
+        );
+    }
+    let is_counted = tally.lives == deal.lives && tally.openings == deal.openings;
+    be(rt, is_counted, "the stops are counted");
+}
+
+/// All burns and settles of the life.
+const BURNS: Deal = Deal {
+    life: LONG,
+    disk: Disk::Once,
+    from: 1,
+    to: 11,
+    lives: 50,
+    openings: 2_600,
+};
+
+const FIRST: Deal = Deal {
+    life: LONG,
+    disk: Disk::Erasable,
+    from: 1,
+    to: 62,
+    lives: 305,
+    openings: 18_104,
+};
+
+const SECOND: Deal = Deal {
+    life: LONG,
+    disk: Disk::Erasable,
+    from: 62,
+    to: 89,
+    lives: 135,
+    openings: 20_172,
+};
+
+const THIRD: Deal = Deal {
+    life: LONG,
+    disk: Disk::Erasable,
+    from: 89,
+    to: 135,
+    lives: 230,
+    openings: 11_576,
+};
+
+/// All writes and syncs of a life in which the root rises.
+const RISE: Deal = Deal {
+    life: RISING,
+    disk: Disk::Erasable,
+    from: 1,
+    to: 48,
+    lives: 235,
+    openings: 11_652,
+};
+
+/// All its burns and settles.
+const RISE_BURNS: Deal = Deal {
+    life: RISING,
+    disk: Disk::Once,
+    from: 1,
+    to: 3,
+    lives: 10,
+    openings: 200,
+};
+
+#[test]
+fn burns_and_settles_are_cut_off(rt: HostRuntime) {
+    sweep(&rt, rt.alloc(), &BURNS);
+}
+
+#[test]
+fn writes_and_syncs_of_the_first_deal_are_cut_off(rt: HostRuntime) {
+    sweep(&rt, rt.alloc(), &FIRST);
+}
+
+#[test]
+fn writes_and_syncs_of_the_second_deal_are_cut_off(rt: HostRuntime) {
+    sweep(&rt, rt.alloc(), &SECOND);
+}
+
+#[test]
+fn writes_and_syncs_of_the_third_deal_are_cut_off(rt: HostRuntime) {
+    sweep(&rt, rt.alloc(), &THIRD);
+}
+
+#[test]
+fn writes_and_syncs_are_cut_off_where_the_root_rises(rt: HostRuntime) {
+    sweep(&rt, rt.alloc(), &RISE);
+}
+
+#[test]
+fn burns_and_settles_are_cut_off_where_the_root_rises(rt: HostRuntime) {
+    sweep(&rt, rt.alloc(), &RISE_BURNS);
+}
