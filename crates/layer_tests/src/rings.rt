@@ -149,9 +149,10 @@ fn begun_with(alloc: Global, homes: u64) -> Option<Tx<MemErase>> {
     filled_on(alloc, homes, Vec::new(alloc))
 }
 
-/// A transaction over the home pages, on a disk of which the read with this number fails.
+/// A transaction over the home pages, on a disk of which the read with this number fails, counted after the creation's one.
 fn begun_failing(alloc: Global, number: u64) -> Option<Tx<MemErase>> {
-    filled_on(alloc, HOMES, vec![in alloc; Failure::Read(number)].ok()?)
+    let failure = Failure::Read(number.saturating_add(1));
+    filled_on(alloc, HOMES, vec![in alloc; failure].ok()?)
 }
 
 /// Whether a page is as it was at the start.

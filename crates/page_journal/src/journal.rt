@@ -6,7 +6,7 @@ ghost use Rattle.std.specs.List.{AllByRecursion, AllByRecursion-prop};
 ghost use Rattle.std.proofs.Props.{props};
 ghost use Rattle.page_journal.specs.Bookkeeping.{IsImage, unhomed_numbers, without};
 ghost use Rattle.page_journal.specs.Layout.{homes_from, pages_of, transaction, home_place};
-ghost use Rattle.page_journal.specs.Recovers.{laid, AreBelow, AreDistinct, IsListed, Recovers, RecoversEither};
+ghost use Rattle.page_journal.specs.Recovers.{laid, AreBelow, AreDistinct, IsListed, NoneOrJournal, Recovers, RecoversEither};
 
 use crate::error::{CreateError, OpenError, PostError, UseError};
 use crate::layout::{FIRST_HOME, IMAGES, PAGE, SLOTS, UNHOMED};
@@ -54,6 +54,7 @@ impl<D: EraseDisk + Drop> Journal<D> {
         ensures room { OnOk result (home_place homes ≤ D.octet_count disk) }
         ensures refused { IfErr (outcome result) (CreateRefusal homes (D.octet_count disk)) }
         ensures untouched { IfErr result (λ refused. refused.error ≢ CreateError.Fault → refused.disk ≡ disk) }
+        ensures crash { D.honest disk → Leaves (D.model disk) (D.model (disk_after result)) (NoneOrJournal homes (replicate 11 0) (homes_from (D.model disk).octet 0 homes)) }
         ensures serves { Serves D.EraseDisk disk (disk_after result) (IsErrOf (outcome result) CreateError.Fault) }
     {
         Journal::create_with(alloc, disk, homes, [0; 11], &[])
@@ -62,8 +63,9 @@ impl<D: EraseDisk + Drop> Journal<D> {
     /// Makes a disk a journal's with so many home pages. The first pages are written, and the others keep what the
     /// disk holds.
     ///
-    /// The identity page is written last, with a note for the layers above. A crash before the end may leave a disk
-    /// that holds no journal. A disk of fewer than `homes` and 265 pages of 16,384 octets is refused as too small.
+    /// The note is for the layers above. The first octet of the identity page is written last, and alone: a crash
+    /// before the call returns leaves what the disk held, no journal, or this one. A disk of fewer than `homes` and 265
+    /// pages of 16,384 octets is refused as too small.
     pub fn create_with(
         alloc: Global,
         mut disk: D,
@@ -76,6 +78,7 @@ impl<D: EraseDisk + Drop> Journal<D> {
         ensures homes { IfOk result (λ journal. home_pages journal ≡ homes) }
         ensures note { IfOk result (λ journal. note_of journal ≡ note) }
         ensures idle { IfOk result (IsIdle D.EraseDisk) }
+        ensures crash { D.honest disk → Leaves (D.model disk) (D.model (disk_after result)) (NoneOrJournal homes note (laid first.now (homes_from (D.model disk).octet 0 homes))) }
 
         // The disk is refused exactly where it is too small, and isn't written then, nor for want of memory.
         ensures room { OnOk result (home_place homes ≤ D.octet_count disk) }

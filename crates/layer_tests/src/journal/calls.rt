@@ -43,8 +43,9 @@ fn written(disk: &MemErase, n: usize) -> &[u8] {
     }
 }
 
-/// The calls of a creation: the identity page comes last.
-const CREATED: [Step; 15] = [
+/// The calls of a creation: the first octet of the identity page comes last.
+const CREATED: [Step; 17] = [
+    Step::Sync,
     Step::Write(16_384, 1, 0),
     Step::Write(34 * PAGE, 1, 0),
     Step::Write(67 * PAGE, 1, 0),
@@ -57,8 +58,9 @@ const CREATED: [Step; 15] = [
     Step::Write(266 * PAGE, PAGE, 11),
     Step::Write(267 * PAGE, PAGE, 12),
     Step::Write(268 * PAGE, PAGE, 13),
+    Step::Write(1, PAGE - 1, b'H'),
     Step::Sync,
-    Step::Write(0, PAGE, b'R'),
+    Step::Write(0, 1, b'R'),
     Step::Sync,
 ];
 
@@ -67,10 +69,10 @@ fn a_creation_writes_the_identity_page_last(rt: HostRuntime) {
     let disk = made(rt.alloc()).expect(&rt, "a disk");
     be(&rt, are_steps(&disk, 0, &CREATED), "the calls");
     let page = written(&disk, 13);
-    let is_named = page.starts_with(b"RHAPAGE1\0\0\0\0\0\0\0\x04eleven here");
+    let is_named = page.starts_with(b"HAPAGE1\0\0\0\0\0\0\0\x04eleven here");
     be(
         &rt,
-        is_named && page.iter().skip(27).all(|octet| *octet == 0),
+        is_named && page.iter().skip(26).all(|octet| *octet == 0),
         "the identity page",
     );
 }
@@ -142,19 +144,19 @@ fn each_call_writes_and_syncs_in_its_order(rt: HostRuntime) {
     let disk = journal.into_disk();
     be(
         &rt,
-        are_steps(&disk, 15, &POST_CALLS),
+        are_steps(&disk, 17, &POST_CALLS),
         "an opening and a post",
     );
-    be(&rt, written(&disk, 17) == HEADER.as_slice(), "a header");
+    be(&rt, written(&disk, 19) == HEADER.as_slice(), "a header");
     let disk = opened_and_homed(rt.alloc(), disk).expect(&rt, "a checkpoint");
     be(
         &rt,
-        are_steps(&disk, 23, &LATER_CALLS),
+        are_steps(&disk, 25, &LATER_CALLS),
         "a second opening, pages home, a checkpoint",
     );
     be(
         &rt,
-        written(&disk, 29) == HEADER.as_slice(),
+        written(&disk, 31) == HEADER.as_slice(),
         "the header again",
     );
 }

@@ -402,10 +402,10 @@ fn a_page_is_written_home_once_and_lent_from_memory(rt: HostRuntime) {
         flushed && play(alloc, &mut tx, Step::Flush) == Ok(0),
         "one page is flushed",
     );
-    // Four pages and eleven other calls of the creation, the opening's two syncs, eight commits of three pieces and
+    // Four pages and thirteen other calls of the creation, the opening's two syncs, eight commits of three pieces and
     // two syncs, and one write home.
     let disk = tx.into_pool().into_disk();
-    be(&rt, are_calls(&disk, 5, 15 + 2 + 8 * 5 + 1), "the calls");
+    be(&rt, are_calls(&disk, 5, 17 + 2 + 8 * 5 + 1), "the calls");
 }
 
 /// Three commits, and a page flushed.
@@ -437,6 +437,6 @@ fn the_page_that_was_dirty_longest_is_written_home_first(rt: HostRuntime) {
     be(&rt, play_all(alloc, &mut tx, &COMMITTED), "three commits");
     // Page 1 became dirty first, and was committed last. Four pages were written home by the creation.
     let disk = tx.into_pool().into_disk();
-    be(&rt, are_calls(&disk, 5, 15 + 2 + 3 * 5 + 1), "the calls");
+    be(&rt, are_calls(&disk, 5, 17 + 2 + 3 * 5 + 1), "the calls");
     be(&rt, is_last_home(&disk, 32), "page 1 is home");
 }

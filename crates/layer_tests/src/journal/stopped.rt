@@ -1,10 +1,10 @@
 //! Runs, openings and creations that are stopped at each call.
 
 use super::{
-    KINDS, OLD, PAGE, checkpoint, home, made, made_journal, opened, post, post_one, scripted,
-    shows, shows_after_crash, torn,
+    KINDS, OLD, PAGE, checkpoint, home, made, made_journal, opened, post, post_one, rising,
+    scripted, shows, shows_after_crash, torn,
 };
-use crate::be_at;
+use crate::{be, be_at};
 use disk_memory::{Failure, MemErase, Torn};
 use disk_models::EraseDisk;
 use page_journal::{CreateError, Journal, JournalError, OpenError};
@@ -118,12 +118,13 @@ fn an_opening_that_is_stopped_loses_nothing(rt: HostRuntime) {
     }
 }
 
-/// The n-th failure of a creation: it writes eight gates and the identity page, and syncs twice.
+/// The n-th failure of a creation: it reads the first octet, writes eight gates and the identity page in two pieces, and syncs
+/// three times.
 fn failure_of_a_creation(n: u64) -> Failure {
-    if n < 9 {
-        Failure::Write(n, Torn::Half)
-    } else {
-        Failure::Sync(n.saturating_sub(9))
+    match n {
+        0..=9 => Failure::Write(n, Torn::Half),
+        10..=12 => Failure::Sync(n.saturating_sub(10)),
+        _ => Failure::Read(0),
     }
 }
 
@@ -148,7 +149,7 @@ fn is_created_again(alloc: Global, disk: MemErase) -> Option<bool> {
 
 #[test]
 fn a_creation_that_is_stopped_hands_the_disk_back(rt: HostRuntime) {
-    for n in 0..11u64 {
+    for n in 0..14u64 {
         let disk = stopped_creation(rt.alloc(), n).expect(&rt, "a stop");
         be_at(
             &rt,
@@ -157,4 +158,50 @@ fn a_creation_that_is_stopped_hands_the_disk_back(rt: HostRuntime) {
             n,
         );
     }
+}
+
+/// How many writes and syncs a creation has on a disk that holds a journal, with four pages.
+const CALLS_OF_A_CREATION: u64 = 19;
+
+/// The disk after a creation with new pages, on one that holds a journal, that is cut off at its k-th write or sync.
+fn cut_creation(alloc: Global, k: u64) -> Option<MemErase> {
+    let mut disk = made(alloc)?;
+    disk.stop_at(k);
+    let first = rising(alloc, 4, 20).ok()?;
+    match Journal::create_with(alloc, disk, 4, [0; 11], &first) {
+        Ok(_) => None,
+        Err(refused) => Some(refused.disk),
+    }
+}
+
+/// Whether a crash leaves the old journal, none, or the new one.
+fn is_old_none_or_new(alloc: Global, disk: &MemErase, kind: u8) -> Option<bool> {
+    let left = disk.crash_as(&torn(alloc, kind).ok()?).ok()?;
+    Some(match opened(alloc, left) {
+        Ok(mut journal) => {
+            let wanted = if journal.note() == [0; 11] {
+                [20, 21, 22, 23]
+            } else {
+                OLD
+            };
+            shows(alloc, &mut journal, wanted)
+        }
+        Err(error) => error == JournalError::NotAJournal,
+    })
+}
+
+#[test]
+fn a_creation_that_is_cut_off_leaves_the_old_journal_none_or_the_new_one(rt: HostRuntime) {
+    for k in 1..=CALLS_OF_A_CREATION {
+        let disk = cut_creation(rt.alloc(), k).expect(&rt, "a cut");
+        for kind in 0..KINDS {
+            let is_whole = is_old_none_or_new(rt.alloc(), &disk, kind) == Some(true);
+            be_at(&rt, is_whole, "a crash", k);
+        }
+    }
+    be(
+        &rt,
+        cut_creation(rt.alloc(), CALLS_OF_A_CREATION + 1).is_none(),
+        "its calls",
+    );
 }

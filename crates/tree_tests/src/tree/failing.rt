@@ -83,11 +83,14 @@ fn is_refused(alloc: Global, disks: Disks, reason: TreeError) -> Option<bool> {
     }
 }
 
-/// Disks of which this read fails, below a pool of one page, which reads the others anew.
+/// Disks of which this read fails, counted after the creation's one, below a pool of one page, which reads the others anew.
 fn failing_at_read(alloc: Global, number: u64) -> Option<Disks> {
     let mut disks = disks_of(alloc, 40, 40);
     disks.kept = 1;
-    disks.erase.push(Failure::Read(number)).ok()?;
+    disks
+        .erase
+        .push(Failure::Read(number.saturating_add(1)))
+        .ok()?;
     Some(disks)
 }
 
