@@ -135,6 +135,14 @@ fn five_applied(alloc: Global) -> Option<Both> {
     Some(given_up(reopened(alloc, archive)?))
 }
 
+// Disks of an archive on which six such changes wait, all of them below the mark. No page waits to go home.
+fn six_waiting(alloc: Global) -> Option<Both> {
+    let mut archive = made(alloc, SETTINGS)?;
+    give(&mut archive, 0, &large(alloc, 6)?)?;
+    set_mark(&mut archive, 1_704_067_300)?;
+    Some(given_up(reopened(alloc, archive)?))
+}
+
 /// Lines that are put together, and whether there was memory for all of them.
 #[derive(Drop)]
 struct Lines {
@@ -344,4 +352,31 @@ fn a_block_that_is_not_burnt_or_settled_is_spent(rt: HostRuntime) {
     }
     let failing = disks.failing_once(alloc, OnceFailure::Settle(0));
     be(&rt, goes_on(alloc, failing) == Some(true), "a settle");
+}
+
+// The sixth change burns a block, in a step that has planned the first five.
+#[test]
+fn a_burn_that_fails_after_other_changes_is_returned(rt: HostRuntime) {
+    let alloc = rt.alloc();
+    let disks = six_waiting(alloc).expect(&rt, "disks");
+    let failure = failed_burn(alloc, 0).expect(&rt, "a failure");
+    let failing = disks.failing_once(alloc, failure);
+    be(&rt, goes_on(alloc, failing) == Some(true), "a burn");
+}
+
+// Whether a batch without a record is taken, after one record that was admitted.
+fn takes_none(alloc: Global, disks: Option<Both>) -> Option<bool> {
+    let mut archive = opened(alloc, disks?)?;
+    let reply = archive.admit(0, &[]).ok()?;
+    let is_none = reply.receipt.from == 1 && reply.receipt.to == 1;
+    Some(is_none && reply.offered == 1 && reply.late.is_empty())
+}
+
+#[test]
+fn a_batch_without_a_record_is_not_written(rt: HostRuntime) {
+    let alloc = rt.alloc();
+    let disks = one_given(alloc).expect(&rt, "disks");
+    let failure = failed_write(alloc, 0, 1).expect(&rt, "a failure");
+    let failing = disks.failing(alloc, failure);
+    be(&rt, takes_none(alloc, failing) == Some(true), "no record");
 }

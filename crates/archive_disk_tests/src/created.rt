@@ -78,18 +78,18 @@ fn is_refused(alloc: Global, failure: Option<Failure>) -> Option<bool> {
     })
 }
 
-// Eight gates, the tree's two pages, the head, and the identity page: 12 writes. Syncs stand before the last and behind it. A call that
-// isn't made leaves no trace.
+// Eight gates, the tree's two pages, the head, and the identity page in two pieces: 13 writes. A sync comes first, and one after each
+// piece. A call that isn't made leaves no trace.
 #[test]
 fn a_failed_write_or_sync_refuses_the_archive(rt: HostRuntime) {
     let alloc = rt.alloc();
-    for number in 0..14 {
+    for number in 0..15 {
         let is_refused = is_refused(alloc, failed_write(alloc, number, 2));
-        be(&rt, is_refused == Some(number < 12), "a write");
+        be(&rt, is_refused == Some(number < 13), "a write");
     }
-    for number in 0..4 {
+    for number in 0..5 {
         let is_refused = is_refused(alloc, Some(Failure::Sync(number)));
-        be(&rt, is_refused == Some(number < 2), "a sync");
+        be(&rt, is_refused == Some(number < 3), "a sync");
     }
 }
 

@@ -96,20 +96,13 @@ pub(crate) fn draw_failure(alloc: Global, chance: &mut Chance, opening: Calls) -
     }
 }
 
-/// Failures of the write-once disk: at a call of one kind and at the next one of that kind. A step of applying tells only of a failure at
-/// its first change, which the second one may meet then.
-pub(crate) fn draw_once_failures(alloc: Global, chance: &mut Chance) -> Option<Vec<OnceFailure>> {
-    let call = chance.below(4);
-    let first = u64::from(chance.below(2));
-    let mut failures = Vec::new(alloc);
-    for number in [first, first.saturating_add(1)] {
-        let failure = match call {
-            0 => OnceFailure::Settle(number),
-            // An opening looks for a blank block once at least.
-            1 => OnceFailure::Blank(number.saturating_add(1)),
-            _ => OnceFailure::Burn(number, torn(alloc, chance.below(KINDS))?),
-        };
-        failures.push(failure).ok()?;
-    }
-    Some(failures)
+/// A failure of the write-once disk, at one of its next calls.
+pub(crate) fn draw_once_failure(alloc: Global, chance: &mut Chance) -> Option<OnceFailure> {
+    let number = u64::from(chance.below(2));
+    Some(match chance.below(4) {
+        0 => OnceFailure::Settle(number),
+        // An opening looks for a blank block once at least.
+        1 => OnceFailure::Blank(number.saturating_add(1)),
+        _ => OnceFailure::Burn(number, torn(alloc, chance.below(KINDS))?),
+    })
 }

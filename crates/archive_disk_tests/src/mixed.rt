@@ -3,8 +3,8 @@
 use crate::asked::answer;
 use crate::be;
 use crate::disks::{Both, CRASHES, Calls, given_up, open, opened};
-use crate::drawn::{Chance, draw_call, draw_failure, draw_once_failures};
-use crate::made::{Disks, Made, disks_of, made_on, octets_of};
+use crate::drawn::{Chance, draw_call, draw_failure, draw_once_failure};
+use crate::made::{Disks, Made, disks_of, made_on, octets_of, one};
 use crate::model::Model;
 use crate::told::{State, Told, make, state_of};
 use archive_pages::Settings;
@@ -77,7 +77,8 @@ fn arm(alloc: Global, chance: &mut Chance, opening: Calls, disks: &mut Both) -> 
         let failure = draw_failure(alloc, chance, opening)?;
         disks.fail(alloc, failure)?;
     }
-    disks.pen.set_script(draw_once_failures(alloc, chance)?);
+    let failure = draw_once_failure(alloc, chance)?;
+    disks.pen.set_script(one(alloc, failure)?);
     Some(())
 }
 
@@ -145,12 +146,11 @@ fn answers_alike(
     Some(!told.starts_with(b"X") && model.answers_as(&line, &told))
 }
 
-/// How often a run was stopped: in a call by either disk, or by one of both that failed, in an opening, and by crashes between two calls.
+/// How often a run was stopped: in a call by either disk, in an opening, and by crashes between two calls.
 #[derive(Clone, Copy)]
 struct Stops {
     erasable: u32,
     once: u32,
-    either: u32,
     opening: u32,
     between: u32,
 }
@@ -158,7 +158,6 @@ struct Stops {
 const NONE: Stops = Stops {
     erasable: 0,
     once: 0,
-    either: 0,
     opening: 0,
     between: 0,
 };
@@ -166,11 +165,9 @@ const NONE: Stops = Stops {
 impl Stops {
     // A call was stopped on these disks, or all crashed behind it.
     fn count(&mut self, told: Told, disks: &Both) {
-        match (told, disks.erase_failed(), disks.once_failed()) {
-            (Told::Stopped, true, false) => self.erasable = self.erasable.saturating_add(1),
-            (Told::Stopped, false, true) => self.once = self.once.saturating_add(1),
-            // A step tells nothing of a failure behind its first change; so either of both may have stopped this call.
-            (Told::Stopped, _, _) => self.either = self.either.saturating_add(1),
+        match (told, disks.once_failed()) {
+            (Told::Stopped, false) => self.erasable = self.erasable.saturating_add(1),
+            (Told::Stopped, true) => self.once = self.once.saturating_add(1),
             _ => self.between = self.between.saturating_add(1),
         }
     }
@@ -185,7 +182,6 @@ impl Stops {
         Stops {
             erasable: self.erasable.saturating_add(other.erasable),
             once: self.once.saturating_add(other.once),
-            either: self.either.saturating_add(other.either),
             opening: self.opening.saturating_add(other.opening),
             between: self.between.saturating_add(other.between),
         }
@@ -220,8 +216,8 @@ fn goes_on_alike(
     answers_alike(alloc, chance, model, &mut found.witness, settled)
 }
 
-// What is found behind a crash, where that is what the model is: all that was told as done is there, and a call that was stopped, on
-// a disk that failed, was made whole or not at all. None where it isn't, or there is no memory.
+// What is found behind a crash, where that is what the model is: all that was told as done is there, and a call that was stopped was made
+// whole or not at all. One disk failed where a call was stopped, and elsewhere none did. None where it isn't so, or there is no memory.
 fn find_alike(
     alloc: Global,
     chance: &mut Chance,
@@ -229,7 +225,8 @@ fn find_alike(
     disks: &Both,
     stopped: Option<Step>,
 ) -> Option<Found> {
-    if stopped.is_some() && !disks.erase_failed() && !disks.once_failed() {
+    let is_failed = disks.erase_failed() || disks.once_failed();
+    if is_failed != stopped.is_some() || disks.erase_failed() && disks.once_failed() {
         return None;
     }
     let mut found = find(alloc, chance, disks)?;

@@ -1,13 +1,15 @@
 -- How large a batch is.
-use Rattle.std.proofs.Common.{◌≡◌, ℕ, zero, suc, ◌+◌, ◌<◌, ◌≤◌, List, [], ◌∷◌, ◌++◌, length, take, get_or, cond, Bool, true, false, sym, ap, ◌∙◌, subst, arith}
+use Rattle.std.proofs.Common.{◌≡◌, ℕ, zero, suc, ◌+◌, ◌<◌, ◌≤◌, List, [], ◌∷◌, ◌++◌, length, take, get_or, map, max, cond, ltb, append-nil, Bool, true, false, refl, sym, ap, ◌∙◌, subst, arith}
 use Rattle.std.specs.Prelude.{sum_by}
 use Rattle.std.specs.List.{AllByRecursion}
-use Rattle.std.proofs.lemmas.List.{take_more}
+use Rattle.std.proofs.lemmas.Bool.{lt-ltb, le-ltb}
+use Rattle.std.proofs.lemmas.List.{map-append, take_more}
 use Rattle.std.proofs.lemmas.List.Sums.{sum_by-cons}
 use Rattle.route_model.specs.Admission.{Admitted, admission_octets, IsAdmission}
 use Rattle.route_meaning.specs.Holds.{admitted_time}
 use Rattle.route_meaning.proofs.api.Sorting.{all_append}
-use Rattle.sequencer.specs.Late.{is_late, timely}
+use Rattle.sequencer.specs.Late.{greatest, is_late, timely}
+use Rattle.sequencer.proofs.api.Sieving.{greatest-push, timely-push}
 use Rattle.intake.specs.Ring.{entry_octets}
 
 abbrev pub batch_octets : List Admitted → ℕ
@@ -52,3 +54,49 @@ octets_timely mark earlier (x ∷ xs) =
     cases : (b : Bool) → batch_octets rest ≤ batch_octets (x ∷ xs) → batch_octets (x ∷ rest) ≤ batch_octets (x ∷ xs) → batch_octets (cond b rest (x ∷ rest)) ≤ batch_octets (x ∷ xs)
     cases true p q = p
     cases false p q = q
+
+-- ---- one admission more of a batch
+
+timely_more : (mark : ℕ) (xs : List Admitted) (i : ℕ) (x : Admitted) → i < length xs → x ≡ get_or xs i x
+    → timely admitted_time mark [] (take (i + 1) xs) ≡ timely admitted_time mark [] (take i xs) ++ cond (ltb (admitted_time x) (greatest mark (map admitted_time (take i xs)))) [] (x ∷ [])
+timely_more mark xs i x lt e = ap (timely admitted_time mark []) (more xs i x lt e) ∙ timely-push admitted_time mark [] (take i xs) x
+
+greatest_more : (mark : ℕ) (xs : List Admitted) (i : ℕ) (x : Admitted) → i < length xs → x ≡ get_or xs i x
+    → greatest mark (map admitted_time (take (i + 1) xs)) ≡ max (admitted_time x) (greatest mark (map admitted_time (take i xs)))
+greatest_more mark xs i x lt e =
+    ap (λ (l : List Admitted). greatest mark (map admitted_time l)) (more xs i x lt e)
+    ∙ (ap (greatest mark) (map-append admitted_time (take i xs) (x ∷ [])) ∙ greatest-push mark (map admitted_time (take i xs)) (admitted_time x))
+
+-- so many octets of the first ones of a batch aren't late, and this is the mark behind them
+pub record AreTimely (mark : ℕ) (xs : List Admitted) (count present : ℕ) : Type 0 where
+  pub octets : count ≡ batch_octets (timely admitted_time mark [] xs)
+  pub reached : present ≡ greatest mark (map admitted_time xs)
+
+-- it is late
+pub late_more : (mark : ℕ) (xs : List Admitted) (i octets reached : ℕ) (x : Admitted) → i < length xs → x ≡ get_or xs i x → AreTimely mark (take i xs) octets reached → admitted_time x < reached
+    → AreTimely mark (take (i + 1) xs) octets reached
+late_more mark xs i octets reached x lt e t low =
+    let is = t.reached in
+    let late : ltb (admitted_time x) (greatest mark (map admitted_time (take i xs))) ≡ true = lt-ltb _ _ (omega (arith, is, low)) in
+    record {
+      octets = (let same : timely admitted_time mark [] (take (i + 1) xs) ≡ timely admitted_time mark [] (take i xs) = timely_more mark xs i x lt e ∙ rw late (append-nil _) in t.octets ∙ sym (ap batch_octets same));
+      reached = (let g = greatest_more mark xs i x lt e in omega (arith, is, low, g));
+    }
+
+-- it isn't
+pub timely_next : (mark : ℕ) (xs : List Admitted) (i octets reached : ℕ) (x : Admitted) → i < length xs → x ≡ get_or xs i x → AreTimely mark (take i xs) octets reached → reached ≤ admitted_time x
+    → AreTimely mark (take (i + 1) xs) (octets + (4 + length (admission_octets x))) (admitted_time x)
+timely_next mark xs i octets reached x lt e t high =
+    let is = t.reached in
+    let all = t.octets in
+    let on : ltb (admitted_time x) (greatest mark (map admitted_time (take i xs))) ≡ false = le-ltb _ _ (omega (arith, is, high)) in
+    let more : timely admitted_time mark [] (take (i + 1) xs) ≡ timely admitted_time mark [] (take i xs) ++ x ∷ [] = timely_more mark xs i x lt e ∙ rw on refl in
+    let then = ap batch_octets more ∙ octets-append (timely admitted_time mark [] (take i xs)) (x ∷ []) in
+    record {
+      octets = omega (arith, all, then);
+      reached = (let g = greatest_more mark xs i x lt e in omega (arith, is, high, g));
+    }
+
+-- what isn't late of the first ones of a batch has no more octets than the batch
+pub few_timely : (mark : ℕ) (xs : List Admitted) (i octets reached : ℕ) → AreTimely mark (take i xs) octets reached → octets ≤ batch_octets xs
+few_timely mark xs i octets reached t = let is = t.octets in let a = octets_timely mark [] (take i xs) in let b = octets_part i xs in omega (arith, is, a, b)

@@ -1,14 +1,19 @@
 -- What an archive begins with to which nothing was given.
-use Rattle.std.proofs.Common.{◌≡◌, ◌≢◌, ◌<◌, ◌≤◌, ℕ, zero, suc, ◌+◌, ◌*◌, ◌^◌, List, [], ◌∷◌, ◌++◌, length, map, replicate, set, refl, sym, ◌∙◌, ap, subst, arith, None, length-set, get_or-set_same, get_or-set_other}
+use Rattle.std.proofs.Common.{◌≡◌, ◌≢◌, ◌<◌, ◌≤◌, ◌⊎◌, inl, inr, ⊎_elim, ℕ, zero, suc, ◌+◌, ◌*◌, ◌^◌, List, [], ◌∷◌, ◌++◌, length, map, replicate, set, refl, sym, ◌∙◌, ap, subst, arith, None, length-set, get_or-set_same, get_or-set_other}
 use Rattle.std.specs.List.{AllByRecursion}
 use Rattle.std.proofs.Math.Nat.{mul-le-mul_right}
 use Rattle.std.proofs.lemmas.List.{length-replicate, length-map}
 use Rattle.std.proofs.lemmas.Option.{none-some}
-use Rattle.disk_models.specs.Erase.{DiskState}
+use Rattle.disk_models.specs.Erase.{DiskState, IsSound, Leaves}
 use Rattle.disk_models.specs.Once.{OnceState, settled_in}
-use Rattle.page_journal.specs.Layout.{Image, pages_of}
-use Rattle.page_journal.specs.Recovers.{laid, AreBelow}
-use Rattle.page_journal.proofs.Covering.{length-laid}
+use Rattle.disk_models.specs.Left.{CrashPair, Left, LeftNow, WithSettled}
+use Rattle.disk_models.proofs.api.Growing.{grows_none}
+use Rattle.disk_models.proofs.api.Moments.{leaves_weaker}
+use Rattle.disk_models.proofs.api.Pairs.{inside_opening, now_is_pair}
+use Rattle.page_journal.specs.Identity.{HoldsNone}
+use Rattle.page_journal.specs.Layout.{Image, homes_from, pages_of}
+use Rattle.page_journal.specs.Recovers.{laid, AreBelow, NoneOrJournal, Recovers}
+use Rattle.page_journal.proofs.Covering.{length-homes_from, length-laid}
 use Rattle.page_journal.proofs.Opening.{laid-append}
 use Rattle.route_meaning.specs.Holds.{admitted_time, time_of}
 use Rattle.route_meaning.specs.Merged.{all_placed, by_time, parts}
@@ -23,7 +28,9 @@ use Rattle.archive_pages.specs.Places.{AreSettings, tree_low}
 use Rattle.archive_pages.specs.Carried.{Bears}
 use Rattle.archive_pages.proofs.api.Bearing.{bears_headed}
 use Rattle.archive_pages.proofs.api.Creating.{bears_created}
+use Rattle.disk_archive.specs.Creations.{LeavesNoneOrEmpty, homes_on, site_on}
 use Rattle.disk_archive.specs.Mirrors.{Mirrors}
+use Rattle.disk_archive.specs.Notes.{note_octets}
 use Rattle.disk_archive.specs.Sites.{Site, Rests}
 use Rattle.disk_archive.specs.Trees.{TreeLies}
 use Rattle.disk_archive.specs.inner.Creating.{Means, bare_head, bare_lane}
@@ -99,6 +106,15 @@ headed_first count s settled head block images shown some valid is inside tells 
     (headed_bare count s settled block (laid images shown) some (subst IsHead is valid) (omega (arith, n, inside)) (tells shown inside)) in
     subst (λ (pages : List (List ℕ)). Headed count s settled head pages (empty s.collectors)) (sym (laid-append images ((0, head_octets head) ∷ []) shown)) whole
 
+-- over the home pages of a disk
+pub headed_on : (count : ℕ) (s : Settings) (o : OnceState) (head : Contents) (made images : List Image) (f : ℕ → ℕ) (homes : ℕ) → images ≡ made → tree_low s + 2 ≤ homes
+    → ((count : ℕ) (o : OnceState) (shown : List (List ℕ)) → tree_low s + 2 ≤ length shown → Headed count s (settled_in o) head (laid made shown) (empty s.collectors))
+    → Headed count s (settled_in o) head (laid images (homes_from f 0 homes)) (empty s.collectors)
+headed_on count s o head made images f homes same large headed =
+    let shown = homes_from f 0 homes in
+    let long = length-homes_from f 0 homes in
+    subst (λ (l : List Image). Headed count s (settled_in o) head (laid l shown) (empty s.collectors)) (sym same) (headed count o shown (omega (arith, long, large)))
+
 -- ---- what is kept in memory
 
 abbrev nothing : Intake
@@ -138,3 +154,29 @@ pub same_site : (s : Settings) {homes homes' blocks blocks' : ℕ} {note note' :
 same_site s {homes = homes} {homes' = homes'} {blocks = blocks} {blocks' = blocks'} {note = note} {note' = note'} h n b =
     let with' : ℕ → List ℕ → ℕ → Site = λ x y z. record { settings = s; homes = x; note = y; blocks = z } in
     ap (λ (x : ℕ). with' x note blocks) h ∙ (ap (λ (y : List ℕ). with' homes' y blocks) n ∙ ap (λ (z : ℕ). with' homes' note' z) b)
+
+-- the first pages carry the history of an archive to which nothing was given
+pub leaves_first : (site : Site) (head : Contents) (pages : List (List ℕ)) (e f : DiskState) (o : OnceState) → Headed site.blocks site.settings (settled_in o) head pages (empty site.settings.collectors)
+    → Leaves e f (NoneOrJournal site.homes site.note pages) → Leaves e f (WithSettled o (LeavesNoneOrEmpty site))
+leaves_first site head pages e f o k l = leaves_weaker e f (NoneOrJournal site.homes site.note pages) (WithSettled o (LeavesNoneOrEmpty site))
+    (λ c is left same has. ⊎_elim
+    (λ none. inl (subst HoldsNone (sym same) none))
+    (λ means. inr (now_carries site o head pages (empty site.settings.collectors) left k (subst (λ (x : ℕ → ℕ). Recovers site.homes site.note x pages) (sym same) means) has))
+    is) l
+
+-- the same on the site that the disks give
+pub leaves_on : (s : Settings) (size count : ℕ) (e f : DiskState) (o q : OnceState) {homes blocks : ℕ} {note : List ℕ} → homes ≡ homes_on size → note ≡ note_octets count s → blocks ≡ count → q ≡ o
+    → Leaves e f (WithSettled q (LeavesNoneOrEmpty (record { settings = s; homes = homes; note = note; blocks = blocks }))) → Leaves e f (WithSettled o (LeavesNoneOrEmpty (site_on s size count)))
+leaves_on s size count e f o q h n b same l =
+    subst (λ (x : OnceState). Leaves e f (WithSettled x (LeavesNoneOrEmpty (site_on s size count)))) same
+    (subst (λ (site : Site). Leaves e f (WithSettled q (LeavesNoneOrEmpty site))) (same_site s h n b) l)
+
+-- a crash inside the call, which burns nothing
+pub inside_creating : (site : Site) (e f : DiskState) (o p : OnceState) → IsSound e → p ≡ o → Leaves e f (WithSettled o (LeavesNoneOrEmpty site)) → (left : Left) → CrashPair e f o o p left → LeftNow e o left ⊎ LeavesNoneOrEmpty site left
+inside_creating site e f o p sound same l left pair = inside_opening e f o (LeavesNoneOrEmpty site) sound l left (subst (λ (x : OnceState). CrashPair e f o o x left) same pair)
+
+-- and one after it
+pub after_creating : (site : Site) (e f : DiskState) (o p : OnceState) → IsSound e → IsSound f → p ≡ o → Leaves e f (WithSettled o (LeavesNoneOrEmpty site)) → (left : Left) → LeftNow f p left → LeftNow e o left ⊎ LeavesNoneOrEmpty site left
+after_creating site e f o p sound later same l left now =
+    let here : LeftNow f o left = subst (λ (x : OnceState). LeftNow f x left) same now in
+    inside_opening e f o (LeavesNoneOrEmpty site) sound l left (now_is_pair e f o o o later l.later (grows_none o) (grows_none o) left here)

@@ -65,10 +65,11 @@ told_as (Ok x) e f is told = absurd is
 told_as (Err y) e f is told = let same : y ≡ f = cc in sym is ∙ same
 
 -- a batch that can't be taken is told as no failure
-pub not_taken : (e : AdmitError) → (e ≡ admits.NoCollector) ⊎ (e ≡ admits.BatchTooLarge) ⊎ (e ≡ admits.CounterFull) → e ≡ admits.Fault → ⊥
+pub not_taken : (e : AdmitError) → (e ≡ admits.NoCollector) ⊎ (e ≡ admits.BatchTooLarge) ⊎ (e ≡ admits.CounterFull) ⊎ (e ≡ admits.IntakeFull) → e ≡ admits.Fault → ⊥
 not_taken e (inl none) is = cc
 not_taken e (inr (inl large)) is = cc
-not_taken e (inr (inr full)) is = cc
+not_taken e (inr (inr (inl full))) is = cc
+not_taken e (inr (inr (inr crowded))) is = cc
 
 pub admit_fault : (e : UseError) → admit_of_use e ≡ admits.Fault → e ≡ uses.Fault
 admit_fault uses.Fault is = cc

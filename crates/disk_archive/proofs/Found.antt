@@ -3,14 +3,14 @@ use Rattle.std.proofs.Common.{◌≡◌, ℕ, List, refl, sym, ◌∙◌, arith}
 use Rattle.disk_models.specs.declared.erase.EraseDisk.{Ghosts}
 use Rattle.page_journal.specs.declared.error.OpenError.{OpenError as JournalError}
 use Rattle.page_journal.specs.declared.error.OpenError.TheVariants as journals
-use Rattle.page_journal.specs.Identity.{Names}
+use Rattle.page_journal.specs.Identity.{HoldsNone, Names}
 use Rattle.page_journal.specs.Journal.{disk_of, home_pages, note_of}
 use Rattle.page_journal.specs.Refusals.{IsWant as IsWanting, OpenRefusal}
 use Rattle.buffer_pool.specs.Pool.{Maps, journal_of}
 use Rattle.disk_archive.specs.declared.looks.Looks.{Looks}
 use Rattle.disk_archive.specs.inner.Restoring.{Restores, of_opening}
 use Rattle.disk_archive.specs.declared.open_error.OpenError.TheVariants as openings
-use Rattle.disk_archive.specs.Openings.{IsWant, NamesArchive}
+use Rattle.disk_archive.specs.Openings.{IsNoneOrWant, IsWant, NamesArchive}
 
 -- the home pages and the note that a disk names are the only ones
 pub one_count : (homes others : ℕ) (note its : List ℕ) (f : ℕ → ℕ) → Names homes note f → Names others its f → homes ≡ others
@@ -32,6 +32,13 @@ none_named size f blocks journals.Fault refused told named = cc
 none_named size f blocks journals.OutOfMemory refused told named = cc
 none_named size f blocks (journals.BadNode page) refused told named = cc
 none_named size f blocks journals.NotAJournal refused told named = let low = refused named.homes named.note named.names in let room = named.room in absurd (omega (arith, low, room))
+
+-- a disk that holds no journal isn't told as damaged
+pub none_told : (size : ℕ) (f : ℕ → ℕ) (e : JournalError) → OpenRefusal size f e → HoldsNone f → IsNoneOrWant (of_opening e)
+none_told size f journals.Fault refused none = tt
+none_told size f journals.OutOfMemory refused none = tt
+none_told size f journals.NotAJournal refused none = tt
+none_told size f (journals.BadNode page) refused none = none refused.homes refused.note refused.names
 
 -- want of the device or of memory is told as such
 pub only_want_told : (e : JournalError) → IsWanting e → IsWant (of_opening e)

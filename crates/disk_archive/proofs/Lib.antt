@@ -7,6 +7,7 @@ mod Lasting
 mod BatchSizes
 mod Plans
 mod Replies
+mod Nothing
 mod Marks
 mod Steps
 mod Limiting
@@ -33,6 +34,7 @@ mod Counts
 mod Turning
 mod Staying
 mod Limited
+mod Lacking
 mod Faults
 mod Failing
 mod ReadFaults

@@ -9,7 +9,7 @@ use Rattle.page_journal.specs.declared.error.UseError.TheVariants as uses
 use Rattle.disk_archive.specs.inner.Applications.{LimitRefusal, apply_of_use}
 
 -- what is said of a refusal is said of the result that tells it
-pub on_told : {X : Type 0} (r : Result X ApplyError) (e : ApplyError) (P : ApplyError → Type 0) → IsErrAnd r (λ y. y ≡ e) → P e → IfErr r P
+pub on_told : {X E : Type 0} (r : Result X E) (e : E) (P : E → Type 0) → IsErrAnd r (λ y. y ≡ e) → P e → IfErr r P
 on_told (Ok x) e P is p = absurd is
 on_told (Err y) e P is p = subst P (sym is) p
 

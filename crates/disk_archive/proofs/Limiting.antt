@@ -1,5 +1,5 @@
 -- Where a batch is too much for an archive, and where it isn't.
-use Rattle.std.proofs.Common.{◌≡◌, ◌<◌, ◌≤◌, ◌↔◌, ◌+◌, ◌*◌, ℕ, Bool, false, List, [], length, sym, ◌∙◌, ap, subst, arith, Some, inl, inr, Result, Ok, Err, true≢false}
+use Rattle.std.proofs.Common.{◌≡◌, ◌<◌, ◌≤◌, ◌↔◌, ◌+◌, ◌-◌, ◌*◌, ℕ, Bool, false, List, [], length, sym, ◌∙◌, ap, subst, arith, Some, inl, inr, Result, Ok, Err, true≢false}
 use Rattle.std.specs.Prelude.{IsErrAnd}
 use Rattle.std.specs.List.{slice_get}
 use Rattle.std.proofs.lemmas.Bool.{cases_lt}
@@ -10,6 +10,7 @@ use Rattle.route_meaning.specs.Merged.{part}
 use Rattle.route_meaning.specs.Holds.{admitted_time}
 use Rattle.route_meaning.specs.History.{Intake, History, IsIntake, waiting}
 use Rattle.sequencer.specs.Late.{timely}
+use Rattle.sequencer.specs.Lanes.{Waiting, marks}
 use Rattle.sequencer.proofs.api.Setting.{all_at, one_there}
 use Rattle.interleaving_core.proofs.api.Right.{few}
 use Rattle.intake.specs.Ring.{IsRing, octets_for, size_of}
@@ -27,7 +28,8 @@ use Rattle.disk_archive.specs.declared.error.AdmitError.{AdmitError}
 use Rattle.disk_archive.specs.declared.error.AdmitError.TheVariants as admits
 use Rattle.page_journal.specs.Refusals.{UseRefusal}
 use Rattle.disk_archive.specs.inner.Committing.{PlanRefusal, admit_of_use}
-use Rattle.disk_archive.proofs.Mirroring.{intake_at}
+use Rattle.disk_archive.specs.Mirrors.{Mirrors}
+use Rattle.disk_archive.proofs.Mirroring.{intake_at, mark_there}
 use Rattle.disk_archive.proofs.Plans.{lane_at}
 
 -- A collector of a history that is carried can take a batch whose records can be counted.
@@ -59,24 +61,31 @@ counter_full count s o head shown h c more lane b at low =
     )
 
 -- the ring is full, as the head tells
-pub ring_full : (count : ℕ) (s : Settings) (o : OnceState) (head : Contents) (shown : List (List ℕ)) (h : History) (c : ℕ) (batch : List Admitted) (lane : Lane) (i : Intake) (kept : Kept)
-    → Bears (TreeLies count) s (settled_in o) head shown h → HasLane head c lane → slice_get h.intakes c ≡ Some i → IsKeptOf i.mark batch kept
-    → size_of (ring_of s c lane) < lane.used + octets_for kept.timely → IsRingFull s h c batch
-ring_full count s o head shown h c batch lane i kept b at here is above =
-    let size = (b.lanes c lane i at here).holds.size in
-    let more : octets_for kept.timely ≡ octets_for (timely admitted_time i.mark [] batch) = ap octets_for is.items in
-    record { intake = i; here = here; above = omega (arith, above, size, more) }
+pub ring_full : (count : ℕ) (s : Settings) (o : OnceState) (head : Contents) (shown : List (List ℕ)) (h : History) (c : ℕ) (batch : List Admitted) (lane : Lane) (i : Intake)
+    → Bears (TreeLies count) s (settled_in o) head shown h → HasLane head c lane → slice_get h.intakes c ≡ Some i
+    → IsRingFull s h c batch ↔ (16384 * s.ring - lane.used < octets_for (timely admitted_time i.mark [] batch))
+ring_full count s o head shown h c batch lane i b at here =
+    let own = b.lanes c lane i at here in
+    let size = own.holds.size in
+    let used = own.place.used in (
+      λ full.
+          let same : full.intake ≡ i = one_there (slice_get h.intakes c) full.intake i full.here here in
+          let above : 16384 * s.ring < octets_for (part c (waiting h)) + octets_for (timely admitted_time i.mark [] batch) =
+          subst (λ (j : Intake). 16384 * s.ring < octets_for (part c (waiting h)) + octets_for (timely admitted_time j.mark [] batch)) same full.above in
+          omega (arith, above, size, used),
+      λ crowded. record { intake = i; here = here; above = omega (arith, crowded, size, used) },
+    )
 
-pub ring_room : (count : ℕ) (s : Settings) (o : OnceState) (head : Contents) (shown : List (List ℕ)) (h : History) (c : ℕ) (batch : List Admitted) (lane : Lane) (i : Intake) (kept : Kept)
-    → Bears (TreeLies count) s (settled_in o) head shown h → HasLane head c lane → slice_get h.intakes c ≡ Some i → IsKeptOf i.mark batch kept
-    → lane.used + octets_for kept.timely ≤ size_of (ring_of s c lane) → IsRingFull s h c batch → ⊥
-ring_room count s o head shown h c batch lane i kept b at here is room full =
-    let same : full.intake ≡ i = one_there (slice_get h.intakes c) full.intake i full.here here in
-    let size = (b.lanes c lane i at here).holds.size in
-    let more : octets_for kept.timely ≡ octets_for (timely admitted_time i.mark [] batch) = ap octets_for is.items in
-    let above : 16384 * s.ring < octets_for (part c (waiting h)) + octets_for (timely admitted_time i.mark [] batch) =
-    subst (λ (j : Intake). 16384 * s.ring < octets_for (part c (waiting h)) + octets_for (timely admitted_time j.mark [] batch)) same full.above in
-    absurd (omega (arith, above, room, size, more))
+-- a ring isn't full that has room for what isn't late of a batch, as the head and the marks in memory tell
+pub not_crowded : (count : ℕ) (s : Settings) (o : OnceState) (head : Contents) (lanes : List Waiting) (shown : List (List ℕ)) (h : History) (c : ℕ) (batch : List Admitted)
+    → Bears (TreeLies count) s (settled_in o) head shown h → Mirrors lanes h → c < s.collectors
+    → ((lane : Lane) (mark : ℕ) → HasLane head c lane → slice_get (marks lanes) c ≡ Some mark → octets_for (timely admitted_time mark [] batch) ≤ 16384 * s.ring - lane.used) → IsRingFull s h c batch → ⊥
+not_crowded count s o head lanes shown h c batch b m low room full =
+    let n = b.lanes_number in
+    let lane = lane_at c head.lanes (omega (arith, n, low)) in
+    let free = room lane.0 full.intake.mark lane.1 (mark_there lanes h c full.intake m full.here) in
+    let crowded = (ring_full count s o head shown h c batch lane.0 full.intake b lane.1 full.here).0 full in
+    absurd (omega (arith, free, crowded))
 
 -- ---- what isn't told before a plan
 
@@ -86,25 +95,25 @@ pub record IsLater (e : AdmitError) : Type 0 where
   pub collector : e ≡ admits.NoCollector → ⊥
   pub large : e ≡ admits.BatchTooLarge → ⊥
   pub counter : e ≡ admits.CounterFull → ⊥
+  pub ring : e ≡ admits.IntakeFull → ⊥
 
 pub plan_later : (down : Bool) (e : AdmitError) → PlanRefusal down e → down ≡ false → IsLater e
 plan_later down admits.NeedsRecovery r usable = absurd (true≢false (sym r ∙ usable))
 plan_later down admits.NoCollector r usable = absurd r
 plan_later down admits.BatchTooLarge r usable = absurd r
 plan_later down admits.CounterFull r usable = absurd r
-plan_later down admits.IntakeFull r usable = record { recovery = λ e. cc; collector = λ e. cc; large = λ e. cc; counter = λ e. cc }
-plan_later down (admits.BadNode page) r usable = record { recovery = λ e. cc; collector = λ e. cc; large = λ e. cc; counter = λ e. cc }
-plan_later down admits.Fault r usable = record { recovery = λ e. cc; collector = λ e. cc; large = λ e. cc; counter = λ e. cc }
-plan_later down admits.OutOfMemory r usable = record { recovery = λ e. cc; collector = λ e. cc; large = λ e. cc; counter = λ e. cc }
+plan_later down admits.IntakeFull r usable = absurd r
+plan_later down (admits.BadNode page) r usable = record { recovery = λ e. cc; collector = λ e. cc; large = λ e. cc; counter = λ e. cc; ring = λ e. cc }
+plan_later down admits.Fault r usable = record { recovery = λ e. cc; collector = λ e. cc; large = λ e. cc; counter = λ e. cc; ring = λ e. cc }
+plan_later down admits.OutOfMemory r usable = record { recovery = λ e. cc; collector = λ e. cc; large = λ e. cc; counter = λ e. cc; ring = λ e. cc }
 
--- what a commit refuses is neither, and no fault of the ring or of the pages
+-- what a commit refuses is neither, and no fault of the pages
 pub record IsOfCommit (e : AdmitError) : Type 0 where
   pub later : IsLater e
-  pub ring : e ≡ admits.IntakeFull → ⊥
   pub page : (n : ℕ) → e ≡ admits.BadNode n → ⊥
 
 pub commit_later : (down : Bool) (e : UseError) → UseRefusal down e → down ≡ false → IsOfCommit (admit_of_use e)
-commit_later down uses.Fault r usable = record { later = record { recovery = λ e. cc; collector = λ e. cc; large = λ e. cc; counter = λ e. cc }; ring = λ e. cc; page = λ n e. cc }
+commit_later down uses.Fault r usable = record { later = record { recovery = λ e. cc; collector = λ e. cc; large = λ e. cc; counter = λ e. cc; ring = λ e. cc }; page = λ n e. cc }
 commit_later down uses.NeedsRecovery r usable = absurd (true≢false (sym r ∙ usable))
 
 -- ---- what is told
@@ -156,8 +165,44 @@ counter_told count s o head shown h c octets more r e b is only iff =
           is ∙ ap (λ z. Err z) ((iff lane.0 lane.1).1 (full.0, (counter_full count s o head shown h c more lane.0 b lane.1 within).0 full.1)),
     )
 
+-- no other refusal is told as a full ring
+pub no_crowd : {X : Type 0} (octets : ℕ) (s : Settings) (h : History) (c more : ℕ) (batch : List Admitted) (r : Result X AdmitError) (e : AdmitError) → r ≡ Err e → IsLater e → (IsRingFull s h c batch → ⊥)
+    → (r ≡ Err admits.IntakeFull) ↔ ((octets ≤ 262144) × (IsCounterFull h c more → ⊥) × IsRingFull s h c batch)
+no_crowd octets s h c more batch r e is later room = (λ told. absurd (later.ring (as_told r e admits.IntakeFull is told)), λ full. absurd (room full.2))
+
+-- A ring that is full is told as that, exactly.
+pub crowd_told : (count : ℕ) (s : Settings) (o : OnceState) (head : Contents) (lanes : List Waiting) (shown : List (List ℕ)) (h : History) (c octets : ℕ) (batch : List Admitted) {X : Type 0} (r : Result X AdmitError) (e : AdmitError)
+    → Bears (TreeLies count) s (settled_in o) head shown h → Mirrors lanes h → r ≡ Err e → (s.collectors ≤ c → e ≡ admits.NoCollector)
+    → ((lane : Lane) (mark : ℕ) → HasLane head c lane → slice_get (marks lanes) c ≡ Some mark → (e ≡ admits.IntakeFull) ↔ ((octets ≤ 262144) × (lane.offered + length batch ≤ 18446744073709551615) × (16384 * s.ring - lane.used < octets_for (timely admitted_time mark [] batch))))
+    → (r ≡ Err admits.IntakeFull) ↔ ((octets ≤ 262144) × (IsCounterFull h c (length batch) → ⊥) × IsRingFull s h c batch)
+crowd_told count s o head lanes shown h c octets batch r e b m is only iff =
+    let n = b.number in
+    let k = b.lanes_number in (
+      λ told.
+          let same = as_told r e admits.IntakeFull is told in
+          elim (cases_lt c s.collectors) [
+            | inl low ↦ (
+                let lane = lane_at c head.lanes (omega (arith, k, low)) in
+                let i = intake_at c h.intakes (omega (arith, n, low)) in
+                let q = (iff lane.0 i.0.mark lane.1 (mark_there lanes h c i.0 m i.1)).0 same in
+                let fits = q.1 in
+                (q.0, (λ full. (let above = (counter_full count s o head shown h c (length batch) lane.0 b lane.1 (omega (arith, n, low))).0 full in absurd (omega (arith, fits, above)))), (ring_full count s o head shown h c batch lane.0 i.0 b lane.1 i.1).1 q.2)
+                )
+            | inr ge ↦ absurd (let other = only ge in let both : admits.NoCollector ≡ admits.IntakeFull = sym other ∙ same in cc)
+          ],
+      λ full.
+          let ring = full.2 in
+          let within = slice_get_within h.intakes c ring.intake ring.here in
+          let lane = lane_at c head.lanes (omega (arith, within, n, k)) in
+          let fits : lane.0.offered + length batch ≤ 18446744073709551615 = elim (cases_lt 18446744073709551615 (lane.0.offered + length batch)) [
+            | inl above ↦ absurd (full.1 ((counter_full count s o head shown h c (length batch) lane.0 b lane.1 within).1 above))
+            | inr le ↦ le
+          ] in
+          is ∙ ap (λ z. Err z) ((iff lane.0 ring.intake.mark lane.1 (mark_there lanes h c ring.intake m ring.here)).1 (full.0, fits, (ring_full count s o head shown h c batch lane.0 ring.intake b lane.1 ring.here).0 ring)),
+    )
+
 pub memory_later : IsLater admits.OutOfMemory
-memory_later = record { recovery = λ e. cc; collector = λ e. cc; large = λ e. cc; counter = λ e. cc }
+memory_later = record { recovery = λ e. cc; collector = λ e. cc; large = λ e. cc; counter = λ e. cc; ring = λ e. cc }
 
 pub not_both : {X : Type 0} (r : Result X AdmitError) (f : AdmitError) → r ≡ Err admits.NeedsRecovery → (admits.NeedsRecovery ≡ f → ⊥) → r ≡ Err f → ⊥
 not_both r f down apart told = apart (as_told r admits.NeedsRecovery f down told)

@@ -1,7 +1,6 @@
 -- What was planned reaches further histories, change by change.
-use Rattle.std.proofs.Common.{◌≡◌, ◌≢◌, ◌⊎◌, ◌<◌, ℕ, List, [], ◌∷◌, length, set, true, false, refl, sym, ◌∙◌, subst, inl, inr, ⊎_elim, arith, Some, Result, Ok, Err, length-set, get_or-set_same, get_or-set_other}
+use Rattle.std.proofs.Common.{◌≡◌, ◌≢◌, ◌⊎◌, ◌<◌, ℕ, List, [], ◌∷◌, length, set, true, false, refl, sym, ◌∙◌, subst, inl, inr, ⊎_elim, arith, Some, length-set, get_or-set_same, get_or-set_other}
 use Rattle.std.specs.List.{slice_get, slice_set}
-use Rattle.std.specs.Prelude.{OnOk, OnErr}
 use Rattle.route_model.specs.Admission.{Admitted}
 use Rattle.route_meaning.specs.History.{History, IsBelowMarks}
 use Rattle.interleaving_core.specs.Steps.{moved}
@@ -95,13 +94,6 @@ reaches_same count s settled shows lanes plan h r = record { after = h; is = inl
 
 pub reaches_one : (count : ℕ) (s : Settings) (settled : ℕ → List ℕ → Type 0) (shows : List (List ℕ) → Type 0) (lanes : List Waiting) (plan : Plan) (h : History) → Advances count s settled shows lanes plan h → Reaches count s settled shows lanes plan h
 reaches_one count s settled shows lanes plan h a = record { after = a.after; is = inr a.moves; reached = a.reached }
-
--- a change is applied, or the plan is as it was
-pub step_reaches : {X E : Type 0} (r : Result X E) (count : ℕ) (s : Settings) (few many : ℕ → List ℕ → Type 0) (old new : List (List ℕ) → Type 0) (lanes : List Waiting) (plan after : Plan) (h : History) → ((b : ℕ) (octets : List ℕ) → few b octets → many b octets)
-    → OnOk r (Advances count s many new lanes after h) → OnErr r (after ≡ plan) → OnErr r ((pages : List (List ℕ)) → old pages → new pages) → Reached count s few old lanes plan h → Reaches count s many new lanes after h
-step_reaches (Ok x) count s few many old new lanes plan after h more moves same shows r = reaches_one count s many new lanes after h moves
-step_reaches (Err e) count s few many old new lanes plan after h more moves same shows r =
-    reaches_same count s many new lanes after h (subst (λ (x : Plan). Reached count s many new lanes x h) (sym same) (reached_grown count s few many old new lanes plan h more shows r))
 
 -- ---- one after another
 

@@ -9,46 +9,33 @@ use Rattle.disk_archive.specs.declared.archive.Archive.{Archive}
 use Rattle.disk_archive.specs.declared.ask_error.AskError.TheVariants as asks
 use Rattle.disk_archive.specs.declared.check_error.CheckError.TheVariants as checks
 use Rattle.disk_archive.specs.Archives.{IsHonest, erase_of, once_of, pen_in}
-use Rattle.disk_archive.specs.Failures.{TellsFailure}
+use Rattle.disk_archive.specs.Failures.{TellsFailure, ReportsOne}
 use Rattle.disk_archive.specs.inner.Asking.{ask_of_node}
 use Rattle.disk_archive.specs.inner.Checking.{check_of_node}
-use Rattle.disk_archive.specs.inner.ReadFaults.{TellsRead}
+use Rattle.disk_archive.proofs.Failing.{reports_both}
 use Rattle.disk_archive.proofs.Faults.{done_not_told, one_told}
 
 -- ---- pages and blocks
 
--- pages alone are read
-pub read_pages : (x y : Type 0) (p p' l : ℕ) (told : Type 0) → KeepsDevice x y p p' told → TellsRead p p' l l told
-read_pages x y p p' l told k = record { quiet = λ never. (k.quiet never, refl); counted = λ t. inl (k.counted t, refl) }
-
 -- pages are read without a failure, and then more
-pub read_then : (p p' p'' l l' : ℕ) (told : Type 0) → p' ≡ p → TellsRead p' p'' l l' told → TellsRead p p'' l l' told
-read_then p p' p'' l l' told same t = subst (λ (n : ℕ). TellsRead n p'' l l' told) same t
-
-not_both : {X : Type 0} (r : Result X NodeError) → r ≡ Err nodes.Fault → r ≡ Err nodes.OnceFault → ⊥
-not_both r page once = let same : nodes.Fault ≡ nodes.OnceFault = one_told r nodes.Fault nodes.OnceFault page once in cc
+pub read_then : (p p' p'' l l' : ℕ) (told : Type 0) → p' ≡ p → ReportsOne p' p'' l l' told → ReportsOne p p'' l l' told
+read_then p p' p'' l l' told same t = subst (λ (n : ℕ). ReportsOne n p'' l l' told) same t
 
 -- a failed read of a page or of a block is told, each in its way
 read_both : {X : Type 0} (r : Result X NodeError) (told x y : Type 0) (p p' l l' : ℕ) → (told → (r ≡ Err nodes.Fault) ⊎ (r ≡ Err nodes.OnceFault)) → (r ≡ Err nodes.Fault → told) → (r ≡ Err nodes.OnceFault → told)
-    → KeepsDevice x y p p' (r ≡ Err nodes.Fault) → ((r ≡ Err nodes.OnceFault → ⊥) → l' ≡ l) → (r ≡ Err nodes.OnceFault → l' ≡ min (l + 1) 18446744073709551615) → TellsRead p p' l l' told
-read_both r told x y p p' l l' which of_page of_once k quiet counted = record {
-  quiet = λ never. (k.quiet (λ f. never (of_page f)), quiet (λ f. never (of_once f)));
-  counted = λ t. elim (which t) [
-    | inl f ↦ inl (k.counted f, quiet (λ o. not_both r f o))
-    | inr o ↦ inr (k.quiet (λ f. not_both r f o), counted o)
-  ];
-}
+    → KeepsDevice x y p p' (r ≡ Err nodes.Fault) → ((r ≡ Err nodes.OnceFault → ⊥) → l' ≡ l) → (r ≡ Err nodes.OnceFault → l' ≡ min (l + 1) 18446744073709551615) → ReportsOne p p' l l' told
+read_both r told x y p p' l l' which of_page of_once k quiet counted = reports_both r nodes.Fault nodes.OnceFault told x y p p' l l' (λ is. cc) which of_page of_once k quiet counted
 
 -- all is read
 pub read_done : {X : Type 0} (r : Result X NodeError) (v : X) (told x y : Type 0) (p p' l l' : ℕ) → r ≡ Ok v → (told → ⊥)
-    → KeepsDevice x y p p' (r ≡ Err nodes.Fault) → ((r ≡ Err nodes.OnceFault → ⊥) → l' ≡ l) → (r ≡ Err nodes.OnceFault → l' ≡ min (l + 1) 18446744073709551615) → TellsRead p p' l l' told
+    → KeepsDevice x y p p' (r ≡ Err nodes.Fault) → ((r ≡ Err nodes.OnceFault → ⊥) → l' ≡ l) → (r ≡ Err nodes.OnceFault → l' ≡ min (l + 1) 18446744073709551615) → ReportsOne p p' l l' told
 read_done r v told x y p p' l l' is never k quiet counted =
     read_both r told x y p p' l l' (λ t. absurd (never t)) (λ f. absurd (done_not_told r v nodes.Fault is f)) (λ o. absurd (done_not_told r v nodes.OnceFault is o)) k quiet counted
 
 -- a refusal of a look is passed on, and both failures are told as one
 pub read_refused : {X Y F : Type 0} (r : Result X NodeError) (s : Result Y F) (f : NodeError → F) (fault : F) (e : NodeError) (x y : Type 0) (p p' l l' : ℕ)
     → ((d : NodeError) → f d ≡ fault → (d ≡ nodes.Fault) ⊎ (d ≡ nodes.OnceFault)) → f nodes.Fault ≡ fault → f nodes.OnceFault ≡ fault → r ≡ Err e → s ≡ Err (f e)
-    → KeepsDevice x y p p' (r ≡ Err nodes.Fault) → ((r ≡ Err nodes.OnceFault → ⊥) → l' ≡ l) → (r ≡ Err nodes.OnceFault → l' ≡ min (l + 1) 18446744073709551615) → TellsRead p p' l l' (s ≡ Err fault)
+    → KeepsDevice x y p p' (r ≡ Err nodes.Fault) → ((r ≡ Err nodes.OnceFault → ⊥) → l' ≡ l) → (r ≡ Err nodes.OnceFault → l' ≡ min (l + 1) 18446744073709551615) → ReportsOne p p' l l' (s ≡ Err fault)
 read_refused {F = F} r s f fault e x y p p' l l' which page once was is k quiet counted =
     read_both r (s ≡ Err fault) x y p p' l l'
     (λ t. elim (which e (one_told s (f e) fault is t)) [
@@ -108,7 +95,7 @@ look_stays {O} device reader disk seen seen' same was stays = subst (λ (d : O).
 -- pages are read, and blocks by a new look
 pub fails_read : {E O Pen Seen : Type 0} {erase : EraseGhosts E} {once : OnceGhosts O Pen Seen} (a z : Archive E O Pen Seen erase once) (disk : O) (seen seen' : Seen) (failed told : Type 0) → (told → failed) → (failed → told)
     → once.pen_fault_count (pen_in z) ≡ once.pen_fault_count (pen_in a) → once.seen_fault_count seen ≡ 0 → (IsHonest a → disk ≡ once_of a → once.honest_seen disk seen')
-    → TellsRead (erase.fault_count (erase_of a)) (erase.fault_count (erase_of z)) (once.seen_fault_count seen) (once.seen_fault_count seen') failed → TellsFailure a z disk told
+    → ReportsOne (erase.fault_count (erase_of a)) (erase.fault_count (erase_of z)) (once.seen_fault_count seen) (once.seen_fault_count seen') failed → TellsFailure a z disk told
 fails_read {once = once} a z disk seen seen' failed told fore back pen_is fresh looks t = record {
   quiet = λ never. ((t.quiet (λ f. never (back f))).0, pen_is);
   counted = λ is. elim (t.counted (fore is)) [

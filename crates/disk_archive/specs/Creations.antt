@@ -1,7 +1,12 @@
--- What an archive begins with.
+-- What an archive begins with, and what a crash leaves of it then.
 use Rattle.std.specs.Prelude.{◌≡◌, ◌<◌, ◌⊎◌, ℕ, ◌+◌, ◌-◌, ◌/◌, min}
+use Rattle.disk_models.specs.Left.{Left}
+use Rattle.page_journal.specs.Identity.{HoldsNone}
+use Rattle.interleaving_core.specs.Steps.{empty}
 use Rattle.archive_pages.specs.declared.settings.Settings.{Settings}
 use Rattle.archive_pages.specs.Places.{tree_low}
+use Rattle.disk_archive.specs.Notes.{note_octets}
+use Rattle.disk_archive.specs.Sites.{LeftCarries, Site}
 
 -- how many home pages a disk of so many octets has room for
 abbrev pub homes_on : ℕ → ℕ
@@ -10,6 +15,14 @@ homes_on size = size / 16384 - 265
 -- these are too few for the head, all rings, and the two pages of a tree of no version
 abbrev pub IsTooSmall : Settings → ℕ → Type 0
 IsTooSmall s size = homes_on size < tree_low s + 2
+
+-- the site of an archive of these settings on disks of so many octets and so many blocks
+abbrev pub site_on : Settings → ℕ → ℕ → Site
+site_on s size blocks = record { settings = s; homes = homes_on size; note = note_octets blocks s; blocks = blocks }
+
+-- What a crash left holds no journal, or carries the history of an archive to which nothing was given.
+abbrev pub LeavesNoneOrEmpty : Site → Left → Type 0
+LeavesNoneOrEmpty site left = HoldsNone left.erase ⊎ LeftCarries site (empty site.settings.collectors) left
 
 -- one of both disks failed once, and the other didn't: how often they had failed is told before and afterwards
 abbrev pub CountsOne : ℕ → ℕ → ℕ → ℕ → Type 0

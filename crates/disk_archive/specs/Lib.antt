@@ -13,6 +13,7 @@ pub mod Creations
 pub mod Failures
 pub mod Outcome
 pub mod Checks
+pub mod Lacks
 pub mod Rings
 pub mod Cursors
 pub mod Reading

@@ -31,6 +31,14 @@ pub record NamesArchive (size : ℕ) (f : ℕ → ℕ) (blocks : ℕ) : Type 0 w
   pub noted : note ≡ note_octets blocks settings
   pub rings : tree_low settings ≤ homes
 
+-- there is no archive, or want of the device or of memory
+abbrev pub IsNoneOrWant : OpenError → Type 0
+IsNoneOrWant openings.Fault = Unit {0}
+IsNoneOrWant openings.OutOfMemory = Unit {0}
+IsNoneOrWant openings.NotAJournal = Unit {0}
+IsNoneOrWant (openings.BadSlot page) = ⊥
+IsNoneOrWant (openings.BadNode page) = ⊥
+
 -- want of the device or of memory, and no other reason
 abbrev pub IsWant : OpenError → Type 0
 IsWant openings.Fault = Unit {0}

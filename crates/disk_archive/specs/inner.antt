@@ -13,5 +13,4 @@ pub mod Creating
 pub mod Asking
 pub mod Checking
 pub mod Descending
-pub mod ReadFaults
 pub mod Guarding

@@ -15,7 +15,7 @@ ghost use Rattle.version_model.specs.Versions.{Version};
 ghost use Rattle.tsb_walk.specs.Knowing.{ReadsWell};
 ghost use Rattle.tsb_walk.specs.Shown.{AreShown, StandsShown, keys_at};
 ghost use Rattle.disk_archive.specs.inner.Asking.{BlamesNone, HasTree, LookRefusal};
-ghost use Rattle.disk_archive.specs.inner.ReadFaults.{TellsRead};
+ghost use Rattle.disk_archive.specs.Failures.{ReportsOne};
 
 use crate::archive::Archive;
 use crate::ask_error::{AskError, of_root};
@@ -94,7 +94,7 @@ pub(crate) fn answer_by<P: Pages, O: OnceDisk + Drop>(
     ensures disk { reader_disk reader.new ≡ reader_disk reader.old }
     ensures capacity { capacity_of reader.new ≡ capacity_of reader.old }
     ensures look { O.honest_seen (reader_disk reader.old) seen.old → O.honest_seen (reader_disk reader.old) seen.new }
-    ensures failed { TellsRead (P.faults pages.old) (P.faults pages.new) (O.seen_fault_count seen.old) (O.seen_fault_count seen.new) (result ≡ Err AskError.Fault) }
+    ensures failed { ReportsOne (P.faults pages.old) (P.faults pages.new) (O.seen_fault_count seen.old) (O.seen_fault_count seen.new) (result ≡ Err AskError.Fault) }
 {
     versions_tell();
     let root = root_of(pages, head)?;

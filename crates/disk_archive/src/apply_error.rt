@@ -1,12 +1,14 @@
 //! Why a change isn't applied.
 
 ghost use Rattle.std.specs.Prelude.{◌≡◌, ◌≢◌, ◌<◌, ◌+◌, ◌⊎◌, ◌↔◌, ℕ, Bool, true};
+ghost use Rattle.intake.specs.Calls.{PageRefusal};
 ghost use Rattle.once_store.specs.declared.error.AppendError.TheVariants as appends;
 ghost use Rattle.page_tx.specs.declared.error.PageError.TheVariants as pages;
 ghost use Rattle.disk_archive.specs.declared.apply_error.ApplyError.TheVariants as applies;
-ghost use Rattle.disk_archive.specs.inner.Applications.{ApplyRefusal, LimitRefusal};
+ghost use Rattle.disk_archive.specs.inner.Applications.{ApplyRefusal, FrontRefusal, LimitRefusal};
 
 use crate::error::NeedsRecovery;
+use disk_models::Fault;
 use once_store::AppendError;
 use page_journal::UseError;
 use page_tx::PageError;
@@ -51,6 +53,14 @@ impl From<AllocError> for ApplyError {
     }
 }
 
+impl From<Fault> for ApplyError {
+    ghost from_gives = { λ _ e. e ≡ applies.Fault };
+
+    fn from(_: Fault) -> Self {
+        ApplyError::Fault
+    }
+}
+
 impl From<UseError> for ApplyError {
     ghost use Rattle.disk_archive.specs.inner.Applications.{apply_of_use};
 
@@ -78,7 +88,9 @@ pub(crate) fn of_pages(refusal: PageError) -> ApplyError
     ensures bad { (page : ℕ) → result ≢ ApplyError.BadNode page }
     ensures once { result ≢ ApplyError.OnceFull }
     ensures high { result ≢ ApplyError.TooHigh }
+    ensures full { result ≡ ApplyError.PagesFull → refusal ≡ PageError.PagesFull }
     ensures fault { (result ≡ ApplyError.Fault) ↔ (refusal ≡ PageError.Fault) }
+    ensures reads { (down : Bool) → PageRefusal down refusal → FrontRefusal down result }
     ensures limits { (homes next count : ℕ) → (refusal ≡ PageError.PagesFull → homes < next + 9) → LimitRefusal homes next count result }
     ensures refused { (down : Bool) → (refusal ≡ PageError.NeedsRecovery → down ≡ true) → ApplyRefusal down result }
 {
@@ -99,7 +111,8 @@ pub(crate) fn of_tree(refusal: TreeError) -> ApplyError
     ensures bad { (page : ℕ) → result ≡ ApplyError.BadNode page → refusal ≡ TreeError.BadNode page }
     ensures once { result ≡ ApplyError.OnceFull → refusal ≡ TreeError.Once appends.OnceFull }
     ensures high { result ≡ ApplyError.TooHigh → refusal ≡ TreeError.TooHigh }
-    ensures fault { result ≡ ApplyError.Fault → (refusal ≡ TreeError.Pages pages.Fault) ⊎ (refusal ≡ TreeError.Once appends.Fault) }
+    ensures full { result ≡ ApplyError.PagesFull → refusal ≡ TreeError.Pages pages.PagesFull }
+    ensures fault { (result ≡ ApplyError.Fault) ↔ ((refusal ≡ TreeError.Pages pages.Fault) ⊎ (refusal ≡ TreeError.Once appends.Fault)) }
     ensures limits { (homes next count : ℕ) → (refusal ≡ TreeError.Pages pages.PagesFull → homes < next + 9) → LimitRefusal homes next count result }
     ensures refused { (down : Bool) → (refusal ≡ TreeError.Pages pages.NeedsRecovery → down ≡ true) → ApplyRefusal down result }
 {

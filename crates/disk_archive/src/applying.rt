@@ -48,12 +48,13 @@ impl<E: EraseDisk + Drop, O: OnceDisk + Drop> Archive<E, O> {
     ghost use Rattle.disk_archive.specs.Archives.{Carries, GoesOn, Holds, Stands, IsHonest, erase_of, erase_state, is_down, once_of, once_state, pen_in, settings_of, site_of};
     ghost use Rattle.disk_archive.specs.Blanks.{NoneBlank, unused_pages};
     ghost use Rattle.disk_archive.specs.Checks.{HasPages, root_in};
-    ghost use Rattle.disk_archive.specs.Failures.{CountsFailures};
+    ghost use Rattle.disk_archive.specs.Failures.{ReportsOne};
+    ghost use Rattle.disk_archive.specs.Lacks.{IsNextVersion, LacksLevel, LacksPages};
     ghost use Rattle.tsb_tree.specs.Opened.{ShowsRoot};
     ghost use Rattle.tsb_tree.specs.Shelves.{SpendsAtMost};
     ghost use Rattle.disk_archive.specs.Sites.{LeftEither};
     ghost use Rattle.disk_archive.specs.Crashes.{Crashes, Lasts};
-    ghost use Rattle.disk_archive.specs.inner.Applications.{ApplyRefusal, KeepsBlocks, LimitRefusal};
+    ghost use Rattle.disk_archive.specs.inner.Applications.{ApplyRefusal, KeepsBlocks, LackRefusal, LimitRefusal};
     ghost use Rattle.disk_archive.specs.inner.Idle.{IsAsBefore};
     ghost use Rattle.disk_archive.specs.inner.Outcomes.{StepIs, CrashesOnStep};
 
@@ -62,11 +63,12 @@ impl<E: EraseDisk + Drop, O: OnceDisk + Drop> Archive<E, O> {
         ensures usable { OnOk result (is_down self.old ≡ false) }
         ensures still_usable { OnOk result (is_down self.new ≡ false) }
         ensures falls { is_down self.old ≡ false → is_down self.new ≡ true → result ≡ Err ApplyError.Fault }
-        ensures failed { CountsFailures (E.fault_count (erase_of self.old)) (E.fault_count (erase_of self.new)) (O.pen_fault_count (pen_in self.old)) (O.pen_fault_count (pen_in self.new)) (result ≡ Err ApplyError.Fault) }
+        ensures failed { ReportsOne (E.fault_count (erase_of self.old)) (E.fault_count (erase_of self.new)) (O.pen_fault_count (pen_in self.old)) (O.pen_fault_count (pen_in self.new)) (result ≡ Err ApplyError.Fault) }
         ensures recovery { is_down self.old ≡ true → IsAsBefore self.old self.new }
         ensures told { is_down self.old ≡ true → result ≡ Err ApplyError.NeedsRecovery }
         ensures refused { IfErr result (ApplyRefusal (is_down self.old)) }
         ensures limits { IfErr result (LimitRefusal (home_pages (journal_of (pool_of self.old.tx))) self.old.head.fresh self.old.head.applied) }
+        ensures lacks { (h : History) (k : Carries self.old h) → IfErr result (LackRefusal (IsNextVersion h) k.pages (unused_pages self.old) (root_in self.old)) }
         ensures high { IsHonest self.old → (pages : List (List ℕ)) → HasPages self.old pages → result ≡ Err ApplyError.TooHigh → ShowsRoot pages (root_in self.old) 7 }
         ensures erase { E.honest (erase_of self.old) ↔ E.honest (erase_of self.new) }
         ensures settings { settings_of self.new ≡ settings_of self.old }
@@ -105,9 +107,11 @@ impl<E: EraseDisk + Drop, O: OnceDisk + Drop> Archive<E, O> {
     /// once. With its last change an admission is wholly applied, and leaves its ring.
     ///
     /// Blocks that are burnt for it, two a change at most, are settled before a page is written. Where a change is refused behind others,
-    /// these are applied, and the next call meets the refusal. After a refusal the archive holds the history of before, and nothing is left
-    /// behind but blocks that are spent; where a write or a sync of pages failed, it must be opened again, and the changes are then applied,
-    /// all of them or none.
+    /// these are applied, and the next call meets the refusal. A failure of a device is returned by the call that meets it, at whichever
+    /// change: then none is applied, and the next call plans them anew, in further blocks.
+    ///
+    /// After a refusal the archive holds the history of before, and nothing is left behind but blocks that are spent; where a write or a
+    /// sync of pages failed, it must be opened again, and the changes are then applied, all of them or none.
     pub fn apply_step(&mut self) -> Result<Step, ApplyError>
         ensures applied { IfOk result (λ step. step ≡ Step.Applied → IsHonest self.old → (h : History) → Holds self.old h → (g : History) × Moves h g × Holds self.new g) }
         ensures idle { IfOk result (λ step. IsHonest self.old → (h : History) → Holds self.old h → (step ≡ Step.Idle) ↔ NothingToApply h) }
@@ -122,11 +126,13 @@ impl<E: EraseDisk + Drop, O: OnceDisk + Drop> Archive<E, O> {
         ensures down_idle { is_down self.old ≡ true → (erase_of self.new ≡ erase_of self.old) × (once_state self.new ≡ once_state self.old) × (is_down self.new ≡ true) }
         ensures still_usable { OnOk result (is_down self.new ≡ false) }
         ensures falls { is_down self.old ≡ false → is_down self.new ≡ true → result ≡ Err ApplyError.Fault }
-        ensures failed { CountsFailures (E.fault_count (erase_of self.old)) (E.fault_count (erase_of self.new)) (O.pen_fault_count (pen_in self.old)) (O.pen_fault_count (pen_in self.new)) (result ≡ Err ApplyError.Fault) }
+        ensures failed { ReportsOne (E.fault_count (erase_of self.old)) (E.fault_count (erase_of self.new)) (O.pen_fault_count (pen_in self.old)) (O.pen_fault_count (pen_in self.new)) (result ≡ Err ApplyError.Fault) }
         ensures recovery { (result ≡ Err ApplyError.NeedsRecovery) ↔ (is_down self.old ≡ true) }
         ensures counter_full { IsHonest self.old → (h : History) → Holds self.old h → result ≡ Err ApplyError.CounterFull → sum_by (λ p. length p.item.changes) (applied h) ≡ 18446744073709551615 }
         ensures pages_full { result ≡ Err ApplyError.PagesFull → unused_pages self.old < 9 }
+        ensures pages_needed { IsHonest self.old → (h : History) → Holds self.old h → result ≡ Err ApplyError.PagesFull → (pages : List (List ℕ)) × HasPages self.old pages × LacksPages (IsNextVersion h) pages (unused_pages self.old) (root_in self.old) }
         ensures too_high { IsHonest self.old → (pages : List (List ℕ)) → HasPages self.old pages → result ≡ Err ApplyError.TooHigh → ShowsRoot pages (root_in self.old) 7 }
+        ensures level_needed { IsHonest self.old → (h : History) → Holds self.old h → result ≡ Err ApplyError.TooHigh → (pages : List (List ℕ)) × HasPages self.old pages × LacksLevel (IsNextVersion h) pages (root_in self.old) }
         ensures full { IsHonest self.old → result ≡ Err ApplyError.OnceFull → NoneBlank self.new }
         ensures spends { IsHonest self.old → SpendsAtMost 2000 (once_state self.old) (once_state self.new) }
         ensures sound { IsHonest self.old → (h : History) → Holds self.old h → (page : ℕ) → result ≡ Err (ApplyError.BadNode page) → ⊥ }

@@ -5,12 +5,14 @@ ghost use Rattle.std.specs.List.{AllByRecursion};
 ghost use Rattle.route_model.specs.Admission.{Admitted, IsAdmission};
 ghost use Rattle.route_meaning.specs.Holds.{admitted_time};
 ghost use Rattle.sequencer.specs.Lanes.{SameLanes, marks};
+ghost use Rattle.sequencer.specs.Late.{timely};
 ghost use Rattle.sequencer.specs.Taking.{IsSieved, MayTakeIn};
-ghost use Rattle.intake.specs.Ring.{entry_octets};
+ghost use Rattle.intake.specs.Ring.{entry_octets, octets_for};
 ghost use Rattle.archive_pages.specs.Batches.{IsKeptOf};
 
 use archive_pages::Sifted;
-use route_model::Admission;
+use intake::rings_hold_one_list;
+use route_model::{Admission, Mark};
 use sequencer::{Sequencer, Sieved, timely_of, times_of};
 use std::alloc::{AllocError, Global};
 
@@ -38,6 +40,24 @@ pub(crate) fn fits(batch: &[Admission]) -> bool
         }
     }
     true
+}
+
+/// How many octets what isn't late of a batch takes in a ring, where the collector's mark is this one. It is counted without memory.
+pub(crate) fn timely_len(mark: Mark, batch: &[Admission]) -> u64
+    requires octets { sum_by entry_octets batch.now ≤ 262144 }
+    ensures octets { result ≡ octets_for (timely admitted_time mark [] batch.now) }
+{
+    rings_hold_one_list();
+    let mut reached = mark;
+    let mut octets: u64 = 0;
+    for admission in batch {
+        let time = admission.time();
+        if time.seconds() >= reached.seconds() {
+            reached = Mark::at(time);
+            octets += 4 + admission.encoded_len() as u64;
+        }
+    }
+    octets
 }
 
 /// Parts what is late of a collector's batch from what isn't, and makes room for the times. Nothing is taken in yet.

@@ -17,7 +17,7 @@ ghost use Rattle.disk_archive.specs.Checks.{IsAllRead, IsBadBlock, IsBadPage, Is
 ghost use Rattle.disk_archive.specs.Rings.{AreRings, IsBadRing};
 ghost use Rattle.disk_archive.specs.inner.Asking.{HasTree};
 ghost use Rattle.disk_archive.specs.inner.Checking.{CountRefusal, FindsNone};
-ghost use Rattle.disk_archive.specs.inner.ReadFaults.{TellsRead};
+ghost use Rattle.disk_archive.specs.Failures.{ReportsOne};
 
 use crate::archive::Archive;
 use crate::check_error::{CheckError, of_root};
@@ -94,7 +94,7 @@ fn count_tree<P: Pages, O: OnceDisk + Drop>(
     ensures down { P.down pages.new ≡ P.down pages.old }
     ensures honest { P.honest pages.old ↔ P.honest pages.new }
     ensures look { O.honest_seen (reader_disk reader.old) seen.old → O.honest_seen (reader_disk reader.old) seen.new }
-    ensures failed { TellsRead (P.faults pages.old) (P.faults pages.new) (O.seen_fault_count seen.old) (O.seen_fault_count seen.new) (result ≡ Err CheckError.Fault) }
+    ensures failed { ReportsOne (P.faults pages.old) (P.faults pages.new) (O.seen_fault_count seen.old) (O.seen_fault_count seen.new) (result ≡ Err CheckError.Fault) }
 {
     let root = root_of(pages, head.root)?;
     let in_use = in_use_by(head, burnt);
@@ -132,7 +132,7 @@ fn count_by<P: Pages, O: OnceDisk + Drop>(
     ensures down { P.down pages.new ≡ P.down pages.old }
     ensures honest { P.honest pages.old ↔ P.honest pages.new }
     ensures look { O.honest_seen (reader_disk reader.old) seen.old → O.honest_seen (reader_disk reader.old) seen.new }
-    ensures failed { TellsRead (P.faults pages.old) (P.faults pages.new) (O.seen_fault_count seen.old) (O.seen_fault_count seen.new) (result ≡ Err CheckError.Fault) }
+    ensures failed { ReportsOne (P.faults pages.old) (P.faults pages.new) (O.seen_fault_count seen.old) (O.seen_fault_count seen.new) (result ≡ Err CheckError.Fault) }
 {
     check_rings(alloc, pages, settings, head)?;
     count_tree(alloc, pages, reader, seen, head, burnt)

@@ -1,15 +1,17 @@
 //! An archive is created: the disk names its journal only once all that an archive begins with stands on it.
 
 ghost use Rattle.std.specs.Prelude.{◌≡◌, ◌≢◌, ◌↔◌, ◌<◌, ◌≤◌, ◌+◌, ◌⊎◌, ℕ, List, IfOk, IfErr, Err};
+ghost use Rattle.disk_models.specs.Erase.{Leaves};
+ghost use Rattle.disk_models.specs.Left.{CrashPair, Left, LeftNow, WithSettled};
 ghost use Rattle.disk_models.specs.Serves.{Serves};
 ghost use Rattle.page_journal.specs.Journal.{home_pages, note_of};
 ghost use Rattle.page_journal.specs.Layout.{home_place, homes_from, pages_of};
-ghost use Rattle.page_journal.specs.Recovers.{laid, AreBelow};
+ghost use Rattle.page_journal.specs.Recovers.{laid, AreBelow, NoneOrJournal};
 ghost use Rattle.buffer_pool.specs.Pool.{Maps, journal_of};
 ghost use Rattle.page_tx.specs.Tx.{pool_of};
 ghost use Rattle.interleaving_core.specs.Steps.{empty};
 ghost use Rattle.archive_pages.specs.Places.{AreSettings, tree_low};
-ghost use Rattle.disk_archive.specs.Creations.{CountsOne, IsTooSmall, homes_on};
+ghost use Rattle.disk_archive.specs.Creations.{CountsOne, IsTooSmall, LeavesNoneOrEmpty, homes_on, site_on};
 ghost use Rattle.disk_archive.specs.Notes.{note_octets};
 ghost use Rattle.disk_archive.specs.inner.Creating.{Means, disk_left, told};
 
@@ -70,6 +72,7 @@ fn make_pages<E: EraseDisk + Drop>(
     // For want of memory the disk is handed back as it was, or with all these pages.
     ensures memory { E.honest erase → IfErr result (λ refused. refused.error ≡ CreateError.OutOfMemory
         → (refused.disk ≡ erase) ⊎ Means homes note (E.model refused.disk) (laid images.now (homes_from (E.model erase).octet 0 homes))) }
+    ensures crash { E.honest erase → Leaves (E.model erase) (E.model (disk_left result)) (NoneOrJournal homes note (laid images.now (homes_from (E.model erase).octet 0 homes))) }
 {
     match Journal::create_with(alloc, erase, homes, note, images) {
         Ok(journal) => match map_pages(alloc, journal) {
@@ -117,6 +120,7 @@ impl<E: EraseDisk + Drop, O: OnceDisk + Drop> Archive<E, O> {
         ensures pen { pen_after result ≡ pen_of shelf }
         ensures memory { E.honest erase → IfErr result (λ refused. refused.error ≡ CreateError.OutOfMemory → (refused.erase ≡ erase)
             ⊎ Rests (record { settings = settings; homes = homes; note = note; blocks = O.block_count (disk_of shelf) }) (E.model refused.erase) (O.model refused.pen) (empty settings.collectors)) }
+        ensures crash { E.honest erase → Leaves (E.model erase) (E.model (erase_after result)) (WithSettled (O.model (pen_of shelf)) (LeavesNoneOrEmpty (record { settings = settings; homes = homes; note = note; blocks = O.block_count (disk_of shelf) }))) }
     {
         let Ok(
             Empty {
@@ -182,7 +186,14 @@ impl<E: EraseDisk + Drop, O: OnceDisk + Drop> Archive<E, O> {
 
         // For want of memory the erasable disk is handed back as it was, or as that of an archive to which nothing was given.
         ensures memory { E.honest erase → O.honest once.value pen → IfErr result (λ refused. refused.error ≡ CreateError.OutOfMemory → (refused.erase ≡ erase)
-            ⊎ Rests (record { settings = settings; homes = homes_on (E.octet_count erase); note = note_octets (O.block_count once.value) settings; blocks = O.block_count once.value }) (E.model refused.erase) (O.model refused.pen) (empty settings.collectors)) }
+            ⊎ Rests (site_on settings (E.octet_count erase) (O.block_count once.value)) (E.model refused.erase) (O.model refused.pen) (empty settings.collectors)) }
+
+        // What a crash inside the call leaves, or one after it, could be left before the call; or the disk holds no journal then; or it is an
+        // archive to which nothing was given.
+        ensures inside { E.honest erase → O.honest once.value pen → (left : Left) → CrashPair (E.model erase) (E.model (erase_after result)) (O.model pen) (O.model pen) (O.model (pen_after result)) left
+            → LeftNow (E.model erase) (O.model pen) left ⊎ LeavesNoneOrEmpty (site_on settings (E.octet_count erase) (O.block_count once.value)) left }
+        ensures after { E.honest erase → O.honest once.value pen → (left : Left) → LeftNow (E.model (erase_after result)) (O.model (pen_after result)) left
+            → LeftNow (E.model erase) (O.model pen) left ⊎ LeavesNoneOrEmpty (site_on settings (E.octet_count erase) (O.block_count once.value)) left }
 
         // Both disks are the archive's, or handed back. Of them one failed where that is told, and none elsewhere.
         ensures size { E.octet_count (erase_after result) ≡ E.octet_count erase }

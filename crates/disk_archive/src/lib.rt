@@ -39,6 +39,7 @@ mod reading;
 mod recalling;
 mod refused;
 mod restoring;
+mod stop;
 
 pub use apply_error::ApplyError;
 pub use applying::Step;

@@ -5,6 +5,7 @@ ghost use Rattle.disk_models.specs.Erase.{Counts, MayLeave};
 ghost use Rattle.disk_models.specs.Left.{CrashPair, IsFound, Left, LeftNow};
 ghost use Rattle.disk_models.specs.Once.{OnceState, settled_in};
 ghost use Rattle.page_journal.specs.Journal.{disk_of, home_pages, needs_recovery, note_of};
+ghost use Rattle.page_journal.specs.Identity.{HoldsNone};
 ghost use Rattle.page_journal.specs.Layout.{home_place};
 ghost use Rattle.page_journal.specs.Recovers.{Recovers};
 ghost use Rattle.buffer_pool.specs.Pool.{journal_of};
@@ -113,7 +114,7 @@ impl<E: EraseDisk + Drop, O: OnceDisk + Drop> Archive<E, O> {
     ghost use Rattle.disk_archive.specs.Creations.{CountsOne};
     ghost use Rattle.disk_archive.specs.Outcome.{erase_after, once_after, outcome, pen_after};
     ghost use Rattle.disk_archive.specs.Notes.{note_octets};
-    ghost use Rattle.disk_archive.specs.Openings.{IsWant, NamesArchive, ReadsAs};
+    ghost use Rattle.disk_archive.specs.Openings.{IsNoneOrWant, IsWant, NamesArchive, ReadsAs};
     ghost use Rattle.disk_archive.specs.Sites.{IsNoted, LeftCarries, Rests, Site};
     ghost use Rattle.disk_archive.specs.inner.Looking.{LooksAt};
 
@@ -182,6 +183,7 @@ impl<E: EraseDisk + Drop, O: OnceDisk + Drop> Archive<E, O> {
         ensures undamaged { E.honest erase → (site : Site) (h : History) → ReadsAs site (O.block_count once.value) (E.model erase) (O.model pen) h → home_place site.homes ≤ E.octet_count erase → IfErr (outcome result) IsWant }
         ensures named { E.honest erase → OnOk result (NamesArchive (E.octet_count erase) (E.model erase).octet (O.block_count once.value)) }
         ensures unnamed { E.honest erase → outcome result ≡ Err OpenError.NotAJournal → NamesArchive (E.octet_count erase) (E.model erase).octet (O.block_count once.value) → ⊥ }
+        ensures none { E.honest erase → HoldsNone (E.model erase).octet → IfErr (outcome result) IsNoneOrWant }
         ensures erase { E.honest erase ↔ E.honest (erase_after result) }
         ensures disk { once_after result ≡ once.value }
         ensures once { O.honest once.value pen ↔ O.honest once.value (pen_after result) }
@@ -241,6 +243,7 @@ impl<E: EraseDisk + Drop, O: OnceDisk + Drop> Archive<E, O> {
         ensures undamaged { E.honest erase → (site : Site) (h : History) → ReadsAs site (O.block_count once.value) (E.model erase) (O.model pen) h → home_place site.homes ≤ E.octet_count erase → IfErr (outcome result) IsWant }
         ensures named { E.honest erase → OnOk result (NamesArchive (E.octet_count erase) (E.model erase).octet (O.block_count once.value)) }
         ensures unnamed { E.honest erase → outcome result ≡ Err OpenError.NotAJournal → NamesArchive (E.octet_count erase) (E.model erase).octet (O.block_count once.value) → ⊥ }
+        ensures none { E.honest erase → HoldsNone (E.model erase).octet → IfErr (outcome result) IsNoneOrWant }
 
         // Both disks are the archive's, or handed back, and nothing was burnt. Of them one failed where that is told, and none elsewhere.
         ensures erase { E.honest erase ↔ E.honest (erase_after result) }

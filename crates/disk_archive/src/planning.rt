@@ -1,6 +1,6 @@
 //! What a call is to commit: pages that are shown in a transaction, and their head. Nothing is written yet.
 
-ghost use Rattle.std.specs.Prelude.{◌≡◌, ◌≢◌, ◌<◌, ◌≤◌, ◌+◌, ◌↔◌, ℕ, Bool, true, false, List, [], length, sum_by, Some, IfOk, OnOk, IfErr, Err, slice_get};
+ghost use Rattle.std.specs.Prelude.{◌≡◌, ◌≢◌, ◌<◌, ◌≤◌, ◌+◌, ◌-◌, ◌*◌, ◌↔◌, ℕ, Bool, true, false, List, [], length, sum_by, Some, IfOk, OnOk, IfErr, Err, slice_get};
 ghost use Rattle.std.specs.List.{AllByRecursion};
 ghost use Rattle.disk_models.specs.Once.{OnceState, settled_in};
 ghost use Rattle.page_tx.specs.Device.{KeepsDevice};
@@ -10,9 +10,8 @@ ghost use Rattle.route_model.specs.Admission.{Admitted, IsAdmission};
 ghost use Rattle.route_meaning.specs.History.{History, Intake};
 ghost use Rattle.interleaving_core.specs.Steps.{given};
 ghost use Rattle.archive_head.specs.declared.lane.Lane.{Lane};
-ghost use Rattle.intake.specs.Ring.{entry_octets, octets_for, size_of};
+ghost use Rattle.intake.specs.Ring.{entry_octets, octets_for};
 ghost use Rattle.archive_pages.specs.Batches.{HasLane, IsKeptOf, lane_with};
-ghost use Rattle.archive_pages.specs.Places.{ring_of};
 ghost use Rattle.archive_pages.specs.Carried.{Bears};
 ghost use Rattle.disk_archive.specs.Trees.{TreeLies};
 ghost use Rattle.disk_archive.specs.inner.Committing.{PlanRefusal};
@@ -32,7 +31,6 @@ fn of_page(error: PageError) -> AdmitError
     ensures recovery { (result ≡ AdmitError.NeedsRecovery) ↔ (error ≡ PageError.NeedsRecovery) }
     ensures fault { (result ≡ AdmitError.Fault) ↔ (error ≡ PageError.Fault) }
     ensures refused { (down : Bool) → (error ≡ PageError.NeedsRecovery → down ≡ true) → (error ≡ PageError.Fault → down ≡ false) → PlanRefusal down result }
-    ensures room_left { result ≢ AdmitError.IntakeFull }
     ensures undamaged { (page : ℕ) → result ≢ AdmitError.BadNode page }
 {
     match error {
@@ -43,22 +41,22 @@ fn of_page(error: PageError) -> AdmitError
     }
 }
 
-// Why a batch wasn't given, where few images are held.
+// Why a batch wasn't given, where few images are held, and the ring has room.
 fn of_intake(error: IntakeError) -> AdmitError
     requires few { error ≢ IntakeError.Pages pages_refusals.TooManyImages }
     requires room { error ≢ IntakeError.Pages pages_refusals.PagesFull }
-    ensures full { (result ≡ AdmitError.IntakeFull) ↔ (error ≡ IntakeError.IntakeFull) }
+    requires free { error ≢ IntakeError.IntakeFull }
     ensures undamaged { (page : ℕ) → result ≢ AdmitError.BadNode page }
     ensures fault { (result ≡ AdmitError.Fault) ↔ (error ≡ IntakeError.Pages pages_refusals.Fault) }
     ensures refused { (down : Bool) → (error ≡ IntakeError.Pages pages_refusals.NeedsRecovery → down ≡ true) → (error ≡ IntakeError.Pages pages_refusals.Fault → down ≡ false) → PlanRefusal down result }
 {
     match error {
-        IntakeError::IntakeFull => AdmitError::IntakeFull,
         IntakeError::Pages(error) => of_page(error),
+        IntakeError::IntakeFull => unreachable!(),
     }
 }
 
-/// Shows the pages behind a collector's batch, and answers their head.
+/// Shows the pages behind a collector's batch, for which its ring has room, and answers their head.
 pub(crate) fn plan_batch<P: Pages>(
     alloc: Global,
     pages: &mut P,
@@ -72,6 +70,7 @@ pub(crate) fn plan_batch<P: Pages>(
     requires some { 0 < P.homes pages.old }
     requires none { P.named pages.old ≡ [] }
     requires octets { sum_by entry_octets batch.now.timely ≤ 262144 }
+    requires free { (lane : Lane) → HasLane head.now collector lane → octets_for batch.now.timely ≤ 16384 * settings.ring - lane.used }
     ensures planned { IfOk result (λ next. (count : ℕ) (o : OnceState) (start : Start) (shown : List (List ℕ)) (h : History) (i : Intake) (offered : List Admitted) → P.shows pages.old start shown
         → Bears (TreeLies count) settings (settled_in o) head.now shown h → slice_get h.intakes collector ≡ Some i → AllByRecursion IsAdmission offered → IsKeptOf i.mark offered batch.now
         → Planned count settings (settled_in o) (P.shows pages.new start) next (given h collector offered)) }
@@ -80,8 +79,6 @@ pub(crate) fn plan_batch<P: Pages>(
     ensures lane { IfOk result (λ next. (lane : Lane) → HasLane head.now collector lane → HasLane next collector (lane_with lane batch.now)) }
     ensures shown { (count : ℕ) (o : OnceState) (start : Start) (shown : List (List ℕ)) (h : History) → P.shows pages.old start shown → Bears (TreeLies count) settings (settled_in o) head.now shown h
         → (now : List (List ℕ)) × P.shows pages.new start now }
-    ensures full { result ≡ Err AdmitError.IntakeFull → (lane : Lane) → HasLane head.now collector lane → size_of (ring_of settings collector lane) < lane.used + octets_for batch.now.timely }
-    ensures room { OnOk result ((lane : Lane) → HasLane head.now collector lane → lane.used + octets_for batch.now.timely ≤ size_of (ring_of settings collector lane)) }
     ensures undamaged { (count : ℕ) (o : OnceState) (start : Start) (shown : List (List ℕ)) (h : History) (i : Intake) (offered : List Admitted) (lane : Lane) → P.shows pages.old start shown
         → Bears (TreeLies count) settings (settled_in o) head.now shown h → slice_get h.intakes collector ≡ Some i → IsKeptOf i.mark offered batch.now → HasLane head.now collector lane
         → lane.offered + length offered ≤ 18446744073709551615 → (page : ℕ) → result ≡ Err (AdmitError.BadNode page) → ⊥ }

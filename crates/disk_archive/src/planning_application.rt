@@ -1,7 +1,7 @@
 //! The application of one change: pages are shown in a transaction, and the head passes over it. Blocks are burnt and settled on the
 //! way, and no page is written yet.
 
-ghost use Rattle.std.specs.Prelude.{◌≡◌, ◌≢◌, ◌<◌, ◌≤◌, ◌+◌, ◌*◌, ◌^◌, ◌++◌, ◌∷◌, ◌↔◌, ℕ, List, [], length, min, Some, IfOk, OnOk, OnErr, IfErr, Err, false, IfSome, IfNone, IsTrue, slice_get};
+ghost use Rattle.std.specs.Prelude.{◌≡◌, ◌≢◌, ◌<◌, ◌≤◌, ◌+◌, ◌-◌, ◌*◌, ◌^◌, ◌++◌, ◌∷◌, ◌↔◌, ℕ, List, [], length, min, Some, IfOk, OnOk, OnErr, IfErr, Err, false, IfSome, IfNone, IsTrue, slice_get};
 ghost use Rattle.disk_models.specs.Once.{settled_in};
 ghost use Rattle.once_store.specs.Shelves.{disk_of, next_of, pen_of};
 ghost use Rattle.page_tx.specs.Device.{KeepsDevice};
@@ -25,9 +25,10 @@ ghost use Rattle.archive_pages.specs.Batches.{CanPop, HasLane};
 ghost use Rattle.archive_pages.specs.Carried.{Bears};
 ghost use Rattle.archive_pages.specs.Changes.{next_change};
 ghost use Rattle.archive_pages.specs.Places.{ring_of, tree_low};
-ghost use Rattle.disk_archive.specs.Failures.{CountsFailures};
+ghost use Rattle.disk_archive.specs.Failures.{ReportsOne};
+ghost use Rattle.disk_archive.specs.Lacks.{IsNextVersion};
 ghost use Rattle.disk_archive.specs.Trees.{TreeLies};
-ghost use Rattle.disk_archive.specs.inner.Applications.{ApplyRefusal, KeepsBlocks, LimitRefusal, MovesOn, TakesNext, TreeTakes};
+ghost use Rattle.disk_archive.specs.inner.Applications.{ApplyRefusal, FrontRefusal, KeepsBlocks, LackRefusal, LimitRefusal, MovesOn, TakesNext, TreeTakes};
 
 use crate::apply_error::{ApplyError, of_pages, of_tree};
 use archive_head::Head;
@@ -56,10 +57,7 @@ pub(crate) fn front_of<P: Pages>(
     ensures fits { IfOk result (λ a. (lane : Lane) → HasLane head.now collector lane → CanPop settings collector lane a) }
     ensures sound { (start : Start) (shown : List (List ℕ)) (lane : Lane) (first : Admitted) (rest : List Admitted) → P.shows pages.old start shown → HasLane head.now collector lane → IsRing (P.homes pages.old) (ring_of settings collector lane)
         → Holds shown (ring_of settings collector lane) (first ∷ rest) → (page : ℕ) → result ≡ Err (ApplyError.BadNode page) → ⊥ }
-    ensures once { result ≢ Err ApplyError.OnceFull }
-    ensures refused { IfErr result (ApplyRefusal (P.down pages.old)) }
-    ensures high { result ≢ Err ApplyError.TooHigh }
-    ensures limits { (count : ℕ) → IfErr result (LimitRefusal (P.homes pages.old) (P.next pages.old) count) }
+    ensures refused { IfErr result (FrontRefusal (P.down pages.old)) }
     ensures reads { (start : Start) (shown : List (List ℕ)) → P.shows pages.old start shown → P.shows pages.new start shown }
     ensures homes { P.homes pages.new ≡ P.homes pages.old }
     ensures next { P.next pages.new ≡ P.next pages.old }
@@ -134,12 +132,15 @@ fn take_version<P: Pages, O: OnceDisk + Drop>(
     ensures refused { IfErr result (ApplyRefusal (P.down pages.old)) }
     ensures high { (start : Start) (shown : List (List ℕ)) → P.shows pages.old start shown → result ≡ Err ApplyError.TooHigh → ShowsRoot shown head.now.root 7 }
     ensures limits { IfErr result (LimitRefusal (P.homes pages.old) (P.next pages.old) head.now.applied) }
+    ensures lacks { (start : Start) (shown : List (List ℕ)) (low : ℕ) (versions : List Version) → P.shows pages.old start shown → O.honest (disk_of shelf.old) (pen_of shelf.old)
+        → TreeLies (O.block_count (disk_of shelf.old)) shown (settled_in (O.model (pen_of shelf.old))) low head.now.root head.now.fresh head.now.block (stamp_of head.now.last head.now.applied) versions
+        → IfErr result (LackRefusal (λ v. v ≡ version_of entry.now) shown (P.homes pages.old - P.next pages.old) head.now.root) }
     ensures shows { (start : Start) (shown : List (List ℕ)) → P.shows pages.old start shown → (after : List (List ℕ)) × P.shows pages.new start after }
     ensures shelf { KeepsBlocks O.OnceDisk 2 shelf.old shelf.new (result ≡ Err ApplyError.OnceFull) }
     ensures homes { P.homes pages.new ≡ P.homes pages.old }
     ensures down { P.down pages.new ≡ P.down pages.old }
     ensures honest { P.honest pages.old ↔ P.honest pages.new }
-    ensures failed { CountsFailures (P.faults pages.old) (P.faults pages.new) (O.pen_fault_count (pen_of shelf.old)) (O.pen_fault_count (pen_of shelf.new)) (result ≡ Err ApplyError.Fault) }
+    ensures failed { ReportsOne (P.faults pages.old) (P.faults pages.new) (O.pen_fault_count (pen_of shelf.old)) (O.pen_fault_count (pen_of shelf.new)) (result ≡ Err ApplyError.Fault) }
 {
     let least = Stamp::new(head.last.seconds(), head.applied);
     let place = match open(pages, head.root, least) {
@@ -188,12 +189,15 @@ fn take_next<P: Pages, O: OnceDisk + Drop>(
     ensures refused { IfErr result (ApplyRefusal (P.down pages.old)) }
     ensures high { (start : Start) (shown : List (List ℕ)) → P.shows pages.old start shown → result ≡ Err ApplyError.TooHigh → ShowsRoot shown head.now.root 7 }
     ensures limits { IfErr result (LimitRefusal (P.homes pages.old) (P.next pages.old) head.now.applied) }
+    ensures lacks { (start : Start) (shown : List (List ℕ)) (low collector : ℕ) (versions : List Version) → P.shows pages.old start shown → O.honest (disk_of shelf.old) (pen_of shelf.old)
+        → TreeLies (O.block_count (disk_of shelf.old)) shown (settled_in (O.model (pen_of shelf.old))) low head.now.root head.now.fresh head.now.block (stamp_of head.now.last head.now.applied) versions
+        → IfErr result (LackRefusal (λ v. AreVersions head.now.applied (next_change head.now.begun (placed collector admission.now)) (v ∷ [])) shown (P.homes pages.old - P.next pages.old) head.now.root) }
     ensures shows { (start : Start) (shown : List (List ℕ)) → P.shows pages.old start shown → (after : List (List ℕ)) × P.shows pages.new start after }
     ensures shelf { KeepsBlocks O.OnceDisk 2 shelf.old shelf.new (result ≡ Err ApplyError.OnceFull) }
     ensures homes { P.homes pages.new ≡ P.homes pages.old }
     ensures down { P.down pages.new ≡ P.down pages.old }
     ensures honest { P.honest pages.old ↔ P.honest pages.new }
-    ensures failed { CountsFailures (P.faults pages.old) (P.faults pages.new) (O.pen_fault_count (pen_of shelf.old)) (O.pen_fault_count (pen_of shelf.new)) (result ≡ Err ApplyError.Fault) }
+    ensures failed { ReportsOne (P.faults pages.old) (P.faults pages.new) (O.pen_fault_count (pen_of shelf.old)) (O.pen_fault_count (pen_of shelf.new)) (result ≡ Err ApplyError.Fault) }
 {
     let next = next_version(alloc, head, admission)?;
     match next {
@@ -242,12 +246,15 @@ pub(crate) fn plan_change<P: Pages, O: OnceDisk + Drop>(
     ensures refused { IfErr result (ApplyRefusal (P.down pages.old)) }
     ensures high { (start : Start) (shown : List (List ℕ)) → P.shows pages.old start shown → result ≡ Err ApplyError.TooHigh → ShowsRoot shown head.old.root 7 }
     ensures limits { IfErr result (LimitRefusal (P.homes pages.old) (P.next pages.old) head.old.applied) }
+    ensures lacks { (start : Start) (shown : List (List ℕ)) (h : History) (later : List (Placed Admitted)) → P.shows pages.old start shown → O.honest (disk_of shelf.old) (pen_of shelf.old)
+        → Bears (TreeLies (O.block_count (disk_of shelf.old))) settings (settled_in (O.model (pen_of shelf.old))) head.old shown h → waiting h ≡ placed collector admission.now ∷ later
+        → IfErr result (LackRefusal (IsNextVersion h) shown (P.homes pages.old - P.next pages.old) head.old.root) }
     ensures shows { (start : Start) (shown : List (List ℕ)) → P.shows pages.old start shown → (after : List (List ℕ)) × P.shows pages.new start after }
     ensures shelf { KeepsBlocks O.OnceDisk 2 shelf.old shelf.new (result ≡ Err ApplyError.OnceFull) }
     ensures homes { P.homes pages.new ≡ P.homes pages.old }
     ensures down { P.down pages.new ≡ P.down pages.old }
     ensures honest { P.honest pages.old ↔ P.honest pages.new }
-    ensures failed { CountsFailures (P.faults pages.old) (P.faults pages.new) (O.pen_fault_count (pen_of shelf.old)) (O.pen_fault_count (pen_of shelf.new)) (result ≡ Err ApplyError.Fault) }
+    ensures failed { ReportsOne (P.faults pages.old) (P.faults pages.new) (O.pen_fault_count (pen_of shelf.old)) (O.pen_fault_count (pen_of shelf.new)) (result ≡ Err ApplyError.Fault) }
 {
     if head.applied == u64::MAX {
         return Err(ApplyError::CounterFull);

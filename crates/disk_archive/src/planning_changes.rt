@@ -1,7 +1,7 @@
 //! What the application of many changes is to commit: pages that are shown in one transaction, and their head. The sequencer stays as it
 //! is meanwhile, and no page is written yet.
 
-ghost use Rattle.std.specs.Prelude.{◌≡◌, ◌≢◌, ◌<◌, ◌≤◌, ◌+◌, ◌*◌, ◌↔◌, ℕ, List, [], length, min, IfOk, OnOk, OnErr, IfErr, Err, IsTrue, true, false};
+ghost use Rattle.std.specs.Prelude.{◌≡◌, ◌≢◌, ◌<◌, ◌≤◌, ◌+◌, ◌-◌, ◌*◌, ◌↔◌, ℕ, List, [], length, min, IfOk, OnOk, OnErr, IfErr, IsErr, Err, IsTrue, true, false};
 ghost use Rattle.disk_models.specs.Once.{OnceState, settled_in};
 ghost use Rattle.once_store.specs.Shelves.{disk_of, next_of, pen_of};
 ghost use Rattle.page_tx.specs.Device.{KeepsDevice};
@@ -12,16 +12,18 @@ ghost use Rattle.sequencer.specs.First.{IsNext};
 ghost use Rattle.sequencer.specs.Lanes.{Releases};
 ghost use Rattle.archive_pages.specs.Carried.{Bears};
 ghost use Rattle.tsb_tree.specs.Opened.{ShowsRoot};
-ghost use Rattle.disk_archive.specs.Failures.{CountsFailures, count_after};
+ghost use Rattle.disk_archive.specs.Failures.{ReportsOne};
+ghost use Rattle.disk_archive.specs.Lacks.{IsNextVersion};
 ghost use Rattle.disk_archive.specs.Mirrors.{Mirrors};
 ghost use Rattle.disk_archive.specs.Trees.{TreeLies};
-ghost use Rattle.disk_archive.specs.inner.Applications.{Advances, ApplyRefusal, IsPlan, KeepsBlocks, LimitRefusal, PlansMove, Reached, Reaches};
+ghost use Rattle.disk_archive.specs.inner.Applications.{Advances, ApplyRefusal, FrontRefusal, IsPlan, KeepsBlocks, LackRefusal, LimitRefusal, PlansMove, Reached, Reaches};
 
-use crate::apply_error::{ApplyError, of_pages};
+use crate::apply_error::{ApplyError, of_pages, of_tree};
 use crate::planning_application::{front_of, plan_change};
+use crate::stop::Stop;
 use archive_head::Head;
 use archive_pages::{Settings, copy_head, put_head};
-use disk_models::OnceDisk;
+use disk_models::{Fault, OnceDisk};
 use intake::Encoded;
 use once_store::Shelf;
 use page_tx::Pages;
@@ -84,10 +86,7 @@ fn begin_plan<P: Pages>(
     ensures hand { IfOk result (λ plan. plan.whole ≡ false) }
     ensures sound { (count : ℕ) (o : OnceState) (start : Start) (shown : List (List ℕ)) (h : History) → P.shows pages.old start shown → Bears (TreeLies count) settings (settled_in o) head.now shown h → Mirrors sequencer.now h
         → (page : ℕ) → result ≡ Err (ApplyError.BadNode page) → ⊥ }
-    ensures once { result ≡ Err ApplyError.OnceFull → ⊥ }
-    ensures refused { IfErr result (ApplyRefusal (P.down pages.old)) }
-    ensures high { result ≢ Err ApplyError.TooHigh }
-    ensures limits { IfErr result (LimitRefusal (P.homes pages.old) (P.next pages.old) head.now.applied) }
+    ensures refused { IfErr result (FrontRefusal (P.down pages.old)) }
     ensures head { IfOk result (λ plan. plan.head ≡ head.now) }
     ensures reads { (start : Start) (shown : List (List ℕ)) → P.shows pages.old start shown → P.shows pages.new start shown }
     ensures homes { P.homes pages.new ≡ P.homes pages.old }
@@ -151,12 +150,15 @@ fn plan_step<P: Pages, O: OnceDisk + Drop>(
     ensures refused { IfErr result (ApplyRefusal (P.down pages.old)) }
     ensures high { (start : Start) (shown : List (List ℕ)) → P.shows pages.old start shown → result ≡ Err ApplyError.TooHigh → ShowsRoot shown plan.old.head.root 7 }
     ensures limits { IfErr result (LimitRefusal (P.homes pages.old) (P.next pages.old) plan.old.head.applied) }
+    ensures lacks { (start : Start) (h : History) → O.honest (disk_of shelf.old) (pen_of shelf.old)
+        → (r : Reached (O.block_count (disk_of shelf.old)) settings (settled_in (O.model (pen_of shelf.old))) (P.shows pages.old start) sequencer.now plan.old h)
+        → IfErr result (LackRefusal (IsNextVersion h) r.pages (P.homes pages.old - P.next pages.old) plan.old.head.root) }
     ensures shows { (start : Start) (shown : List (List ℕ)) → P.shows pages.old start shown → (after : List (List ℕ)) × P.shows pages.new start after }
     ensures shelf { KeepsBlocks O.OnceDisk 2 shelf.old shelf.new (result ≡ Err ApplyError.OnceFull) }
     ensures homes { P.homes pages.new ≡ P.homes pages.old }
     ensures down { P.down pages.new ≡ P.down pages.old }
     ensures honest { P.honest pages.old ↔ P.honest pages.new }
-    ensures failed { CountsFailures (P.faults pages.old) (P.faults pages.new) (O.pen_fault_count (pen_of shelf.old)) (O.pen_fault_count (pen_of shelf.new)) (result ≡ Err ApplyError.Fault) }
+    ensures failed { ReportsOne (P.faults pages.old) (P.faults pages.new) (O.pen_fault_count (pen_of shelf.old)) (O.pen_fault_count (pen_of shelf.new)) (result ≡ Err ApplyError.Fault) }
 {
     let collector = plan.front.collector;
     let admission = plan.front.admission.admission();
@@ -182,11 +184,11 @@ fn find_front<P: Pages>(
     settings: Settings,
     sequencer: &Sequencer,
     plan: &mut Plan,
-) -> bool
+) -> Result<(), Stop>
     requires few { length sequencer.now ≤ 16 }
     requires lanes { length plan.old.head.lanes ≡ length sequencer.now }
     requires count { length plan.old.ahead ≡ length sequencer.now }
-    ensures hand { IsTrue result → plan.new.whole ≡ false }
+    ensures hand { OnOk result (plan.new.whole ≡ false) }
     ensures reached { (count : ℕ) (o : OnceState) (start : Start) (h : History) → Reached count settings (settled_in o) (P.shows pages.old start) sequencer.now plan.old h → Reached count settings (settled_in o) (P.shows pages.new start) sequencer.now plan.new h }
     ensures fits { (block : ℕ) → IsPlan settings (P.homes pages.old) (P.next pages.old) block sequencer.now plan.old → IsPlan settings (P.homes pages.new) (P.next pages.new) block sequencer.now plan.new }
     ensures reads { (start : Start) (shown : List (List ℕ)) → P.shows pages.old start shown → P.shows pages.new start shown }
@@ -195,40 +197,38 @@ fn find_front<P: Pages>(
     ensures named { P.named pages.new ≡ P.named pages.old }
     ensures down { P.down pages.new ≡ P.down pages.old }
     ensures honest { P.honest pages.old ↔ P.honest pages.new }
-    ensures failed { (more : ℕ) × (P.faults pages.new ≡ count_after (P.faults pages.old) more) }
+    ensures device { KeepsDevice (P.honest pages.old) (P.honest pages.new) (P.faults pages.old) (P.faults pages.new) (result ≡ Err Stop.Failed) }
 {
     if !plan.whole {
-        return true;
+        return Ok(());
     }
     let Some(number) = sequencer.next_behind(&plan.ahead) else {
-        return false;
+        return Err(Stop::Enough);
     };
     let collector = number as u8;
-    let Ok(admission) = front_of(alloc, pages, settings, &plan.head, collector, None) else {
-        return false;
-    };
+    let admission = front_of(alloc, pages, settings, &plan.head, collector, None)?;
     plan.front = Front {
         collector,
         admission,
     };
     plan.whole = false;
-    true
+    Ok(())
 }
 
 // The level of the tree's root, where it is one.
-fn level_of<P: Pages>(pages: &mut P, head: &Head) -> Option<u8>
+fn level_of<P: Pages>(pages: &mut P, head: &Head) -> Result<u8, Stop>
     ensures reads { (start : Start) (shown : List (List ℕ)) → P.shows pages.old start shown → P.shows pages.new start shown }
     ensures homes { P.homes pages.new ≡ P.homes pages.old }
     ensures next { P.next pages.new ≡ P.next pages.old }
     ensures named { P.named pages.new ≡ P.named pages.old }
     ensures down { P.down pages.new ≡ P.down pages.old }
     ensures honest { P.honest pages.old ↔ P.honest pages.new }
-    ensures failed { (more : ℕ) × (P.faults pages.new ≡ count_after (P.faults pages.old) more) }
+    ensures device { KeepsDevice (P.honest pages.old) (P.honest pages.new) (P.faults pages.old) (P.faults pages.new) (result ≡ Err Stop.Failed) }
 {
     let least = Stamp::new(head.last.seconds(), head.applied);
     match open(pages, head.root, least) {
-        Ok(place) => Some(place.level),
-        Err(_) => None,
+        Ok(place) => Ok(place.level),
+        Err(refusal) => Err(Stop::from(of_tree(refusal))),
     }
 }
 
@@ -248,7 +248,7 @@ fn plan_another<P: Pages, O: OnceDisk + Drop>(
     settings: Settings,
     sequencer: &Sequencer,
     plan: &mut Plan,
-) -> bool
+) -> Result<(), Stop>
     requires lanes { length sequencer.now ≤ 16 }
     requires fits { IsPlan settings (P.homes pages.old) (P.next pages.old) (next_of shelf.old) sequencer.now plan.old }
     requires few { length (P.named pages.old) ≤ 30 }
@@ -262,21 +262,19 @@ fn plan_another<P: Pages, O: OnceDisk + Drop>(
     ensures homes { P.homes pages.new ≡ P.homes pages.old }
     ensures down { P.down pages.new ≡ P.down pages.old }
     ensures honest { P.honest pages.old ↔ P.honest pages.new }
-    ensures failed { CountsFailures (P.faults pages.old) (P.faults pages.new) (O.pen_fault_count (pen_of shelf.old)) (O.pen_fault_count (pen_of shelf.new)) ⊥ }
+    ensures failed { ReportsOne (P.faults pages.old) (P.faults pages.new) (O.pen_fault_count (pen_of shelf.old)) (O.pen_fault_count (pen_of shelf.new)) (result ≡ Err Stop.Failed) }
 {
-    let Some(level) = level_of(pages, &plan.head) else {
-        return false;
-    };
+    let level = level_of(pages, &plan.head)?;
     if !has_room(pages.images(), level) {
-        return false;
+        return Err(Stop::Enough);
     }
-    if !find_front(alloc, pages, settings, sequencer, plan) {
-        return false;
-    }
-    plan_step(alloc, pages, shelf, settings, sequencer, plan, level).is_ok()
+    find_front(alloc, pages, settings, sequencer, plan)?;
+    plan_step(alloc, pages, shelf, settings, sequencer, plan, level)?;
+    Ok(())
 }
 
-// Applies further changes, up to the first that may not be, is refused, or whose images might have no room.
+// Applies further changes, up to the first that may not be, is refused, or whose images might have no room. Where a device fails, the plan
+// is of no use any more.
 fn plan_more<P: Pages, O: OnceDisk + Drop>(
     alloc: Global,
     pages: &mut P,
@@ -284,31 +282,35 @@ fn plan_more<P: Pages, O: OnceDisk + Drop>(
     settings: Settings,
     sequencer: &Sequencer,
     plan: &mut Plan,
-)
+) -> Result<(), Fault>
     requires lanes { length sequencer.now ≤ 16 }
     requires fits { IsPlan settings (P.homes pages.old) (P.next pages.old) (next_of shelf.old) sequencer.now plan.old }
     requires few { length (P.named pages.old) ≤ 30 }
-    ensures reaches { (start : Start) (h : History) → O.honest (disk_of shelf.old) (pen_of shelf.old)
+    ensures reaches { OnOk result ((start : Start) (h : History) → O.honest (disk_of shelf.old) (pen_of shelf.old)
         → Reached (O.block_count (disk_of shelf.old)) settings (settled_in (O.model (pen_of shelf.old))) (P.shows pages.old start) sequencer.now plan.old h
-        → Reaches (O.block_count (disk_of shelf.old)) settings (settled_in (O.model (pen_of shelf.new))) (P.shows pages.new start) sequencer.now plan.new h }
-    ensures fits { IsPlan settings (P.homes pages.new) (P.next pages.new) (next_of shelf.new) sequencer.now plan.new }
-    ensures few { length (P.named pages.new) ≤ 30 }
+        → Reaches (O.block_count (disk_of shelf.old)) settings (settled_in (O.model (pen_of shelf.new))) (P.shows pages.new start) sequencer.now plan.new h) }
+    ensures fits { OnOk result (IsPlan settings (P.homes pages.new) (P.next pages.new) (next_of shelf.new) sequencer.now plan.new) }
+    ensures few { OnOk result (length (P.named pages.new) ≤ 30) }
     ensures shows { (start : Start) (shown : List (List ℕ)) → P.shows pages.old start shown → (after : List (List ℕ)) × P.shows pages.new start after }
     ensures shelf { KeepsBlocks O.OnceDisk 1998 shelf.old shelf.new ⊥ }
     ensures homes { P.homes pages.new ≡ P.homes pages.old }
     ensures down { P.down pages.new ≡ P.down pages.old }
     ensures honest { P.honest pages.old ↔ P.honest pages.new }
-    ensures failed { CountsFailures (P.faults pages.old) (P.faults pages.new) (O.pen_fault_count (pen_of shelf.old)) (O.pen_fault_count (pen_of shelf.new)) ⊥ }
+    ensures failed { ReportsOne (P.faults pages.old) (P.faults pages.new) (O.pen_fault_count (pen_of shelf.old)) (O.pen_fault_count (pen_of shelf.new)) (IsErr result) }
 {
     for _ in 0..MORE_CHANGES {
-        if !plan_another(alloc, pages, shelf, settings, sequencer, plan) {
-            return;
+        match plan_another(alloc, pages, shelf, settings, sequencer, plan) {
+            Ok(()) => {}
+            Err(Stop::Enough) => return Ok(()),
+            Err(Stop::Failed) => return Err(Fault),
         }
     }
+    Ok(())
 }
 
 /// Shows the pages behind the next change and as many further ones as fit, and answers their head, and which admissions are wholly
-/// applied. A refusal of the first change is told; where a later one is refused, what was planned before it is answered.
+/// applied. A refusal of the first change is returned, and each failure of a device; where a later change is refused for another reason,
+/// what was planned before it is returned.
 pub(crate) fn plan_changes<P: Pages, O: OnceDisk + Drop>(
     alloc: Global,
     pages: &mut P,
@@ -338,12 +340,15 @@ pub(crate) fn plan_changes<P: Pages, O: OnceDisk + Drop>(
     ensures refused { IfErr result (ApplyRefusal (P.down pages.old)) }
     ensures high { (start : Start) (shown : List (List ℕ)) → P.shows pages.old start shown → result ≡ Err ApplyError.TooHigh → ShowsRoot shown head.now.root 7 }
     ensures limits { IfErr result (LimitRefusal (P.homes pages.old) (P.next pages.old) head.now.applied) }
+    ensures lacks { (start : Start) (shown : List (List ℕ)) (h : History) → P.shows pages.old start shown → O.honest (disk_of shelf.old) (pen_of shelf.old)
+        → Bears (TreeLies (O.block_count (disk_of shelf.old))) settings (settled_in (O.model (pen_of shelf.old))) head.now shown h → Mirrors sequencer.now h
+        → IfErr result (LackRefusal (IsNextVersion h) shown (P.homes pages.old - P.next pages.old) head.now.root) }
     ensures shows { (start : Start) (shown : List (List ℕ)) → P.shows pages.old start shown → (after : List (List ℕ)) × P.shows pages.new start after }
     ensures shelf { KeepsBlocks O.OnceDisk 2000 shelf.old shelf.new (result ≡ Err ApplyError.OnceFull) }
     ensures homes { P.homes pages.new ≡ P.homes pages.old }
     ensures down { P.down pages.new ≡ P.down pages.old }
     ensures honest { P.honest pages.old ↔ P.honest pages.new }
-    ensures failed { CountsFailures (P.faults pages.old) (P.faults pages.new) (O.pen_fault_count (pen_of shelf.old)) (O.pen_fault_count (pen_of shelf.new)) (result ≡ Err ApplyError.Fault) }
+    ensures failed { ReportsOne (P.faults pages.old) (P.faults pages.new) (O.pen_fault_count (pen_of shelf.old)) (O.pen_fault_count (pen_of shelf.new)) (result ≡ Err ApplyError.Fault) }
 {
     let mut plan = begin_plan(alloc, pages, settings, head, sequencer, number, kept)?;
     plan_step(
@@ -355,7 +360,7 @@ pub(crate) fn plan_changes<P: Pages, O: OnceDisk + Drop>(
         &mut plan,
         HIGHEST_LEVEL,
     )?;
-    plan_more(alloc, pages, shelf, settings, sequencer, &mut plan);
+    plan_more(alloc, pages, shelf, settings, sequencer, &mut plan)?;
     let Plan {
         head,
         ahead,

@@ -30,6 +30,7 @@ use Rattle.shared_archive.specs.Carried.{CarriesPast, ring_pages}
 use Rattle.shared_archive.specs.Held.{AreDisks, HoldsPast, LacksPast, RestOn, disk_at, disk_in, pages_in, right_held}
 use Rattle.shared_archive.specs.Reopened.{Fails, IsAway, IsOpen, IsUp, Reopens, erase_faults, erase_faults_at, pen_faults, pen_faults_at}
 use Rattle.shared_archive.specs.Told.{Failed}
+use Rattle.shared_archive.proofs.Telling.{counts_one}
 use Rattle.shared_archive.specs.inner.StoreCalls.{of_open}
 use Rattle.shared_archive.specs.declared.held.Disks.{Disks}
 use Rattle.shared_archive.specs.declared.held.Held.{Held}
@@ -112,10 +113,6 @@ carried_on {once = once} a g p disk o k is same blocks = record {
 
 -- ---- refusals
 
-counts_one : (e e' p p' : ℕ) → CountsOne e e' p p' → Failed e e' ⊎ Failed p p'
-counts_one e e' p p' (inl k) = inl (0, k.0)
-counts_one e e' p p' (inr k) = inr (0, k.1)
-
 pub open_fails : (e e' p p' : ℕ) (x : OpenError) → (x ≡ openings.Fault → CountsOne e e' p p') → Fails ⊥ e e' p p' (of_open x)
 open_fails e e' p p' openings.Fault counted = counts_one e e' p p' (counted refl)
 open_fails e e' p p' openings.NotAJournal counted = tt
@@ -125,8 +122,8 @@ open_fails e e' p p' openings.OutOfMemory counted = tt
 
 -- failures that were counted before the disks were put back
 pub failed_kept : (e n m p q r : ℕ) → m ≡ n → r ≡ q → Failed e n ⊎ Failed p q → Failed e m ⊎ Failed p r
-failed_kept e n m p q r erase pen (inl k) = inl (k.0, erase ∙ k.1)
-failed_kept e n m p q r erase pen (inr k) = inr (k.0, pen ∙ k.1)
+failed_kept e n m p q r erase pen (inl k) = inl (erase ∙ k)
+failed_kept e n m p q r erase pen (inr k) = inr (pen ∙ k)
 
 -- what is so of disks is so of the archive that gave them up
 pub fails_of : (away : Type 0) (e f e' p q p' : ℕ) (t : Trouble) → e ≡ f → p ≡ q → Fails ⊥ e e' p p' t → Fails away f e' q p' t

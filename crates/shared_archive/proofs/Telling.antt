@@ -1,5 +1,5 @@
 -- Which trouble a call tells, by the refusal of the archive.
-use Rattle.std.proofs.Common.{◌≡◌, ◌∙◌, ◌⊎◌, ◌↔◌, ◌<◌, ◌+◌, ℕ, suc, zero, Bool, true, false, List, length, sum_by, Err, Result, inl, inr, refl, sym, arith, min, ⊎_elim}
+use Rattle.std.proofs.Common.{◌≡◌, ◌∙◌, ◌⊎◌, ◌↔◌, ◌<◌, ◌+◌, ℕ, Bool, true, false, List, length, sum_by, Err, Result, inl, inr, refl, sym, arith, min, ⊎_elim}
 use Rattle.disk_models.specs.declared.erase.EraseDisk.{Ghosts as EraseGhosts}
 use Rattle.disk_models.specs.declared.once.OnceDisk.{Ghosts as OnceGhosts}
 use Rattle.route_meaning.specs.History.{History, applied}
@@ -21,18 +21,15 @@ use Rattle.disk_archive.specs.declared.ask_error.AskError.TheVariants as asks
 use Rattle.disk_archive.specs.Archives.{GoesOn, Holds, IsHonest, erase_of, is_down, pen_in}
 use Rattle.disk_archive.specs.Blanks.{NoneBlank, unused_pages}
 use Rattle.disk_archive.specs.Checks.{HasPages, root_in}
-use Rattle.disk_archive.specs.Failures.{CountsFailures, count_after}
+use Rattle.disk_archive.specs.Creations.{CountsOne}
+use Rattle.disk_archive.specs.Failures.{ReportsOne}
 use Rattle.shared_archive.specs.Told.{Failed, Misses, StaysUp, Tells}
 use Rattle.shared_archive.specs.inner.StoreCalls.{of_admit, of_apply, of_ask, of_block, of_flush, of_mark}
 
 -- one of both disks counted a failure
-failed : (erase erase' once once' : ℕ) (told : Type 0) → told → CountsFailures erase erase' once once' told → Failed erase erase' ⊎ Failed once once'
-failed erase erase' once once' told is f = of f.erase_failures f.once_failures f.of_erase f.of_once (f.some is)
-  where
-    of : (n k : ℕ) → erase' ≡ count_after erase n → once' ≡ count_after once k → 0 < n + k → Failed erase erase' ⊎ Failed once once'
-    of (suc n) k e o some = inl (n, e)
-    of zero (suc k) e o some = inr (k, o)
-    of zero zero e o some = absurd (omega (arith, some))
+pub counts_one : (e e' p p' : ℕ) → CountsOne e e' p p' → Failed e e' ⊎ Failed p p'
+counts_one e e' p p' (inl k) = inl k.0
+counts_one e e' p p' (inr k) = inr k.1
 
 same_Err : {R X : Type 0} {e k : X} → ◌≡◌ {A = Result R X} (Err e) (Err k) → e ≡ k
 same_Err is = cc
@@ -67,7 +64,7 @@ module _ {E O Pen Seen : Type 0} {erase : EraseGhosts E} {once : OnceGhosts O Pe
   admit_tells admits.CounterFull down counted falls sound = tt
   admit_tells admits.IntakeFull down counted falls sound = tt
   admit_tells (admits.BadNode page) down counted falls sound = (stays_up (admits.BadNode page) admits.NeedsRecovery admits.Fault down falls (λ i. cc) (λ i. cc), λ h on. sound (honest_going h on) h (λ _. on) page refl)
-  admit_tells admits.Fault down counted falls sound = inl (0, counted refl)
+  admit_tells admits.Fault down counted falls sound = inl (counted refl)
   admit_tells admits.OutOfMemory down counted falls sound = stays_up admits.OutOfMemory admits.NeedsRecovery admits.Fault down falls (λ i. cc) (λ i. cc)
 
   pub mark_tells : {R : Type 0} (e : MarkError)
@@ -78,12 +75,12 @@ module _ {E O Pen Seen : Type 0} {erase : EraseGhosts E} {once : OnceGhosts O Pe
   mark_tells marks.NeedsRecovery down counted falls = down.0 refl
   mark_tells marks.NoCollector down counted falls = tt
   mark_tells marks.MarkBack down counted falls = tt
-  mark_tells marks.Fault down counted falls = inl (0, counted refl)
+  mark_tells marks.Fault down counted falls = inl (counted refl)
   mark_tells marks.OutOfMemory down counted falls = stays_up marks.OutOfMemory marks.NeedsRecovery marks.Fault down falls (λ i. cc) (λ i. cc)
 
   pub apply_tells : {R : Type 0} (e : ApplyError)
       → ((◌≡◌ {A = Result R ApplyError} (Err e) (Err applies.NeedsRecovery)) ↔ (is_down a ≡ true))
-      → CountsFailures (erase.fault_count (erase_of a)) (erase.fault_count (erase_of b)) (once.pen_fault_count (pen_in a)) (once.pen_fault_count (pen_in b)) (◌≡◌ {A = Result R ApplyError} (Err e) (Err applies.Fault))
+      → ReportsOne (erase.fault_count (erase_of a)) (erase.fault_count (erase_of b)) (once.pen_fault_count (pen_in a)) (once.pen_fault_count (pen_in b)) (◌≡◌ {A = Result R ApplyError} (Err e) (Err applies.Fault))
       → (is_down a ≡ false → is_down b ≡ true → ◌≡◌ {A = Result R ApplyError} (Err e) (Err applies.Fault))
       → (IsHonest a → (h : History) → Holds a h → e ≡ applies.CounterFull → sum_by (λ p. length p.item.changes) (applied h) ≡ 18446744073709551615)
       → (e ≡ applies.PagesFull → unused_pages a < 9)
@@ -97,7 +94,7 @@ module _ {E O Pen Seen : Type 0} {erase : EraseGhosts E} {once : OnceGhosts O Pe
   apply_tells applies.PagesFull down counted falls counter few high full sound = (stays_up applies.PagesFull applies.NeedsRecovery applies.Fault down falls (λ i. cc) (λ i. cc), few refl)
   apply_tells applies.OnceFull down counted falls counter few high full sound = (stays_up applies.OnceFull applies.NeedsRecovery applies.Fault down falls (λ i. cc) (λ i. cc), λ honest. full honest refl)
   apply_tells (applies.BadNode page) down counted falls counter few high full sound = (stays_up (applies.BadNode page) applies.NeedsRecovery applies.Fault down falls (λ i. cc) (λ i. cc), λ h on. sound (honest_going h on) h (λ _. on) page refl)
-  apply_tells applies.Fault down counted falls counter few high full sound = failed _ _ _ _ _ refl counted
+  apply_tells applies.Fault down counted falls counter few high full sound = counts_one _ _ _ _ (counted.counted refl)
   apply_tells applies.OutOfMemory down counted falls counter few high full sound = stays_up applies.OutOfMemory applies.NeedsRecovery applies.Fault down falls (λ i. cc) (λ i. cc)
 
   pub flush_tells : {R : Type 0} (e : FlushError)
@@ -105,7 +102,7 @@ module _ {E O Pen Seen : Type 0} {erase : EraseGhosts E} {once : OnceGhosts O Pe
       → ((◌≡◌ {A = Result R FlushError} (Err e) (Err flushes.Fault)) → erase.fault_count (erase_of b) ≡ min (erase.fault_count (erase_of a) + 1) 18446744073709551615)
       → Tells a (of_flush e) b
   flush_tells flushes.NeedsRecovery down counted = down.0 refl
-  flush_tells flushes.Fault down counted = inl (0, counted refl)
+  flush_tells flushes.Fault down counted = inl (counted refl)
 
   pub ask_tells : {R : Type 0} (e : AskError)
       → ((◌≡◌ {A = Result R AskError} (Err e) (Err asks.NeedsRecovery)) ↔ (is_down a ≡ true))
@@ -118,7 +115,7 @@ module _ {E O Pen Seen : Type 0} {erase : EraseGhosts E} {once : OnceGhosts O Pe
   ask_tells (asks.AboveWatermark mark) down counted same sound undamaged = tt
   ask_tells (asks.BadNode page) down counted same sound undamaged = (stays_up (asks.BadNode page) asks.NeedsRecovery asks.Fault down (λ l r. absurd (turned l r same)) (λ i. cc) (λ i. cc), λ h on. sound (honest_going h on) h (λ _. on) page refl)
   ask_tells (asks.Damaged block) down counted same sound undamaged = undamaged block refl
-  ask_tells asks.Fault down counted same sound undamaged = inl (0, counted refl)
+  ask_tells asks.Fault down counted same sound undamaged = inl (counted refl)
   ask_tells asks.OutOfMemory down counted same sound undamaged = stays_up asks.OutOfMemory asks.NeedsRecovery asks.Fault down (λ l r. absurd (turned l r same)) (λ i. cc) (λ i. cc)
 
 -- a look counts the reads that fail, and no others

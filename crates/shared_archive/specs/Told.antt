@@ -1,5 +1,5 @@
 -- What is known of an archive on disks of which a call returned a trouble, or that flushed.
-use Rattle.std.specs.Prelude.{◌≡◌, ◌<◌, ◌⊎◌, ◌+◌, ℕ, suc, List, [], length, min, sum_by, true, false}
+use Rattle.std.specs.Prelude.{◌≡◌, ◌<◌, ◌⊎◌, ◌+◌, ℕ, List, [], length, min, sum_by, true, false}
 use Rattle.disk_models.specs.declared.erase.EraseDisk.{Ghosts as EraseGhosts}
 use Rattle.disk_models.specs.declared.once.OnceDisk.{Ghosts as OnceGhosts}
 use Rattle.route_meaning.specs.History.{History, applied}
@@ -12,12 +12,11 @@ use Rattle.disk_archive.specs.declared.archive.Archive.{Archive}
 use Rattle.disk_archive.specs.Archives.{GoesOn, IsHonest, erase_of, is_down, pen_in}
 use Rattle.disk_archive.specs.Blanks.{NoneBlank, unused_pages}
 use Rattle.disk_archive.specs.Checks.{HasPages, root_in}
-use Rattle.disk_archive.specs.Failures.{count_after}
 use Rattle.disk_archive.specs.Homes.{IsHomed, closed_in, dirty_pages}
 
--- a disk's count of failures rose, or stands at its last value
+-- a disk counted one failure more; a count that is 2^64 - 1 stays
 abbrev pub Failed : ℕ → ℕ → Type 0
-Failed before after = (more : ℕ) × (after ≡ count_after before (suc more))
+Failed before after = after ≡ min (before + 1) 18446744073709551615
 
 -- the archive needn't be opened again, as it was and as it is then
 abbrev pub StaysUp : {E O Pen Seen : Type 0} {erase : EraseGhosts E} {once : OnceGhosts O Pen Seen} → Archive E O Pen Seen erase once → Archive E O Pen Seen erase once → Type 0

@@ -26,9 +26,12 @@ use Rattle.disk_archive.specs.declared.apply_error.ApplyError.{ApplyError}
 use Rattle.disk_archive.specs.declared.apply_error.ApplyError.TheVariants as applies
 use Rattle.page_journal.specs.declared.error.UseError.{UseError}
 use Rattle.page_journal.specs.declared.error.UseError.TheVariants as uses
+use Rattle.disk_archive.specs.declared.stop.Stop.{Stop}
+use Rattle.disk_archive.specs.declared.stop.Stop.TheVariants as stops
 use Rattle.disk_archive.specs.declared.planning_changes.Front.{Front}
 use Rattle.disk_archive.specs.declared.planning_changes.Plan.{Plan}
 use Rattle.disk_archive.specs.declared.planning_changes.Application.{Application}
+use Rattle.disk_archive.specs.Lacks.{LacksLevel, LacksPages}
 use Rattle.disk_archive.specs.Mirrors.{Mirrors}
 use Rattle.disk_archive.specs.Trees.{TreeLies}
 use Rattle.disk_archive.specs.Moves.{Moves}
@@ -38,6 +41,17 @@ use Rattle.disk_archive.specs.inner.Planning.{Planned}
 abbrev pub apply_of_use : UseError → ApplyError
 apply_of_use uses.Fault = applies.Fault
 apply_of_use uses.NeedsRecovery = applies.NeedsRecovery
+
+-- why no further change is planned after a refusal
+abbrev pub stop_of : ApplyError → Stop
+stop_of applies.Fault = stops.Failed
+stop_of applies.NeedsRecovery = stops.Enough
+stop_of applies.CounterFull = stops.Enough
+stop_of applies.TooHigh = stops.Enough
+stop_of applies.PagesFull = stops.Enough
+stop_of applies.OnceFull = stops.Enough
+stop_of (applies.BadNode page) = stops.Enough
+stop_of applies.OutOfMemory = stops.Enough
 
 -- that the archive must be opened again is told only where it must
 abbrev pub ApplyRefusal : Bool → ApplyError → Type 0
@@ -61,6 +75,28 @@ LimitRefusal homes next count applies.OnceFull = ⊤
 LimitRefusal homes next count (applies.BadNode page) = ⊤
 LimitRefusal homes next count applies.Fault = ⊤
 LimitRefusal homes next count applies.OutOfMemory = ⊤
+
+-- the reasons for which the first admission that waits isn't read
+abbrev pub FrontRefusal : Bool → ApplyError → Type 0
+FrontRefusal down applies.NeedsRecovery = down ≡ true
+FrontRefusal down applies.CounterFull = ⊥
+FrontRefusal down applies.TooHigh = ⊥
+FrontRefusal down applies.PagesFull = ⊥
+FrontRefusal down applies.OnceFull = ⊥
+FrontRefusal down (applies.BadNode page) = ⊤
+FrontRefusal down applies.Fault = ⊤
+FrontRefusal down applies.OutOfMemory = ⊤
+
+-- Pages, or a level, are refused only where there are too few for the version of which this is so.
+abbrev pub LackRefusal : (Version → Type 0) → List (List ℕ) → ℕ → ℕ → ApplyError → Type 0
+LackRefusal is shown left root applies.NeedsRecovery = ⊤
+LackRefusal is shown left root applies.CounterFull = ⊤
+LackRefusal is shown left root applies.TooHigh = LacksLevel is shown root
+LackRefusal is shown left root applies.PagesFull = LacksPages is shown left root
+LackRefusal is shown left root applies.OnceFull = ⊤
+LackRefusal is shown left root (applies.BadNode page) = ⊤
+LackRefusal is shown left root applies.Fault = ⊤
+LackRefusal is shown left root applies.OutOfMemory = ⊤
 
 -- The shelf has its disk still, which follows its model as before; what is tried or settled stays so, at most so many blocks are spent, and
 -- the next number doesn't fall. Where the disk is told to be full, no blank block is left.

@@ -8,7 +8,8 @@ use Rattle.disk_archive.specs.declared.ask_error.AskError.TheVariants as refusal
 use Rattle.disk_archive.specs.inner.Asking.{ask_of_node, BlamesNone, LookRefusal}
 use Rattle.disk_archive.proofs.Asking.{tree_read, ask_blames, ask_refused, if_err}
 use Rattle.disk_archive.proofs.Faults.{done_not_told, keeps_told, one_told}
-use Rattle.disk_archive.proofs.ReadFaults.{ask_either, read_done, read_pages, read_refused, read_then}
+use Rattle.disk_archive.proofs.Failing.{reports_first}
+use Rattle.disk_archive.proofs.ReadFaults.{ask_either, read_done, read_refused, read_then}
 use Rattle.disk_archive.proofs.answering.answer_by.Goals as goal
 
 pub returns-in_err-root-clause-blames : goal.returns-in_err-root-clause-blames
@@ -90,7 +91,7 @@ returns-in_err-root-clause-failed g c =
     let e = c.in_err-root.field-0.0 in
     let r : c.root_of.result ≡ Err e = search rules in
     let d : c.from_residual.result ≡ Err e = search rules in
-    read_pages _ _ _ _ _ _ (keeps_told _ _ _ _ _ _
+    reports_first _ _ _ _ _ _ (keeps_told _ _ _ _ _ _
     (λ told. r ∙ ap Err (one_told c.from_residual.result e refusals.Fault d told))
     (λ failed. d ∙ ap Err (one_told c.root_of.result e refusals.Fault r failed))
     c.root_of.ensures.device)

@@ -12,7 +12,8 @@ use Rattle.disk_archive.specs.inner.Checking.{check_of_node}
 use Rattle.disk_archive.proofs.Asking.{at_root}
 use Rattle.disk_archive.proofs.Counts.{as_many, finds_none, known_of, passed, passed_node, told_is, within_of}
 use Rattle.disk_archive.proofs.Faults.{done_not_told, keeps_told, one_told}
-use Rattle.disk_archive.proofs.ReadFaults.{check_either, read_done, read_pages, read_refused, read_then}
+use Rattle.disk_archive.proofs.Failing.{reports_first}
+use Rattle.disk_archive.proofs.ReadFaults.{check_either, read_done, read_refused, read_then}
 use Rattle.disk_archive.proofs.checking.count_tree.Goals as goal
 
 pub returns-in_err-root-clause-finds : goal.returns-in_err-root-clause-finds
@@ -101,7 +102,7 @@ returns-in_err-root-clause-failed g c =
     let e = c.in_err-root.field-0.0 in
     let r : c.root_of.result ≡ Err e = search rules in
     let d : c.from_residual.result ≡ Err e = search rules in
-    read_pages _ _ _ _ _ _ (keeps_told _ _ _ _ _ _
+    reports_first _ _ _ _ _ _ (keeps_told _ _ _ _ _ _
     (λ told. r ∙ ap Err (one_told c.from_residual.result e checks.Fault d told))
     (λ failed. d ∙ ap Err (one_told c.root_of.result e checks.Fault r failed))
     c.root_of.ensures.device)

@@ -9,6 +9,17 @@ use Rattle.disk_archive.proofs.Plans.{lane_at, set_there, given_shown, plan_done
 use Rattle.disk_archive.proofs.Faults.{keeps_none, keeps_then, keeps_told}
 use Rattle.disk_archive.proofs.planning.plan_batch.Goals as goal
 
+pub of_intake-requires-clause-free : goal.of_intake-requires-clause-free
+of_intake-requires-clause-free g c e =
+    let copy = c.in_ok-next.ensures.copy in
+    let lane = lane_at c.args.collector c.args.head.now.lanes c.requires.collector in
+    let at = subst (λ (x : Contents). HasLane x c.args.collector lane.0) (sym copy) lane.1 in
+    let ring = (c.can_give.ensures.fits (cc c.if-not-can_give.false) lane.0 at).ring in
+    let used = ring.used in
+    let free = c.requires.free lane.0 lane.1 in
+    let full = (c.give.ensures.full lane.0 at).0 (c.in-Err.is ∙ ap (λ x. Err x) e) in
+    absurd (omega (arith, used, free, full))
+
 pub returns-in-Err-clause-refused : goal.returns-in-Err-clause-refused
 returns-in-Err-clause-refused g c = c.of_intake.ensures.refused _ (λ e. subst (AppendRefusal _ _ _ _) e c.in-Err.ensures.refused) (λ e. subst (AppendRefusal _ _ _ _) e c.in-Err.ensures.refused)
 

@@ -3,6 +3,7 @@ use Rattle.page_tx.specs.declared.error.PageError.TheVariants as pages
 use Rattle.archive_head.specs.declared.lane.Lane.{Lane}
 use Rattle.intake.specs.declared.ring.Ring.{Ring}
 use Rattle.intake.specs.Ring.{Holds}
+use Rattle.intake.specs.Calls.{ReadRefusal}
 use Rattle.archive_pages.specs.Places.{ring_of}
 use Rattle.sequencer.proofs.api.Setting.{one_there}
 use Rattle.disk_archive.specs.declared.apply_error.ApplyError.TheVariants as applies
@@ -23,10 +24,7 @@ returns-in-Err-BadNode-clause-sound g c start shown lane first rest shows at pla
     c.front.ensures.damaged c.in-Err-BadNode.page (search rules) start shown (first ∷ rest) shows here
 
 pub returns-in-Err-Pages-clause-refused : goal.returns-in-Err-Pages-clause-refused
-returns-in-Err-Pages-clause-refused g c = c.of_pages.ensures.refused _ (λ e. let r = c.in-Err-Pages.ensures.refused in search (rules, e, r))
-
-pub returns-in-Err-Pages-clause-limits : goal.returns-in-Err-Pages-clause-limits
-returns-in-Err-Pages-clause-limits g c count = c.of_pages.ensures.limits _ _ count (λ e. let r = c.in-Err-Pages.ensures.refused in absurd (search (rules, e, r)))
+returns-in-Err-Pages-clause-refused g c = let down = g.P.Pages.down c.args.pages.now in c.of_pages.ensures.reads down (subst (ReadRefusal down) c.in-Err-Pages.field-0-is c.in-Err-Pages.ensures.refused)
 
 -- ---- how often the device failed
 

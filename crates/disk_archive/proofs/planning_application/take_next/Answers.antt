@@ -1,13 +1,17 @@
-use Rattle.std.proofs.Common.{rules, sym, subst}
+use Rattle.std.proofs.Common.{rules, [], ◌∷◌, sym, subst}
 use Rattle.disk_models.specs.Once.{settled_in}
 use Rattle.once_store.specs.Shelves.{disk_of, pen_of}
 use Rattle.archive_head.specs.Head.{Contents}
 use Rattle.route_meaning.specs.Merged.{placed}
 use Rattle.version_model.specs.Entries.{version_of}
+use Rattle.version_model.specs.Versions.{Version}
+use Rattle.route_history.specs.Kept.{AreVersions}
+use Rattle.archive_pages.specs.Changes.{next_change}
 use Rattle.sequencer.proofs.api.Calls.{if_ok}
 use Rattle.disk_archive.specs.inner.Applications.{TakesNext}
-use Rattle.disk_archive.proofs.Failing.{counts_none}
-use Rattle.disk_archive.proofs.Outcomes.{if_none_at, if_some_at}
+use Rattle.disk_archive.proofs.Failing.{reports_none}
+use Rattle.disk_archive.proofs.Lacking.{lacks_as}
+use Rattle.disk_archive.proofs.Outcomes.{if_err, if_none_at, if_some_at}
 use Rattle.disk_archive.proofs.Stepping.{takes_none, takes_one}
 use Rattle.disk_archive.proofs.planning_application.take_next.Goals as goal
 
@@ -25,10 +29,19 @@ returns-in-Some-clause-takes g c start shown collector versions shows honest set
     (λ place took. takes_one _ settings _ _ c.args.head.now (placed collector c.args.admission.now) place.root place.fresh place.block versions (version_of c.in-Some.entry) shown (if_some_at c.in_ok-next.next c.in-Some.entry _ c.in-Some.is c.in_ok-next.ensures.some collector) took)
     (c.take_version.ensures.takes start shown _ versions shows honest t)
 
+-- ---- what there is too little of
+
+pub returns-in-Some-clause-lacks : goal.returns-in-Some-clause-lacks
+returns-in-Some-clause-lacks g c start shown low collector versions shows honest t =
+    let is = if_some_at c.in_ok-next.next c.in-Some.entry _ c.in-Some.is c.in_ok-next.ensures.some collector in
+    if_err c.take_version.result _ _
+    (λ e. lacks_as _ _ shown _ _ e (λ v same. subst (λ (x : Version). AreVersions c.args.head.now.applied (next_change c.args.head.now.begun (placed collector c.args.admission.now)) (x ∷ [])) (sym same) is))
+    (c.take_version.ensures.lacks start shown low versions shows honest t)
+
 -- ---- how often both disks failed
 
 pub returns-in_err-next-clause-failed : goal.returns-in_err-next-clause-failed
-returns-in_err-next-clause-failed g c = counts_none _ _ _ (λ told. search (rules, told))
+returns-in_err-next-clause-failed g c = reports_none _ _ _ (λ told. search (rules, told))
 
 pub returns-in-None-clause-failed : goal.returns-in-None-clause-failed
-returns-in-None-clause-failed g c = counts_none _ _ _ (λ told. absurd cc)
+returns-in-None-clause-failed g c = reports_none _ _ _ (λ told. absurd cc)

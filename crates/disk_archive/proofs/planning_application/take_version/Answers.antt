@@ -1,4 +1,4 @@
-use Rattle.std.proofs.Common.{◌≡◌, ◌⊎◌, inl, inr, ◌+◌, ◌∷◌, ◌++◌, [], ℕ, length, min, sym, ◌∙◌, ap, subst, arith, Err}
+use Rattle.std.proofs.Common.{◌≡◌, ◌⊎◌, inl, inr, ◌+◌, ◌∷◌, ◌++◌, [], ℕ, length, min, refl, sym, ◌∙◌, ap, subst, arith, Err}
 use Rattle.disk_models.specs.Once.{settled_in}
 use Rattle.once_store.specs.Shelves.{disk_of, next_of, pen_of}
 use Rattle.archive_head.specs.Head.{Contents}
@@ -10,11 +10,14 @@ use Rattle.once_store.specs.declared.error.AppendError.TheVariants as appends
 use Rattle.page_tx.specs.declared.error.PageError.TheVariants as pages
 use Rattle.tsb_tree.specs.declared.error.TreeError.TheVariants as trees
 use Rattle.tsb_tree.specs.Opened.{ShowsRoot}
+use Rattle.tsb_tree.specs.NoRoom.{AtRoot}
+use Rattle.tsb_tree.specs.Needs.{NeedsLevel, NeedsPages}
 use Rattle.tsb_tree.specs.Refusals.{BlamesNone, InsertRefusal, ReadRefusal}
 use Rattle.disk_archive.specs.inner.Applications.{TreeTakes}
-use Rattle.disk_archive.proofs.Failing.{counts_none, counts_quiet, counts_read, counts_then, counts_told, counts_tree}
-use Rattle.disk_archive.proofs.Faults.{done_not_told}
+use Rattle.disk_archive.proofs.Failing.{reports_both, reports_first, reports_none, reports_then, reports_as, tree_apart}
+use Rattle.disk_archive.proofs.Faults.{done_not_told, one_told}
 use Rattle.disk_archive.proofs.Keeping.{joined_few}
+use Rattle.disk_archive.proofs.Lacking.{lacks_by}
 use Rattle.disk_archive.proofs.Taking.{shown_at, taken_at}
 use Rattle.disk_archive.proofs.planning_application.take_version.Goals as goal
 
@@ -100,34 +103,87 @@ returns-in-Err-insert-clause-high g c start shown shows told =
     let root = ap (λ (x : Contents). x.root) c.head.view_is in
     subst (λ (n : ℕ). ShowsRoot shown h.root n) level (subst (λ (r : ℕ). ShowsRoot shown r c.in-Ok.place.level) root (c.in-Ok.ensures.level start shown shows))
 
+pub returns-in-Err-clause-lacks : goal.returns-in-Err-clause-lacks
+returns-in-Err-clause-lacks g c start shown low versions shows honest t =
+    lacks_by _ shown _ _ c.of_tree.result (λ full. absurd (subst (ReadRefusal _) (c.of_tree.ensures.full full) c.in-Err.ensures.refused)) (λ high. absurd (subst (ReadRefusal _) (c.of_tree.ensures.high high) c.in-Err.ensures.refused))
+
+pub returns-in-Err-insert-clause-lacks : goal.returns-in-Err-insert-clause-lacks
+returns-in-Err-insert-clause-lacks g c start shown low versions shows honest t =
+    let P = g.P.Pages in
+    let O = g.O.OnceDisk in
+    let h = c.args.head.now in
+    let v = version_of c.args.entry.now in
+    let view = c.head.view_is in
+    let reads = c.open.ensures.reads in
+    let homes = reads.homes in
+    let next = reads.next in
+    let shows' = reads.shown start shown shows in
+    let count : length shown ≡ P.homes c.open.new.pages = g.met.P.Pages.count c.args.pages.now start shown shows ∙ sym reads.homes in
+    let next' = reads.next ∙ (c.requires.next ∙ ap (λ n. min h.fresh n) (sym reads.homes)) in
+    let root = ap (λ (x : Contents). x.root) view in
+    let least : c.new-least.result ≡ stamp_of h.last h.applied = c.new-least.ensures.number ∙ (ap (λ (t : ℕ). stamp_of t c.head.inside.applied) (c.seconds.ensures.seconds ∙ ap (λ (x : Contents). x.last) view) ∙ ap (λ (n : ℕ). stamp_of h.last n) (ap (λ (x : Contents). x.applied) view)) in
+    let level = c.in-Ok.ensures.opened start shown shows t.store versions t.level t.says (subst (λ (r : ℕ). TreeStands t.store versions r t.level) (sym root) t.has.stands) in
+    let here = c.in-Ok.ensures.root ∙ root in
+    let tree = shown_at P c.open.new.pages O c.args.shelf.now start shown low h.root h.fresh h.block (stamp_of h.last h.applied) versions shows' honest count next' c.requires.block t
+    c.in-Ok.place.root c.in-Ok.place.level c.in-Ok.place.least here level (c.in-Ok.ensures.least ∙ least) in
+    let e = c.of_tree-in-Err-insert.ensures in
+    lacks_by _ shown _ _ c.of_tree-in-Err-insert.result
+    (λ full.
+    let w = c.in-Err-insert.ensures.wants_pages start shown versions tree (ap Err (e.full full)) in
+    let more = w.2 in
+    let used = c.requires.next in
+    record {
+      version = v;
+      its = refl;
+      level = c.in-Ok.place.level;
+      needed = w.0;
+      needs = subst (λ (r : ℕ). AtRoot (λ place. NeedsPages shown v place w.0) r c.in-Ok.place.level) here w.1;
+      above = omega (arith, more, homes, next, used);
+    })
+    (λ high.
+    let seven : c.in-Ok.place.level ≡ 7 = subst (InsertRefusal _ _ _ _ _ _ _) (e.high high) c.in-Err-insert.ensures.refused in
+    record {
+      version = v;
+      its = refl;
+      needs = subst (λ (n : ℕ). AtRoot (NeedsLevel shown v) h.root n) seven (subst (λ (r : ℕ). AtRoot (NeedsLevel shown v) r c.in-Ok.place.level) here (c.in-Err-insert.ensures.high start shown versions tree (ap Err (e.high high))));
+    })
+
 -- ---- how often both disks failed
 
 pub returns-in-Err-clause-failed : goal.returns-in-Err-clause-failed
 returns-in-Err-clause-failed g c =
-    counts_told _ _ _ _ _ _
-    (λ told. (let is : c.of_tree.result ≡ applies.Fault = cc in elim (c.of_tree.ensures.fault is) [
+    reports_as _ _ _ _ _ _
+    (λ told. (let is : c.of_tree.result ≡ applies.Fault = cc in elim (c.of_tree.ensures.fault.0 is) [
       | inl pages ↦ c.in-Err.is ∙ ap Err pages
       | inr once ↦ absurd (subst (ReadRefusal _) once c.in-Err.ensures.refused)
     ]))
-    (counts_read c.open.result _ _ _ _ _ c.open.ensures.reads.device)
+    (λ failed. ap Err (c.of_tree.ensures.fault.1 (inl (one_told c.open.result c.in-Err.refusal (trees.Pages pages.Fault) c.in-Err.is failed))))
+    (reports_first _ _ _ _ _ _ c.open.ensures.reads.device)
 
 pub returns-then-place-most_level-clause-failed : goal.returns-then-place-most_level-clause-failed
 returns-then-place-most_level-clause-failed g c =
-    counts_told _ _ _ _ ⊥ _ (λ told. absurd cc)
-    (counts_quiet _ _ _ _ _ _ (done_not_told c.open.result c.in-Ok.place (trees.Pages pages.Fault) c.in-Ok.is) c.open.ensures.reads.device)
+    let quiet = c.open.ensures.reads.device.quiet (done_not_told c.open.result c.in-Ok.place (trees.Pages pages.Fault) c.in-Ok.is) in
+    reports_then _ _ _ _ _ _ _ (quiet, refl) (reports_none _ _ _ (λ told. absurd cc))
 
 pub returns-in-Ok-insert-clause-failed : goal.returns-in-Ok-insert-clause-failed
 returns-in-Ok-insert-clause-failed g c =
-    counts_then _ _ _ _ _ _ ⊥ _ _ (λ told. absurd cc)
-    (counts_quiet _ _ _ _ _ _ (done_not_told c.open.result c.in-Ok.place (trees.Pages pages.Fault) c.in-Ok.is) c.open.ensures.reads.device)
-    (counts_tree g.O.OnceDisk c.insert.result _ _ _ _ c.args.shelf.now c.insert.new.shelf c.insert.ensures.device c.insert.ensures.shelf)
+    let quiet = c.open.ensures.reads.device.quiet (done_not_told c.open.result c.in-Ok.place (trees.Pages pages.Fault) c.in-Ok.is) in
+    let s = c.insert.ensures.shelf in
+    reports_then _ _ _ _ _ _ _ (quiet, refl)
+    (reports_both c.insert.result (trees.Pages pages.Fault) (trees.Once appends.Fault) _ _ _ _ _ _ _ tree_apart (λ told. absurd cc)
+    (λ failed. absurd (done_not_told c.insert.result c.in-Ok-insert.now (trees.Pages pages.Fault) c.in-Ok-insert.is failed))
+    (λ failed. absurd (done_not_told c.insert.result c.in-Ok-insert.now (trees.Once appends.Fault) c.in-Ok-insert.is failed)) c.insert.ensures.device s.quiet s.counted)
 
 pub returns-in-Err-insert-clause-failed : goal.returns-in-Err-insert-clause-failed
 returns-in-Err-insert-clause-failed g c =
-    counts_then _ _ _ _ _ _ ⊥ _ _
-    (λ told. (let is : c.of_tree-in-Err-insert.result ≡ applies.Fault = cc in elim (c.of_tree-in-Err-insert.ensures.fault is) [
-      | inl pages ↦ inr (inl (c.in-Err-insert.is ∙ ap Err pages))
-      | inr once ↦ inr (inr (c.in-Err-insert.is ∙ ap Err once))
+    let quiet = c.open.ensures.reads.device.quiet (done_not_told c.open.result c.in-Ok.place (trees.Pages pages.Fault) c.in-Ok.is) in
+    let s = c.insert.ensures.shelf in
+    let e = c.in-Err-insert.refusal in
+    reports_then _ _ _ _ _ _ _ (quiet, refl)
+    (reports_both c.insert.result (trees.Pages pages.Fault) (trees.Once appends.Fault) _ _ _ _ _ _ _ tree_apart
+    (λ told. (let is : c.of_tree-in-Err-insert.result ≡ applies.Fault = cc in elim (c.of_tree-in-Err-insert.ensures.fault.0 is) [
+      | inl pages ↦ inl (c.in-Err-insert.is ∙ ap Err pages)
+      | inr once ↦ inr (c.in-Err-insert.is ∙ ap Err once)
     ]))
-    (counts_quiet _ _ _ _ _ _ (done_not_told c.open.result c.in-Ok.place (trees.Pages pages.Fault) c.in-Ok.is) c.open.ensures.reads.device)
-    (counts_tree g.O.OnceDisk c.insert.result _ _ _ _ c.args.shelf.now c.insert.new.shelf c.insert.ensures.device c.insert.ensures.shelf)
+    (λ failed. ap Err (c.of_tree-in-Err-insert.ensures.fault.1 (inl (one_told c.insert.result e (trees.Pages pages.Fault) c.in-Err-insert.is failed))))
+    (λ failed. ap Err (c.of_tree-in-Err-insert.ensures.fault.1 (inr (one_told c.insert.result e (trees.Once appends.Fault) c.in-Err-insert.is failed)))) c.insert.ensures.device s.quiet s.counted)

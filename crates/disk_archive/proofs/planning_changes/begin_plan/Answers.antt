@@ -10,7 +10,6 @@ use Rattle.disk_archive.specs.Trees.{TreeLies}
 use Rattle.disk_archive.specs.declared.apply_error.ApplyError.TheVariants as applies
 use Rattle.disk_archive.proofs.Faults.{done_not_told, keeps_none, keeps_told, one_told}
 use Rattle.disk_archive.proofs.Reaching.{first_found, first_sound}
-use Rattle.disk_archive.proofs.Limited.{on_told}
 use Rattle.disk_archive.proofs.planning_changes.begin_plan.Goals as goal
 
 pub overflow_cast-collector : goal.overflow_cast-collector
@@ -74,9 +73,6 @@ returns-in_err-admission-clause-sound g c count o start shown h shows b m page b
     let low : c.args.number < length c.in_ok-next.next.lanes = (let n = c.requires.lanes in let l = ap (λ (x : Contents). length x.lanes) copy in omega (arith, lt, n, l)) in
     first_sound count (g.P.Pages.homes c.args.pages.now) c.args.settings (settled_in o) c.in_ok-next.next shown lanes h c.args.number _ low b' m next (g.met.P.Pages.count c.args.pages.now start shown shows)
     (λ lane first rest at ring holds told. c.front_of.ensures.sound start shown lane first rest shows at ring holds page told) (search (rules, bad))
-
-pub returns-in_err-admission-clause-limits : goal.returns-in_err-admission-clause-limits
-returns-in_err-admission-clause-limits g c = on_told c.from_residual-in_err-admission.result c.in_err-admission.field-0.0 _ c.from_residual-in_err-admission.ensures.1 (c.in_err-admission.ensures.limits c.args.head.now.applied)
 
 -- ---- how often the device failed
 

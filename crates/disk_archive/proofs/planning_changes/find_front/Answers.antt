@@ -1,7 +1,11 @@
-use Rattle.std.proofs.Common.{◌<◌, ℕ, length, min, refl, sym, ◌∙◌, ap, arith}
+use Rattle.std.proofs.Common.{rules, ◌≡◌, ◌<◌, ℕ, length, min, sym, ◌∙◌, ap, arith, Ok, Err}
 use Rattle.disk_models.specs.Once.{settled_in}
 use Rattle.sequencer.proofs.api.Behind.{next_in}
-use Rattle.disk_archive.proofs.Failing.{front_more}
+use Rattle.disk_archive.specs.declared.apply_error.ApplyError.TheVariants as applies
+use Rattle.disk_archive.specs.declared.stop.Stop.TheVariants as stops
+use Rattle.disk_archive.specs.inner.Applications.{stop_of}
+use Rattle.disk_archive.proofs.Failing.{stop_failed}
+use Rattle.disk_archive.proofs.Faults.{done_not_told, keeps_none, keeps_told, one_told}
 use Rattle.disk_archive.proofs.Reaching.{first_found}
 use Rattle.disk_archive.proofs.planning_changes.find_front.Goals as goal
 
@@ -20,7 +24,7 @@ returns-clause-reached g c count o start h r =
       shown = c.front_of.ensures.reads start r.pages r.shown;
       bears = r.bears;
       mirrors = r.mirrors;
-      first = λ _. first_found count c.args.settings (settled_in o) c.args.plan.now.head r.pages _ h c.in-Some.number c.in-Ok.admission low r.bears r.mirrors c.in-Some.ensures.some (λ lane waits at holds. c.in-Ok.ensures.front start r.pages lane waits r.shown at holds);
+      first = λ _. first_found count c.args.settings (settled_in o) c.args.plan.now.head r.pages _ h c.in-Some.number c.in_ok-admission.admission low r.bears r.mirrors c.in-Some.ensures.some (λ lane waits at holds. c.in_ok-admission.ensures.front start r.pages lane waits r.shown at holds);
     }
 
 pub returns-clause-fits : goal.returns-clause-fits
@@ -31,19 +35,28 @@ returns-clause-fits g c block fits =
       blocks = fits.blocks;
       lanes = fits.lanes;
       count = fits.count;
-      hand = λ _. record { next = c.in-Some.ensures.some; inside = (let n = c.requires.lanes in omega (arith, lt, n)); fits = c.in-Ok.ensures.fits };
+      hand = λ _. record { next = c.in-Some.ensures.some; inside = (let n = c.requires.lanes in omega (arith, lt, n)); fits = c.in_ok-admission.ensures.fits };
     }
 
 -- ---- how often the device failed
 
-pub returns-then-not-plan-clause-failed : goal.returns-then-not-plan-clause-failed
-returns-then-not-plan-clause-failed g c = (0, refl)
+pub returns-then-not-plan-clause-device : goal.returns-then-not-plan-clause-device
+returns-then-not-plan-clause-device g c = keeps_none _ _ _ (λ told. absurd cc)
 
-pub returns-in_default-clause-failed : goal.returns-in_default-clause-failed
-returns-in_default-clause-failed g c = (0, refl)
+pub returns-in_default-clause-device : goal.returns-in_default-clause-device
+returns-in_default-clause-device g c = keeps_none _ _ _ (λ told. absurd cc)
 
-pub returns-in_default-front_of-clause-failed : goal.returns-in_default-front_of-clause-failed
-returns-in_default-front_of-clause-failed g c = front_more c.front_of.result _ _ _ _ c.front_of.ensures.device
+pub returns-in_err-admission-clause-device : goal.returns-in_err-admission-clause-device
+returns-in_err-admission-clause-device g c =
+    let e = c.in_err-admission.field-0.0 in
+    let r : c.front_of.result ≡ Err e = search rules in
+    let d : c.from_residual.result ≡ Err (stop_of e) = search rules in
+    keeps_told _ _ _ _ _ _
+    (λ told. r ∙ ap Err (stop_failed e (one_told c.from_residual.result (stop_of e) stops.Failed d told)))
+    (λ failed. d ∙ ap Err (ap stop_of (one_told c.front_of.result e applies.Fault r failed)))
+    c.front_of.ensures.device
 
-pub returns-clause-failed : goal.returns-clause-failed
-returns-clause-failed g c = front_more c.front_of.result _ _ _ _ c.front_of.ensures.device
+pub returns-clause-device : goal.returns-clause-device
+returns-clause-device g c =
+    let r : c.front_of.result ≡ Ok c.in_ok-admission.admission = search rules in
+    keeps_told _ _ _ _ _ _ (λ told. absurd cc) (λ failed. absurd (done_not_told c.front_of.result c.in_ok-admission.admission applies.Fault r failed)) c.front_of.ensures.device

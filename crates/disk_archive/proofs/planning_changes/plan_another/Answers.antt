@@ -1,11 +1,14 @@
-use Rattle.std.proofs.Common.{rules, ℕ, inl, sym, subst}
+use Rattle.std.proofs.Common.{rules, ◌≡◌, ℕ, refl, sym, ◌∙◌, ap, subst, Ok, Err}
 use Rattle.disk_models.specs.Once.{settled_in}
 use Rattle.once_store.specs.Shelves.{disk_of, next_of, pen_of}
-use Rattle.disk_archive.specs.inner.Applications.{IsPlan, Reached}
-use Rattle.disk_archive.proofs.Failing.{counts_then, counts_told, counts_untold}
+use Rattle.disk_archive.specs.declared.apply_error.ApplyError.TheVariants as applies
+use Rattle.disk_archive.specs.declared.stop.Stop.TheVariants as stops
+use Rattle.disk_archive.specs.declared.planning_changes.Plan.{Plan}
+use Rattle.disk_archive.specs.inner.Applications.{IsPlan, Reached, stop_of}
+use Rattle.disk_archive.proofs.Failing.{stop_failed, reports_first, reports_none, reports_then, reports_as}
+use Rattle.disk_archive.proofs.Faults.{done_not_told, one_told}
 use Rattle.disk_archive.proofs.Keeping.{keeps_told}
-use Rattle.disk_archive.proofs.Outcomes.{ok_then, err_then}
-use Rattle.disk_archive.proofs.Reaching.{step_reaches}
+use Rattle.disk_archive.proofs.Reaching.{reached_grown, reaches_one, reaches_same}
 use Rattle.disk_archive.proofs.planning_changes.plan_another.Goals as goal
 
 pub plan_step-requires-clause-fits : goal.plan_step-requires-clause-fits
@@ -17,8 +20,8 @@ plan_step-requires-clause-fits g c =
     let fits = c.find_front.ensures.fits (next_of c.args.shelf.now) was in
     search (rules, fits)
 
-pub returns-clause-reaches : goal.returns-clause-reaches
-returns-clause-reaches g c start h honest r =
+pub returns-in_err-plan_step-clause-reaches : goal.returns-in_err-plan_step-clause-reaches
+returns-in_err-plan_step-clause-reaches g c start h honest r =
     let P = g.P.Pages in
     let O = g.O.OnceDisk in
     let count = O.block_count (disk_of c.args.shelf.now) in
@@ -29,18 +32,36 @@ returns-clause-reaches g c start h honest r =
     let seen : Reached count c.args.settings few (P.shows c.level_of.new.pages start) c.args.sequencer.now c.args.plan.now h =
     record { pages = r.pages; shown = c.level_of.ensures.reads start r.pages r.shown; bears = r.bears; mirrors = r.mirrors; first = r.first } in
     let found = c.find_front.ensures.reached count (O.model (pen_of c.args.shelf.now)) start h seen in
-    let step = c.plan_step.ensures in
-    step_reaches c.plan_step.result count c.args.settings few many old new c.args.sequencer.now c.find_front.new.plan c.plan_step.new.plan h (step.shelf.grows honest).settled
-    (ok_then c.plan_step.result _ _ (λ moves. moves start h honest found) step.moves) step.as_before (err_then c.plan_step.result _ _ (λ same. same start) step.as_shown) found
+    let e = c.in_err-plan_step.ensures in
+    reaches_same count c.args.settings many new c.args.sequencer.now c.plan_step.new.plan h
+    (subst (λ (x : Plan). Reached count c.args.settings many new c.args.sequencer.now x h) (sym e.as_before)
+    (reached_grown count c.args.settings few many old new c.args.sequencer.now c.find_front.new.plan h (c.plan_step.ensures.shelf.grows honest).settled (e.as_shown start) found))
+
+pub returns-clause-reaches : goal.returns-clause-reaches
+returns-clause-reaches g c start h honest r =
+    let P = g.P.Pages in
+    let O = g.O.OnceDisk in
+    let count = O.block_count (disk_of c.args.shelf.now) in
+    let few = settled_in (O.model (pen_of c.args.shelf.now)) in
+    let seen : Reached count c.args.settings few (P.shows c.level_of.new.pages start) c.args.sequencer.now c.args.plan.now h =
+    record { pages = r.pages; shown = c.level_of.ensures.reads start r.pages r.shown; bears = r.bears; mirrors = r.mirrors; first = r.first } in
+    let found = c.find_front.ensures.reached count (O.model (pen_of c.args.shelf.now)) start h seen in
+    reaches_one count c.args.settings (settled_in (O.model (pen_of c.plan_step.new.shelf))) (P.shows c.plan_step.new.pages start) c.args.sequencer.now c.plan_step.new.plan h (c.in_ok-plan_step.ensures.moves start h honest found)
+
+pub returns-in_err-plan_step-clause-shelf : goal.returns-in_err-plan_step-clause-shelf
+returns-in_err-plan_step-clause-shelf g c = keeps_told g.O.OnceDisk 2 c.args.shelf.now c.plan_step.new.shelf _ ⊥ (λ never. absurd never) c.plan_step.ensures.shelf
 
 pub returns-clause-shelf : goal.returns-clause-shelf
 returns-clause-shelf g c = keeps_told g.O.OnceDisk 2 c.args.shelf.now c.plan_step.new.shelf _ ⊥ (λ never. absurd never) c.plan_step.ensures.shelf
 
+pub returns-in_err-plan_step-clause-shows : goal.returns-in_err-plan_step-clause-shows
+returns-in_err-plan_step-clause-shows g c start shown s = c.plan_step.ensures.shows start shown (c.find_front.ensures.reads start shown (c.level_of.ensures.reads start shown s))
+
 pub returns-clause-shows : goal.returns-clause-shows
 returns-clause-shows g c start shown s = c.plan_step.ensures.shows start shown (c.find_front.ensures.reads start shown (c.level_of.ensures.reads start shown s))
 
-pub returns-then-not-find_front-clause-fits : goal.returns-then-not-find_front-clause-fits
-returns-then-not-find_front-clause-fits g c =
+pub returns-in_err-find_front-clause-fits : goal.returns-in_err-find_front-clause-fits
+returns-in_err-find_front-clause-fits g c =
     let P = g.P.Pages in
     let e = c.level_of.ensures in
     let was = subst (λ (n : ℕ). IsPlan c.args.settings n (P.next c.level_of.new.pages) (next_of c.args.shelf.now) c.args.sequencer.now c.args.plan.now) (sym e.homes)
@@ -49,17 +70,47 @@ returns-then-not-find_front-clause-fits g c =
 
 -- ---- how often both disks failed
 
-pub returns-in_default-clause-failed : goal.returns-in_default-clause-failed
-returns-in_default-clause-failed g c = counts_untold _ _ _ c.level_of.ensures.failed
+pub returns-in_err-level-clause-failed : goal.returns-in_err-level-clause-failed
+returns-in_err-level-clause-failed g c =
+    let e = c.in_err-level.field-0.0 in
+    let r : c.level_of.result ≡ Err e = search rules in
+    let d : c.from_residual.result ≡ Err e = search rules in
+    reports_as _ _ _ _ _ _ (λ told. r ∙ ap Err (one_told c.from_residual.result e stops.Failed d told)) (λ failed. d ∙ ap Err (one_told c.level_of.result e stops.Failed r failed)) (reports_first _ _ _ _ _ _ c.level_of.ensures.device)
 
 pub returns-then-not-has_room-clause-failed : goal.returns-then-not-has_room-clause-failed
-returns-then-not-has_room-clause-failed g c = counts_untold _ _ _ c.level_of.ensures.failed
+returns-then-not-has_room-clause-failed g c =
+    let level : c.level_of.result ≡ Ok c.in_ok-level.level = search rules in
+    let quiet = c.level_of.ensures.device.quiet (done_not_told c.level_of.result c.in_ok-level.level stops.Failed level) in
+    reports_then _ _ _ _ _ _ _ (quiet, refl) (reports_none _ _ _ (λ told. absurd cc))
 
-pub returns-then-not-find_front-clause-failed : goal.returns-then-not-find_front-clause-failed
-returns-then-not-find_front-clause-failed g c = counts_then _ _ _ _ _ _ ⊥ ⊥ ⊥ inl (counts_untold _ _ _ c.level_of.ensures.failed) (counts_untold _ _ _ c.find_front.ensures.failed)
+pub returns-in_err-find_front-clause-failed : goal.returns-in_err-find_front-clause-failed
+returns-in_err-find_front-clause-failed g c =
+    let level : c.level_of.result ≡ Ok c.in_ok-level.level = search rules in
+    let quiet = c.level_of.ensures.device.quiet (done_not_told c.level_of.result c.in_ok-level.level stops.Failed level) in
+    let e = c.in_err-find_front.field-0.0 in
+    let r : c.find_front.result ≡ Err e = search rules in
+    let d : c.from_residual-in_err-find_front.result ≡ Err e = search rules in
+    reports_then _ _ _ _ _ _ _ (quiet, refl)
+    (reports_as _ _ _ _ _ _ (λ told. r ∙ ap Err (one_told c.from_residual-in_err-find_front.result e stops.Failed d told)) (λ failed. d ∙ ap Err (one_told c.find_front.result e stops.Failed r failed)) (reports_first _ _ _ _ _ _ c.find_front.ensures.device))
+
+pub returns-in_err-plan_step-clause-failed : goal.returns-in_err-plan_step-clause-failed
+returns-in_err-plan_step-clause-failed g c =
+    let level : c.level_of.result ≡ Ok c.in_ok-level.level = search rules in
+    let quiet = c.level_of.ensures.device.quiet (done_not_told c.level_of.result c.in_ok-level.level stops.Failed level) in
+    let front : c.find_front.result ≡ Ok tt = search rules in
+    let found = c.find_front.ensures.device.quiet (done_not_told c.find_front.result tt stops.Failed front) in
+    let e = c.in_err-plan_step.field-0.0 in
+    let r : c.plan_step.result ≡ Err e = search rules in
+    let d : c.from_residual-in_err-plan_step.result ≡ Err (stop_of e) = search rules in
+    reports_then _ _ _ _ _ _ _ (found ∙ quiet, refl)
+    (reports_as _ _ _ _ _ _ (λ told. r ∙ ap Err (stop_failed e (one_told c.from_residual-in_err-plan_step.result (stop_of e) stops.Failed d told))) (λ failed. d ∙ ap Err (ap stop_of (one_told c.plan_step.result e applies.Fault r failed))) c.plan_step.ensures.failed)
 
 pub returns-clause-failed : goal.returns-clause-failed
 returns-clause-failed g c =
-    counts_then _ _ _ _ _ _ ⊥ ⊥ ⊥ inl
-    (counts_then _ _ _ _ _ _ ⊥ ⊥ ⊥ inl (counts_untold _ _ _ c.level_of.ensures.failed) (counts_untold _ _ _ c.find_front.ensures.failed))
-    (counts_told _ _ _ _ _ ⊥ (λ never. absurd never) c.plan_step.ensures.failed)
+    let level : c.level_of.result ≡ Ok c.in_ok-level.level = search rules in
+    let quiet = c.level_of.ensures.device.quiet (done_not_told c.level_of.result c.in_ok-level.level stops.Failed level) in
+    let front : c.find_front.result ≡ Ok tt = search rules in
+    let found = c.find_front.ensures.device.quiet (done_not_told c.find_front.result tt stops.Failed front) in
+    let r : c.plan_step.result ≡ Ok tt = search rules in
+    reports_then _ _ _ _ _ _ _ (found ∙ quiet, refl)
+    (reports_as _ _ _ _ _ _ (λ told. absurd cc) (λ failed. absurd (done_not_told c.plan_step.result tt applies.Fault r failed)) c.plan_step.ensures.failed)

@@ -1,8 +1,10 @@
-use Rattle.std.proofs.Common.{◌*◌, ◌+◌, inl, ℕ, refl, sym, ◌∙◌, ap, subst, arith}
+use Rattle.std.proofs.Common.{rules, ◌≡◌, ◌*◌, ◌+◌, ℕ, refl, sym, ◌∙◌, ap, subst, arith, Ok, Err}
 use Rattle.disk_models.specs.Once.{settled_in}
 use Rattle.once_store.specs.Shelves.{pen_of}
 use Rattle.disk_archive.specs.inner.Applications.{Reached, Reaches}
-use Rattle.disk_archive.proofs.Failing.{counts_none, counts_then}
+use Rattle.disk_archive.specs.declared.stop.Stop.TheVariants as stops
+use Rattle.disk_archive.proofs.Failing.{reports_none, reports_then, reports_as}
+use Rattle.disk_archive.proofs.Faults.{done_not_told, one_told}
 use Rattle.disk_archive.proofs.Keeping.{keeps_none, keeps_then, keeps_fewer}
 use Rattle.disk_archive.proofs.Reaching.{reaches_same, reaches_then}
 use Rattle.disk_archive.proofs.planning_changes.plan_more.Goals as goal
@@ -17,13 +19,14 @@ loop-init g c = record {
   homes = refl;
   down = refl;
   honest = (λ h. h, λ h. h);
-  failed = counts_none _ _ ⊥ (λ never. never);
+  quiet = (refl, refl);
 }
 
 pub loop-preserved : goal.loop-preserved
 loop-preserved g c =
     let i = c.loop.invariant in
     let e = c.plan_another.ensures in
+    let done : c.plan_another.result ≡ Ok tt = search rules in
     record {
       reaches = λ start h honest r.
           let disk = ap (λ d. g.O.OnceDisk.block_count d) i.shelf.disk in
@@ -39,21 +42,26 @@ loop-preserved g c =
       homes = e.homes ∙ i.homes;
       down = e.down ∙ i.down;
       honest = (λ h. e.honest.0 (i.honest.0 h), λ h. i.honest.1 (e.honest.1 h));
-      failed = counts_then _ _ _ _ _ _ ⊥ ⊥ ⊥ inl i.failed e.failed;
+      quiet = (let more = e.failed.quiet (done_not_told c.plan_another.result tt stops.Failed done) in (more.0 ∙ i.quiet.0, more.1 ∙ i.quiet.1));
     }
 
 pub returns-clause-shelf : goal.returns-clause-shelf
 returns-clause-shelf g c = keeps_fewer g.O.OnceDisk (2 * c.loop.counter) 1998 c.args.shelf.now c.loop.shelf ⊥ (let e = c.loop.auto.counter-end in omega (arith, e)) c.loop.invariant.shelf
 
-pub returns-then-not-plan_another-clause-shelf : goal.returns-then-not-plan_another-clause-shelf
-returns-then-not-plan_another-clause-shelf g c =
+pub returns-clause-failed : goal.returns-clause-failed
+returns-clause-failed g c = reports_then _ _ _ _ _ _ _ c.loop.invariant.quiet (reports_none _ _ _ (λ told. absurd cc))
+
+-- ---- no further change
+
+pub returns-in-Err-Enough-clause-shelf : goal.returns-in-Err-Enough-clause-shelf
+returns-in-Err-Enough-clause-shelf g c =
     let i = c.loop.invariant in
     let below = c.loop-test.true in
     keeps_fewer g.O.OnceDisk (2 * c.loop.counter + 2) 1998 c.args.shelf.now c.plan_another.new.shelf ⊥ (omega (arith, below))
     (keeps_then g.O.OnceDisk (2 * c.loop.counter) 2 c.args.shelf.now c.loop.shelf c.plan_another.new.shelf ⊥ ⊥ i.shelf c.plan_another.ensures.shelf)
 
-pub returns-then-not-plan_another-clause-reaches : goal.returns-then-not-plan_another-clause-reaches
-returns-then-not-plan_another-clause-reaches g c start h honest r =
+pub returns-in-Err-Enough-clause-reaches : goal.returns-in-Err-Enough-clause-reaches
+returns-in-Err-Enough-clause-reaches g c start h honest r =
     let i = c.loop.invariant in
     let e = c.plan_another.ensures in
     let disk = ap (λ d. g.O.OnceDisk.block_count d) i.shelf.disk in
@@ -63,5 +71,23 @@ returns-then-not-plan_another-clause-reaches g c start h honest r =
     (e.reaches start m (i.shelf.honest.0 honest)
     (subst (λ (n : ℕ). Reached n c.args.settings (settled_in (g.O.OnceDisk.model (pen_of c.loop.shelf))) (g.P.Pages.shows c.loop.pages start) c.args.sequencer.now c.loop.plan m) (sym disk) s)))
 
-pub returns-then-not-plan_another-clause-failed : goal.returns-then-not-plan_another-clause-failed
-returns-then-not-plan_another-clause-failed g c = counts_then _ _ _ _ _ _ ⊥ ⊥ ⊥ inl c.loop.invariant.failed c.plan_another.ensures.failed
+pub returns-in-Err-Enough-clause-failed : goal.returns-in-Err-Enough-clause-failed
+returns-in-Err-Enough-clause-failed g c =
+    let i = c.loop.invariant in
+    let enough : c.plan_another.result ≡ Err stops.Enough = search rules in
+    let more = c.plan_another.ensures.failed.quiet (λ failed. let both : stops.Enough ≡ stops.Failed = one_told c.plan_another.result stops.Enough stops.Failed enough failed in cc) in
+    reports_then _ _ _ _ _ _ _ (more.0 ∙ i.quiet.0, more.1 ∙ i.quiet.1) (reports_none _ _ _ (λ told. absurd cc))
+
+-- ---- a device failed
+
+pub returns-in-Err-Failed-clause-shelf : goal.returns-in-Err-Failed-clause-shelf
+returns-in-Err-Failed-clause-shelf g c =
+    let i = c.loop.invariant in
+    let below = c.loop-test.true in
+    keeps_fewer g.O.OnceDisk (2 * c.loop.counter + 2) 1998 c.args.shelf.now c.plan_another.new.shelf ⊥ (omega (arith, below))
+    (keeps_then g.O.OnceDisk (2 * c.loop.counter) 2 c.args.shelf.now c.loop.shelf c.plan_another.new.shelf ⊥ ⊥ i.shelf c.plan_another.ensures.shelf)
+
+pub returns-in-Err-Failed-clause-failed : goal.returns-in-Err-Failed-clause-failed
+returns-in-Err-Failed-clause-failed g c =
+    let failed : c.plan_another.result ≡ Err stops.Failed = search rules in
+    reports_then _ _ _ _ _ _ _ c.loop.invariant.quiet (reports_as _ _ _ _ _ _ (λ told. failed) (λ f. cc) c.plan_another.ensures.failed)

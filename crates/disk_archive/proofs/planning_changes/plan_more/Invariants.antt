@@ -3,7 +3,6 @@ use Rattle.disk_models.specs.Once.{settled_in}
 use Rattle.once_store.specs.Shelves.{disk_of, next_of, pen_of}
 use Rattle.page_tx.specs.Start.{Start}
 use Rattle.route_meaning.specs.History.{History}
-use Rattle.disk_archive.specs.Failures.{CountsFailures}
 use Rattle.disk_archive.specs.inner.Applications.{IsPlan, KeepsBlocks, Reached, Reaches}
 use Rattle.disk_archive.proofs.planning_changes.plan_more.Given as goal
 
@@ -19,5 +18,5 @@ invariant-loop g l = record {
   homes : g.P.Pages.homes l.pages ≡ g.P.Pages.homes l.fn.pages;
   down : g.P.Pages.down l.pages ≡ g.P.Pages.down l.fn.pages;
   honest : g.P.Pages.honest l.fn.pages ↔ g.P.Pages.honest l.pages;
-  failed : CountsFailures (g.P.Pages.faults l.fn.pages) (g.P.Pages.faults l.pages) (g.O.OnceDisk.pen_fault_count (pen_of l.fn.shelf)) (g.O.OnceDisk.pen_fault_count (pen_of l.shelf)) ⊥;
+  quiet : (g.P.Pages.faults l.pages ≡ g.P.Pages.faults l.fn.pages) × (g.O.OnceDisk.pen_fault_count (pen_of l.shelf) ≡ g.O.OnceDisk.pen_fault_count (pen_of l.fn.shelf));
 }

@@ -1,4 +1,4 @@
-use Rattle.std.proofs.Common.{rules, ◌≡◌, ℕ, List, min, refl, sym, ◌∙◌, ap, subst, arith, Err}
+use Rattle.std.proofs.Common.{rules, ◌≡◌, ℕ, List, min, refl, sym, ◌∙◌, ap, subst, arith, Ok, Err}
 use Rattle.std.specs.List.{slice_get}
 use Rattle.route_model.specs.Admission.{Admitted}
 use Rattle.archive_pages.specs.Batches.{CanPop}
@@ -10,8 +10,9 @@ use Rattle.once_store.specs.Shelves.{next_of}
 use Rattle.disk_archive.specs.declared.planning_changes.Plan.{Plan}
 use Rattle.disk_archive.specs.inner.Applications.{IsPlan}
 use Rattle.disk_archive.specs.declared.apply_error.ApplyError.TheVariants as applies
-use Rattle.disk_archive.proofs.Failing.{counts_told}
-use Rattle.disk_archive.proofs.Faults.{one_told}
+use Rattle.disk_archive.proofs.Failing.{reports_as}
+use Rattle.disk_archive.proofs.Faults.{done_not_told, one_told}
+use Rattle.disk_archive.proofs.Limited.{on_told}
 use Rattle.disk_archive.proofs.Outcomes.{on_each_err}
 use Rattle.disk_archive.proofs.Reaching.{advances, at_hand}
 use Rattle.disk_archive.proofs.planning_changes.plan_step.Goals as goal
@@ -75,6 +76,11 @@ returns-in_err-whole-clause-sound g c most start h honest r page bad =
 pub returns-in_err-whole-clause-high : goal.returns-in_err-whole-clause-high
 returns-in_err-whole-clause-high g c start shown shows told = c.plan_change.ensures.high start shown shows (search (rules, told))
 
+pub returns-in_err-whole-clause-lacks : goal.returns-in_err-whole-clause-lacks
+returns-in_err-whole-clause-lacks g c start h honest r =
+    let f = at_hand h c.args.plan.now.front c.admission-admission.result.now (r.first c.requires.hand) (sym c.admission-admission.ensures) in
+    on_told c.from_residual.result c.in_err-whole.field-0.0 _ c.from_residual.ensures.1 (c.in_err-whole.ensures.lacks start r.pages h f.later r.shown honest r.bears f.here)
+
 -- ---- how often both disks failed
 
 pub returns-in_err-whole-clause-failed : goal.returns-in_err-whole-clause-failed
@@ -82,7 +88,9 @@ returns-in_err-whole-clause-failed g c =
     let e = c.in_err-whole.field-0.0 in
     let r : c.plan_change.result ≡ Err e = search rules in
     let d : c.from_residual.result ≡ Err e = search rules in
-    counts_told _ _ _ _ _ _ (λ told. r ∙ ap Err (one_told c.from_residual.result e applies.Fault d told)) c.plan_change.ensures.failed
+    reports_as _ _ _ _ _ _ (λ told. r ∙ ap Err (one_told c.from_residual.result e applies.Fault d told)) (λ failed. d ∙ ap Err (one_told c.plan_change.result e applies.Fault r failed)) c.plan_change.ensures.failed
 
 pub returns-clause-failed : goal.returns-clause-failed
-returns-clause-failed g c = counts_told _ _ _ _ _ _ (λ told. absurd cc) c.plan_change.ensures.failed
+returns-clause-failed g c =
+    let r : c.plan_change.result ≡ Ok c.in_ok-whole.whole = search rules in
+    reports_as _ _ _ _ _ _ (λ told. absurd cc) (λ failed. absurd (done_not_told c.plan_change.result c.in_ok-whole.whole applies.Fault r failed)) c.plan_change.ensures.failed

@@ -1,11 +1,11 @@
 use Rattle.std.proofs.Common.{◌∙◌, ap, subst, sym}
 use Rattle.page_journal.specs.Journal.{disk_of, home_pages, note_of}
 use Rattle.page_journal.specs.Recovers.{Recovers}
-use Rattle.disk_archive.specs.Openings.{IsWant}
+use Rattle.disk_archive.specs.Openings.{IsNoneOrWant, IsWant}
 use Rattle.disk_models.specs.Erase.{MayLeave}
 use Rattle.disk_archive.specs.inner.Guarding.{MeansOr}
 use Rattle.disk_archive.proofs.Guarding.{means_opened}
-use Rattle.disk_archive.proofs.Found.{looks_on, none_named, one_count, one_note, only_want_told}
+use Rattle.disk_archive.proofs.Found.{looks_on, none_named, none_told, one_count, one_note, only_want_told}
 use Rattle.disk_archive.proofs.restoring.restore.Goals as goal
 
 pub returns-in-Ok-look_at-clause-looks : goal.returns-in-Ok-look_at-clause-looks
@@ -24,6 +24,11 @@ pub returns-in-Err-clause-unnamed : goal.returns-in-Err-clause-unnamed
 returns-in-Err-clause-unnamed g c honest told named =
     let device = g.E.EraseDisk in
     none_named (device.octet_count c.args.erase) (device.model c.args.erase).octet c.args.blocks c.in-Err.field-0.error (c.in-Err.ensures.refused honest) (sym c.of_journal.ensures.same ∙ told) named
+
+pub returns-in-Err-clause-none : goal.returns-in-Err-clause-none
+returns-in-Err-clause-none g c honest none =
+    let device = g.E.EraseDisk in
+    subst IsNoneOrWant (sym c.of_journal.ensures.same) (none_told (device.octet_count c.args.erase) (device.model c.args.erase).octet c.in-Err.field-0.error (c.in-Err.ensures.refused honest) none)
 
 pub returns-in-Err-clause-undamaged : goal.returns-in-Err-clause-undamaged
 returns-in-Err-clause-undamaged g c honest homes note pages reads room s are noted low =

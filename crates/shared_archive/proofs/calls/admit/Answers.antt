@@ -42,7 +42,7 @@ returns-in-Err-clause-done g c = λ p k.
         refl,
         subst (λ (r : AdmitRefusal). IsRefusal h c.args.collector c.args.batch.now r) (sym c.admit_refusal.ensures.why)
             (not_taken (is_down a) (settings_of a).collectors h c.args.collector c.args.batch.now c.in-Err.refusal (number_of a p k) e.no_collector e.too_large (e.counter_full honest h (λ _. k.goes_on))
-            (λ is. let full = e.intake_full honest h (λ _. k.goes_on) (ap Err is) in slice_get_within h.intakes c.args.collector full.intake full.here)
+            (λ is. let full = (e.intake_full honest h (λ _. k.goes_on)).0 (ap Err is) in let ring = full.3 in slice_get_within h.intakes c.args.collector ring.intake ring.here)
             (λ page is. e.undamaged honest h (λ _. k.goes_on) page (ap Err is))),
       ),
     )
@@ -52,7 +52,8 @@ returns-in-Err-clause-full g c = λ p k told.
     let a = c.args.archive.now in
     let h = p.history in
     let full = only_full c.in-Err.refusal (sym c.admit_refusal.ensures.why ∙ (let t = told in search (rules, t))) in
-    crowded a h c.args.collector c.args.batch.now (c.in-Err.ensures.intake_full (honest_of a p k) h (λ _. k.goes_on) (ap Err full))
+    let is = (c.in-Err.ensures.intake_full (honest_of a p k) h (λ _. k.goes_on)).0 (ap Err full) in
+    crowded a h c.args.collector c.args.batch.now is.3
 
 pub returns-in-Err-clause-trouble : goal.returns-in-Err-clause-trouble
 returns-in-Err-clause-trouble g c =

@@ -21,4 +21,4 @@ pub returns-in-Ok-clause-known : goal.returns-in-Ok-clause-known
 returns-in-Ok-clause-known g c = λ p k. subst (λ (known : ℕ → Option (List ℕ)). AreTheSettled (g.O.OnceDisk.block_count (once_of c.args.archive.now)) known p.blocks) (sym (c.in-Ok.ensures.known (honest_of c.args.archive.now p k))) k.blocks
 
 pub returns-in-Err-clause-trouble : goal.returns-in-Err-clause-trouble
-returns-in-Err-clause-trouble g c = inr (0, c.in-Err.ensures.counts.counted refl)
+returns-in-Err-clause-trouble g c = inr (c.in-Err.ensures.counts.counted refl)

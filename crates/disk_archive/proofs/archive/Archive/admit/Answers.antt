@@ -1,9 +1,10 @@
-use Rattle.std.proofs.Common.{inl, inr, ⊎_elim, sym, ◌∙◌, true≢false}
+use Rattle.std.proofs.Common.{inl, inr, ⊎_elim, ap, sym, ◌∙◌, true≢false}
+use Rattle.page_journal.specs.Journal.{disk_of}
 use Rattle.interleaving_core.specs.Steps.{given}
 use Rattle.interleaving_core.proofs.api.Right.{begins_given}
 use Rattle.disk_archive.specs.declared.error.AdmitError.TheVariants as admits
 use Rattle.disk_archive.proofs.Limiting.{not_both}
-use Rattle.disk_archive.proofs.Outcomes.{err_then, from_result, ok_both, ok_then, if_ok_as}
+use Rattle.disk_archive.proofs.Outcomes.{err_then, from_result, ok_both, if_ok_as}
 use Rattle.disk_archive.proofs.Lasting.{down_still, held_clock, held_ok, held_err, lasts_of}
 use Rattle.disk_archive.proofs.archive.Archive.admit.Goals as goal
 
@@ -39,15 +40,9 @@ returns-clause-counter_full g c honest h held = ⊎_elim
     (held honest)
 
 pub returns-clause-intake_full : goal.returns-clause-intake_full
-returns-clause-intake_full g c honest h held told = ⊎_elim
-    (λ k. c.try_admit.ensures.intake_full h k told)
-    (λ w. absurd (not_both c.try_admit.result admits.IntakeFull (c.try_admit.ensures.told.1 w.unusable) (λ e. cc) told))
-    (held honest)
-
-pub returns-clause-room : goal.returns-clause-room
-returns-clause-room g c honest h held = ⊎_elim
-    (λ k. c.try_admit.ensures.room h k)
-    (λ w. ok_then c.try_admit.result _ _ (λ usable. absurd (true≢false (sym w.unusable ∙ usable))) c.try_admit.ensures.usable)
+returns-clause-intake_full g c honest h held = ⊎_elim
+    (λ k. let e = c.try_admit.ensures.intake_full h k in (λ r. (let full = e.0 r in (k.maps.keeps.usable, full.0, full.1, full.2)), λ is. e.1 (is.1, is.2, is.3)))
+    (λ w. let r = c.try_admit.ensures.told.1 w.unusable in (λ full. absurd (not_both c.try_admit.result admits.IntakeFull r (λ e. cc) full), λ is. absurd (true≢false (sym w.unusable ∙ is.0))))
     (held honest)
 
 pub returns-clause-undamaged : goal.returns-clause-undamaged
@@ -67,3 +62,6 @@ returns-clause-idle g c down = down_still c.args.self.now _ down (c.try_admit.en
 
 pub returns-clause-memory : goal.returns-clause-memory
 returns-clause-memory g c honest h held told = held_clock c.args.self.now _ h c.try_admit.ensures.recovery (λ k. c.try_admit.ensures.memory h k told) (held honest)
+
+pub returns-clause-empty : goal.returns-clause-empty
+returns-clause-empty g c none = let e = c.try_admit.ensures.empty none in (ap disk_of e.0.journal, e.1)

@@ -1,10 +1,13 @@
-use Rattle.std.proofs.Common.{ap, sym, ◌∙◌, arith}
+use Rattle.std.proofs.Common.{◌≡◌, ⊎_elim, ap, sym, ◌∙◌, arith}
 use Rattle.page_journal.specs.Journal.{disk_of}
 use Rattle.disk_archive.proofs.Outcomes.{err_then}
 use Rattle.disk_archive.proofs.Lasting.{down_still, held_clock, held_err, lasts_by}
 use Rattle.disk_archive.proofs.Applied.{applied_of, idle_of, idle_same, goes_of, never_bad, needs_recovery_of, none_blank, same_or_moved, both_same}
 use Rattle.route_meaning.specs.History.{applied}
 use Rattle.disk_archive.proofs.Counts.{changes_are}
+use Rattle.disk_archive.specs.declared.apply_error.ApplyError.TheVariants as applies
+use Rattle.disk_archive.proofs.Faults.{one_told}
+use Rattle.disk_archive.proofs.Lacking.{lacks_level, lacks_pages}
 use Rattle.disk_archive.proofs.Limited.{counter_of, pages_of}
 use Rattle.disk_archive.proofs.Telling.{borne_of}
 use Rattle.disk_archive.proofs.archive.Archive.apply_step.Goals as goal
@@ -72,3 +75,15 @@ returns-clause-down_idle g c down = down_still c.args.self.now _ down (c.try_app
 
 pub returns-clause-memory : goal.returns-clause-memory
 returns-clause-memory g c honest h held told = held_clock c.args.self.now _ h c.try_apply.ensures.recovery (λ k. c.try_apply.ensures.memory h k told) (held honest)
+
+pub returns-clause-pages_needed : goal.returns-clause-pages_needed
+returns-clause-pages_needed g c honest h held told = ⊎_elim
+    (λ k. (k.pages, k.maps, lacks_pages _ k.pages _ _ c.try_apply.result (c.try_apply.ensures.lacks h k) told))
+    (λ w. absurd (let other : applies.NeedsRecovery ≡ applies.PagesFull = one_told c.try_apply.result applies.NeedsRecovery applies.PagesFull (c.try_apply.ensures.told w.unusable) told in cc))
+    (held honest)
+
+pub returns-clause-level_needed : goal.returns-clause-level_needed
+returns-clause-level_needed g c honest h held told = ⊎_elim
+    (λ k. (k.pages, k.maps, lacks_level _ k.pages _ _ c.try_apply.result (c.try_apply.ensures.lacks h k) told))
+    (λ w. absurd (let other : applies.NeedsRecovery ≡ applies.TooHigh = one_told c.try_apply.result applies.NeedsRecovery applies.TooHigh (c.try_apply.ensures.told w.unusable) told in cc))
+    (held honest)

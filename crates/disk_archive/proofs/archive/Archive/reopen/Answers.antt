@@ -96,3 +96,13 @@ pub returns-in-Err-clause-left : goal.returns-in-Err-clause-left
 returns-in-Err-clause-left g c honest homes note pages reads =
     let e0 = g.E.EraseDisk.model c.args.erase in
     means_weaker (g.E.EraseDisk.model c.in-Err.field-0.disk) e0.clock g.B.Before.clock (MayLeave e0) g.B.Before.left homes note pages c.requires.clock c.requires.left (c.in-Err.ensures.left honest homes note pages reads)
+
+pub returns-in-Ok-memory-clause-none : goal.returns-in-Ok-memory-clause-none
+returns-in-Ok-memory-clause-none g c honest none =
+    let named = c.in-Ok.ensures.named honest in
+    absurd (none named.homes named.note named.names)
+
+pub returns-in-Err-memory-clause-none : goal.returns-in-Err-memory-clause-none
+returns-in-Err-memory-clause-none g c honest none =
+    let named = c.in-Ok.ensures.named honest in
+    absurd (none named.homes named.note named.names)

@@ -1,4 +1,4 @@
-use Rattle.std.proofs.Common.{rules, ◌≡◌, ◌<◌, ◌≤◌, inl, List, [], length, refl, sym, ◌∙◌, ap, subst, arith, slice_get, Err}
+use Rattle.std.proofs.Common.{rules, ◌≡◌, ◌<◌, ◌≤◌, ◌-◌, ◌*◌, inl, inr, List, [], length, refl, sym, ◌∙◌, ap, subst, arith, slice_get, Err}
 use Rattle.std.specs.Prelude.{sum_by}
 use Rattle.page_journal.specs.Journal.{disk_of, home_pages, needs_recovery}
 use Rattle.page_tx.specs.Start.{Start}
@@ -7,7 +7,7 @@ use Rattle.route_meaning.specs.History.{Intake}
 use Rattle.sequencer.specs.Taking.{TakesIn}
 use Rattle.interleaving_core.specs.Steps.{given}
 use Rattle.interleaving_core.proofs.api.Right.{begins_given, right_given}
-use Rattle.intake.specs.Ring.{entry_octets}
+use Rattle.intake.specs.Ring.{entry_octets, octets_for}
 use Rattle.disk_archive.specs.Archives.{once_state, site_of}
 use Rattle.disk_archive.proofs.BatchSizes.{octets_timely}
 use Rattle.disk_archive.proofs.Mirroring.{intake_at, mark_at, mark_there, mirror_same, mirror_given}
@@ -15,8 +15,10 @@ use Rattle.disk_archive.proofs.Outcomes.{on_each_err}
 use Rattle.sequencer.proofs.api.Setting.{one_there}
 use Rattle.disk_archive.specs.declared.error.AdmitError.TheVariants as admits
 use Rattle.disk_archive.proofs.Plans.{lane_at}
-use Rattle.disk_archive.proofs.Limiting.{ring_full, ring_room, not_full, no_counter, counter_told, plan_later, commit_later, memory_later, as_told, told_err}
+use Rattle.disk_archive.proofs.Limiting.{not_full, no_counter, counter_told, not_crowded, no_crowd, crowd_told, plan_later, commit_later, memory_later, as_told, told_err}
 use Rattle.disk_archive.proofs.Replies.{reply_is}
+use Rattle.disk_archive.proofs.Nothing.{carries_none, is_nil, not_nil, reply_none}
+use Rattle.disk_archive.proofs.Limited.{on_told}
 use Rattle.disk_archive.proofs.Calling.{Ready, start_of, grows_none, unwritten, written, kept, refused, done}
 use Rattle.disk_archive.specs.inner.Committing.{admit_of_use}
 use Rattle.buffer_pool.specs.Pool.{journal_of}
@@ -35,6 +37,16 @@ plan_batch-requires-clause-octets g c =
     let part = octets_timely m.0 [] c.args.batch.now in
     let all = c.in_ok-may_take.ensures.octets in
     subst (λ (l : List Admitted). sum_by entry_octets l ≤ 262144) (sym e) (omega (arith, part, all))
+
+pub plan_batch-requires-clause-free : goal.plan_batch-requires-clause-free
+plan_batch-requires-clause-free g c lane at =
+    let a = c.args.self.now in
+    let few = a.numbers in
+    let low = c.in_ok-may_take.ensures.collector in
+    let m = mark_at a.sequencer c.args.collector (omega (arith, few, low)) in
+    let e = (c.in_ok-kept.ensures.kept m.0 m.1).items in
+    let room = c.in_ok-may_take.ensures.room lane m.0 at m.1 in
+    subst (λ (l : List Admitted). octets_for l ≤ 16384 * a.settings.ring - lane.used) (sym e) room
 
 pub returns-in_err-may_take-clause-err : goal.returns-in_err-may_take-clause-err
 returns-in_err-may_take-clause-err g c = on_each_err c.from_residual-in_err-may_take.result _ (λ h k.
@@ -57,6 +69,74 @@ returns-in_err-may_take-clause-crash g c h k =
     let homes0 = ap home_pages c.begin.ensures.same in
     let r : Ready a h k c.begin.new.tx k.pages = record { shows = s0; homes = homes0 } in
     unwritten a _ h w k k.pages sound r (grows_none (once_state a))
+
+-- ---- the batch has no record
+
+pub returns-in_err-begin-clause-empty : goal.returns-in_err-begin-clause-empty
+returns-in_err-begin-clause-empty g c none = (
+  record { journal = c.begin.ensures.same; disk = refl; state = refl; settings = refl; head = refl; lanes = refl },
+  on_told c.from_residual.result _ _ c.from_residual.ensures.1 (inl refl),
+)
+
+pub returns-in_err-may_take-clause-empty : goal.returns-in_err-may_take-clause-empty
+returns-in_err-may_take-clause-empty g c none = (
+  record { journal = c.begin.ensures.same; disk = refl; state = refl; settings = refl; head = refl; lanes = refl },
+  on_told c.from_residual-in_err-may_take.result _ _ c.from_residual-in_err-may_take.ensures.1 (inr (c.in_err-may_take.ensures.empty none)),
+)
+
+pub returns-then-is_empty-clause-empty : goal.returns-then-is_empty-clause-empty
+returns-then-is_empty-clause-empty g c none = (record { journal = c.begin.ensures.same; disk = refl; state = refl; settings = refl; head = refl; lanes = refl }, tt)
+
+pub returns-in_err-kept-clause-empty : goal.returns-in_err-kept-clause-empty
+returns-in_err-kept-clause-empty g c none = absurd (not_nil c.args.batch.now _ c.is_empty.ensures c.if-is_empty.false none)
+
+pub returns-in_err-next-clause-empty : goal.returns-in_err-next-clause-empty
+returns-in_err-next-clause-empty g c none = absurd (not_nil c.args.batch.now _ c.is_empty.ensures c.if-is_empty.false none)
+
+pub returns-in_err-commit-clause-empty : goal.returns-in_err-commit-clause-empty
+returns-in_err-commit-clause-empty g c none = absurd (not_nil c.args.batch.now _ c.is_empty.ensures c.if-is_empty.false none)
+
+pub returns-clause-empty : goal.returns-clause-empty
+returns-clause-empty g c none = absurd (not_nil c.args.batch.now _ c.is_empty.ensures c.if-is_empty.false none)
+
+pub returns-then-is_empty-clause-ok : goal.returns-then-is_empty-clause-ok
+returns-then-is_empty-clause-ok g c h k =
+    let a = c.args.self.now in
+    let s0 = c.in_ok-begin.ensures.shown k.honest.0 k.pages k.maps in
+    let homes0 = ap home_pages c.begin.ensures.same in
+    let r : Ready a h k c.begin.new.tx k.pages = record { shows = s0; homes = homes0 } in
+    carries_none _ h c.args.collector c.args.batch.now (is_nil c.args.batch.now _ c.is_empty.ensures c.if-is_empty.true)
+    (kept a _ h k k.pages r refl refl refl refl (s0.honest, k.honest.1) k.mirrors)
+
+pub returns-then-is_empty-clause-crash : goal.returns-then-is_empty-clause-crash
+returns-then-is_empty-clause-crash g c h k =
+    let a = c.args.self.now in
+    let w = given h c.args.collector c.args.batch.now in
+    let sound = g.met.E.EraseDisk.sound in
+    let s0 = c.in_ok-begin.ensures.shown k.honest.0 k.pages k.maps in
+    let homes0 = ap home_pages c.begin.ensures.same in
+    let r : Ready a h k c.begin.new.tx k.pages = record { shows = s0; homes = homes0 } in
+    unwritten a _ h w k k.pages sound r (grows_none (once_state a))
+
+pub returns-then-is_empty-clause-reply : goal.returns-then-is_empty-clause-reply
+returns-then-is_empty-clause-reply g c h k i here =
+    let own = k.bears.lanes c.args.collector c.lane_of-before.result i c.lane_of-before.ensures.lane here in
+    reply_none i c.args.collector c.args.batch.now _ (is_nil c.args.batch.now _ c.is_empty.ensures c.if-is_empty.true) (c.reply_to_none.ensures.reply i own.offered own.admitted)
+
+pub returns-then-is_empty-clause-counter_full : goal.returns-then-is_empty-clause-counter_full
+returns-then-is_empty-clause-counter_full g c h k =
+    let a = c.args.self.now in
+    (λ e. cc, λ full. absurd (not_full (site_of a).blocks a.settings (once_state a) a.head k.pages h c.args.collector (length c.args.batch.now) k.bears c.in_ok-may_take.ensures.collector c.in_ok-may_take.ensures.counts full.1))
+
+pub returns-then-is_empty-clause-intake_full : goal.returns-then-is_empty-clause-intake_full
+returns-then-is_empty-clause-intake_full g c h k =
+    let a = c.args.self.now in
+    (λ e. cc, λ full. absurd (not_crowded (site_of a).blocks a.settings (once_state a) a.head a.sequencer k.pages h c.args.collector c.args.batch.now k.bears k.mirrors c.in_ok-may_take.ensures.collector c.in_ok-may_take.ensures.room full.2))
+
+pub returns-then-is_empty-clause-device : goal.returns-then-is_empty-clause-device
+returns-then-is_empty-clause-device g c = keeps_told _ _ _ _ ⊥ _ (λ told. cc) (λ f. absurd f) (keeps_same g.E.EraseDisk (journal_of (pool_of c.args.self.now.tx)) (journal_of (pool_of c.begin.new.tx)) c.begin.ensures.same)
+
+-- ---- memory is refused for what is late
 
 pub returns-in_err-kept-clause-err : goal.returns-in_err-kept-clause-err
 returns-in_err-kept-clause-err g c = on_each_err c.from_residual-in_err-kept.result _ (λ h k.
@@ -205,7 +285,24 @@ returns-in_err-may_take-clause-counter_full g c h k =
     (λ ge. let q = c.in_err-may_take.ensures.no_collector.1 ge in cc)
     (λ lane at. let q = c.in_err-may_take.ensures.counter_full lane at in (λ e. q.0 (ap (λ x. Err x) e), λ is. let x = q.1 is in cc))
 
+pub returns-in_err-may_take-clause-intake_full : goal.returns-in_err-may_take-clause-intake_full
+returns-in_err-may_take-clause-intake_full g c h k =
+    let a = c.args.self.now in
+    let r = c.from_residual-in_err-may_take.result in
+    crowd_told (site_of a).blocks a.settings (once_state a) a.head a.sequencer k.pages h c.args.collector (sum_by entry_octets c.args.batch.now) c.args.batch.now r c.in_err-may_take.field-0.0 k.bears k.mirrors
+    (told_err r _ c.from_residual-in_err-may_take.ensures.1)
+    (λ ge. let q = c.in_err-may_take.ensures.no_collector.1 ge in cc)
+    (λ lane mark at there. let q = c.in_err-may_take.ensures.intake_full lane mark at there in (λ e. q.0 (ap (λ x. Err x) e), λ is. let x = q.1 is in cc))
+
 -- ---- memory is refused
+
+pub returns-in_err-kept-clause-intake_full : goal.returns-in_err-kept-clause-intake_full
+returns-in_err-kept-clause-intake_full g c h k =
+    let a = c.args.self.now in
+    let r = c.from_residual-in_err-kept.result in
+    no_crowd (sum_by entry_octets c.args.batch.now) a.settings h c.args.collector (length c.args.batch.now) c.args.batch.now r admits.OutOfMemory
+    (told_err r _ c.from_residual-in_err-kept.ensures.1) memory_later
+    (not_crowded (site_of a).blocks a.settings (once_state a) a.head a.sequencer k.pages h c.args.collector c.args.batch.now k.bears k.mirrors c.in_ok-may_take.ensures.collector c.in_ok-may_take.ensures.room)
 
 pub returns-in_err-kept-clause-counter_full : goal.returns-in_err-kept-clause-counter_full
 returns-in_err-kept-clause-counter_full g c h k =
@@ -225,19 +322,13 @@ returns-in_err-next-clause-counter_full g c h k =
     (told_err r _ c.from_residual-in_err-next.ensures.1) (plan_later _ c.in_err-next.field-0.0 c.in_err-next.ensures.refused usable) c.in_ok-may_take.ensures.collector c.in_ok-may_take.ensures.counts
 
 pub returns-in_err-next-clause-intake_full : goal.returns-in_err-next-clause-intake_full
-returns-in_err-next-clause-intake_full g c h k told =
+returns-in_err-next-clause-intake_full g c h k =
     let a = c.args.self.now in
     let r = c.from_residual-in_err-next.result in
-    let same = as_told r c.in_err-next.field-0.0 admits.IntakeFull (told_err r _ c.from_residual-in_err-next.ensures.1) told in
-    let number = k.bears.number in
-    let counted = k.bears.lanes_number in
-    let collector = c.in_ok-may_take.ensures.collector in
-    let low : c.args.collector < length h.intakes = omega (arith, number, collector) in
-    let it = intake_at c.args.collector h.intakes low in
-    let at = mark_there a.sequencer h c.args.collector it.0 k.mirrors it.1 in
-    let lane = lane_at c.args.collector a.head.lanes (omega (arith, counted, collector)) in
-    ring_full (site_of a).blocks a.settings (once_state a) a.head k.pages h c.args.collector c.args.batch.now lane.0 it.0 c.in_ok-kept.field-0.kept k.bears lane.1 it.1 (c.in_ok-kept.ensures.kept it.0.mark at)
-    (c.in_err-next.ensures.full (ap (λ x. Err x) same) lane.0 lane.1)
+    let usable = ap needs_recovery c.begin.ensures.same ∙ c.in_ok-begin.ensures.usable in
+    no_crowd (sum_by entry_octets c.args.batch.now) a.settings h c.args.collector (length c.args.batch.now) c.args.batch.now r c.in_err-next.field-0.0
+    (told_err r _ c.from_residual-in_err-next.ensures.1) (plan_later _ c.in_err-next.field-0.0 c.in_err-next.ensures.refused usable)
+    (not_crowded (site_of a).blocks a.settings (once_state a) a.head a.sequencer k.pages h c.args.collector c.args.batch.now k.bears k.mirrors c.in_ok-may_take.ensures.collector c.in_ok-may_take.ensures.room)
 
 pub returns-in_err-next-clause-undamaged : goal.returns-in_err-next-clause-undamaged
 returns-in_err-next-clause-undamaged g c h k page told =
@@ -265,6 +356,15 @@ returns-in_err-commit-clause-counter_full g c h k =
     no_counter (site_of a).blocks a.settings (once_state a) a.head k.pages h c.args.collector (sum_by entry_octets c.args.batch.now) (length c.args.batch.now) r _ k.bears
     (told_err r _ c.from_residual-in_err-commit.ensures.1) (commit_later _ c.in_err-commit.field-0.0 c.in_err-commit.ensures.refused usable).later c.in_ok-may_take.ensures.collector c.in_ok-may_take.ensures.counts
 
+pub returns-in_err-commit-clause-intake_full : goal.returns-in_err-commit-clause-intake_full
+returns-in_err-commit-clause-intake_full g c h k =
+    let a = c.args.self.now in
+    let r = c.from_residual-in_err-commit.result in
+    let usable = c.plan_batch.ensures.down ∙ (ap needs_recovery c.begin.ensures.same ∙ c.in_ok-begin.ensures.usable) in
+    no_crowd (sum_by entry_octets c.args.batch.now) a.settings h c.args.collector (length c.args.batch.now) c.args.batch.now r _
+    (told_err r _ c.from_residual-in_err-commit.ensures.1) (commit_later _ c.in_err-commit.field-0.0 c.in_err-commit.ensures.refused usable).later
+    (not_crowded (site_of a).blocks a.settings (once_state a) a.head a.sequencer k.pages h c.args.collector c.args.batch.now k.bears k.mirrors c.in_ok-may_take.ensures.collector c.in_ok-may_take.ensures.room)
+
 -- ---- the batch is taken
 
 pub returns-clause-counter_full : goal.returns-clause-counter_full
@@ -272,18 +372,10 @@ returns-clause-counter_full g c h k =
     let a = c.args.self.now in
     (λ e. cc, λ full. absurd (not_full (site_of a).blocks a.settings (once_state a) a.head k.pages h c.args.collector (length c.args.batch.now) k.bears c.in_ok-may_take.ensures.collector c.in_ok-may_take.ensures.counts full.1))
 
-pub returns-clause-room : goal.returns-clause-room
-returns-clause-room g c h k full =
+pub returns-clause-intake_full : goal.returns-clause-intake_full
+returns-clause-intake_full g c h k =
     let a = c.args.self.now in
-    let number = k.bears.number in
-    let counted = k.bears.lanes_number in
-    let collector = c.in_ok-may_take.ensures.collector in
-    let low : c.args.collector < length h.intakes = omega (arith, number, collector) in
-    let it = intake_at c.args.collector h.intakes low in
-    let at = mark_there a.sequencer h c.args.collector it.0 k.mirrors it.1 in
-    let lane = lane_at c.args.collector a.head.lanes (omega (arith, counted, collector)) in
-    absurd (ring_room (site_of a).blocks a.settings (once_state a) a.head k.pages h c.args.collector c.args.batch.now lane.0 it.0 c.in_ok-kept.field-0.kept k.bears lane.1 it.1 (c.in_ok-kept.ensures.kept it.0.mark at)
-    (c.in_ok-next.ensures.room lane.0 lane.1) full)
+    (λ e. cc, λ full. absurd (not_crowded (site_of a).blocks a.settings (once_state a) a.head a.sequencer k.pages h c.args.collector c.args.batch.now k.bears k.mirrors c.in_ok-may_take.ensures.collector c.in_ok-may_take.ensures.room full.2))
 
 pub invariant_of-self-2-clause-lanes : goal.invariant_of-self-2-clause-lanes
 invariant_of-self-2-clause-lanes g c = c.in_ok-next.ensures.lanes ∙ c.args.self.now.lanes

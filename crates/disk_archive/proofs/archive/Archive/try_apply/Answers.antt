@@ -6,14 +6,15 @@ use Rattle.page_journal.specs.declared.error.UseError.TheVariants as uses
 use Rattle.disk_archive.specs.Archives.{once_state}
 use Rattle.disk_archive.specs.Mirrors.{Mirrors}
 use Rattle.disk_archive.specs.inner.Applications.{apply_of_use}
-use Rattle.disk_archive.proofs.Failing.{apply_fault, apply_memory, counts_commit, counts_same, counts_then, counts_told}
-use Rattle.disk_archive.proofs.Faults.{one_told, told_as}
+use Rattle.disk_archive.proofs.Failing.{apply_fault, apply_memory, reports_first, reports_none, reports_then, reports_as}
+use Rattle.disk_archive.proofs.Faults.{done_not_told, keeps_served, one_told, told_as}
 use Rattle.disk_archive.proofs.Fronts.{nothing_is}
 use Rattle.disk_archive.proofs.Outcomes.{on_each_err}
 use Rattle.disk_archive.proofs.Calling.{Ready, start_of, grows_none, unwritten, written, kept}
 use Rattle.disk_archive.proofs.Burning.{carries_more, refused_more, done_more}
 use Rattle.disk_archive.proofs.Applied.{begins_moved}
 use Rattle.disk_archive.proofs.Staying.{told_fault}
+use Rattle.disk_archive.proofs.Lacking.{lacks_at, lacks_commit}
 use Rattle.disk_archive.proofs.Limited.{limits_as, limits_commit, limits_fresh, on_told}
 use Rattle.disk_archive.proofs.archive.Archive.try_apply.Goals as goal
 
@@ -165,6 +166,18 @@ returns-in_err-head-clause-limits g c =
 pub returns-in_err-commit-clause-limits : goal.returns-in_err-commit-clause-limits
 returns-in_err-commit-clause-limits g c = on_told c.from_residual-in_err-commit.result _ _ c.from_residual-in_err-commit.ensures.1 (limits_commit _ _ _ c.in_err-commit.field-0.0)
 
+pub returns-in_err-head-clause-lacks : goal.returns-in_err-head-clause-lacks
+returns-in_err-head-clause-lacks g c h k =
+    let a = c.args.self.now in
+    let e = c.in_err-head.field-0.0 in
+    let s0 = c.in_ok-begin_from.ensures.shown k.honest.0 k.pages k.maps in
+    on_told c.from_residual-in_err-head.result e _ c.from_residual-in_err-head.ensures.1
+    (lacks_at _ k.pages _ _ _ _ e (let homes = ap home_pages c.begin_from.ensures.same in let next = c.in_ok-begin_from.ensures.next in omega (arith, homes, next)) refl
+    (c.in_err-head.ensures.lacks (start_of a h k) k.pages h s0 k.honest.1 k.bears k.mirrors))
+
+pub returns-in_err-commit-clause-lacks : goal.returns-in_err-commit-clause-lacks
+returns-in_err-commit-clause-lacks g c h k = on_told c.from_residual-in_err-commit.result _ _ c.from_residual-in_err-commit.ensures.1 (lacks_commit _ k.pages _ _ c.in_err-commit.field-0.0)
+
 pub returns-in_err-head-clause-high : goal.returns-in_err-head-clause-high
 returns-in_err-head-clause-high g c honest pages maps told = c.plan_changes.ensures.high _ pages (c.in_ok-begin_from.ensures.shown honest.0 pages maps) (search (rules, told))
 
@@ -172,37 +185,41 @@ returns-in_err-head-clause-high g c honest pages maps told = c.plan_changes.ensu
 
 pub returns-in_err-begin_from-clause-failed : goal.returns-in_err-begin_from-clause-failed
 returns-in_err-begin_from-clause-failed g c =
-    counts_told _ _ _ _ ⊥ _ (λ told. search (rules, told)) (counts_same _ _ _ (ap (λ j. g.E.EraseDisk.fault_count (disk_of j)) c.begin_from.ensures.same))
+    reports_then _ _ _ _ _ _ _ (ap (λ j. g.E.EraseDisk.fault_count (disk_of j)) c.begin_from.ensures.same, refl) (reports_none _ _ _ (λ told. search (rules, told)))
 
 pub returns-in_default-clause-failed : goal.returns-in_default-clause-failed
 returns-in_default-clause-failed g c =
-    counts_told _ _ _ _ ⊥ _ (λ told. absurd cc) (counts_same _ _ _ (ap (λ j. g.E.EraseDisk.fault_count (disk_of j)) c.begin_from.ensures.same))
+    reports_then _ _ _ _ _ _ _ (ap (λ j. g.E.EraseDisk.fault_count (disk_of j)) c.begin_from.ensures.same, refl) (reports_none _ _ _ (λ told. absurd cc))
 
 pub returns-in_err-head-clause-failed : goal.returns-in_err-head-clause-failed
 returns-in_err-head-clause-failed g c =
     let e = c.in_err-head.field-0.0 in
     let r : c.plan_changes.result ≡ Err e = search rules in
     let d : c.from_residual-in_err-head.result ≡ Err e = search rules in
-    counts_then _ _ _ _ _ _ ⊥ _ _ (λ told. inr (r ∙ ap Err (one_told c.from_residual-in_err-head.result e applies.Fault d told)))
-    (counts_same _ _ _ (ap (λ j. g.E.EraseDisk.fault_count (disk_of j)) c.begin_from.ensures.same))
-    c.plan_changes.ensures.failed
+    reports_then _ _ _ _ _ _ _ (ap (λ j. g.E.EraseDisk.fault_count (disk_of j)) c.begin_from.ensures.same, refl)
+    (reports_as _ _ _ _ _ _ (λ told. r ∙ ap Err (one_told c.from_residual-in_err-head.result e applies.Fault d told)) (λ failed. d ∙ ap Err (one_told c.plan_changes.result e applies.Fault r failed)) c.plan_changes.ensures.failed)
 
 pub returns-in_err-commit-clause-failed : goal.returns-in_err-commit-clause-failed
 returns-in_err-commit-clause-failed g c =
     let e = c.in_err-commit.field-0.0 in
     let r : c.commit.result ≡ Err e = search rules in
     let d : c.from_residual-in_err-commit.result ≡ Err (apply_of_use e) = search rules in
-    counts_then _ _ _ _ _ _ ⊥ _ _ (λ told. inr (r ∙ ap Err (apply_fault e (one_told c.from_residual-in_err-commit.result (apply_of_use e) applies.Fault d told))))
-    (counts_then _ _ _ _ _ _ ⊥ ⊥ ⊥ inl (counts_same _ _ _ (ap (λ j. g.E.EraseDisk.fault_count (disk_of j)) c.begin_from.ensures.same))
-    (counts_told _ _ _ _ _ ⊥ (λ never. absurd never) c.plan_changes.ensures.failed))
-    (counts_commit g.E.EraseDisk c.commit.result _ _ _ c.commit.ensures.journal.serves)
+    let plan : c.plan_changes.result ≡ Ok c.in_ok-head.field-0 = search rules in
+    let first = c.plan_changes.ensures.failed.quiet (done_not_told c.plan_changes.result c.in_ok-head.field-0 applies.Fault plan) in
+    reports_then _ _ _ _ _ _ _ (first.0 ∙ ap (λ j. g.E.EraseDisk.fault_count (disk_of j)) c.begin_from.ensures.same, first.1)
+    (reports_as _ _ _ _ _ _
+    (λ told. r ∙ ap Err (apply_fault e (one_told c.from_residual-in_err-commit.result (apply_of_use e) applies.Fault d told)))
+    (λ failed. d ∙ ap Err (ap apply_of_use (one_told c.commit.result e uses.Fault r failed)))
+    (reports_first _ _ _ _ _ _ (keeps_served g.E.EraseDisk _ _ _ c.commit.ensures.journal.serves)))
 
 pub returns-clause-failed : goal.returns-clause-failed
 returns-clause-failed g c =
-    counts_then _ _ _ _ _ _ ⊥ _ _ (λ told. absurd cc)
-    (counts_then _ _ _ _ _ _ ⊥ ⊥ ⊥ inl (counts_same _ _ _ (ap (λ j. g.E.EraseDisk.fault_count (disk_of j)) c.begin_from.ensures.same))
-    (counts_told _ _ _ _ _ ⊥ (λ never. absurd never) c.plan_changes.ensures.failed))
-    (counts_commit g.E.EraseDisk c.commit.result _ _ _ c.commit.ensures.journal.serves)
+    let plan : c.plan_changes.result ≡ Ok c.in_ok-head.field-0 = search rules in
+    let first = c.plan_changes.ensures.failed.quiet (done_not_told c.plan_changes.result c.in_ok-head.field-0 applies.Fault plan) in
+    let done : c.commit.result ≡ Ok tt = search rules in
+    reports_then _ _ _ _ _ _ _ (first.0 ∙ ap (λ j. g.E.EraseDisk.fault_count (disk_of j)) c.begin_from.ensures.same, first.1)
+    (reports_as _ _ _ _ _ _ (λ told. absurd cc) (λ failed. absurd (done_not_told c.commit.result tt uses.Fault done failed))
+    (reports_first _ _ _ _ _ _ (keeps_served g.E.EraseDisk _ _ _ c.commit.ensures.journal.serves)))
 
 -- ---- where memory is refused nothing was written
 

@@ -30,6 +30,6 @@ returns-in-Err-clause-done c = λ h goes_on.
         refl,
         subst (λ (r : AdmitRefusal). IsRefusal h c.args.collector c.args.batch.now r) (sym c.admit_refusal.ensures.why)
             (not_taken (is_down a) (settings_of a).collectors h c.args.collector c.args.batch.now c.in-Err.refusal (number_of a h goes_on) e.no_collector e.too_large (e.counter_full honest h (λ _. goes_on))
-            (λ is. let full = e.intake_full honest h (λ _. goes_on) (ap Err is) in slice_get_within h.intakes c.args.collector full.intake full.here)),
+            (λ is. let full = (e.intake_full honest h (λ _. goes_on)).0 (ap Err is) in let ring = full.3 in slice_get_within h.intakes c.args.collector ring.intake ring.here)),
       ),
     )

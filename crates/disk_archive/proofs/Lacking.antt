@@ -1,0 +1,118 @@
+-- Where a change is refused since there are too few pages, or levels.
+use Rattle.std.proofs.Common.{◌≡◌, ◌≢◌, ℕ, Bool, List, [], ◌∷◌, refl, subst, Result, Ok, Err}
+use Rattle.std.specs.Prelude.{IfErr}
+use Rattle.page_tx.specs.declared.error.PageError.{PageError}
+use Rattle.page_tx.specs.declared.error.PageError.TheVariants as pages
+use Rattle.page_journal.specs.declared.error.UseError.{UseError}
+use Rattle.page_journal.specs.declared.error.UseError.TheVariants as uses
+use Rattle.intake.specs.Calls.{PageRefusal}
+use Rattle.route_model.specs.Admission.{Admitted}
+use Rattle.route_meaning.specs.Merged.{Placed}
+use Rattle.route_meaning.specs.History.{History, waiting}
+use Rattle.route_history.specs.Kept.{AreVersions}
+use Rattle.version_model.specs.Versions.{Version}
+use Rattle.archive_head.specs.Head.{Contents}
+use Rattle.archive_pages.specs.declared.settings.Settings.{Settings}
+use Rattle.archive_pages.specs.Refusals.{HeadRefusal}
+use Rattle.archive_pages.specs.Changes.{next_change}
+use Rattle.archive_pages.specs.Carried.{Bears}
+use Rattle.disk_archive.specs.declared.apply_error.ApplyError.{ApplyError}
+use Rattle.disk_archive.specs.declared.apply_error.ApplyError.TheVariants as applies
+use Rattle.disk_archive.specs.Lacks.{IsNextVersion, LacksLevel, LacksPages}
+use Rattle.disk_archive.specs.Trees.{TreeLies}
+use Rattle.disk_archive.specs.inner.Applications.{ApplyRefusal, FrontRefusal, LackRefusal, LimitRefusal, apply_of_use}
+
+-- ---- the first admission isn't read
+
+pub front_applies : (down : Bool) (e : ApplyError) → FrontRefusal down e → ApplyRefusal down e
+front_applies down applies.NeedsRecovery f = f
+front_applies down applies.CounterFull f = tt
+front_applies down applies.TooHigh f = tt
+front_applies down applies.PagesFull f = tt
+front_applies down applies.OnceFull f = tt
+front_applies down (applies.BadNode page) f = tt
+front_applies down applies.Fault f = tt
+front_applies down applies.OutOfMemory f = tt
+
+pub front_limits : (down : Bool) (homes next count : ℕ) (e : ApplyError) → FrontRefusal down e → LimitRefusal homes next count e
+front_limits down homes next count applies.NeedsRecovery f = tt
+front_limits down homes next count applies.CounterFull f = absurd f
+front_limits down homes next count applies.TooHigh f = absurd f
+front_limits down homes next count applies.PagesFull f = absurd f
+front_limits down homes next count applies.OnceFull f = absurd f
+front_limits down homes next count (applies.BadNode page) f = tt
+front_limits down homes next count applies.Fault f = tt
+front_limits down homes next count applies.OutOfMemory f = tt
+
+pub front_lacks : (down : Bool) (is : Version → Type 0) (shown : List (List ℕ)) (left root : ℕ) (e : ApplyError) → FrontRefusal down e → LackRefusal is shown left root e
+front_lacks down is shown left root applies.NeedsRecovery f = tt
+front_lacks down is shown left root applies.CounterFull f = absurd f
+front_lacks down is shown left root applies.TooHigh f = absurd f
+front_lacks down is shown left root applies.PagesFull f = absurd f
+front_lacks down is shown left root applies.OnceFull f = absurd f
+front_lacks down is shown left root (applies.BadNode page) f = tt
+front_lacks down is shown left root applies.Fault f = tt
+front_lacks down is shown left root applies.OutOfMemory f = tt
+
+-- where the head isn't laid over its page, nothing is read either
+pub head_reads : (down : Bool) (n : ℕ) (e : PageError) → e ≢ pages.TooManyImages → HeadRefusal n e → PageRefusal down e
+head_reads down n pages.Fault few r = absurd r
+head_reads down n pages.NeedsRecovery few r = absurd r
+head_reads down n pages.TooManyImages few r = absurd (few refl)
+head_reads down n pages.PagesFull few r = absurd r
+head_reads down n pages.OutOfMemory few r = tt
+
+-- ---- a version isn't taken
+
+-- pages and a level alone are to be looked at
+pub lacks_by : (is : Version → Type 0) (shown : List (List ℕ)) (left root : ℕ) (e : ApplyError) → (e ≡ applies.PagesFull → LacksPages is shown left root) → (e ≡ applies.TooHigh → LacksLevel is shown root) → LackRefusal is shown left root e
+lacks_by is shown left root applies.NeedsRecovery full high = tt
+lacks_by is shown left root applies.CounterFull full high = tt
+lacks_by is shown left root applies.TooHigh full high = high refl
+lacks_by is shown left root applies.PagesFull full high = full refl
+lacks_by is shown left root applies.OnceFull full high = tt
+lacks_by is shown left root (applies.BadNode page) full high = tt
+lacks_by is shown left root applies.Fault full high = tt
+lacks_by is shown left root applies.OutOfMemory full high = tt
+
+-- the same of a version of which more is known
+pub lacks_as : (was is : Version → Type 0) (shown : List (List ℕ)) (left root : ℕ) (e : ApplyError) → ((v : Version) → was v → is v) → LackRefusal was shown left root e → LackRefusal is shown left root e
+lacks_as was is shown left root applies.NeedsRecovery more l = tt
+lacks_as was is shown left root applies.CounterFull more l = tt
+lacks_as was is shown left root applies.TooHigh more l = record { version = l.version; its = more l.version l.its; needs = l.needs }
+lacks_as was is shown left root applies.PagesFull more l = record { version = l.version; its = more l.version l.its; level = l.level; needed = l.needed; needs = l.needs; above = l.above }
+lacks_as was is shown left root applies.OnceFull more l = tt
+lacks_as was is shown left root (applies.BadNode page) more l = tt
+lacks_as was is shown left root applies.Fault more l = tt
+lacks_as was is shown left root applies.OutOfMemory more l = tt
+
+-- the same where as many pages are left, of the same tree
+pub lacks_at : (is : Version → Type 0) (shown : List (List ℕ)) (left root left' root' : ℕ) (e : ApplyError) → left' ≡ left → root' ≡ root → LackRefusal is shown left' root' e → LackRefusal is shown left root e
+lacks_at is shown left root left' root' e n r l = subst (λ m. LackRefusal is shown m root e) n (subst (λ m. LackRefusal is shown left' m e) r l)
+
+-- a commit refuses neither
+pub lacks_commit : (is : Version → Type 0) (shown : List (List ℕ)) (left root : ℕ) (e : UseError) → LackRefusal is shown left root (apply_of_use e)
+lacks_commit is shown left root uses.Fault = tt
+lacks_commit is shown left root uses.NeedsRecovery = tt
+
+-- ---- the next change
+
+-- its version, by the head
+pub next_version : (count : ℕ) (s : Settings) (settled : ℕ → List ℕ → Type 0) (head : Contents) (shown : List (List ℕ)) (h : History) (first : Placed Admitted) (later : List (Placed Admitted)) (v : Version)
+    → Bears (TreeLies count) s settled head shown h → waiting h ≡ first ∷ later → AreVersions head.applied (next_change head.begun first) (v ∷ []) → IsNextVersion h v
+next_version count s settled head shown h first later v b here is = record {
+  first = first;
+  later = later;
+  here = here;
+  version = subst (λ (n : ℕ). AreVersions n (next_change h.some first) (v ∷ [])) b.numbered (subst (λ (n : ℕ). AreVersions head.applied (next_change n first) (v ∷ [])) b.begun is);
+}
+
+-- ---- what is returned
+
+pub lacks_pages : {X : Type 0} (is : Version → Type 0) (shown : List (List ℕ)) (left root : ℕ) (r : Result X ApplyError) → IfErr r (LackRefusal is shown left root) → r ≡ Err applies.PagesFull → LacksPages is shown left root
+lacks_pages is shown left root (Ok x) l told = absurd cc
+lacks_pages is shown left root (Err e) l told = let same : e ≡ applies.PagesFull = cc in subst (LackRefusal is shown left root) same l
+
+pub lacks_level : {X : Type 0} (is : Version → Type 0) (shown : List (List ℕ)) (left root : ℕ) (r : Result X ApplyError) → IfErr r (LackRefusal is shown left root) → r ≡ Err applies.TooHigh → LacksLevel is shown root
+lacks_level is shown left root (Ok x) l told = absurd cc
+lacks_level is shown left root (Err e) l told = let same : e ≡ applies.TooHigh = cc in subst (LackRefusal is shown left root) same l
