@@ -6,6 +6,7 @@ pub mod Resting
 pub mod Following
 pub mod Held
 pub mod Looking
+pub mod Creating
 pub mod Scenes
 pub mod Promising
 pub mod Lasting

@@ -13,15 +13,15 @@ use Rattle.disk_archive.specs.declared.archive.Archive.{Archive}
 use Rattle.disk_archive.specs.declared.ask_error.AskError.{AskError}
 use Rattle.disk_archive.specs.declared.open_error.OpenError.{OpenError}
 use Rattle.disk_archive.specs.declared.refused.Refused.{Refused}
-use Rattle.disk_archive.specs.Archives.{Holds, IsHonest, erase_of, erase_state, is_down, once_of, once_state}
+use Rattle.disk_archive.specs.Archives.{Holds, IsHonest, erase_of, erase_state, is_down, once_of, once_state, settings_of}
 use Rattle.archive_uses.specs.Calls.{Keeps, Looks}
 use Rattle.archive_uses.specs.Openings.{Opens}
 use Rattle.archive_uses.proofs.Following.{grows_none}
 use Rattle.archive_uses.proofs.Resting.{AllSound, carried_is_left}
 
 -- a call that leaves the erasable disk, and all that is tried or settled, is one that only reads
-pub looks_by : {E O Pen Seen : Type 0} {erase : EraseGhosts E} {once : OnceGhosts O Pen Seen} → AllSound erase → (a z : Archive E O Pen Seen erase once) → ((h : History) → Holds a h → Holds z h) → erase_of z ≡ erase_of a → is_down z ≡ is_down a → IsHonest a ↔ IsHonest z → once_of z ≡ once_of a → (IsHonest a → once_state z ≡ once_state a) → Looks a z
-looks_by {erase = erase} sound a z holds pages down honest disk blocks =
+pub looks_by : {E O Pen Seen : Type 0} {erase : EraseGhosts E} {once : OnceGhosts O Pen Seen} → AllSound erase → (a z : Archive E O Pen Seen erase once) → ((h : History) → Holds a h → Holds z h) → erase_of z ≡ erase_of a → is_down z ≡ is_down a → settings_of z ≡ settings_of a → IsHonest a ↔ IsHonest z → once_of z ≡ once_of a → (IsHonest a → once_state z ≡ once_state a) → Looks a z
+looks_by {erase = erase} sound a z holds pages down settings honest disk blocks =
     let same : erase_state z ≡ erase_state a = ap erase.model pages in
     record {
       holds = holds;
@@ -36,6 +36,7 @@ looks_by {erase = erase} sound a z holds pages down honest disk blocks =
       };
       down = down;
       keeps = record {
+        settings = settings;
         honest = honest;
         disk = disk;
         grows = λ is. subst (λ (x : OnceState). Grows (once_state a) x) (sym (blocks is)) (grows_none (once_state a));
@@ -44,8 +45,9 @@ looks_by {erase = erase} sound a z holds pages down honest disk blocks =
     }
 
 -- so is one that leaves all that is tried or settled, and both disks where the archive must be opened again
-pub keeps_by : {E O Pen Seen : Type 0} {erase : EraseGhosts E} {once : OnceGhosts O Pen Seen} (a z : Archive E O Pen Seen erase once) → IsHonest a ↔ IsHonest z → once_of z ≡ once_of a → (IsHonest a → once_state z ≡ once_state a) → (is_down a ≡ true → (erase_of z ≡ erase_of a) × (once_state z ≡ once_state a) × (is_down z ≡ true)) → Keeps a z
-keeps_by a z honest disk blocks idle = record {
+pub keeps_by : {E O Pen Seen : Type 0} {erase : EraseGhosts E} {once : OnceGhosts O Pen Seen} (a z : Archive E O Pen Seen erase once) → settings_of z ≡ settings_of a → IsHonest a ↔ IsHonest z → once_of z ≡ once_of a → (IsHonest a → once_state z ≡ once_state a) → (is_down a ≡ true → (erase_of z ≡ erase_of a) × (once_state z ≡ once_state a) × (is_down z ≡ true)) → Keeps a z
+keeps_by a z settings honest disk blocks idle = record {
+  settings = settings;
   honest = honest;
   disk = disk;
   grows = λ is. subst (λ (x : OnceState). Grows (once_state a) x) (sym (blocks is)) (grows_none (once_state a));

@@ -11,9 +11,10 @@ use Rattle.page_journal.proofs.api.Kept.{kept_recovers}
 use Rattle.buffer_pool.specs.Pool.{journal_of}
 use Rattle.page_tx.specs.Tx.{pool_of}
 use Rattle.route_meaning.specs.History.{History}
+use Rattle.archive_pages.specs.declared.settings.Settings.{Settings}
 use Rattle.archive_pages.proofs.api.Bearing.{bears_grown}
 use Rattle.disk_archive.specs.declared.archive.Archive.{Archive}
-use Rattle.disk_archive.specs.Archives.{Carries, erase_of, erase_state, once_of, once_state, pen_in, site_of}
+use Rattle.disk_archive.specs.Archives.{Carries, erase_of, erase_state, once_of, once_state, pen_in, settings_of, site_of}
 use Rattle.disk_archive.specs.Openings.{ReadsAs}
 use Rattle.disk_archive.specs.Sites.{IsNoted, LeftCarries, Site}
 use Rattle.disk_archive.specs.Trees.{TreeLies}
@@ -25,22 +26,24 @@ use Rattle.archive_uses.proofs.Ran.{Ran}
 abbrev pub AllSound : {E : Type 0} → EraseGhosts E → Type 0
 AllSound {E} erase = (d : E) → erase.honest d → IsSound (erase.model d)
 
--- both disks rest: whatever a crash may leave of them now carries the history of a run that the uses are
-pub record Resting {E O Pen Seen : Type 0} (erase : EraseGhosts E) (once : OnceGhosts O Pen Seen) (collectors : ℕ) (Q : History → Type 0) (past : List Use) (e : E) (o : O) (pen : Pen) : Type 0 where
+-- both disks rest: whatever a crash may leave of them now carries the history of a run that the uses are, of an archive of these settings
+pub record Resting {E O Pen Seen : Type 0} (erase : EraseGhosts E) (once : OnceGhosts O Pen Seen) (made : Settings) (Q : History → Type 0) (past : List Use) (e : E) (o : O) (pen : Pen) : Type 0 where
   pub honest_erase : erase.honest e
   pub honest_once : once.honest o pen
   pub site : Site
   pub noted : IsNoted site
+  pub settings : site.settings ≡ made
   pub count : site.blocks ≡ once.block_count o
-  pub rests : (left : Left) → LeftNow (erase.model e) (once.model pen) left → (g : History) × Ran collectors Q past true g × LeftCarries site g left
+  pub rests : (left : Left) → LeftNow (erase.model e) (once.model pen) left → (g : History) × Ran made.collectors Q past true g × LeftCarries site g left
 
 -- what a crash left of them
-pub record Lying (collectors : ℕ) (Q : History → Type 0) (past : List Use) (blocks : ℕ) (left : Left) : Type 0 where
+pub record Lying (made : Settings) (Q : History → Type 0) (past : List Use) (blocks : ℕ) (left : Left) : Type 0 where
   pub site : Site
   pub noted : IsNoted site
+  pub settings : site.settings ≡ made
   pub count : site.blocks ≡ blocks
   pub history : History
-  pub run : Ran collectors Q past true history
+  pub run : Ran made.collectors Q past true history
   pub carries : LeftCarries site history left
 
 -- what is carried is carried where more is settled
@@ -72,40 +75,43 @@ carried_is_left {erase = erase} a h k left now = record {
 }
 
 -- an archive that carries the history of a run rests, after a use that is a crash
-pub carried_rests : {E O Pen Seen : Type 0} (erase : EraseGhosts E) (once : OnceGhosts O Pen Seen) (n : ℕ) (Q : History → Type 0) (past : List Use) (a : Archive E O Pen Seen erase once) (h : History) → Ran n Q past true h → Carries a h → Resting erase once n Q past (erase_of a) (once_of a) (pen_in a)
-carried_rests erase once n Q past a h run k = record {
+pub carried_rests : {E O Pen Seen : Type 0} (erase : EraseGhosts E) (once : OnceGhosts O Pen Seen) (made : Settings) (Q : History → Type 0) (past : List Use) (a : Archive E O Pen Seen erase once) (h : History) → settings_of a ≡ made → Ran made.collectors Q past true h → Carries a h → Resting erase once made Q past (erase_of a) (once_of a) (pen_in a)
+carried_rests erase once made Q past a h settings run k = record {
   honest_erase = k.honest.0;
   honest_once = k.honest.1;
   site = site_of a;
   noted = k.noted;
+  settings = settings;
   count = refl;
   rests = λ left now. (h, run, carried_is_left a h k left now);
 }
 
 -- the run goes on
-pub rests_on : {E O Pen Seen : Type 0} (erase : EraseGhosts E) (once : OnceGhosts O Pen Seen) (n : ℕ) (Q : History → Type 0) (past next : List Use) (e : E) (o : O) (pen : Pen) → ((g : History) → Ran n Q past true g → Ran n Q next true g) → Resting erase once n Q past e o pen → Resting erase once n Q next e o pen
-rests_on erase once n Q past next e o pen on r = record {
+pub rests_on : {E O Pen Seen : Type 0} (erase : EraseGhosts E) (once : OnceGhosts O Pen Seen) (made : Settings) (Q : History → Type 0) (past next : List Use) (e : E) (o : O) (pen : Pen) → ((g : History) → Ran made.collectors Q past true g → Ran made.collectors Q next true g) → Resting erase once made Q past e o pen → Resting erase once made Q next e o pen
+rests_on erase once made Q past next e o pen on r = record {
   honest_erase = r.honest_erase;
   honest_once = r.honest_once;
   site = r.site;
   noted = r.noted;
+  settings = r.settings;
   count = r.count;
   rests = λ left now. (let f = r.rests left now in (f.0, on f.0 f.1, f.2));
 }
 
 -- a crash comes
-pub rests_left : {E O Pen Seen : Type 0} (erase : EraseGhosts E) (once : OnceGhosts O Pen Seen) (n : ℕ) (Q : History → Type 0) (past : List Use) (e : E) (o : O) (pen : Pen) (left : Left) → Resting erase once n Q past e o pen → LeftNow (erase.model e) (once.model pen) left → Lying n Q past (once.block_count o) left
-rests_left erase once n Q past e o pen left r now =
+pub rests_left : {E O Pen Seen : Type 0} (erase : EraseGhosts E) (once : OnceGhosts O Pen Seen) (made : Settings) (Q : History → Type 0) (past : List Use) (e : E) (o : O) (pen : Pen) (left : Left) → Resting erase once made Q past e o pen → LeftNow (erase.model e) (once.model pen) left → Lying made Q past (once.block_count o) left
+rests_left erase once made Q past e o pen left r now =
     let f = r.rests left now in
-    record { site = r.site; noted = r.noted; count = r.count; history = f.0; run = f.1; carries = f.2 }
+    record { site = r.site; noted = r.noted; settings = r.settings; count = r.count; history = f.0; run = f.1; carries = f.2 }
 
 -- and both disks are found as it left them
-pub lying_found : {E O Pen Seen : Type 0} (erase : EraseGhosts E) (once : OnceGhosts O Pen Seen) (n : ℕ) (Q : History → Type 0) (past : List Use) (blocks : ℕ) (e : E) (o : O) (pen : Pen) (left : Left) → Lying n Q past blocks left → IsFound (erase.model e) (once.model pen) left → once.block_count o ≡ blocks → erase.honest e → once.honest o pen → Resting erase once n Q past e o pen
-lying_found erase once n Q past blocks e o pen left l found count honest_erase honest_once = record {
+pub lying_found : {E O Pen Seen : Type 0} (erase : EraseGhosts E) (once : OnceGhosts O Pen Seen) (made : Settings) (Q : History → Type 0) (past : List Use) (blocks : ℕ) (e : E) (o : O) (pen : Pen) (left : Left) → Lying made Q past blocks left → IsFound (erase.model e) (once.model pen) left → once.block_count o ≡ blocks → erase.honest e → once.honest o pen → Resting erase once made Q past e o pen
+lying_found erase once made Q past blocks e o pen left l found count honest_erase honest_once = record {
   honest_erase = honest_erase;
   honest_once = honest_once;
   site = l.site;
   noted = l.noted;
+  settings = l.settings;
   count = l.count ∙ sym count;
   rests = λ other now. (
       let kept = found_left (erase.model e) (once.model pen) left found other now in
@@ -114,7 +120,7 @@ lying_found erase once n Q past blocks e o pen left l found count honest_erase h
 }
 
 -- what they read as
-pub rests_reads : {E O Pen Seen : Type 0} (erase : EraseGhosts E) (once : OnceGhosts O Pen Seen) (n : ℕ) (Q : History → Type 0) (past : List Use) (e : E) (o : O) (pen : Pen) (r : Resting erase once n Q past e o pen) → (g : History) × Ran n Q past true g × ReadsAs r.site (once.block_count o) (erase.model e) (once.model pen) g
-rests_reads erase once n Q past e o pen r =
+pub rests_reads : {E O Pen Seen : Type 0} (erase : EraseGhosts E) (once : OnceGhosts O Pen Seen) (made : Settings) (Q : History → Type 0) (past : List Use) (e : E) (o : O) (pen : Pen) (r : Resting erase once made Q past e o pen) → (g : History) × Ran made.collectors Q past true g × ReadsAs r.site (once.block_count o) (erase.model e) (once.model pen) g
+rests_reads erase once made Q past e o pen r =
     let f = r.rests (present (erase.model e) (once.model pen)) (present_now (erase.model e) (once.model pen)) in
     (f.0, f.1, record { count = r.count; noted = r.noted; carries = f.2 })

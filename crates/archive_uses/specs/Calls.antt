@@ -39,9 +39,10 @@ use Rattle.disk_archive.specs.Crashes.{Crashes}
 use Rattle.disk_archive.specs.Moves.{Moves}
 use Rattle.disk_archive.specs.Sites.{LeftCarries, LeftEither, LeftMarked}
 
--- What each call keeps: the disks, whether they follow their models, and what is tried and settled. On an archive that must be opened again
+-- What each call keeps: the settings, the disks, whether they follow their models, and what is tried and settled. On an archive that must be opened again
 -- it does nothing.
 pub record Keeps {E O Pen Seen : Type 0} {erase : EraseGhosts E} {once : OnceGhosts O Pen Seen} (old new : Archive E O Pen Seen erase once) : Type 0 where
+  pub settings : settings_of new ≡ settings_of old
   pub honest : IsHonest old ↔ IsHonest new
   pub disk : once_of new ≡ once_of old
   pub grows : IsHonest old → Grows (once_state old) (once_state new)

@@ -3,6 +3,7 @@ pub mod Verdicts
 pub mod Calls
 pub mod Openings
 pub mod Uses
+pub mod Lives
 pub mod Runs
 pub mod Promises
 pub mod Settling

@@ -9,8 +9,9 @@ use Rattle.interleaving_core.specs.declared.step.Step.{Step}
 use Rattle.interleaving_core.specs.World.{World, created}
 use Rattle.interleaving_core.specs.Does.{Runs}
 use Rattle.interleaving_core.specs.Headline.{Headline}
-use Rattle.disk_archive.specs.Archives.{Carries, erase_state, is_down, once_state}
-use Rattle.disk_archive.specs.Sites.{LeftCarries, Site}
+use Rattle.archive_pages.specs.declared.settings.Settings.{Settings}
+use Rattle.disk_archive.specs.Archives.{Carries, erase_state, is_down, once_of, once_state, settings_of}
+use Rattle.disk_archive.specs.Sites.{IsNoted, LeftCarries, Site}
 use Rattle.archive_uses.specs.Use.{AllStepsOf, Use}
 use Rattle.archive_uses.specs.Uses.{Stage}
 use Rattle.archive_uses.specs.Uses.Stage.{on, off, gone}
@@ -27,20 +28,24 @@ pub record AreRun (collectors : ℕ) (us : List Use) (down : Bool) (h : History)
   pub history : last.history ≡ h
   pub headline : Headline collectors steps replies last
 
--- what a crash left carries a history with P
-pub record LeftWith (P : History → Type 0) (left : Left) : Type 0 where
+-- What a crash left of disks, of which the write-once one has so many blocks, carries a history with P of an archive of these settings, and its note
+-- tells both. So where there is room for its pages, an opening isn't refused but for want of the device or of memory.
+pub record LeftWith (made : Settings) (P : History → Type 0) (blocks : ℕ) (left : Left) : Type 0 where
   pub site : Site
+  pub noted : IsNoted site
+  pub settings : site.settings ≡ made
+  pub count : site.blocks ≡ blocks
   pub history : History
   pub holds : P history
   pub carries : LeftCarries site history left
 
--- The archive carries a history with P of an archive that is up; or it must be opened again, and whatever a crash may leave now carries one with
--- P of an archive that is down. The same of both disks, and of what a crash left.
-abbrev pub EndsWith : {E O Pen Seen : Type 0} {erase : EraseGhosts E} {once : OnceGhosts O Pen Seen} → (Bool → History → Type 0) → Stage E O Pen Seen erase once → Type 0
-EndsWith P (on a) = ((h : History) × P false h × Carries a h) ⊎ ((is_down a ≡ true) × ((left : Left) → LeftNow (erase_state a) (once_state a) left → LeftWith (P true) left))
-EndsWith {erase = erase} {once = once} P (off e o pen) = (left : Left) → LeftNow (erase.model e) (once.model pen) left → LeftWith (P true) left
-EndsWith P (gone k left) = LeftWith (P true) left
+-- The archive has these settings and carries a history with P of one that is up; or it must be opened again, and whatever a crash may leave now
+-- carries one with P of one that is down. The same of both disks, and of what a crash left.
+abbrev pub EndsWith : {E O Pen Seen : Type 0} {erase : EraseGhosts E} {once : OnceGhosts O Pen Seen} → Settings → (Bool → History → Type 0) → Stage E O Pen Seen erase once → Type 0
+EndsWith {once = once} made P (on a) = ((h : History) × P false h × Carries a h × (settings_of a ≡ made)) ⊎ ((is_down a ≡ true) × ((left : Left) → LeftNow (erase_state a) (once_state a) left → LeftWith made (P true) (once.block_count (once_of a)) left))
+EndsWith {erase = erase} {once = once} made P (off e o pen) = (left : Left) → LeftNow (erase.model e) (once.model pen) left → LeftWith made (P true) (once.block_count o) left
+EndsWith made P (gone k left) = LeftWith made (P true) k left
 
 -- the uses end with the history of a run that they are
-abbrev pub EndsInRun : {E O Pen Seen : Type 0} {erase : EraseGhosts E} {once : OnceGhosts O Pen Seen} → ℕ → List Use → Stage E O Pen Seen erase once → Type 0
-EndsInRun n us stage = EndsWith (AreRun n us) stage
+abbrev pub EndsInRun : {E O Pen Seen : Type 0} {erase : EraseGhosts E} {once : OnceGhosts O Pen Seen} → Settings → List Use → Stage E O Pen Seen erase once → Type 0
+EndsInRun made us stage = EndsWith made (AreRun made.collectors us) stage

@@ -2,24 +2,29 @@
 
 ghost use Rattle.std.specs.Prelude.{◌≡◌, ℕ, List, [], ◌∷◌, ◌++◌, Option, Some, None, IfOk, IfErr, slice_get, slice_set};
 ghost use Rattle.std.specs.Global.{Vec};
+ghost use Rattle.disk_models.specs.Left.{CrashPair, Left, LeftNow};
 ghost use Rattle.route_model.specs.Admission.{Admitted};
+ghost use Rattle.archive_pages.specs.Places.{AreSettings};
 ghost use Rattle.once_store.specs.Readers.{reader_disk};
 ghost use Rattle.tsb_walk.specs.Knowing.{ReadsWell};
 ghost use Rattle.disk_archive.specs.Archives.{is_down};
 ghost use Rattle.disk_archive.specs.Cursors.{asks};
 ghost use Rattle.disk_archive.specs.Descents.{IsErrandFor};
+ghost use Rattle.disk_archive.specs.Outcome.{erase_after, pen_after};
 ghost use Rattle.disk_archive.specs.Reading.{ReadsFrom};
 ghost use Rattle.archive_uses.specs.Calls.{Admits, Asks, Finishes, Flushes, Looks, Marks, Steps, Turns};
 ghost use Rattle.archive_uses.specs.Openings.{Opens};
 ghost use Rattle.archive_uses.specs.Use.Call.{admit as a_batch, mark as a_mark, apply, flush, ask as a_question};
+ghost use Rattle.archive_uses.specs.Lives.{LeftByCreation, Starts};
 ghost use Rattle.archive_uses.specs.Use.Use.{called, closed, looked, opened, shut};
 ghost use Rattle.archive_uses.specs.Uses.{Asked, BeginEnds, Errands, FinishEnds, Leads, TurnEnds, errand_given};
 ghost use Rattle.archive_uses.specs.Uses.Stage.{off, on};
 ghost use Rattle.archive_uses.specs.Verdicts.{of_admit, of_apply, of_ask, of_flush, of_mark, of_turn};
 
+use archive_pages::Settings;
 use disk_archive::{
-    AdmitError, ApplyError, Archive, AskError, CheckError, Cursor, Descent, Errand, Flush,
-    FlushError, MarkError, OpenError, Refused, Step,
+    AdmitError, ApplyError, Archive, AskError, CheckError, CreateError, Cursor, Descent, Errand,
+    Flush, FlushError, MarkError, OpenError, Refused, Step,
 };
 use disk_models::{EraseDisk, Fault, OnceDisk};
 use interleaving_core::{Answer, BatchReply, Query};
@@ -165,6 +170,25 @@ pub fn open<E: EraseDisk + Drop, O: OnceDisk + Drop>(
     ensures shuts { IfErr result (λ refused. Leads {Seen = O.Seen} {erase = E.EraseDisk} {once = O.OnceDisk} shut (off erase once.value pen) (off refused.erase refused.once.value refused.pen)) }
 {
     Archive::open(alloc, erase, once, pen)
+}
+
+/// Creates an archive. What a crash inside the call left, or one after it was refused, is the start of a life too; or the disk holds no journal,
+/// or the crash is one before the call.
+pub fn create<E: EraseDisk + Drop, O: OnceDisk + Drop>(
+    alloc: Global,
+    erase: E,
+    once: Arc<O>,
+    pen: O::Pen,
+    settings: Settings,
+) -> Result<Archive<E, O>, Refused<E, O, CreateError>>
+    requires { AreSettings settings }
+    ensures starts { E.honest erase → O.honest once.value pen → IfOk result (λ archive. Starts settings [] (on archive)) }
+    ensures inside { E.honest erase → O.honest once.value pen → (left : Left) → CrashPair (E.model erase) (E.model (erase_after result)) (O.model pen) (O.model pen) (O.model (pen_after result)) left
+        → LeftByCreation E.EraseDisk O.OnceDisk settings erase once.value pen left }
+    ensures after { E.honest erase → O.honest once.value pen → (left : Left) → LeftNow (E.model (erase_after result)) (O.model (pen_after result)) left
+        → LeftByCreation E.EraseDisk O.OnceDisk settings erase once.value pen left }
+{
+    Archive::create(alloc, erase, once, pen, settings)
 }
 
 /// Takes both disks out of the archive.

@@ -1,25 +1,32 @@
 -- Crashes at rest and inside calls, and what is opened after them.
-use Rattle.std.proofs.Common.{◌≡◌, ◌≤◌, ℕ, [], ◌∷◌, true, ⊎_elim, refl, sym, ◌∙◌, ap, subst}
+use Rattle.std.proofs.Common.{◌≡◌, ◌≤◌, ℕ, List, [], ◌∷◌, arith, ⊎_elim, refl, sym, ◌∙◌, ap, subst}
 use Rattle.std.proofs.Math.Nat.{le_refl}
 use Rattle.std.specs.List.{AllByRecursion}
 use Rattle.disk_models.specs.declared.erase.EraseDisk.{Ghosts as EraseGhosts}
 use Rattle.disk_models.specs.declared.once.OnceDisk.{Ghosts as OnceGhosts}
-use Rattle.disk_models.specs.Erase.{IsSound}
+use Rattle.disk_models.specs.Erase.{IsSound, MayLeave}
+use Rattle.disk_models.specs.Once.{OnceState}
 use Rattle.disk_models.specs.Left.{Left, LeftNow}
 use Rattle.disk_models.proofs.api.Growing.{grows_none}
 use Rattle.disk_models.proofs.api.Pairs.{now_is_pair}
 use Rattle.route_meaning.specs.History.{History}
+use Rattle.archive_pages.specs.declared.settings.Settings.{Settings}
 use Rattle.disk_archive.specs.declared.archive.Archive.{Archive}
 use Rattle.disk_archive.specs.Archives.{Carries, IsHonest, erase_of, erase_state, once_state, pen_in}
-use Rattle.archive_uses.specs.Use.Use.{closed, cut, lost, found}
+use Rattle.archive_uses.specs.Use.Use.{closed, cut, lost, found, opened}
 use Rattle.archive_uses.specs.Calls.{Admits, IsCut, Keeps, Steps}
 use Rattle.archive_uses.specs.Uses.{Leads, Uses}
-use Rattle.archive_uses.specs.Uses.Stage.{off, on}
-use Rattle.uses_tests.specs.inner.Taking.{IsSomewhere, Loses, Reopens, Takes, apart, fallen}
+use Rattle.archive_uses.specs.Uses.Stage.{gone, off, on}
+use Rattle.archive_uses.specs.Lives.{LeftByCreation, Lives, Starts}
+use Rattle.uses_tests.specs.inner.Taking.{IsSomewhere, Loses, Reopens, Takes, alone, apart, fallen}
 use Rattle.uses_tests.specs.declared.acts.Returned.{Returned}
 use Rattle.std.proofs.Common.{Option, Some, None, Result}
 use Rattle.std.specs.Prelude.{IfSome}
 use Rattle.std.specs.Global.{Vec}
+use Rattle.disk_memory.specs.Replay.{state_of}
+use Rattle.disk_memory.specs.declared.call.Call.{Call as DiskCall}
+use Rattle.page_journal.specs.Identity.{HoldsNone}
+use Rattle.page_journal.proofs.Creating.{other_none}
 use Rattle.route_model.specs.Admission.{Admitted, IsAdmission}
 use Rattle.interleaving_core.specs.declared.reply.BatchReply.{BatchReply}
 use Rattle.disk_archive.specs.declared.error.AdmitError.{AdmitError}
@@ -30,6 +37,7 @@ use Rattle.uses_tests.specs.declared.acts.Act.TheVariants.{Crash, CutAdmit, CutA
 use Rattle.uses_tests.specs.declared.acts.Batch.{Batch}
 use Rattle.uses_tests.specs.declared.acts.Stop.{Stop}
 use Rattle.uses_tests.specs.declared.acts.Tear.{Tear}
+use Rattle.uses_tests.proofs.Going.{uses_on}
 
 -- both disks begin again after a crash
 pub loses_found : {E O Pen Seen : Type 0} (erase : EraseGhosts E) (once : OnceGhosts O Pen Seen) (e : E) (o : O) (pen : Pen) (f : E) (p : O) (new : Pen) (l : Loses erase once e o pen f p new)
@@ -93,3 +101,42 @@ takes_cut_apply erase once sound a z b e o pen tear result returned did closes r
     r.leads,
   );
 }
+
+-- ---- an archive is created
+
+-- a crash leaves no journal on a new disk
+pub none_at_first : (calls : List DiskCall) (o : OnceState) (left : Left) → calls ≡ [] → LeftNow (state_of calls) o left → HoldsNone left.erase
+none_at_first calls o left none now =
+    let zero : left.erase 0 ≡ 0 = (subst (λ (l : List DiskCall). MayLeave (state_of l) left.erase) none now.erase) 0 (λ is. is) in
+    other_none left.erase (λ r. omega (arith, r, zero))
+
+pub lives_first : {E O Pen Seen : Type 0} {erase : EraseGhosts E} {once : OnceGhosts O Pen Seen} (made : Settings) (a : Archive E O Pen Seen erase once) → Starts made [] (on a) → Lives made [] (alone a)
+lives_first made a starts = record { start = []; first = on a; begins = starts; later = []; valid = tt; leads = refl; are = refl }
+
+opened_leads : {E O Pen Seen : Type 0} (erase : EraseGhosts E) (once : OnceGhosts O Pen Seen) (e : E) (o : O) (pen : Pen) (a : Archive E O Pen Seen erase once) → Uses (apart erase once e o pen) (opened ∷ []) (alone a) → Leads {erase = erase} {once = once} opened (off e o pen) (on a)
+opened_leads erase once e o pen a uses = subst (λ s. Leads {erase = erase} {once = once} opened (off e o pen) s.stage) (sym uses.2) uses.1.0
+
+-- A crash came inside that, on disks where it left no journal before, and both were opened then.
+pub cut_lives : {E O Pen Seen : Type 0} (erase : EraseGhosts E) (once : OnceGhosts O Pen Seen) (made : Settings) (e : E) (o : O) (pen : Pen) (f : E) (p : O) (new : Pen) (g : E) (q : O) (newer : Pen) (a : Archive E O Pen Seen erase once)
+    → ((left : Left) → LeftNow (erase.model e) (once.model pen) left → HoldsNone left.erase)
+    → ((left : Left) → LeftNow (erase.model f) (once.model new) left → LeftByCreation erase once made e o pen left) → p ≡ o
+    → (l : Loses erase once f p new g q newer) → Uses (apart erase once g q newer) (opened ∷ []) (alone a)
+    → (HoldsNone l.left.erase → Leads {Seen = Seen} {erase = erase} {once = once} found (gone (once.block_count p) l.left) (off g q newer) → Leads {erase = erase} {once = once} opened (off g q newer) (on a) → ⊥)
+    → Lives made (lost ∷ found ∷ opened ∷ []) (alone a)
+cut_lives {E} {O} {Pen} {Seen} erase once made e o pen f p new g q newer a blank leaves same l opens law =
+    let no : HoldsNone l.left.erase → ⊥ = λ none. law none (l.begins, l.count, l.honest_erase, l.honest_once) (opened_leads erase once g q newer a opens) in
+    ⊎_elim
+    (λ before. absurd (no (blank l.left before.0)))
+    (λ other. ⊎_elim
+    (λ none. absurd (no none))
+    (λ starts. record {
+      start = lost ∷ [];
+      first = gone (once.block_count p) l.left;
+      begins = subst (λ (x : O). Starts {E = E} {O = O} {Pen = Pen} {Seen = Seen} {erase = erase} {once = once} made (lost ∷ []) (gone (once.block_count x) l.left)) (sym same) starts;
+      later = found ∷ opened ∷ [];
+      valid = (tt, (tt, tt));
+      leads = uses_on (found ∷ []) (opened ∷ []) (fallen erase once p l.left) (apart erase once g q newer) (alone a) (loses_found erase once f p new g q newer l) opens;
+      are = refl;
+    })
+    other)
+    (leaves l.left l.now)

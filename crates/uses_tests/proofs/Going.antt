@@ -4,11 +4,13 @@ use Rattle.std.proofs.lemmas.List.{map-append, take_more}
 use Rattle.std.specs.List.{AllByRecursion}
 use Rattle.disk_models.specs.declared.erase.EraseDisk.{Ghosts as EraseGhosts}
 use Rattle.disk_models.specs.declared.once.OnceDisk.{Ghosts as OnceGhosts}
+use Rattle.archive_pages.specs.declared.settings.Settings.{Settings}
 use Rattle.disk_archive.specs.declared.archive.Archive.{Archive}
 use Rattle.archive_uses.specs.Use.{IsUse, Use}
 use Rattle.archive_uses.specs.Runs.{EndsInRun}
 use Rattle.archive_uses.specs.Uses.{Scene, Uses}
 use Rattle.archive_uses.specs.Uses.Stage.{on}
+use Rattle.archive_uses.specs.Lives.{Lives}
 use Rattle.uses_tests.specs.declared.acts.Act.{Act}
 use Rattle.uses_tests.specs.declared.acts.Returned.{Returned}
 use Rattle.uses_tests.specs.declared.acts.Turn.{Turn}
@@ -22,6 +24,18 @@ uses_on (u ∷ us) vs s t v first later = (first.0, first.1, uses_on us vs first
 valid_on : (us vs : List Use) → AllByRecursion IsUse us → AllByRecursion IsUse vs → AllByRecursion IsUse (us ++ vs)
 valid_on [] vs first later = later
 valid_on (u ∷ us) vs first later = (first.0, valid_on us vs first.1 later)
+
+-- a life goes on
+pub lives_on : {E O Pen Seen : Type 0} {erase : EraseGhosts E} {once : OnceGhosts O Pen Seen} (made : Settings) (us vs : List Use) (s t : Scene E O Pen Seen erase once) → Lives made us s → AllByRecursion IsUse vs → Uses s vs t → Lives made (us ++ vs) t
+lives_on made us vs s t l valid leads = record {
+  start = l.start;
+  first = l.first;
+  begins = l.begins;
+  later = l.later ++ vs;
+  valid = valid_on l.later vs l.valid valid;
+  leads = uses_on l.later vs (record { stage = l.first; hand = [] }) s t l.leads leads;
+  are = ap (λ (x : List Use). x ++ vs) l.are ∙ append_assoc l.start l.later vs;
+}
 
 turns_on : (turns : List Turn) (turn : Turn) (us vs : List Use) → AreTurns turns us → AreUses turn.act turn.returned vs → AreTurns (turns ++ turn ∷ []) (us ++ vs)
 turns_on [] turn us vs are next = (vs, [], next, refl, ap (λ (x : List Use). x ++ vs) are ∙ sym (append-nil vs))
@@ -53,5 +67,5 @@ played_on turns all script i d returned played within is =
     ap (map act_of) is ∙ map-append act_of turns (record { act = get_or script i d; returned = returned } ∷ []) ∙ ap (λ (acts : List Act). acts ++ get_or script i d ∷ []) played ∙ sym (take_more script i d within)
 
 -- what a run leaves of an archive
-pub somewhere : {E O Pen Seen : Type 0} {erase : EraseGhosts E} {once : OnceGhosts O Pen Seen} (n : ℕ) (us : List Use) (a : Archive E O Pen Seen erase once) → EndsInRun n us (on a) → IsSomewhere a
-somewhere n us a ends = ⊎_elim (λ up. inl (up.0, up.2)) (λ down. inr down.0) ends
+pub somewhere : {E O Pen Seen : Type 0} {erase : EraseGhosts E} {once : OnceGhosts O Pen Seen} (made : Settings) (us : List Use) (a : Archive E O Pen Seen erase once) → EndsInRun made us (on a) → IsSomewhere a
+somewhere made us a ends = ⊎_elim (λ up. inl (up.0, up.2)) (λ down. inr down.0) ends

@@ -1,10 +1,11 @@
 -- Which uses of an archive the acts of a script are.
-use Rattle.std.specs.Prelude.{◌≡◌, ℕ, Bool, List, [], ◌∷◌, ◌++◌}
+use Rattle.std.specs.Prelude.{◌≡◌, Bool, List, [], ◌∷◌, ◌++◌}
 use Rattle.std.specs.Global.{Vec}
 use Rattle.disk_models.specs.declared.erase.EraseDisk.{Ghosts as EraseGhosts}
 use Rattle.disk_models.specs.declared.once.OnceDisk.{Ghosts as OnceGhosts}
 use Rattle.route_model.specs.Admission.{Admitted}
 use Rattle.interleaving_core.specs.declared.query.Query.{Query}
+use Rattle.archive_pages.specs.declared.settings.Settings.{Settings}
 use Rattle.disk_archive.specs.declared.archive.Archive.{Archive}
 use Rattle.archive_uses.specs.Use.{Use}
 use Rattle.archive_uses.specs.Use.Call.{admit, mark, apply, flush, ask}
@@ -15,9 +16,16 @@ use Rattle.archive_uses.specs.Runs.{EndsInRun, EndsWith}
 use Rattle.archive_uses.specs.Promises.{IsPromised}
 use Rattle.uses_tests.specs.declared.acts.Act.{Act}
 use Rattle.uses_tests.specs.declared.acts.Act.TheVariants.{Admit, Mark, Apply, Flush, Ask, Check, Crash, CutAdmit, CutApply}
+use Rattle.uses_tests.specs.declared.acts.Birth.{Birth}
+use Rattle.uses_tests.specs.declared.acts.Birth.TheVariants.{Created, CutOff}
 use Rattle.uses_tests.specs.declared.acts.Returned.{Returned}
 use Rattle.uses_tests.specs.declared.acts.Returned.TheVariants.{Admitted as admitted, Marked, Applied, Flushed, Answered, Checked, Opened, Reopened}
 use Rattle.uses_tests.specs.declared.acts.Turn.{Turn}
+
+-- the uses with which an archive comes to be
+abbrev pub AreFirst : Birth → List Use → Type 0
+AreFirst Created uses = uses ≡ []
+AreFirst (CutOff tear stop) uses = uses ≡ lost ∷ found ∷ opened ∷ []
 
 -- the uses after a crash: both disks are opened, or that is refused, another crash comes, and they are opened
 abbrev pub AreOpenings : Returned → List Use → Type 0
@@ -47,10 +55,12 @@ AreTurns (turn ∷ turns) uses = (first later : List Use) × AreUses turn.act tu
 abbrev pub act_of : Turn → Act
 act_of turn = turn.act
 
--- The turns are uses that end in a run of the pure machine, from an archive of so many collectors to which nothing was given; and all that is
--- promised of uses is true of them.
-pub record EndsSo {E O Pen Seen : Type 0} {erase : EraseGhosts E} {once : OnceGhosts O Pen Seen} (collectors : ℕ) (turns : List Turn) (last : Archive E O Pen Seen erase once) : Type 0 where
+-- An archive of these settings came to be so, and that and the turns are uses that end in a run of the pure machine; and all that is promised
+-- of uses is true of them.
+pub record EndsSo {E O Pen Seen : Type 0} {erase : EraseGhosts E} {once : OnceGhosts O Pen Seen} (made : Settings) (birth : Birth) (turns : List Turn) (last : Archive E O Pen Seen erase once) : Type 0 where
+  pub first : List Use
+  pub born : AreFirst birth first
   pub uses : List Use
   pub are : AreTurns turns uses
-  pub run : EndsInRun collectors uses (on last)
-  pub promised : EndsWith (λ down. IsPromised uses) (on last)
+  pub run : EndsInRun made (first ++ uses) (on last)
+  pub promised : EndsWith made (λ down. IsPromised (first ++ uses)) (on last)

@@ -58,6 +58,15 @@ impl Stop {
     }
 }
 
+/// How an archive comes to be.
+#[derive(Clone, Copy)]
+pub enum Birth {
+    /// It is created.
+    Created,
+    /// It is created on disks that stop, a crash tears both where they stopped inside that call, or as it ended, and they are opened.
+    CutOff(Tear, Stop),
+}
+
 /// So many admissions of a second, and of the seconds after it.
 #[derive(Clone, Copy)]
 pub enum Batch {

@@ -1,6 +1,13 @@
 //! Both disks of an archive, torn by a crash and opened again.
 
-ghost use Rattle.std.specs.Prelude.{◌∷◌, [], IfSome, IfOk, IfErr};
+ghost use Rattle.std.specs.Prelude.{◌≡◌, ◌∷◌, [], IfSome, IfOk, IfErr};
+ghost use Rattle.disk_models.specs.Left.{Left, LeftNow};
+ghost use Rattle.page_journal.specs.Identity.{HoldsNone};
+ghost use Rattle.archive_pages.specs.Places.{AreSettings};
+ghost use Rattle.disk_memory.specs.Memory.{calls_of};
+ghost use Rattle.disk_memory.specs.Pen.{once_model};
+ghost use Rattle.disk_memory.specs.Replay.{state_of};
+ghost use Rattle.archive_uses.specs.Lives.{LeftByCreation, Lives};
 ghost use Rattle.archive_uses.specs.Use.Use.{found, lost, opened, shut};
 ghost use Rattle.archive_uses.specs.Uses.{Uses};
 ghost use Rattle.uses_tests.specs.inner.Taking.{IsSomewhere, Loses, Reopens, Takes, alone, apart};
@@ -8,7 +15,9 @@ ghost use Rattle.uses_tests.specs.inner.Taking.{IsSomewhere, Loses, Reopens, Tak
 use crate::acts::{Act, Batch, Returned, Stop, Tear};
 use crate::batches::batch_of;
 use crate::calls::{Made, Next};
-use archive_uses::{admit, apply_step, close, open};
+use archive_pages::Settings;
+use archive_uses::{admit, apply_step, close, open, uses_are_runs};
+use disk_archive::Archive;
 use disk_memory::{MemErase, MemOnce, MemPen, crash_all};
 use disk_models::{EraseDisk, OnceDisk};
 use std::alloc::Global;
@@ -128,4 +137,63 @@ pub(crate) fn cut_apply(alloc: Global, archive: Made, tear: Tear) -> Option<Next
     let (erase, once, pen) = close(archive);
     let both = Both { erase, once, pen };
     opened_until(alloc, &both, tear, Stop::Never)
+}
+
+// New disks of so many pages and blocks, which stop so.
+fn blank(alloc: Global, pages: u16, blocks: u64, stop: Stop) -> Option<Both>
+    ensures none { IfSome result (λ both. (left : Left) → LeftNow (state_of (calls_of both.erase)) (once_model both.pen) left → HoldsNone left.erase) }
+{
+    let mut erase = MemErase::new(alloc, u64::from(pages) * 16_384);
+    let (once, mut pen) = MemOnce::new(alloc, blocks);
+    erase.stop_at(stop.of_erase());
+    once.stop_at(&mut pen, stop.of_once());
+    let Ok(once) = Arc::new(alloc, once) else {
+        return None;
+    };
+    Some(Both { erase, once, pen })
+}
+
+// Both disks after an archive was to be created on them.
+fn create_on(alloc: Global, both: Both, settings: Settings) -> Both
+    requires settings { AreSettings settings }
+    ensures left { (left : Left) → LeftNow (state_of (calls_of result.erase)) (once_model result.pen) left → LeftByCreation ⟦<MemErase as EraseDisk>⟧ ⟦<MemOnce as OnceDisk>⟧ settings both.erase both.once.value both.pen left }
+    ensures same { result.once.value ≡ both.once.value }
+{
+    match Archive::create(alloc, both.erase, both.once, both.pen, settings) {
+        Ok(archive) => {
+            let (erase, once, pen) = close(archive);
+            Both { erase, once, pen }
+        }
+        Err(refused) => Both {
+            erase: refused.erase,
+            once: refused.once,
+            pen: refused.pen,
+        },
+    }
+}
+
+/// An archive is created on new disks, which stop, and they are opened after a crash. None where no archive is there then, or no memory.
+pub(crate) fn cut_create(
+    alloc: Global,
+    pages: u16,
+    blocks: u64,
+    settings: Settings,
+    tear: Tear,
+    stop: Stop,
+) -> Option<Made>
+    requires settings { AreSettings settings }
+    ensures lives { IfSome result (λ archive. Lives settings (lost ∷ found ∷ opened ∷ []) (alone archive)) }
+{
+    uses_are_runs::<MemErase, MemOnce>();
+    let Some(both) = blank(alloc, pages, blocks, stop) else {
+        return None;
+    };
+    let both = create_on(alloc, both, settings);
+    let Some(after) = crash(alloc, &both, tear, Stop::Never) else {
+        return None;
+    };
+    match opened_on(alloc, after) {
+        Ok(archive) => Some(archive),
+        Err(_) => None,
+    }
 }

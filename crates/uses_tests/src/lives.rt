@@ -1,18 +1,16 @@
 //! Whole lives of an archive.
 
-ghost use Rattle.std.specs.Prelude.{◌≡◌, ℕ, IfSome, map};
-ghost use Rattle.interleaving_core.specs.Steps.{empty};
+ghost use Rattle.std.specs.Prelude.{◌≡◌, [], IfSome, map};
 ghost use Rattle.archive_pages.specs.Places.{AreSettings};
-ghost use Rattle.disk_archive.specs.Archives.{Carries};
+ghost use Rattle.archive_uses.specs.Lives.{Lives};
 ghost use Rattle.uses_tests.specs.Turns.{EndsSo, act_of};
-ghost use Rattle.uses_tests.specs.inner.Taking.{IsSomewhere, Takes};
+ghost use Rattle.uses_tests.specs.inner.Taking.{IsBorn, IsSomewhere, Takes, alone};
 
-use crate::acts::{Act, Turn};
+use crate::acts::{Act, Birth, Turn};
 use crate::calls::{Made, Next, make};
-use crate::disks::{cut_admit, cut_apply, reopen};
+use crate::disks::{cut_admit, cut_apply, cut_create, reopen};
 use archive_pages::Settings;
-use archive_uses::uses_are_runs;
-use disk_archive::Archive;
+use archive_uses::{create, uses_are_runs};
 use disk_memory::{MemErase, MemOnce};
 use std::alloc::Global;
 use std::sync::Arc;
@@ -49,12 +47,12 @@ fn take_turn(alloc: Global, archive: Made, act: &Act) -> Option<Next>
     }
 }
 
-// Plays a script on an archive to which nothing was given.
+// Plays a script on an archive that was born so.
 fn play(alloc: Global, archive: Made, script: &[Act]) -> Option<Life>
-    ensures ends { (collectors : ℕ) → Carries archive (empty collectors) → IfSome result (λ life. EndsSo collectors life.turns.items life.archive) }
+    ensures ends { (settings : Settings) (birth : Birth) → IsBorn settings birth archive → IfSome result (λ life. EndsSo settings birth life.turns.items life.archive) }
     ensures played { IfSome result (λ life. map act_of life.turns.items ≡ script.now) }
 {
-    uses_are_runs(&archive);
+    uses_are_runs::<MemErase, MemOnce>();
     let mut archive = archive;
     let mut turns = Vec::new(alloc);
     for act in script {
@@ -75,35 +73,47 @@ fn play(alloc: Global, archive: Made, script: &[Act]) -> Option<Life>
 // A new archive on disks of so many pages and blocks.
 fn made(alloc: Global, pages: u16, blocks: u64, settings: Settings) -> Option<Made>
     requires settings { AreSettings settings }
-    ensures created { IfSome result (λ archive. Carries archive (empty settings.collectors)) }
+    ensures lives { IfSome result (λ archive. Lives settings [] (alone archive)) }
 {
     let erase = MemErase::new(alloc, u64::from(pages) * 16_384);
     let (once, pen) = MemOnce::new(alloc, blocks);
     let Ok(once) = Arc::new(alloc, once) else {
         return None;
     };
-    match Archive::create(alloc, erase, once, pen, settings) {
+    match create(alloc, erase, once, pen, settings) {
         Ok(archive) => Some(archive),
         Err(_) => None,
     }
 }
 
-/// Makes an archive on disks of so many pages and blocks, and plays a script on it. None where no archive can be made on them, both disks
+// An archive on new disks of so many pages and blocks, that comes to be so.
+fn born(alloc: Global, pages: u16, blocks: u64, settings: Settings, birth: Birth) -> Option<Made>
+    requires settings { AreSettings settings }
+    ensures born { IfSome result (IsBorn settings birth) }
+{
+    match birth {
+        Birth::Created => made(alloc, pages, blocks, settings),
+        Birth::CutOff(tear, stop) => cut_create(alloc, pages, blocks, settings, tear, stop),
+    }
+}
+
+/// Makes an archive on disks of so many pages and blocks, and plays a script on it. None where no archive comes to be on them, both disks
 /// can't be opened after a crash, or there is no memory.
 pub fn live(
     alloc: Global,
     pages: u16,
     blocks: u64,
     settings: Settings,
+    birth: Birth,
     script: &[Act],
 ) -> Option<Life>
-    ensures ends { IfSome result (λ life. EndsSo settings.collectors life.turns.items life.archive) }
+    ensures ends { IfSome result (λ life. EndsSo settings birth life.turns.items life.archive) }
     ensures played { IfSome result (λ life. map act_of life.turns.items ≡ script.now) }
 {
     if !settings.is_within() {
         return None;
     }
-    let Some(archive) = made(alloc, pages, blocks, settings) else {
+    let Some(archive) = born(alloc, pages, blocks, settings, birth) else {
         return None;
     };
     play(alloc, archive, script)

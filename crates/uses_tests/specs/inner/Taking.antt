@@ -5,15 +5,18 @@ use Rattle.disk_models.specs.declared.erase.EraseDisk.{Ghosts as EraseGhosts}
 use Rattle.disk_models.specs.declared.once.OnceDisk.{Ghosts as OnceGhosts}
 use Rattle.disk_models.specs.Left.{IsFound, Left, LeftNow}
 use Rattle.route_meaning.specs.History.{History}
+use Rattle.archive_pages.specs.declared.settings.Settings.{Settings}
 use Rattle.disk_archive.specs.declared.archive.Archive.{Archive}
 use Rattle.disk_archive.specs.Archives.{Carries, is_down}
 use Rattle.archive_uses.specs.Use.{IsUse, Use}
 use Rattle.archive_uses.specs.Uses.{Scene, Uses}
 use Rattle.archive_uses.specs.Uses.Stage.{gone, off, on}
+use Rattle.archive_uses.specs.Lives.{Lives}
 use Rattle.uses_tests.specs.declared.acts.Act.{Act}
+use Rattle.uses_tests.specs.declared.acts.Birth.{Birth}
 use Rattle.uses_tests.specs.declared.acts.Returned.{Returned}
 use Rattle.uses_tests.specs.declared.acts.Turn.{Turn}
-use Rattle.uses_tests.specs.Turns.{AreOpenings, AreTurns, AreUses}
+use Rattle.uses_tests.specs.Turns.{AreFirst, AreOpenings, AreTurns, AreUses}
 
 -- an archive, and no question in hand
 abbrev pub alone : {E O Pen Seen : Type 0} {erase : EraseGhosts E} {once : OnceGhosts O Pen Seen} → Archive E O Pen Seen erase once → Scene E O Pen Seen erase once
@@ -26,6 +29,12 @@ apart erase once e o pen = record { stage = off e o pen; hand = [] }
 -- what a crash left of both disks, of which the write-once one was this
 abbrev pub fallen : {E O Pen Seen : Type 0} (erase : EraseGhosts E) (once : OnceGhosts O Pen Seen) → O → Left → Scene E O Pen Seen erase once
 fallen erase once o left = record { stage = gone (once.block_count o) left; hand = [] }
+
+-- an archive of these settings came to be so
+pub record IsBorn {E O Pen Seen : Type 0} {erase : EraseGhosts E} {once : OnceGhosts O Pen Seen} (made : Settings) (birth : Birth) (archive : Archive E O Pen Seen erase once) : Type 0 where
+  pub first : List Use
+  pub are : AreFirst birth first
+  pub lives : Lives made first (alone archive)
 
 -- from one archive to the next by an act that returned this
 pub record Takes {E O Pen Seen : Type 0} {erase : EraseGhosts E} {once : OnceGhosts O Pen Seen} (old new : Archive E O Pen Seen erase once) (act : Act) (returned : Returned) : Type 0 where

@@ -12,7 +12,7 @@ returns-clause-did g c from = record {
     holds = c.answer_with.ensures.holds;
     crash = c.answer_with.ensures.crash;
     down = c.answer_with.ensures.down;
-    keeps = keeps_by c.args.archive.now c.answer_with.new.self c.answer_with.ensures.honest c.answer_with.ensures.disk c.answer_with.ensures.blocks c.answer_with.ensures.idle;
+    keeps = keeps_by c.args.archive.now c.answer_with.new.self c.answer_with.ensures.settings c.answer_with.ensures.honest c.answer_with.ensures.disk c.answer_with.ensures.blocks c.answer_with.ensures.idle;
   };
 }
 
