@@ -6,7 +6,7 @@ use disk_memory::{MemErase, MemOnce};
 use memory_archive::MemArchive;
 use once_store::ShelfReader;
 use route_model::Mark;
-use service::{Input, LoadSettings, Output, Status, load};
+use service::{Input, LoadReport, LoadSettings, Output, Status, load};
 use std::alloc::Global;
 use std::sync::Arc;
 
@@ -58,7 +58,16 @@ fn load_into(alloc: Global, archive: &mut MemArchive, octets: &[u8]) -> Status {
     let mut lines = Output::new(&mut out);
     let mut refusals = Output::new(&mut err);
     let mut file = Input::new(octets);
-    load(alloc, archive, how, &mut file, &mut lines, &mut refusals)
+    let mut report = LoadReport::new();
+    load(
+        alloc,
+        archive,
+        how,
+        &mut file,
+        &mut lines,
+        &mut refusals,
+        &mut report,
+    )
 }
 
 /// An archive of one collector into which these octets are loaded, with the mark 1704067201.

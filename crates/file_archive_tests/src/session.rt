@@ -8,7 +8,7 @@ use archive_pages::Settings;
 use file_archive::FileArchive;
 use load_progress::{Counts, Meter, WatchedArchive};
 use route_model::Mark;
-use service::{Input, LoadSettings, Output, Status, ask, check, load};
+use service::{Input, LoadReport, LoadSettings, Output, Status, ask, check, load};
 use std::alloc::Global;
 use test_octets::octets;
 
@@ -95,7 +95,16 @@ fn give<A: RouteArchive>(
     let mut err = Vec::new(alloc);
     let mut lines = Output::new(out);
     let mut refusals = Output::new(&mut err);
-    Some(load(alloc, archive, how, &mut file, &mut lines, &mut refusals))
+    let mut report = LoadReport::new();
+    Some(load(
+        alloc,
+        archive,
+        how,
+        &mut file,
+        &mut lines,
+        &mut refusals,
+        &mut report,
+    ))
 }
 
 /// Runs a command over an archive, whose lines go to `out`. What goes to standard error is left out.

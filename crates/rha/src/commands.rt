@@ -6,16 +6,37 @@ ghost use Rattle.archive_pages.specs.Places.{AreSettings};
 ghost use Rattle.rha.specs.inner.Made.{settings_for};
 
 use crate::opening::{open, open_for_check};
-use crate::refusals::{tell_no_file, tell_unanswered, tell_unmade, tell_unopened};
+use crate::refusals::{tell_unanswered, tell_unmade};
+use advice::{LimitAdvice, advise, advise_question};
 use archive_pages::Settings;
-use file_archive::{FileArchive, FileDisks};
-use load_progress::{ClearedWriter, Meter, WatchedArchive, WatchedReader};
+use disk_archive::CreateError;
+use disk_files::{Call, FileError};
+use file_archive::{CreateFault, FileArchive};
 use service::{
-    Checking, Creation, Input, Loading, Output, Question, ask_line, check_archive, load_file,
-    tell_created, tell_lost, tell_out_of_memory, tell_outside,
+    Checking, Creation, Output, Question, ask_line, check_archive, tell_created, tell_out_of_memory,
 };
-use std::fs::File;
-use std::io::{BufWriter, IsTerminal, Write};
+use std::alloc::Global;
+use std::io::{BufWriter, Write};
+
+/// Says what helps where an archive isn't made for its sizes: how many pages it needs, or that its files are too large.
+fn advise_unmade<E: Write>(
+    alloc: Global,
+    asked: &Creation<'_>,
+    fault: &CreateFault,
+    err: &mut Output<E>,
+) {
+    match fault {
+        CreateFault::Archive(CreateError::PagesFull) => {
+            let pages = asked.pages;
+            let needed = u64::from(asked.collectors) * u64::from(asked.ring) + 3;
+            advise(alloc, &LimitAdvice::FewPages { pages, needed }, err);
+        }
+        CreateFault::File(FileError::Failed(failure)) if failure.call == Call::Resize => {
+            advise(alloc, &LimitAdvice::LargeFiles, err);
+        }
+        _ => {}
+    }
+}
 
 /// Makes a folder with a new archive. The order of refusals: too few pages, the folder, its files.
 pub(crate) fn create<E: Write>(rt: &HostRuntime, asked: &Creation<'_>, err: &mut Output<E>) -> u8
@@ -35,50 +56,12 @@ pub(crate) fn create<E: Write>(rt: &HostRuntime, asked: &Creation<'_>, err: &mut
             let mut out = Output::new(buffer);
             tell_created(alloc, asked, &mut out, err)
         }
-        Err(fault) => tell_unmade(alloc, folder, &fault, err),
+        Err(fault) => {
+            let code = tell_unmade(alloc, folder, &fault, err);
+            advise_unmade(alloc, asked, &fault, err);
+            code
+        }
     }
-}
-
-/// Loads a file into the archive of a folder. The folder's files are opened before it, and what is in them is read behind it.
-pub(crate) fn load<E: Write>(rt: &HostRuntime, asked: &Loading<'_>, err: &mut Output<E>) -> u8 {
-    let alloc = rt.alloc();
-    let disks = match FileDisks::open(alloc, rt, asked.folder) {
-        Ok(disks) => disks,
-        Err(why) => return tell_no_file(alloc, asked.folder, why, err),
-    };
-    let file = match File::open(rt, asked.file) {
-        Ok(file) => file,
-        Err(why) => return tell_outside(alloc, err, asked.file, "open", &why),
-    };
-    match FileArchive::on(alloc, disks) {
-        Ok(archive) => load_into(rt, archive, asked, file, err),
-        Err(fault) => tell_unopened(alloc, asked.folder, fault, err),
-    }
-}
-
-/// Loads a file into an archive that is open. Where standard error is a terminal, one line there says how far it has come, and is gone
-/// before anything else is told.
-fn load_into<E: Write>(
-    rt: &HostRuntime,
-    archive: FileArchive,
-    asked: &Loading<'_>,
-    file: File,
-    err: &mut Output<E>,
-) -> u8 {
-    let alloc = rt.alloc();
-    let terminal = rt.stderr().is_terminal().then_some(rt);
-    let meter = Meter::new(terminal);
-    let Ok(buffer) = BufWriter::new(alloc, ClearedWriter::new(rt.stdout(), &meter)) else {
-        return tell_out_of_memory(err);
-    };
-    let mut archive = WatchedArchive::new(archive, &meter);
-    let mut file = Input::new(WatchedReader::new(file, &meter));
-    let mut out = Output::new(buffer);
-    let mut told = Output::new(ClearedWriter::new(rt.stderr(), &meter));
-    let code = load_file(alloc, &mut archive, asked, &mut file, &mut out, &mut told);
-    meter.clear();
-    tell_lost(alloc, asked.file, &file, err);
-    code
 }
 
 /// Answers a request line by the archive of a folder.
@@ -94,6 +77,7 @@ pub(crate) fn ask<E: Write>(rt: &HostRuntime, asked: &Question<'_>, err: &mut Ou
     let code = ask_line(alloc, &mut archive, asked, &mut out, err);
     if code != 0 {
         tell_unanswered(alloc, &archive, err);
+        advise_question(alloc, &archive, asked.line.as_str(), err);
     }
     code
 }

@@ -3,14 +3,20 @@
 #![tactic(auto)]
 
 mod commands;
+mod examining;
+mod holder;
+mod loading;
 mod opening;
 mod refusals;
 mod served;
 mod streams;
 
-use crate::commands::{ask, check, create, load};
+use crate::commands::{ask, check, create};
+use crate::examining::info;
+use crate::loading::load;
 use crate::served::serve;
 use crate::streams::{DEV_NULL, open_closed_streams};
+use advice::advise_text;
 use service::{Invocation, Output, command, tell_out_of_memory, tell_outside, tell_usage};
 use std::env;
 use std::io::Write;
@@ -39,7 +45,12 @@ fn run<
         Ok(Invocation::Ask(asked)) => ask(rt, &asked, err),
         Ok(Invocation::Serve(asked)) => serve(rt, host, &asked, err),
         Ok(Invocation::Check(asked)) => check(rt, &asked, err),
-        Err(error) => tell_usage(alloc, rt, &error, err),
+        Ok(Invocation::Info(asked)) => info(rt, &asked, err),
+        Err(error) => {
+            let code = tell_usage(alloc, rt, &error, err);
+            advise_text(alloc, &error, err);
+            code
+        }
     }
 }
 

@@ -1,10 +1,9 @@
 -- Applying changes no intake.
-use Rattle.std.proofs.Common.{◌≡◌, ◌∙◌, ℕ, zero, suc, List, length, ap, refl, inl, inr, ⊎_elim, Option, Some, None, Ok, Err, Result, OnOk, OnErr, sym, subst}
+use Rattle.std.proofs.Common.{◌≡◌, ◌∙◌, ℕ, zero, suc, List, length, ap, refl, inl, inr, Ok, Err, sym, subst}
 use Rattle.std.proofs.lemmas.Bool.{cases_lt}
 use Rattle.route_meaning.specs.History.{Intake, History}
 use Rattle.interleaving_core.specs.Steps.{Applies, AppliesMore, NothingToApply}
 use Rattle.archive_calls.specs.Does.{AppliesSome, DoesApply}
-use Rattle.archive_calls.specs.declared.told.Step.{Step}
 use Rattle.archive_calls.specs.declared.told.Step.TheVariants.{Applied, Idle}
 use Rattle.archive_calls.specs.declared.refusal.Trouble.{Trouble}
 use Rattle.service.specs.Carried.{Carried, HasIntakes}

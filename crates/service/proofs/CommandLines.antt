@@ -18,7 +18,7 @@ use Rattle.std.specs.Box.{box_value}
 use Rattle.service.specs.CommandLines.{program, AreWordsOf, IsInvocation, HasBadMark, HasBadListen}
 use Rattle.service.specs.inner.Naming.{IsCommand, AsksFor, NamesNoMark, NamesNoListen}
 use Rattle.service.specs.declared.invocation.Invocation.{Invocation}
-use Rattle.service.specs.declared.invocation.Invocation.TheVariants.{Create, Load, Ask, Serve, Check}
+use Rattle.service.specs.declared.invocation.Invocation.TheVariants.{Create, Load, Ask, Serve, Check, Info}
 use Rattle.service.specs.declared.invocation.CommandError.{CommandError}
 use Rattle.service.specs.declared.invocation.CommandError.TheVariants.{Usage, OutOfMemory}
 
@@ -58,23 +58,25 @@ has_entered words e =
     let defaults = last_fault (settle_fault top.rules top.args_override_self end) _ level in
     is_checked _ (finished top.rules end) (last_fault (defaults_fault (settled top.rules end).rows top.rules) _ defaults)
 
--- the first that is chosen of five
-abbrev first_of_five : {A : Type 0} (a b c d h : Bool) (v w x y z : A) → Option A
-first_of_five a b c d h v w x y z = cond a (Some v) (cond b (Some w) (cond c (Some x) (cond d (Some y) (cond h (Some z) None))))
+-- the first that is chosen of six
+abbrev first_of_six : {A : Type 0} (a b c d h i : Bool) (u v w x y z : A) → Option A
+first_of_six a b c d h i u v w x y z = cond a (Some u) (cond b (Some v) (cond c (Some w) (cond d (Some x) (cond h (Some y) (cond i (Some z) None)))))
 
--- where one of five is found, it is the first, the second, the third, the fourth or the fifth
-one_of_five : {A B : Type 0} (f : A → B) (a b c d h : Bool) (v w x y z : A) → is_some (option_map f (first_of_five a b c d h v w x y z)) ≡ true
-    → (option_map f (first_of_five a b c d h v w x y z) ≡ Some (f v))
-    ⊎ ((option_map f (first_of_five a b c d h v w x y z) ≡ Some (f w))
-    ⊎ ((option_map f (first_of_five a b c d h v w x y z) ≡ Some (f x))
-    ⊎ ((option_map f (first_of_five a b c d h v w x y z) ≡ Some (f y))
-    ⊎ (option_map f (first_of_five a b c d h v w x y z) ≡ Some (f z)))))
-one_of_five f true b c d h v w x y z e = inl refl
-one_of_five f false true c d h v w x y z e = inr (inl refl)
-one_of_five f false false true d h v w x y z e = inr (inr (inl refl))
-one_of_five f false false false true h v w x y z e = inr (inr (inr (inl refl)))
-one_of_five f false false false false true v w x y z e = inr (inr (inr (inr refl)))
-one_of_five f false false false false false v w x y z e = absurd cc
+-- where one of six is found, it is the first, the second, the third, the fourth, the fifth or the sixth
+one_of_six : {A B : Type 0} (f : A → B) (a b c d h i : Bool) (u v w x y z : A) → is_some (option_map f (first_of_six a b c d h i u v w x y z)) ≡ true
+    → (option_map f (first_of_six a b c d h i u v w x y z) ≡ Some (f u))
+    ⊎ ((option_map f (first_of_six a b c d h i u v w x y z) ≡ Some (f v))
+    ⊎ ((option_map f (first_of_six a b c d h i u v w x y z) ≡ Some (f w))
+    ⊎ ((option_map f (first_of_six a b c d h i u v w x y z) ≡ Some (f x))
+    ⊎ ((option_map f (first_of_six a b c d h i u v w x y z) ≡ Some (f y))
+    ⊎ (option_map f (first_of_six a b c d h i u v w x y z) ≡ Some (f z))))))
+one_of_six f true b c d h i u v w x y z e = inl refl
+one_of_six f false true c d h i u v w x y z e = inr (inl refl)
+one_of_six f false false true d h i u v w x y z e = inr (inr (inl refl))
+one_of_six f false false false true h i u v w x y z e = inr (inr (inr (inl refl)))
+one_of_six f false false false false true i u v w x y z e = inr (inr (inr (inr (inl refl))))
+one_of_six f false false false false false true u v w x y z e = inr (inr (inr (inr (inr refl))))
+one_of_six f false false false false false false u v w x y z e = absurd cc
 
 abbrev name_in : Option (Text × List Row) → Option Text
 name_in = option_map (λ (p : Text × List Row). p.0)
@@ -84,8 +86,9 @@ enters_one None e = absurd cc
 enters_one (Some p) e = ⊎_elim (λ h. inl (ap name_in h))
     (λ r. ⊎_elim (λ h. inr (inl (ap name_in h)))
     (λ s. ⊎_elim (λ h. inr (inr (inl (ap name_in h))))
-    (λ t. ⊎_elim (λ h. inr (inr (inr (inl (ap name_in h))))) (λ h. inr (inr (inr (inr (ap name_in h))))) t) s) r)
-    (one_of_five (λ (s : Shape). rows_at s p.1) _ _ _ _ _ _ _ _ _ _ e)
+    (λ t. ⊎_elim (λ h. inr (inr (inr (inl (ap name_in h)))))
+    (λ u. ⊎_elim (λ h. inr (inr (inr (inr (inl (ap name_in h)))))) (λ h. inr (inr (inr (inr (inr (ap name_in h)))))) u) t) s) r)
+    (one_of_six (λ (s : Shape). rows_at s p.1) _ _ _ _ _ _ _ _ _ _ _ _ e)
 
 -- ---- what a parse that succeeds has met
 
@@ -122,6 +125,7 @@ asked_by app words m (Load l) h a = (a.0, words_met app words m (codes "load") a
 asked_by app words m (Ask q) h a = (a.0, words_met app words m (codes "ask") a.0 h a.1, a.2)
 asked_by app words m (Serve s) h a = (a.0, words_met app words m (codes "serve") a.0 h a.1, a.2)
 asked_by app words m (Check c) h a = (a.0, words_met app words m (codes "check") a.0 h a.1, a.2)
+asked_by app words m (Info e) h a = (a.0, words_met app words m (codes "info") a.0 h a.1, a.2)
 
 pub no_mark_by : (app : App) (words : List Text) (m : ArgMatches) → IsMet app words m → NamesNoMark (subcommand_rows_of m) → HasBadMark words
 no_mark_by app words m h a = (a.0, words_met app words m (codes "load") a.0 h a.1, a.2)

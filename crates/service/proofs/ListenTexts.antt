@@ -1,8 +1,7 @@
 -- The two sides of the colon in where a server takes connections.
-use Rattle.std.proofs.Common.{◌≡◌, ◌≢◌, ℕ, zero, suc, ◌<◌, List, [], ◌∷◌, ◌++◌, Option, MatchOption, length, get_or, Some, None, Result, Ok, Err, OnErr, codes, decimal, append_assoc, sym, subst, ap, ◌∙◌, arith, ⊎_elim, Bor}
-use Rattle.std.specs.Net.Addr.{ipv4_octets}
+use Rattle.std.proofs.Common.{◌≡◌, ◌≢◌, ℕ, zero, suc, ◌<◌, List, [], ◌∷◌, Option, MatchOption, length, get_or, None, Result, Ok, Err, OnErr, codes, decimal, append_assoc, sym, subst, ap, ◌∙◌, arith, ⊎_elim, Bor}
 use Rattle.std.specs.Net.Grammar.{IsDotted}
-use Rattle.std.specs.Net.Socket.{v4_ip, v4_port}
+use Rattle.std.specs.Net.Socket.{v4_port}
 use Rattle.std.specs.Net.Text.{ipv4_text}
 use Rattle.std.specs.declared.net.socket_addr.SocketAddrV4.{SocketAddrV4}
 use Rattle.std.proofs.NetLemmas.Alphabet.{IsDigitOrDot, All-ipv4_text}

@@ -1,16 +1,15 @@
 -- Turns that are made one after another.
-use Rattle.std.proofs.Common.{◌≡◌, ℕ, ◌+◌, ◌-◌, ◌<◌, List, [], ◌∷◌, ◌++◌, length, zero, suc, get_or, Some, None, Option, Result, Ok, Err, Bool, true, false, ◌↔◌, inl, inr, refl, sym, ap, ◌∙◌, subst, append_assoc, length-append, arith}
+use Rattle.std.proofs.Common.{◌≡◌, ℕ, ◌+◌, ◌-◌, ◌<◌, List, [], ◌∷◌, ◌++◌, length, zero, suc, get_or, Some, None, Option, Result, Ok, Err, Bool, true, false, refl, sym, ap, ◌∙◌, subst, append_assoc, length-append, arith}
 use Rattle.std.specs.List.{flat_map, slice_get}
 use Rattle.service.specs.Outputs.{OutputState, Tells}
 use Rattle.service.proofs.Outputs.{Tells-trans}
-use Rattle.std.proofs.lemmas.Bool.{cases_lt}
 use Rattle.std.proofs.lemmas.List.{append-nil}
 use Rattle.route_model.specs.Admission.{Admitted, admission_octets}
 use Rattle.route_meaning.specs.Holds.{admitted_time}
 use Rattle.route_meaning.specs.History.{Intake, History}
 use Rattle.sequencer.specs.Late.{lates}
 use Rattle.interleaving_core.specs.Does.{IsReply}
-use Rattle.interleaving_core.specs.Steps.{changed, with_batch, given, IsCollector}
+use Rattle.interleaving_core.specs.Steps.{changed, with_batch, given}
 use Rattle.archive_calls.specs.Limits.{batch_octets}
 use Rattle.interleaving_core.specs.declared.reply.BatchReply.{BatchReply as Reply}
 use Rattle.resolve.specs.declared.fault.ResolveFault.{ResolveFault}

@@ -15,8 +15,9 @@ use Rattle.service.specs.declared.invocation.Loading.{Loading}
 use Rattle.service.specs.declared.invocation.Question.{Question}
 use Rattle.service.specs.declared.invocation.Serving.{Serving}
 use Rattle.service.specs.declared.invocation.Checking.{Checking}
+use Rattle.service.specs.declared.invocation.Examining.{Examining}
 use Rattle.service.specs.declared.invocation.Invocation.{Invocation}
-use Rattle.service.specs.declared.invocation.Invocation.TheVariants.{Create, Load, Ask, Serve, Check}
+use Rattle.service.specs.declared.invocation.Invocation.TheVariants.{Create, Load, Ask, Serve, Check, Info}
 use Rattle.service.specs.Listening.{IsListenText, IsNoListenText}
 
 -- a word with this name, which has to be there
@@ -33,14 +34,14 @@ number_rule name least most = record (new_rule name) {
   required = true;
 }
 
--- --batch N, from 1 to 1000, and 1000 where it isn't there
-abbrev pub batch_rule : Rule
-batch_rule = record (new_rule (codes "batch")) {
-  long = Some (codes "batch");
+-- an option with this name: a number from the least to the most, and the default where it isn't there
+abbrev pub number_or_rule : List ℕ → ℕ → ℕ → List ℕ → Rule
+number_or_rule name least most default = record (new_rule name) {
+  long = Some name;
   value_names = 1;
   action = Some Set;
-  parser = Some (Unsigned 1 1000);
-  defaults = codes "1000" ∷ [];
+  parser = Some (Unsigned least most);
+  defaults = default ∷ [];
 }
 
 -- --mark M
@@ -50,6 +51,10 @@ mark_rule = record (new_rule (codes "mark")) { long = Some (codes "mark"); value
 -- --resume
 abbrev pub resume_rule : Rule
 resume_rule = record (new_rule (codes "resume")) { long = Some (codes "resume"); action = Some SetTrue }
+
+-- --json
+abbrev pub json_rule : Rule
+json_rule = record (new_rule (codes "json")) { long = Some (codes "json"); action = Some SetTrue }
 
 -- --listen ADDRESS:PORT, which has to be there
 abbrev pub listen_rule : Rule
@@ -68,17 +73,17 @@ words_rule = record (new_rule (codes "WORD")) {
 abbrev pub of_folder : List ℕ → App
 of_folder name = with_rule (new_app name) (word_rule (codes "DIR"))
 
--- create DIR --collectors N --ring P
+-- create DIR [--collectors N] [--ring P]
 abbrev pub creation_of_rings : App
-creation_of_rings = with_rule (with_rule (of_folder (codes "create")) (number_rule (codes "collectors") 1 16)) (number_rule (codes "ring") 9 65535)
+creation_of_rings = with_rule (with_rule (of_folder (codes "create")) (number_or_rule (codes "collectors") 1 16 (codes "1"))) (number_or_rule (codes "ring") 9 65535 (codes "4096"))
 
--- create DIR --collectors N --ring P --pages N --blocks N
+-- create DIR [--collectors N] [--ring P] [--pages N] [--blocks N]
 abbrev pub creation : App
-creation = with_rule (with_rule creation_of_rings (number_rule (codes "pages") 1 1000000000)) (number_rule (codes "blocks") 1 1000000000)
+creation = with_rule (with_rule creation_of_rings (number_or_rule (codes "pages") 1 1000000000 (codes "10000000"))) (number_or_rule (codes "blocks") 1 1000000000 (codes "100000000"))
 
 -- load DIR --collector C [--batch N]
 abbrev pub loading_of_batches : App
-loading_of_batches = with_rule (with_rule (of_folder (codes "load")) (number_rule (codes "collector") 0 15)) batch_rule
+loading_of_batches = with_rule (with_rule (of_folder (codes "load")) (number_rule (codes "collector") 0 15)) (number_or_rule (codes "batch") 1 1000 (codes "1000"))
 
 -- load DIR --collector C [--batch N] [--mark M] [--resume] FILE
 abbrev pub loading : App
@@ -96,13 +101,17 @@ serving = with_rule (with_rule (of_folder (codes "serve")) listen_rule) (number_
 abbrev pub checking : App
 checking = of_folder (codes "check")
 
+-- info DIR [--json]
+abbrev pub examining : App
+examining = with_rule (of_folder (codes "info")) json_rule
+
 -- the program without its commands, of which one has to be there
 abbrev pub bare_program : App
 bare_program = on_top (λ s. record s { subcommand_required = true; disable_help_subcommand = true; has_version = true }) (new_app (codes "rha"))
 
 -- the program
 abbrev pub program : App
-program = with_subcommand (with_subcommand (with_subcommand (with_subcommand (with_subcommand bare_program creation.top) loading.top) question.top) serving.top) checking.top
+program = with_subcommand (with_subcommand (with_subcommand (with_subcommand (with_subcommand (with_subcommand bare_program creation.top) loading.top) question.top) serving.top) checking.top) examining.top
 
 -- the words, with one space between two
 abbrev pub spaced : List (List ℕ) → List ℕ
@@ -168,6 +177,11 @@ pub record IsServing (rows : List Row) (s : Serving) : Type 0 where
 abbrev pub IsChecking : List Row → Checking → Type 0
 IsChecking rows c = c.folder.now ≡ word_in (codes "DIR") rows
 
+-- what is read of the arguments of `info`
+pub record IsExamining (rows : List Row) (e : Examining) : Type 0 where
+  pub folder : e.folder.now ≡ word_in (codes "DIR") rows
+  pub json : IsThere (one_of (codes "json") rows) e.json
+
 -- the words are accepted: they are those of the command of this name with these arguments
 pub record AreWordsOf (name : List ℕ) (words : List (List ℕ)) (rows : List Row) : Type 0 where
   pub accepted : fault_of program words ≡ []
@@ -180,6 +194,7 @@ IsInvocation words (Load l) = (rows : List Row) × AreWordsOf (codes "load") wor
 IsInvocation words (Ask q) = (rows : List Row) × AreWordsOf (codes "ask") words rows × IsQuestion rows q
 IsInvocation words (Serve s) = (rows : List Row) × AreWordsOf (codes "serve") words rows × IsServing rows s
 IsInvocation words (Check c) = (rows : List Row) × AreWordsOf (codes "check") words rows × IsChecking rows c
+IsInvocation words (Info e) = (rows : List Row) × AreWordsOf (codes "info") words rows × IsExamining rows e
 
 -- the words are accepted as those of `load`, but the text of the mark is that of no mark
 abbrev pub HasBadMark : List (List ℕ) → Type 0

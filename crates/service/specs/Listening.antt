@@ -1,5 +1,5 @@
 -- Where a server takes connections: as the command line writes it, and as it is told.
-use Rattle.std.specs.Prelude.{◌≡◌, ◌≤◌, ℕ, Bool, true, false, List, ◌++◌, codes, decimal}
+use Rattle.std.specs.Prelude.{◌≡◌, ◌≤◌, ℕ, true, false, List, ◌++◌, codes, decimal}
 use Rattle.std.specs.Net.Addr.{ipv4_octets}
 use Rattle.std.specs.Net.Grammar.{IsDotted}
 use Rattle.std.specs.Net.Socket.{v4_ip, v4_port}

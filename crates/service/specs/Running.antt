@@ -1,5 +1,5 @@
 -- What the program does of a command, once its archive is made or open.
-use Rattle.std.specs.Prelude.{◌≡◌, ℕ, Bool, true, false, Option, List, [], ◌++◌, codes, decimal, string_bytes}
+use Rattle.std.specs.Prelude.{◌≡◌, ℕ, Bool, true, false, Option, List, [], ◌++◌, codes, decimal}
 use Rattle.route_meaning.specs.History.{History}
 use Rattle.service.specs.Carried.{Carried}
 use Rattle.service.specs.Checks.{IsCheckEnd}

@@ -4,7 +4,7 @@ ghost use Rattle.std.specs.Prelude.{◌≡◌, IfOk, false, codes};
 ghost use Rattle.clap.specs.Simple.{app_of};
 ghost use Rattle.clap.specs.Walk.{rule_of};
 ghost use Rattle.clap.specs.declared.builder.command.Command.TheViews.{out-Command};
-ghost use Rattle.service.specs.CommandLines.{batch_rule, mark_rule, resume_rule, listen_rule, words_rule, word_rule, number_rule, of_folder, creation_of_rings, creation, loading_of_batches, loading, question, serving, checking, bare_program, program};
+ghost use Rattle.service.specs.CommandLines.{mark_rule, resume_rule, listen_rule, words_rule, word_rule, number_rule, number_or_rule, of_folder, creation_of_rings, creation, loading_of_batches, loading, question, serving, checking, examining, json_rule, bare_program, program};
 
 use crate::help;
 use clap::builder::ValueParser;
@@ -33,7 +33,7 @@ pub(crate) const MAX_BATCH: u64 = 1000;
 pub(crate) const MAX_WORKERS: u64 = 16;
 
 /// The version of the program.
-const VERSION: &str = "0.3.0";
+pub const VERSION: &str = "0.3.0";
 
 /// A word of this name, which has to be there.
 fn word<'a>(alloc: Global, name: &'a str, help: &'a str) -> Arg<'a>
@@ -67,16 +67,25 @@ fn number<'a>(
         .action(ArgAction::Set)
 }
 
-fn batch<'a>(alloc: Global) -> Arg<'a>
-    ensures rule { rule_of result ≡ batch_rule }
+/// `--NAME LETTER`: a number from the least to the most, and `default` where it isn't there.
+fn number_or<'a>(
+    alloc: Global,
+    name: &'a str,
+    letter: &'a str,
+    help: &'a str,
+    least: u64,
+    most: u64,
+    default: &'a str,
+) -> Arg<'a>
+    ensures rule { rule_of result ≡ number_or_rule name.entry.now least most default.entry.now }
     ensures own { result.global ≡ false }
 {
-    Arg::new(alloc, "batch")
-        .long("batch")
-        .value_name("N")
-        .help("The most records of a batch, 1 to 1000")
-        .value_parser(ValueParser::unsigned(1, MAX_BATCH))
-        .default_value("1000")
+    Arg::new(alloc, name)
+        .long(name)
+        .value_name(letter)
+        .help(help)
+        .value_parser(ValueParser::unsigned(least, most))
+        .default_value(default)
         .action(ArgAction::Set)
 }
 
@@ -142,7 +151,7 @@ fn of_folder<'a>(
         .arg(word(alloc, "DIR", "The folder of the archive"))
 }
 
-/// `create DIR --collectors N --ring P`
+/// `create DIR [--collectors N] [--ring P]`
 fn creation_of_rings<'a>(alloc: Global) -> Result<Command<'a>, AllocError>
     ensures app { IfOk result (λ c. app_of c ≡ creation_of_rings) }
     ensures own { IfOk result (λ c. (out-Command c).has_globals ≡ false) }
@@ -151,11 +160,11 @@ fn creation_of_rings<'a>(alloc: Global) -> Result<Command<'a>, AllocError>
     let collectors = "How many collectors there will be, 1 to 16";
     let ring = "The pages of each collector's ring, 9 to 65535";
     of_folder(alloc, "create", about, help::CREATE)?
-        .arg(number(alloc, "collectors", "N", collectors, 1, MAX_COLLECTORS))?
-        .arg(number(alloc, "ring", "P", ring, MIN_RING, MAX_RING))
+        .arg(number_or(alloc, "collectors", "N", collectors, 1, MAX_COLLECTORS, "1"))?
+        .arg(number_or(alloc, "ring", "P", ring, MIN_RING, MAX_RING, "4096"))
 }
 
-/// `create DIR --collectors N --ring P --pages N --blocks N`
+/// `create DIR [--collectors N] [--ring P] [--pages N] [--blocks N]`
 fn creation<'a>(alloc: Global) -> Result<Command<'a>, AllocError>
     ensures app { IfOk result (λ c. app_of c ≡ creation) }
     ensures own { IfOk result (λ c. (out-Command c).has_globals ≡ false) }
@@ -163,8 +172,8 @@ fn creation<'a>(alloc: Global) -> Result<Command<'a>, AllocError>
     let pages = "The pages of the archive, its rings' included, 1 to 1000000000";
     let blocks = "The write-once blocks of the archive, 1 to 1000000000";
     creation_of_rings(alloc)?
-        .arg(number(alloc, "pages", "N", pages, 1, MAX_SIZE))?
-        .arg(number(alloc, "blocks", "N", blocks, 1, MAX_SIZE))
+        .arg(number_or(alloc, "pages", "N", pages, 1, MAX_SIZE, "10000000"))?
+        .arg(number_or(alloc, "blocks", "N", blocks, 1, MAX_SIZE, "100000000"))
 }
 
 /// `load DIR --collector C [--batch N]`
@@ -174,9 +183,10 @@ fn loading_of_batches<'a>(alloc: Global) -> Result<Command<'a>, AllocError>
 {
     let about = "Loads a file of MRT records as a collector's";
     let collector = "The collector's number, 0 to 15";
+    let batch = "The most records of a batch, 1 to 1000";
     of_folder(alloc, "load", about, help::LOAD)?
         .arg(number(alloc, "collector", "C", collector, 0, LAST_COLLECTOR))?
-        .arg(batch(alloc))
+        .arg(number_or(alloc, "batch", "N", batch, 1, MAX_BATCH, "1000"))
 }
 
 /// `load DIR --collector C [--batch N] [--mark M] [--resume] FILE`
@@ -219,6 +229,25 @@ fn checking<'a>(alloc: Global) -> Result<Command<'a>, AllocError>
     of_folder(alloc, "check", about, help::CHECK)
 }
 
+fn json<'a>(alloc: Global) -> Arg<'a>
+    ensures rule { rule_of result ≡ json_rule }
+    ensures own { result.global ≡ false }
+{
+    Arg::new(alloc, "json")
+        .long("json")
+        .help("Prints one object of JSON, for programs")
+        .action(ArgAction::SetTrue)
+}
+
+/// `info DIR [--json]`
+fn examining<'a>(alloc: Global) -> Result<Command<'a>, AllocError>
+    ensures app { IfOk result (λ c. app_of c ≡ examining) }
+    ensures own { IfOk result (λ c. (out-Command c).has_globals ≡ false) }
+{
+    let about = "Shows how far an archive has come, and how much room it has left";
+    of_folder(alloc, "info", about, help::INFO)?.arg(json(alloc))
+}
+
 /// The program, without its commands.
 fn bare_program<'a>(alloc: Global) -> Command<'a>
     ensures app { app_of result ≡ bare_program }
@@ -240,5 +269,6 @@ pub(crate) fn program<'a>(alloc: Global) -> Result<Command<'a>, AllocError>
         .subcommand(loading(alloc)?)?
         .subcommand(question(alloc)?)?
         .subcommand(serving(alloc)?)?
-        .subcommand(checking(alloc)?)
+        .subcommand(checking(alloc)?)?
+        .subcommand(examining(alloc)?)
 }

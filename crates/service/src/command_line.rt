@@ -8,14 +8,16 @@ ghost use Rattle.clap.specs.Simple.{subcommand_rows_of};
 ghost use Rattle.clap.specs.Walk.{Row, rows_of, first_of, one_of};
 ghost use Rattle.clap.specs.Values.{kind_of};
 ghost use Rattle.clap.specs.declared.error.Error.{Error};
-ghost use Rattle.service.specs.CommandLines.{program, spaced, word_in, IsMarkIf, IsNoMark, IsNumber, IsThere, IsCreation, IsLoading, IsQuestion, IsServing, IsChecking, IsInvocation, HasBadMark, HasBadListen};
+ghost use Rattle.service.specs.CommandLines.{program, spaced, word_in, IsMarkIf, IsNoMark, IsNumber, IsThere, IsCreation, IsLoading, IsQuestion, IsServing, IsChecking, IsExamining, IsInvocation, HasBadMark, HasBadListen};
 ghost use Rattle.service.specs.Listening.{IsNoListenText};
 ghost use Rattle.service.specs.inner.Naming.{AsksFor, IsCommand, NamesNoListen, NamesNoMark};
 
 use crate::arguments::{
     LAST_COLLECTOR, MAX_BATCH, MAX_COLLECTORS, MAX_RING, MAX_SIZE, MAX_WORKERS, MIN_RING, program,
 };
-use crate::invocation::{Checking, CommandError, Creation, Invocation, Loading, Question, Serving};
+use crate::invocation::{
+    Checking, CommandError, Creation, Examining, Invocation, Loading, Question, Serving,
+};
 use crate::listening::read_listen;
 use clap::ArgMatches;
 use clap::error::ErrorKind;
@@ -141,6 +143,16 @@ fn checking_of<'a>(matches: &ArgMatches<'a>) -> Checking<'a>
     }
 }
 
+/// What the arguments of `info` say.
+fn examining_of<'a>(matches: &ArgMatches<'a>) -> Examining<'a>
+    ensures found { IsExamining (rows_of (found_of matches.now)) result }
+{
+    Examining {
+        folder: word_of(matches, "DIR"),
+        json: is_there(matches, "json"),
+    }
+}
+
 /// What the command that is named asks for.
 fn invocation_of<'a>(
     alloc: Global,
@@ -173,10 +185,13 @@ fn invocation_of<'a>(
             Err(BadText) => Err(CommandError::BadListen),
         };
     }
-    let Some(matches) = matches.subcommand_matches("check") else {
+    if let Some(matches) = matches.subcommand_matches("check") {
+        return Ok(Invocation::Check(checking_of(matches)));
+    }
+    let Some(matches) = matches.subcommand_matches("info") else {
         unreachable!()
     };
-    Ok(Invocation::Check(checking_of(matches)))
+    Ok(Invocation::Info(examining_of(matches)))
 }
 
 /// What an error of `clap` is.
@@ -192,15 +207,17 @@ fn usage(error: clap::Error) -> CommandError
 
 /// What the words of the command line ask for, the first of them being the program's name:
 ///
-/// - `rha create DIR --collectors N --ring P --pages N --blocks N`
+/// - `rha create DIR [--collectors N] [--ring P] [--pages N] [--blocks N]`
 /// - `rha load DIR --collector C [--batch N] [--mark M] [--resume] FILE`
 /// - `rha ask DIR WORD..`
 /// - `rha serve DIR --listen ADDRESS:PORT --workers N`
 /// - `rha check DIR`
+/// - `rha info DIR [--json]`
 ///
-/// `clap` reads the words, and each number within its limits; the N of `--batch` is 1000 where it isn't there. Then M is
-/// read as a mark, ADDRESS as an IPv4 address and PORT as a number of at most 65535, and the WORDs are joined to a line
-/// with one space between two; what stands behind the first WORD is a WORD too, also where it looks like an option.
+/// `clap` reads the words, and each number within its limits; an option that isn't there has its default: 1 collector, a ring of 4096
+/// pages, 10000000 pages, 100000000 blocks, batches of 1000. Then M is read as a mark, ADDRESS as an IPv4 address and PORT as a number
+/// of at most 65535, and the WORDs are joined to a line with one space between two; what stands after the first WORD is a WORD too, also
+/// where it looks like an option.
 ///
 /// # Errors
 ///

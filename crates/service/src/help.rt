@@ -2,10 +2,11 @@
 
 /// Of the program.
 pub(crate) const PROGRAM: &str = "Example:
-  rha create a --collectors 1 --ring 16 --pages 64 --blocks 64
+  rha create a
   rha load a --collector 0 --mark 2024-01-01T00:15:00Z updates.mrt
   rha ask a at 2024-01-01T00:10:00Z prefix 10.0.0.0/8
   rha check a
+  rha info a
   rha serve a --listen 127.0.0.1:17900 --workers 4
 
 `rha COMMAND --help` has the limits of a command, its defaults and its exit statuses.
@@ -15,13 +16,15 @@ error as `rha: NUMBER NAME` where it has no line of its own), 2 where the comman
 
 /// Of `create`.
 pub(crate) const CREATE: &str =
-    "Pages and blocks have 16384 octets each, and take room on the disk as they are used. What is loaded of a
-collector waits in its ring until it may be applied; a table dump of one moment waits there whole. There must
-be a page for each page of each ring and 3 more. Nothing is left behind where the archive can't be made.
-Prints `created COLLECTORS RING PAGES BLOCKS`.
+    "Pages and blocks have 16384 octets each, and take room on the disk as they are used: unused ones take none,
+however many there are. What is loaded of a collector waits in its ring until it may be applied; a table dump
+of one moment waits there whole. There must be a page for each page of each ring and 3 more. Nothing is left
+behind where the archive can't be made. Prints `created COLLECTORS RING PAGES BLOCKS`.
+
+The files have holes, which a copy has to keep: `cp -a --sparse=always`, `tar -cS`, `rsync -aS`.
 
 Example:
-  rha create a --collectors 1 --ring 16 --pages 64 --blocks 64
+  rha create a --collectors 2
 
 Exit status: 0 where the archive is made; 1 where it is refused, told on standard error as
 `rha: NUMBER NAME`; 2 where the command line isn't accepted.";
@@ -29,7 +32,7 @@ Exit status: 0 where the archive is made; 1 where it is refused, told on standar
 /// Of `load`.
 pub(crate) const LOAD: &str =
     "M is seconds since 1970, 0 to 4294967296, or a timestamp as 2024-01-01T00:00:00Z. It is set where FILE was
-read to its end: what the collector gives later isn't of earlier moments. FILE may be a pipe, as /dev/stdin.
+read to its end: what the collector gives later isn't of earlier moments. FILE may be a pipe; - is standard input.
 With --resume, FILE is all that the collector ever gave, from its beginning: as many of its first records as
 were offered before are left out, so a load that was broken off goes on.
 
@@ -103,3 +106,15 @@ Example:
 Exit status: 0 where all could be read, and has as many changes as were applied; 1 where a block or a page
 isn't what may stand there, which standard error tells as `rha: 8 Damaged` or `rha: 9 BadNode`, or something
 else was refused or couldn't be written (`rha: NUMBER NAME`); 2 where the command line isn't accepted.";
+
+/// Of `info`.
+pub(crate) const INFO: &str =
+    "Prints lines for a person: the settled watermark, the time of the last change that is applied, how many pages and
+blocks are used of how many, how many slots of the journal were open before this command, and of each collector
+its mark, its records and how much of its ring is used. With --json, the same as one object in one line.
+
+Example:
+  rha info a
+
+Exit status: 0 where the archive could be read; 1 where something was refused or couldn't be written (told on
+standard error as `rha: NUMBER NAME`); 2 where the command line isn't accepted.";

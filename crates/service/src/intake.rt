@@ -134,7 +134,7 @@ pub fn tell_stop<W: Write>(why: FeedStop, out: &mut Output<W>)
     out.flush();
 }
 
-/// Takes a feed in to its end. Answers why it is cut short, if it is.
+/// Takes a feed in to its end. Answers why it is cut short, if it is; `counts` are those that were written then.
 fn take_in<A: RouteArchive, R: Read, W: Write>(
     alloc: Global,
     archive: &mut A,
@@ -143,6 +143,7 @@ fn take_in<A: RouteArchive, R: Read, W: Write>(
     resume: bool,
     reader: &mut Input<R>,
     out: &mut Output<W>,
+    counts: &mut Option<FeedCounts>,
 ) -> Result<Option<FeedCut>, FeedStop>
     ensures fed { (h : History) → A.carries archive.old h → IfOk result (λ cut. (bytes : List ℕ) × MayGive reader.old.left bytes × IsFed collector (dropped_where resume (intake_in h.intakes collector)) (record { records = limit; octets = A.most archive.old }) h bytes cut (A.carries archive.new) out.old out.new) }
     ensures given_up { (h : History) → A.carries archive.old h → IfErr result (λ why. (bytes : List ℕ) × MayGive reader.old.left bytes × StopsWithin collector (dropped_where resume (intake_in h.intakes collector)) (record { records = limit; octets = A.most archive.old }) h bytes (A.carries archive.new) out.old out.new why) }
@@ -155,6 +156,7 @@ fn take_in<A: RouteArchive, R: Read, W: Write>(
     feeding.offer_rest(archive, out)?;
     let cut = cut_of(&framer);
     tell_end(&cut, &feeding.counts, out);
+    *counts = Some(feeding.counts);
     Ok(cut)
 }
 
@@ -178,7 +180,7 @@ fn as_told<W: Write>(end: End, out: &Output<W>) -> End
 /// is met, each batch what became of it, and the end the counts of the feed; where the feed ends inside a record or
 /// at a Length above the limit, a line before them. Another refusal writes its line and ends the feed. Each line is
 /// written out at once. Where not all lines can be written, the answer is that the feed is given up for the writer,
-/// `Outside`.
+/// `Outside`. `counts` become those of the feed where it came to its end.
 pub fn feed<A: RouteArchive, R: Read, W: Write>(
     alloc: Global,
     archive: &mut A,
@@ -187,12 +189,15 @@ pub fn feed<A: RouteArchive, R: Read, W: Write>(
     resume: bool,
     reader: &mut Input<R>,
     out: &mut Output<W>,
+    counts: &mut Option<FeedCounts>,
 ) -> End
     ensures ended { (h : History) → A.carries archive.old h → (bytes : List ℕ) × MayGive reader.old.left bytes × (end : End) × (result ≡ as_told out.new.failed end) × IsEnd collector (dropped_where resume (intake_in h.intakes collector)) (record { records = limit; octets = A.most archive.old }) h bytes end (A.carries archive.new) out.old out.new × FitsFailures end reader.old.failed reader.new.failed out.new.failed }
     ensures outside { result ≡ End.Refused FeedStop.Outside → (reader.new.failed ≡ true) ⊎ (out.new.failed ≡ true) }
     ensures sound { (result ≡ End.Refused FeedStop.Outside → ⊥) → reader.new.failed ≡ reader.old.failed }
 {
-    match take_in(alloc, archive, collector, limit, resume, reader, out) {
+    match take_in(
+        alloc, archive, collector, limit, resume, reader, out, counts,
+    ) {
         Ok(None) => as_told(End::Well, out),
         Ok(Some(_)) => as_told(End::Cut, out),
         Err(why) => {

@@ -68,6 +68,15 @@ pub struct Checking<'a> {
     pub folder: &'a str,
 }
 
+/// What `info` is given.
+#[derive(Debug, Drop)]
+pub struct Examining<'a> {
+    /// The folder of the archive.
+    pub folder: &'a str,
+    /// Whether what is printed is JSON.
+    pub json: bool,
+}
+
 /// What a command line asks for.
 #[derive(Debug, Drop)]
 pub enum Invocation<'a> {
@@ -81,6 +90,8 @@ pub enum Invocation<'a> {
     Serve(Serving<'a>),
     /// All that an archive keeps of what is applied is read.
     Check(Checking<'a>),
+    /// How far an archive has come is shown.
+    Info(Examining<'a>),
 }
 
 /// Why a command line asks for nothing.

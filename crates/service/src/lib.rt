@@ -22,6 +22,7 @@ mod making_room;
 mod output;
 mod refusal;
 mod replying;
+mod report;
 mod request;
 mod request_laws;
 mod request_words;
@@ -32,6 +33,7 @@ mod status;
 mod telling;
 
 pub use answer_lines::write_answer;
+pub use arguments::VERSION;
 pub use asking::ask;
 pub use checking::check;
 pub use command_line::command;
@@ -40,7 +42,9 @@ pub use faults::{FeedCut, FeedStop, LoadStop, Unanswered};
 pub use feed_lines::{FeedCounts, write_admitted, write_counts, write_settled};
 pub use feeding::{tell_batch, tell_refused};
 pub use intake::{End, cut_of, feed, tell_end, tell_stop};
-pub use invocation::{Checking, CommandError, Creation, Invocation, Loading, Question, Serving};
+pub use invocation::{
+    Checking, CommandError, Creation, Examining, Invocation, Loading, Question, Serving,
+};
 pub use laws::{batches_share_a_feed, resumed_feeds_drop_the_first};
 pub use limits::BatchLimits;
 pub use listening::tell_listening;
@@ -50,6 +54,7 @@ pub use refusal::{
     Refusal, write_error, write_outside, write_reason, write_refusal, write_refused_record,
 };
 pub use replying::{answer_text, reply, skip_of};
+pub use report::LoadReport;
 pub use request::{Request, RequestError, read_request, words_of};
 pub use request_laws::lines_are_one_request;
 pub use request_words::{LAST_COLLECTOR, words_behind};

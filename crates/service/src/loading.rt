@@ -14,6 +14,7 @@ use crate::intake::{End, feed};
 use crate::making_room::apply_all;
 use crate::output::{Input, Output};
 use crate::refusal::{Refusal, write_error};
+use crate::report::LoadReport;
 use crate::status::{Status, told};
 use crate::telling::tell_trouble;
 use archive_calls::{Flush, MarkError, RouteArchive, Trouble};
@@ -116,8 +117,17 @@ fn first_of(end: End, why: LoadStop) -> LoadStop
     }
 }
 
+/// Why a feed was given up, if it was.
+fn refusal_of(end: End) -> Option<Refusal> {
+    match end {
+        End::Refused(why) => Some(Refusal::from(why)),
+        End::Well | End::Cut => None,
+    }
+}
+
 /// Loads a file: takes it in as a feed, sets the mark where the feed ended well, applies what may be applied, flushes,
-/// and writes the settled watermark. A refusal outside the feed is told to `err` and ends the load.
+/// and writes the settled watermark. A refusal outside the feed is told to `err` and ends the load. `report` has what became
+/// of it.
 pub fn load<A: RouteArchive, R: Read, W: Write, E: Write>(
     alloc: Global,
     archive: &mut A,
@@ -125,11 +135,13 @@ pub fn load<A: RouteArchive, R: Read, W: Write, E: Write>(
     reader: &mut Input<R>,
     out: &mut Output<W>,
     err: &mut Output<E>,
+    report: &mut LoadReport,
 ) -> Status
     ensures ended { (h : History) → A.carries archive.old h → (bytes : List ℕ) × MayGive reader.old.left bytes × IsLoadEnd how.collector (dropped_where how.resume (intake_in h.intakes how.collector)) (record { records = how.limit; octets = A.most archive.old }) how.mark h bytes reader.old.failed reader.new.failed result (A.carries archive.new) out.old out.new err.old err.new }
     ensures sound { result ≡ Status.Done → reader.new.failed ≡ reader.old.failed }
 {
     if how.collector >= archive.collectors() {
+        report.refusal = Some(Refusal::NoCollector);
         write_error(err, &Refusal::from(LoadStop::NoCollector));
         return told(alloc, Status::Refused, out, err);
     }
@@ -141,14 +153,18 @@ pub fn load<A: RouteArchive, R: Read, W: Write, E: Write>(
         how.resume,
         reader,
         out,
+        &mut report.counts,
     );
+    report.refusal = refusal_of(end);
     match settle(archive, how.collector, mark_after(end, how.mark)) {
         Ok(()) => {
             write_settled(out, archive.settled());
             told(alloc, status_after(end), out, err)
         }
         Err(why) => {
-            tell_trouble(alloc, archive, &Refusal::from(first_of(end, why)), err);
+            let refusal = Refusal::from(first_of(end, why));
+            report.refusal = Some(refusal);
+            tell_trouble(alloc, archive, &refusal, err);
             told(alloc, Status::Refused, out, err)
         }
     }

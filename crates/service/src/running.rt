@@ -11,6 +11,7 @@ use crate::checking::check;
 use crate::invocation::{Creation, Loading, Question};
 use crate::loading::{LoadSettings, load};
 use crate::output::{Input, Output};
+use crate::report::LoadReport;
 use crate::status::Status;
 use crate::telling::tell_unwritten;
 use archive_calls::RouteArchive;
@@ -51,7 +52,7 @@ pub fn finish<W: Write, E: Write>(
 }
 
 /// Loads the file as the command line asks, and writes out what is buffered. The exit status of the program is that of
-/// the load, and 1 where not all lines could be written.
+/// the load, and 1 where not all lines could be written. `report` has what became of the load.
 pub fn load_file<A: RouteArchive, R: Read, W: Write, E: Write>(
     alloc: Global,
     archive: &mut A,
@@ -59,6 +60,7 @@ pub fn load_file<A: RouteArchive, R: Read, W: Write, E: Write>(
     file: &mut Input<R>,
     out: &mut Output<W>,
     err: &mut Output<E>,
+    report: &mut LoadReport,
 ) -> u8
     ensures ended { (h : History) → A.carries archive.old h → IsFileLoaded asked.now (A.most archive.old) h file.old.left file.old.failed file.new.failed result (A.carries archive.new) out.old out.new err.old err.new }
     ensures sound { result ≡ 0 → file.new.failed ≡ file.old.failed }
@@ -69,7 +71,7 @@ pub fn load_file<A: RouteArchive, R: Read, W: Write, E: Write>(
         mark: asked.mark,
         resume: asked.resume,
     };
-    let loaded = load(alloc, archive, how, file, out, err);
+    let loaded = load(alloc, archive, how, file, out, err, report);
     finish(alloc, loaded, out, err)
 }
 

@@ -1,14 +1,14 @@
 -- What the command that is named asks for. Contracts of private functions alone cite this file.
 use Rattle.std.specs.Prelude.{◌≡◌, ◌⊎◌, ℕ, List, Option, Some, codes}
 use Rattle.clap.specs.Walk.{Row, first_of}
-use Rattle.service.specs.CommandLines.{IsCreation, IsLoading, IsQuestion, IsServing, IsChecking, IsNoMark, word_in}
+use Rattle.service.specs.CommandLines.{IsCreation, IsLoading, IsQuestion, IsServing, IsChecking, IsExamining, IsNoMark, word_in}
 use Rattle.service.specs.Listening.{IsNoListenText}
 use Rattle.service.specs.declared.invocation.Invocation.{Invocation}
-use Rattle.service.specs.declared.invocation.Invocation.TheVariants.{Create, Load, Ask, Serve, Check}
+use Rattle.service.specs.declared.invocation.Invocation.TheVariants.{Create, Load, Ask, Serve, Check, Info}
 
 -- a command is named, and it is one of the program's
 abbrev pub IsCommand : Option (List ℕ) → Type 0
-IsCommand name = (name ≡ Some (codes "create")) ⊎ ((name ≡ Some (codes "load")) ⊎ ((name ≡ Some (codes "ask")) ⊎ ((name ≡ Some (codes "serve")) ⊎ (name ≡ Some (codes "check")))))
+IsCommand name = (name ≡ Some (codes "create")) ⊎ ((name ≡ Some (codes "load")) ⊎ ((name ≡ Some (codes "ask")) ⊎ ((name ≡ Some (codes "serve")) ⊎ ((name ≡ Some (codes "check")) ⊎ (name ≡ Some (codes "info"))))))
 
 -- the command that is named asks for this, by its arguments
 abbrev pub AsksFor : Option (List ℕ × List Row) → Invocation → Type 0
@@ -17,6 +17,7 @@ AsksFor named (Load l) = (rows : List Row) × (named ≡ Some (codes "load", row
 AsksFor named (Ask q) = (rows : List Row) × (named ≡ Some (codes "ask", rows)) × IsQuestion rows q
 AsksFor named (Serve s) = (rows : List Row) × (named ≡ Some (codes "serve", rows)) × IsServing rows s
 AsksFor named (Check c) = (rows : List Row) × (named ≡ Some (codes "check", rows)) × IsChecking rows c
+AsksFor named (Info e) = (rows : List Row) × (named ≡ Some (codes "info", rows)) × IsExamining rows e
 
 -- `load` is named, and the text of its mark is that of no mark
 abbrev pub NamesNoMark : Option (List ℕ × List Row) → Type 0

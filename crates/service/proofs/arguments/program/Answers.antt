@@ -4,7 +4,7 @@ use Rattle.clap.specs.Built.{AddsSubcommand}
 use Rattle.clap.specs.Simple.{App, app_of, shape_of, with_subcommand}
 use Rattle.clap.specs.declared.builder.command.Command.{Command}
 use Rattle.clap.specs.declared.builder.command.Command.TheViews.{out-Command}
-use Rattle.service.specs.CommandLines.{bare_program, creation, loading, question, serving, checking}
+use Rattle.service.specs.CommandLines.{bare_program, creation, loading, question, serving, checking, examining}
 use Rattle.service.proofs.arguments.program.Goals as goal
 
 -- one more command
@@ -17,4 +17,5 @@ returns c =
     let two = adds _ _ _ _ loading c.in_ok-subcommand-2.ensures one c.in_ok-loading.ensures.app c.in_ok-loading.ensures.own in
     let three = adds _ _ _ _ question c.in_ok-subcommand-3.ensures two c.in_ok-question.ensures.app c.in_ok-question.ensures.own in
     let four = adds _ _ _ _ serving c.in_ok-subcommand-4.ensures three c.in_ok-serving.ensures.app c.in_ok-serving.ensures.own in
-    record { app = IfOk-weaker c.subcommand-5.result _ _ (λ r h. adds _ _ r _ checking h four c.in_ok-checking.ensures.app c.in_ok-checking.ensures.own) c.subcommand-5.ensures }
+    let five = adds _ _ _ _ checking c.in_ok-subcommand-5.ensures four c.in_ok-checking.ensures.app c.in_ok-checking.ensures.own in
+    record { app = IfOk-weaker c.subcommand-6.result _ _ (λ r h. adds _ _ r _ examining h five c.in_ok-examining.ensures.app c.in_ok-examining.ensures.own) c.subcommand-6.ensures }

@@ -1,5 +1,4 @@
-use Rattle.std.proofs.Common.{◌≡◌, ◌∙◌, ℕ, sym, subst}
-use Rattle.archive_calls.specs.Does.{applied_changes}
+use Rattle.std.proofs.Common.{◌∙◌, ℕ, sym, subst}
 use Rattle.route_meaning.specs.History.{settled}
 use Rattle.service.specs.Checks.{checked_line}
 use Rattle.service.specs.Outputs.{Tells}

@@ -1,4 +1,4 @@
-use Rattle.std.proofs.Common.{ℕ, List, ◌∙◌}
+use Rattle.std.proofs.Common.{◌∙◌}
 use Rattle.clap.specs.Matches.{found_of}
 use Rattle.clap.proofs.WalkLemmas.{one_text-rows}
 use Rattle.service.proofs.command_line.is_there.Goals as goal

@@ -63,7 +63,7 @@ returns-in-Err g c = record {
             (subst (λ (m : Option ℕ). (past : History) → g.A.RouteArchive.carries c.feed-end.new.archive past → HasNotSettled how.collector m past (g.A.RouteArchive.carries c.settle.new.archive) (first_of c.feed-end.result c.in-Err.why))
             (c.mark_after.ensures.mark ∙ ap (λ (e : End). mark_after e how.mark) fed.3) (λ past stands. first_unsettled c.feed-end.result c.in-Err.why _ _ _ _ (c.in-Err.ensures.unsettled past stands)))
             c.told-in-Err.ensures.status (record { told = c.told-in-Err.ensures.told; quiet = c.told-in-Err.ensures.quiet })
-            (subst (λ (r : Refusal). TellsError r c.args.err.now c.tell_trouble.new.err) (c.from-in-Err.ensures ∙ ap of_load c.first_of.ensures.first) c.tell_trouble.ensures.told),
+            (subst (λ (r : Refusal). TellsError r c.args.err.now c.tell_trouble.new.err) (c.from-refusal.ensures ∙ ap of_load c.first_of.ensures.first) c.tell_trouble.ensures.told),
       );
   sound = λ done. absurd (refused_undone _ _ (sym c.told-in-Err.ensures.status ∙ done));
 }

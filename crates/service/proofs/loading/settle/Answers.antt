@@ -1,4 +1,3 @@
-use Rattle.std.proofs.Common.{inl, refl}
 use Rattle.service.proofs.Applying.{flushed}
 use Rattle.service.proofs.loading.settle.Goals as goal
 

@@ -1,5 +1,4 @@
-use Rattle.std.proofs.Common.{◌∙◌, refl, subst}
-use Rattle.archive_calls.specs.Does.{DoesApply}
+use Rattle.std.proofs.Common.{◌∙◌, refl}
 use Rattle.service.proofs.Applying.{carries_some, applied_more, idle_now, stopped_now}
 use Rattle.service.proofs.making_room.apply_all.Goals as goal
 

@@ -1,4 +1,4 @@
-use Rattle.std.proofs.Common.{◌≡◌, ◌∙◌, ◌≤◌, ap, arith}
+use Rattle.std.proofs.Common.{◌≡◌, ◌∙◌, ap, arith}
 use Rattle.service.specs.Statuses.{code_of}
 use Rattle.service.proofs.Statuses.{few}
 use Rattle.service.proofs.running.finish.Goals as goal

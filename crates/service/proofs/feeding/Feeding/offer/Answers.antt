@@ -1,4 +1,4 @@
-use Rattle.std.proofs.Common.{◌≤◌, ℕ, Ok, Err, sym, subst, ◌≡◌, Result, arith}
+use Rattle.std.proofs.Common.{◌≤◌, subst, Result, arith}
 use Rattle.interleaving_core.specs.declared.reply.BatchReply.{BatchReply}
 use Rattle.archive_calls.specs.declared.refusal.AdmitError.{AdmitError}
 use Rattle.archive_calls.specs.Limits.{batch_octets}

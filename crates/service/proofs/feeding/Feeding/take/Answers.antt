@@ -1,6 +1,5 @@
-use Rattle.std.proofs.Common.{◌≤◌, ◌+◌, ℕ, ◌++◌, ◌∷◌, [], ◌∙◌, Ok, Err, Some, None, refl, sym, ap, subst, length}
+use Rattle.std.proofs.Common.{◌+◌, ℕ, [], ◌∙◌, Ok, Err, Some, None, refl, ap, length}
 use Rattle.mrt_records.specs.Values.{told}
-use Rattle.archive_calls.specs.Limits.{batch_octets}
 use Rattle.service.specs.Turns.{turns_for}
 use Rattle.service.specs.FeedTexts.{capped}
 use Rattle.service.proofs.Turning.{done_no_more, done_refuse}

@@ -1,0 +1,126 @@
+//! What is said of a file that was loaded.
+
+ghost use Rattle.std.specs.Prelude.{◌≡◌};
+
+use crate::feeds::doubts_of;
+use crate::packed::Packing;
+use crate::saying::advise;
+use archive_facts::Date;
+use route_model::Mark;
+use service::{FeedCounts, Output};
+use std::alloc::Global;
+use std::fmt;
+use std::io::Write;
+
+/// What stands for standard input on the command line.
+pub const STDIN: &str = "-";
+
+/// What is said of a file that was loaded.
+#[derive(Clone, Copy, Debug, PartialEq, Eq)]
+pub enum FileAdvice<'a> {
+    /// It isn't MRT but this.
+    Packed {
+        file: &'a str,
+        packing: Packing,
+    },
+    /// It has no record.
+    Empty {
+        file: &'a str,
+    },
+    /// None of its records is kept, since they are older than the collector's mark.
+    Late {
+        file: &'a str,
+        late: u64,
+        records: u64,
+        mark: Mark,
+    },
+    /// Many of its records were refused.
+    Refused {
+        file: &'a str,
+        refused: u64,
+        records: u64,
+    },
+}
+
+impl fmt::Display for FileAdvice<'_> {
+    fn fmt<W: fmt::Write>(&self, f: &mut fmt::Formatter<W>) -> fmt::Result {
+        match self {
+            FileAdvice::Packed { file, packing } => match packing.command() {
+                Some(command) if *file == STDIN => write!(
+                    f,
+                    "{file}: {packing} data: {command} | rha load .. -"
+                ),
+                Some(command) => write!(
+                    f,
+                    "{file}: {packing} data: {command} {file} | rha load .. -"
+                ),
+                None => write!(f, "{file}: text, and no MRT records"),
+            },
+            FileAdvice::Empty { file } => write!(f, "{file}: there is no record in it"),
+            FileAdvice::Late {
+                file,
+                late,
+                records,
+                mark,
+            } => {
+                let date = Date(mark.seconds());
+                write!(
+                    f,
+                    "{file}: {late} of {records} records are late, and none is kept: they are older than the collector's mark {date}",
+                )
+            }
+            FileAdvice::Refused {
+                file,
+                refused,
+                records,
+            } => write!(
+                f,
+                "{file}: {refused} of {records} records were refused, as the X lines say"
+            ),
+        }
+    }
+}
+
+/// Says what a person may not expect of a file whose feed had these counts, where the collector's mark was this one before: that it isn't
+/// MRT, or that nothing of it, or little, was taken.
+pub fn advise_file<E: Write>(
+    alloc: Global,
+    file: &str,
+    packing: Option<Packing>,
+    counts: &FeedCounts,
+    mark: Option<Mark>,
+    err: &mut Output<E>,
+) {
+    if let (Some(packing), 0) = (packing, counts.admitted) {
+        return advise(alloc, &FileAdvice::Packed { file, packing }, err);
+    }
+    let doubts = doubts_of(counts);
+    if doubts.is_empty {
+        advise(alloc, &FileAdvice::Empty { file }, err);
+    }
+    if let (true, Some(mark)) = (doubts.is_late, mark) {
+        let (late, records) = (counts.late, counts.records);
+        advise(
+            alloc,
+            &FileAdvice::Late {
+                file,
+                late,
+                records,
+                mark,
+            },
+            err,
+        );
+    }
+    if doubts.is_refused {
+        let (refused, records) = (counts.refused, counts.records);
+        advise(
+            alloc,
+            &FileAdvice::Refused {
+                file,
+                refused,
+                records,
+            },
+            err,
+        );
+    }
+}

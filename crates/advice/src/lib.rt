@@ -1,0 +1,28 @@
+//! Words for people on standard error, after the first lines, which programs read: what is wrong with a file or a text, and what helps.
+#![tactic(auto)]
+
+mod feeds;
+mod files;
+mod forms;
+mod limits;
+mod loads;
+mod locks;
+mod marks;
+mod noted;
+mod packed;
+mod questions;
+mod requests;
+mod saying;
+
+pub use feeds::{FeedDoubt, doubts_of};
+pub use files::{FileAdvice, STDIN, advise_file};
+pub use forms::Form;
+pub use limits::LimitAdvice;
+pub use loads::{Loaded, advise_load};
+pub use locks::{Holder, holder_of};
+pub use marks::{MarkAdvice, advise_text};
+pub use noted::{FirstOctets, NotedReader};
+pub use packed::{Packing, packing_of};
+pub use questions::advise_question;
+pub use requests::{Misread, first_misread};
+pub use saying::advise;

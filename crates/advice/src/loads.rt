@@ -1,0 +1,111 @@
+//! What is said of a load.
+
+use crate::files::advise_file;
+use crate::limits::LimitAdvice;
+use crate::marks::MarkAdvice;
+use crate::packed::Packing;
+use crate::saying::advise;
+use archive_calls::RouteArchive;
+use archive_facts::Sizes;
+use route_model::Mark;
+use service::{LoadReport, Output, Refusal};
+use std::alloc::Global;
+use std::io::Write;
+
+/// A load that has ended.
+#[derive(Clone, Copy, Debug)]
+pub struct Loaded<'a> {
+    pub file: &'a str,
+    /// What the file is, if it isn't MRT.
+    pub packing: Option<Packing>,
+    pub collector: u8,
+    /// The collector's mark before it, where there is that collector.
+    pub before: Option<Mark>,
+    pub report: LoadReport,
+    /// None where they can't be read.
+    pub sizes: Option<Sizes>,
+}
+
+/// Says of a full archive how large it is, and what helps.
+fn advise_full<E: Write>(
+    alloc: Global,
+    refusal: Refusal,
+    sizes: Sizes,
+    collector: u8,
+    collectors: u8,
+    err: &mut Output<E>,
+) {
+    match refusal {
+        Refusal::PagesFull => advise(alloc, &LimitAdvice::Pages(sizes.pages), err),
+        Refusal::OnceFull => advise(alloc, &LimitAdvice::Blocks(sizes.blocks), err),
+        Refusal::IntakeFull => {
+            let pages = sizes.ring;
+            advise(
+                alloc,
+                &LimitAdvice::Ring {
+                    collector,
+                    collectors,
+                    pages,
+                },
+                err,
+            );
+        }
+        _ => {}
+    }
+}
+
+/// Says what the mark of a collector is, which can't be set back.
+fn advise_back<A: RouteArchive, E: Write>(
+    alloc: Global,
+    archive: &A,
+    collector: u8,
+    err: &mut Output<E>,
+) {
+    if let Some(present) = archive.resume(collector) {
+        let mark = present.mark;
+        advise(alloc, &MarkAdvice::Present { collector, mark }, err);
+    }
+}
+
+/// Says what helps where a load was refused.
+fn advise_refused<A: RouteArchive, E: Write>(
+    alloc: Global,
+    archive: &A,
+    refusal: Refusal,
+    loaded: &Loaded<'_>,
+    err: &mut Output<E>,
+) {
+    let (collector, collectors) = (loaded.collector, archive.collectors());
+    match refusal {
+        Refusal::NoCollector => advise(alloc, &MarkAdvice::Collectors(collectors), err),
+        Refusal::MarkBack => advise_back(alloc, archive, collector, err),
+        _ => {
+            if let Some(sizes) = loaded.sizes {
+                advise_full(alloc, refusal, sizes, collector, collectors, err);
+            }
+        }
+    }
+}
+
+/// Says of a load what a person may not expect: that the file isn't MRT, that nothing of it, or little, was taken; and what helps where it
+/// was refused.
+pub fn advise_load<A: RouteArchive, E: Write>(
+    alloc: Global,
+    archive: &A,
+    loaded: &Loaded<'_>,
+    err: &mut Output<E>,
+) {
+    if let Some(counts) = &loaded.report.counts {
+        advise_file(
+            alloc,
+            loaded.file,
+            loaded.packing,
+            counts,
+            loaded.before,
+            err,
+        );
+    }
+    if let Some(refusal) = loaded.report.refusal {
+        advise_refused(alloc, archive, refusal, loaded, err);
+    }
+}

@@ -1,0 +1,73 @@
+//! What is said of marks, and of texts of the command line.
+
+use crate::saying::advise;
+use archive_facts::Date;
+use route_model::Mark;
+use service::{CommandError, Output};
+use std::alloc::Global;
+use std::fmt;
+use std::io::Write;
+
+/// What is said of marks and collectors.
+#[derive(Clone, Copy, Debug, PartialEq, Eq)]
+pub enum MarkAdvice {
+    /// A question has to be of a moment below this one.
+    Settled(Mark),
+    /// The collector's mark is this one already.
+    Present { collector: u8, mark: Mark },
+    /// There are so many collectors.
+    Collectors(u8),
+}
+
+impl fmt::Display for MarkAdvice {
+    fn fmt<W: fmt::Write>(&self, f: &mut fmt::Formatter<W>) -> fmt::Result {
+        match self {
+            MarkAdvice::Settled(mark) if mark.seconds() == 0 => f.write_str(
+                "no moment is settled yet: each collector has to give records, or get a mark",
+            ),
+            MarkAdvice::Settled(mark) => {
+                let date = Date(mark.seconds());
+                write!(f, "settled until {date}: ask of a moment below it")
+            }
+            MarkAdvice::Present { collector, mark } => {
+                let date = Date(mark.seconds());
+                write!(
+                    f,
+                    "the mark of collector {collector} is {date} already, and can't be set back"
+                )
+            }
+            MarkAdvice::Collectors(1) => f.write_str("the archive has one collector, 0"),
+            MarkAdvice::Collectors(count) => {
+                let last = count.saturating_sub(1);
+                write!(f, "the archive has {count} collectors, 0 to {last}")
+            }
+        }
+    }
+}
+
+/// What a text of the command line has to be.
+#[derive(Clone, Copy, Debug, PartialEq, Eq)]
+enum TextAdvice {
+    Mark,
+    Listen,
+}
+
+impl fmt::Display for TextAdvice {
+    fn fmt<W: fmt::Write>(&self, f: &mut fmt::Formatter<W>) -> fmt::Result {
+        f.write_str(match self {
+            TextAdvice::Mark =>
+                "--mark: a mark is seconds since 1970, 0 to 4294967296, or a timestamp as 2024-01-01T00:15:00Z",
+            TextAdvice::Listen =>
+                "--listen: an IPv4 address, a colon and a port, 0 to 65535, as 127.0.0.1:17900",
+        })
+    }
+}
+
+/// Says what a text of the command line has to be that was refused.
+pub fn advise_text<E: Write>(alloc: Global, error: &CommandError, err: &mut Output<E>) {
+    match error {
+        CommandError::BadMark => advise(alloc, &TextAdvice::Mark, err),
+        CommandError::BadListen => advise(alloc, &TextAdvice::Listen, err),
+        CommandError::Usage(_) | CommandError::OutOfMemory => {}
+    }
+}

@@ -1,0 +1,38 @@
+//! What is said of a question that isn't answered.
+
+ghost use Rattle.std.specs.Prelude.{◌≡◌};
+
+use crate::marks::MarkAdvice;
+use crate::requests::first_misread;
+use crate::saying::advise;
+use archive_calls::RouteArchive;
+use service::{Output, Request, read_request};
+use std::alloc::Global;
+use std::io::Write;
+
+/// Says why a line isn't answered that the archive refused: which word isn't understood, until when it is settled, or which collectors
+/// there are.
+pub fn advise_question<A: RouteArchive, E: Write>(
+    alloc: Global,
+    archive: &A,
+    line: &str,
+    err: &mut Output<E>,
+) {
+    if let Some(it) = first_misread(line) {
+        return advise(alloc, &it, err);
+    }
+    match read_request(alloc, line) {
+        Ok(Request::Durable(collector)) if collector >= archive.collectors() => advise(
+            alloc,
+            &MarkAdvice::Collectors(archive.collectors()),
+            err,
+        ),
+        Ok(Request::Question(query))
+            if query.last_moment().seconds() >= archive.settled().seconds() => advise(
+            alloc,
+            &MarkAdvice::Settled(archive.settled()),
+            err,
+        ),
+        _ => {}
+    }
+}

@@ -1,0 +1,151 @@
+//! What is said of files that are loaded.
+
+use crate::be;
+use advice::{Packing, advise_file, packing_of};
+use route_model::Mark;
+use service::{FeedCounts, Output};
+use std::alloc::Global;
+
+/// First octets, and what they are of.
+const FIRST: [(&[u8], Option<Packing>); 12] = [
+    (b"\x1f\x8b\x08\x00\x00\x00\x00\x00", Some(Packing::Gzip)),
+    (b"BZh91AY&SY", Some(Packing::Bzip2)),
+    (b"BZh9\x17\x72\x45\x38", Some(Packing::Bzip2)),
+    (b"\xfd7zXZ\x00\x00\x04", Some(Packing::Xz)),
+    (b"\x28\xb5\x2f\xfd\x04\x00", Some(Packing::Zstd)),
+    (b"TABLE_DUMP2|1704", Some(Packing::Text)),
+    (b"a\tline\r\n", Some(Packing::Text)),
+    // A record of 2005, whose time begins as bzip2 data does.
+    (b"BZh9\x00\x10\x00\x01\x00\x00\x00\x3d", None),
+    (b"\x65\x92\x00\x80\x00\x10\x00\x01", None),
+    (b"\x1f\x8b\x07\x00", None),
+    (b"text", None),
+    (b"", None),
+];
+
+#[test]
+fn octets_that_are_none_of_mrt_are_known(rt: HostRuntime) {
+    for (octets, wanted) in &FIRST {
+        be(&rt, packing_of(octets) == *wanted, "first octets");
+    }
+}
+
+/// A feed's counts, what its file's octets are, and what is said.
+struct Said {
+    packing: Option<Packing>,
+    counts: FeedCounts,
+    text: &'static str,
+}
+
+const SAID: [Said; 8] = [
+    Said {
+        packing: None,
+        counts: FeedCounts {
+            records: 100,
+            admitted: 99,
+            late: 0,
+            refused: 1,
+            skipped: 0,
+        },
+        text: "",
+    },
+    Said {
+        packing: Some(Packing::Text),
+        counts: FeedCounts {
+            records: 6,
+            admitted: 6,
+            late: 0,
+            refused: 0,
+            skipped: 0,
+        },
+        text: "",
+    },
+    Said {
+        packing: Some(Packing::Bzip2),
+        counts: FeedCounts {
+            records: 0,
+            admitted: 0,
+            late: 0,
+            refused: 0,
+            skipped: 0,
+        },
+        text: "rha: a.mrt: bzip2 data: bzcat a.mrt | rha load .. -\n",
+    },
+    Said {
+        packing: Some(Packing::Text),
+        counts: FeedCounts {
+            records: 3,
+            admitted: 0,
+            late: 0,
+            refused: 0,
+            skipped: 0,
+        },
+        text: "rha: a.mrt: text, and no MRT records\n",
+    },
+    Said {
+        packing: None,
+        counts: FeedCounts {
+            records: 0,
+            admitted: 0,
+            late: 0,
+            refused: 0,
+            skipped: 0,
+        },
+        text: "rha: a.mrt: there is no record in it\n",
+    },
+    Said {
+        packing: None,
+        counts: FeedCounts {
+            records: 6,
+            admitted: 0,
+            late: 6,
+            refused: 0,
+            skipped: 0,
+        },
+        text: "rha: a.mrt: 6 of 6 records are late, and none is kept: they are older than the collector's mark 2024-01-01T00:15:00Z (1704068100)\n",
+    },
+    Said {
+        packing: None,
+        counts: FeedCounts {
+            records: 100,
+            admitted: 98,
+            late: 0,
+            refused: 2,
+            skipped: 0,
+        },
+        text: "rha: a.mrt: 2 of 100 records were refused, as the X lines say\n",
+    },
+    Said {
+        packing: None,
+        counts: FeedCounts {
+            records: 8,
+            admitted: 0,
+            late: 1,
+            refused: 7,
+            skipped: 0,
+        },
+        text: "rha: a.mrt: 1 of 8 records are late, and none is kept: they are older than the collector's mark 2024-01-01T00:15:00Z (1704068100)\nrha: a.mrt: 7 of 8 records were refused, as the X lines say\n",
+    },
+];
+
+/// Whether this is said of a file.
+fn is_said(alloc: Global, said: &Said) -> bool {
+    let mut text: Vec<u8> = Vec::new(alloc);
+    let mark = Mark::new(1_704_068_100);
+    advise_file(
+        alloc,
+        "a.mrt",
+        said.packing,
+        &said.counts,
+        mark,
+        &mut Output::new(&mut text),
+    );
+    text.as_slice() == said.text.as_bytes()
+}
+
+#[test]
+fn what_was_not_taken_is_said(rt: HostRuntime) {
+    for said in &SAID {
+        be(&rt, is_said(rt.alloc(), said), said.text);
+    }
+}

@@ -1,0 +1,12 @@
+//! What is shown of an archive: how far it has come, and how much room it has left.
+#![tactic(auto)]
+
+mod facts;
+mod identity;
+mod shown;
+mod slots;
+
+pub use facts::{Facts, Lane, Use};
+pub use identity::{SIZES_LEN, Sizes};
+pub use shown::Date;
+pub use slots::{HEAD_PLACE, OPEN_GATE, SLOTS, gate_place};

@@ -1,0 +1,59 @@
+//! Facts as lines for a person.
+
+use crate::facts::{Facts, Lane, Use};
+use jiff::Timestamp;
+use std::fmt;
+
+/// Seconds since 1970 as a date, and as lines have them: `2024-01-01T00:15:00Z (1704068100)`.
+#[derive(Clone, Copy, Debug, PartialEq, Eq)]
+pub struct Date(pub u64);
+
+impl fmt::Display for Date {
+    fn fmt<W: fmt::Write>(&self, f: &mut fmt::Formatter<W>) -> fmt::Result {
+        let seconds = self.0;
+        let date = i64::try_from(seconds).ok().map(Timestamp::from_second);
+        match date {
+            Some(Ok(date)) => write!(f, "{date} ({seconds})"),
+            _ => write!(f, "{seconds}"),
+        }
+    }
+}
+
+impl fmt::Display for Use {
+    fn fmt<W: fmt::Write>(&self, f: &mut fmt::Formatter<W>) -> fmt::Result {
+        write!(f, "{} of {}", self.used, self.of)
+    }
+}
+
+impl fmt::Display for Lane {
+    fn fmt<W: fmt::Write>(&self, f: &mut fmt::Formatter<W>) -> fmt::Result {
+        writeln!(f, "collector {}:", self.collector)?;
+        writeln!(f, "  mark            {}", Date(self.mark))?;
+        writeln!(
+            f,
+            "  records         {} offered, {} admitted",
+            self.offered, self.admitted
+        )?;
+        writeln!(f, "  ring            {} octets used", self.ring)
+    }
+}
+
+impl fmt::Display for Facts {
+    fn fmt<W: fmt::Write>(&self, f: &mut fmt::Formatter<W>) -> fmt::Result {
+        writeln!(f, "version           {}", self.version)?;
+        writeln!(f, "settled           {}", Date(self.settled))?;
+        writeln!(
+            f,
+            "applied           {} changes, the last of {}",
+            self.changes,
+            Date(self.last)
+        )?;
+        writeln!(f, "pages             {} used", self.pages)?;
+        writeln!(f, "blocks            {} used", self.blocks)?;
+        writeln!(f, "slots             {} open", self.slots)?;
+        for lane in &self.collectors {
+            write!(f, "{lane}")?;
+        }
+        Ok(())
+    }
+}

@@ -1,0 +1,107 @@
+//! The command `info`: how far an archive has come, and how much room it has left.
+
+use crate::opening::open;
+use archive_calls::RouteArchive;
+use archive_facts::{Facts, HEAD_PLACE, OPEN_GATE, SIZES_LEN, SLOTS, Sizes, gate_place};
+use archive_head::Head;
+use disk_models::Page;
+use file_archive::FileArchive;
+use service::{
+    Examining, Output, Refusal, Status, VERSION, finish, tell_out_of_memory, tell_outside,
+    tell_refusal,
+};
+use std::alloc::Global;
+use std::fs::File;
+use std::io;
+use std::io::Write;
+use std::os::unix::fs::FileExt;
+
+/// Why nothing is shown of an archive.
+enum Unshown {
+    Failed(io::Error),
+    Refused(Refusal),
+}
+
+impl From<io::Error> for Unshown {
+    fn from(why: io::Error) -> Unshown {
+        Unshown::Failed(why)
+    }
+}
+
+/// How many slots of the journal are open in the file of an archive's pages.
+fn open_slots(file: &File) -> io::Result<u64> {
+    let mut open: u64 = 0;
+    for slot in 0..SLOTS {
+        let mut gate = [0; 1];
+        file.read_exact_at(&mut gate, gate_place(slot))?;
+        open = open.saturating_add(u64::from(gate[0] == OPEN_GATE));
+    }
+    Ok(open)
+}
+
+/// What the file of an archive's pages says, where no slot is open any more.
+fn facts_in(
+    alloc: Global,
+    file: &File,
+    archive: &FileArchive,
+    open: u64,
+) -> Result<Facts, Unshown> {
+    let mut octets = [0; SIZES_LEN];
+    file.read_exact_at(&mut octets, 0)?;
+    let Some(sizes) = Sizes::read(&octets) else {
+        return Err(Unshown::Refused(Refusal::NotAJournal));
+    };
+    let Ok(mut page) = Page::new(alloc) else {
+        return Err(Unshown::Refused(Refusal::OutOfMemory));
+    };
+    file.read_exact_at(page.octets_mut(), HEAD_PLACE)?;
+    let head = match Head::read(alloc, &page, usize::from(archive.collectors())) {
+        Ok(Some(head)) => head,
+        Ok(None) => return Err(Unshown::Refused(Refusal::BadNode(0))),
+        Err(_) => return Err(Unshown::Refused(Refusal::OutOfMemory)),
+    };
+    Facts::of(alloc, VERSION, sizes, &head, archive.settled(), open).map_err(|_| Unshown::Refused(
+        Refusal::OutOfMemory,
+    ))
+}
+
+/// The facts as lines for a person, or as one line of JSON.
+fn text_of(alloc: Global, facts: &Facts, json: bool) -> Option<String> {
+    if json {
+        return facts.json(alloc);
+    }
+    format!(in alloc; "{facts}").ok()
+}
+
+/// Shows what is known of an archive, and writes it out.
+fn show<E: Write>(rt: &HostRuntime, facts: &Facts, json: bool, err: &mut Output<E>) -> u8 {
+    let Some(text) = text_of(rt.alloc(), facts, json) else {
+        return tell_out_of_memory(err);
+    };
+    let mut out = Output::new(rt.stdout());
+    out.text(text.as_str());
+    finish(rt.alloc(), Status::Done, &mut out, err)
+}
+
+/// Shows how far the archive of a folder has come, and how much room it has left. Its slots are counted before it is opened, which
+/// closes them; what its file says is read while the archive is held open.
+pub(crate) fn info<E: Write>(rt: &HostRuntime, asked: &Examining<'_>, err: &mut Output<E>) -> u8 {
+    let alloc = rt.alloc();
+    let Ok(path) = format!(in alloc; "{}/pages.rha", asked.folder) else {
+        return tell_out_of_memory(err);
+    };
+    let file = File::open(rt, path.as_str());
+    let slots = file.as_ref().ok().and_then(|it| open_slots(it).ok());
+    let Some(archive) = open(rt, asked.folder, err) else {
+        return 1;
+    };
+    let file = match file {
+        Ok(file) => file,
+        Err(why) => return tell_outside(alloc, err, path.as_str(), "open", &why),
+    };
+    match facts_in(alloc, &file, &archive, slots.unwrap_or(0)) {
+        Ok(facts) => show(rt, &facts, asked.json, err),
+        Err(Unshown::Failed(why)) => tell_outside(alloc, err, path.as_str(), "read", &why),
+        Err(Unshown::Refused(refusal)) => tell_refusal(&refusal, err),
+    }
+}
