@@ -1,12 +1,20 @@
 //! The command line: which words are accepted and as what.
 
 use crate::be;
-use service::{Checking, CommandError, Creation, Invocation, Loading, Question, Serving, command};
+use service::{
+    Checking, CommandError, Creation, Examining, Invocation, Loading, Question, Serving, command,
+};
 use std::alloc::Global;
 
 /// Words, with lines between them, and what they ask for: the folder a, and each further thing that they say, or what takes its
 /// place where they don't.
-const ACCEPTED: [(&str, &str); 25] = [
+const ACCEPTED: [(&str, &str); 29] = [
+    // What isn't chosen.
+    ("rha|create|a", "create a 1 4096 10000000 100000000"),
+    (
+        "rha|create|a|--collectors|16",
+        "create a 16 4096 10000000 100000000",
+    ),
     // The least of each.
     (
         "rha|create|a|--collectors|1|--ring|9|--pages|1|--blocks|1",
@@ -85,6 +93,8 @@ const ACCEPTED: [(&str, &str); 25] = [
     ("rha|check|a", "check a"),
     ("rha|check|", "check "),
     ("rha|check|--|a", "check a"),
+    ("rha|info|a", "info a lines"),
+    ("rha|info|--json|a", "info a json"),
     // After two dashes alone no word is an option.
     ("rha|check|--|--help", "check --help"),
 ];
@@ -191,6 +201,11 @@ impl Line {
     fn checking(&mut self, asked: &Checking<'_>) {
         self.word(asked.folder);
     }
+
+    fn examining(&mut self, asked: &Examining<'_>) {
+        self.word(asked.folder);
+        self.word(if asked.json { "json" } else { "lines" });
+    }
 }
 
 /// What a command line asks for, as a line.
@@ -216,6 +231,10 @@ fn line_of(alloc: Global, invocation: &Invocation<'_>) -> Line {
         Invocation::Check(asked) => {
             line.add("check");
             line.checking(asked);
+        }
+        Invocation::Info(asked) => {
+            line.add("info");
+            line.examining(asked);
         }
     }
     line

@@ -3,7 +3,7 @@
 use crate::pure::Pure;
 use crate::samples::stream;
 use route_model::Mark;
-use service::{End, Input, LoadSettings, Output, Status, ask, feed, load};
+use service::{End, Input, LoadReport, LoadSettings, Output, Status, ask, feed, load};
 use std::alloc::Global;
 use std::io::{Read, Write};
 
@@ -29,7 +29,16 @@ pub(crate) fn load_to<W: Write>(
 ) -> Status {
     let mut file = Input::new(octets);
     let mut refusals = Output::new(err);
-    load(alloc, archive, how, &mut file, out, &mut refusals)
+    let mut report = LoadReport::new();
+    load(
+        alloc,
+        archive,
+        how,
+        &mut file,
+        out,
+        &mut refusals,
+        &mut report,
+    )
 }
 
 /// Asks a line, which is answered on both writers.
@@ -52,7 +61,7 @@ pub(crate) fn feed_to<R: Read, W: Write>(
     reader: &mut Input<R>,
     out: &mut Output<W>,
 ) -> End {
-    feed(alloc, archive, collector, 2, false, reader, out)
+    feed(alloc, archive, collector, 2, false, reader, out, &mut None)
 }
 
 /// Whether a load of the octets writes these lines, and ends so.

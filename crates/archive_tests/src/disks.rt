@@ -7,11 +7,11 @@ use memory_archive::MemArchive;
 use std::alloc::Global;
 use std::sync::Arc;
 
-// The octets of a page.
-const PAGE: u64 = 16_384;
+/// The octets of a page.
+pub(crate) const PAGE: u64 = 16_384;
 
-// The pages before the home pages: the identity page and the slots of the journal.
-const JOURNAL: u64 = 265;
+/// The pages before the home pages: the identity page and the slots of the journal.
+pub(crate) const JOURNAL: u64 = 265;
 
 // The most home pages of an archive here.
 const MOST_PAGES: u64 = 65_536;

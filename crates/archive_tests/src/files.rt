@@ -1,6 +1,6 @@
 //! Files of records, by the names that the scripts have for them.
 
-use crate::gathered::Gathered;
+use crate::gathered::{Gathered, Times};
 use crate::samples::{
     AFTER_TIME, AGGREGATED, BEFORE_256, BEFORE_257, BEFORE_763, BEFORE_764, BOTH_PLACES,
     CUT_PEER_TABLE, CUT_UPDATE, EARLIER, EMPTY, EMPTY_AFTER_TIME, ENTRIES_UNCOUNTED, EXTENDED,
@@ -10,11 +10,9 @@ use crate::samples::{
 };
 use std::alloc::Global;
 
-/// A part of what a name stands for, in hexadecimal digits.
+/// A part of what a name stands for, in hexadecimal digits, in which `<3 x AB>` stands for `ABABAB`.
 enum Part {
     Octets(&'static str),
-    /// The same octets, this many times.
-    Times(u16, &'static str),
     /// For each number from 0 to below this one: octets, the number in two octets, and octets.
     Each(&'static str, u16, &'static str),
 }
@@ -22,7 +20,7 @@ enum Part {
 /// A name, and the parts of the record, or of the records, for which it stands.
 struct Named(&'static str, &'static [Part]);
 
-const NAMES: [Named; 45] = [
+const NAMES: [Named; 43] = [
     Named("nothing", &[]),
     Named("update", &[Part::Octets(UPDATE)]),
     Named("earlier", &[Part::Octets(EARLIER)]),
@@ -62,12 +60,7 @@ const NAMES: [Named; 45] = [
         "path-of-763",
         &[
             Part::Octets(BEFORE_763),
-            Part::Octets("02FF"),
-            Part::Times(255, "FDE9"),
-            Part::Octets("02FF"),
-            Part::Times(255, "FDE9"),
-            Part::Octets("02FD"),
-            Part::Times(253, "FDE9"),
+            Part::Octets("02FF <255 x FDE9> 02FF <255 x FDE9> 02FD <253 x FDE9>"),
             Part::Octets("400304C0000201 080A"),
         ],
     ),
@@ -75,12 +68,7 @@ const NAMES: [Named; 45] = [
         "path-of-764",
         &[
             Part::Octets(BEFORE_764),
-            Part::Octets("02FF"),
-            Part::Times(255, "FDE9"),
-            Part::Octets("02FF"),
-            Part::Times(255, "FDE9"),
-            Part::Octets("02FE"),
-            Part::Times(254, "FDE9"),
+            Part::Octets("02FF <255 x FDE9> 02FF <255 x FDE9> 02FE <254 x FDE9>"),
             Part::Octets("400304C0000201 080A"),
         ],
     ),
@@ -92,8 +80,6 @@ const NAMES: [Named; 45] = [
         "prefixes-257",
         &[Part::Octets(BEFORE_257), Part::Each("180A", 257, "")],
     ),
-    Named("updates-513", &[Part::Times(513, UPDATE)]),
-    Named("updates-2076", &[Part::Times(2076, UPDATE)]),
     Named("skipped", &[Part::Octets(SKIPPED)]),
     Named("too-long", &[Part::Octets(TOO_LONG)]),
     Named("peer-table", &[Part::Octets(PEER_TABLE)]),
@@ -140,14 +126,6 @@ const NAMES: [Named; 45] = [
 ];
 
 impl Gathered {
-    /// Adds octets this many times.
-    fn add_times(&mut self, times: u16, text: &str) {
-        let octets = self.read(text);
-        for _ in 0..times {
-            self.add(&octets);
-        }
-    }
-
     /// Adds octets before and after each number from 0 to below a count.
     fn add_each(&mut self, before: &str, count: u16, after: &str) {
         let before = self.read(before);
@@ -163,7 +141,6 @@ impl Gathered {
         for part in parts {
             match part {
                 Part::Octets(text) => self.add_hex(text),
-                Part::Times(times, text) => self.add_times(*times, text),
                 Part::Each(before, count, after) => self.add_each(before, *count, after),
             }
         }
@@ -180,12 +157,26 @@ fn parts_of(name: &str) -> Option<&'static [Part]> {
     None
 }
 
-/// The octets of a file, whose name is the names of its records with `+` between them. None where one of these isn't known, or there is no
-/// memory.
+impl Gathered {
+    /// Adds what a name stands for, or `3*NAME` three times. None where it isn't known.
+    fn add_named(&mut self, name: &str) -> Option<()> {
+        let times = Times::read(name, "*").unwrap_or(Times { count: 1, of: name });
+        let mut named = Gathered::new(self.alloc);
+        named.add_parts(parts_of(times.of)?);
+        self.is_whole &= named.is_whole;
+        for _ in 0..times.count {
+            self.add(&named.octets);
+        }
+        Some(())
+    }
+}
+
+/// The octets of a file, whose name is the names of its records with `+` between them; `3*NAME` stands for three of them. None where a name
+/// isn't known, or there is no memory.
 pub(crate) fn file_of(alloc: Global, names: &str) -> Option<Vec<u8>> {
     let mut file = Gathered::new(alloc);
     for name in names.split('+') {
-        file.add_parts(parts_of(name)?);
+        file.add_named(name)?;
     }
     file.end()
 }

@@ -11,6 +11,22 @@ pub(crate) struct Gathered {
     pub(crate) is_whole: bool,
 }
 
+/// A text, and how often it stands.
+#[derive(Drop)]
+pub(crate) struct Times<'a> {
+    pub(crate) count: u16,
+    pub(crate) of: &'a str,
+}
+
+impl<'a> Times<'a> {
+    /// The number before a sign, and the text after it.
+    pub(crate) fn read(text: &'a str, sign: &str) -> Option<Times<'a>> {
+        let (count, of) = text.split_once(sign)?;
+        let count = count.parse::<u16>().ok()?;
+        Some(Times { count, of })
+    }
+}
+
 impl Gathered {
     pub(crate) fn new(alloc: Global) -> Gathered {
         Gathered {
@@ -24,11 +40,39 @@ impl Gathered {
         self.is_whole &= self.octets.extend_from_slice(octets).is_ok();
     }
 
-    /// The octets that hexadecimal digits stand for.
+    /// Adds a text.
+    pub(crate) fn add_text(&mut self, text: &str) {
+        self.add(text.as_bytes());
+    }
+
+    fn add_times(&mut self, text: &str) {
+        let Some(times) = Times::read(text, " x ") else {
+            self.is_whole = false;
+            return;
+        };
+        for _ in 0..times.count {
+            self.add_text(times.of);
+        }
+    }
+
+    /// Adds a text in which `<3 x ab>` stands for `ababab`.
+    pub(crate) fn add_written_out(&mut self, text: &str) {
+        for piece in text.split('>') {
+            match piece.split_once('<') {
+                Some((before, times)) => {
+                    self.add_text(before);
+                    self.add_times(times);
+                }
+                None => self.add_text(piece),
+            }
+        }
+    }
+
+    /// The octets that hexadecimal digits stand for, which are written as such a text.
     pub(crate) fn read(&mut self, text: &str) -> Vec<u8> {
-        match octets(self.alloc, text) {
-            Ok(octets) => octets,
-            Err(_) => {
+        match octets_of(self.alloc, text) {
+            Some(octets) => octets,
+            None => {
                 self.is_whole = false;
                 Vec::new(self.alloc)
             }
@@ -39,11 +83,6 @@ impl Gathered {
     pub(crate) fn add_hex(&mut self, text: &str) {
         let octets = self.read(text);
         self.add(&octets);
-    }
-
-    /// Adds a text.
-    pub(crate) fn add_text(&mut self, text: &str) {
-        self.add(text.as_bytes());
     }
 
     /// Adds the decimal digits of a number.
@@ -62,4 +101,12 @@ impl Gathered {
             None
         }
     }
+}
+
+/// The octets that hexadecimal digits stand for, in which `<3 x AB>` stands for `ABABAB`.
+pub(crate) fn octets_of(alloc: Global, text: &str) -> Option<Vec<u8>> {
+    let mut digits = Gathered::new(alloc);
+    digits.add_written_out(text);
+    let digits = digits.end()?;
+    octets(alloc, str::from_utf8(&digits).ok()?).ok()
 }

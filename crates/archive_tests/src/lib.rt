@@ -27,9 +27,15 @@ mod playing;
 #[cfg(test)]
 mod pure;
 #[cfg(test)]
+mod replies;
+#[cfg(test)]
+mod reports;
+#[cfg(test)]
 mod running;
 #[cfg(test)]
 mod samples;
+#[cfg(test)]
+mod script_lines;
 #[cfg(test)]
 mod scripts;
 #[cfg(test)]

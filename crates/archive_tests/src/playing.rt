@@ -4,16 +4,19 @@ use crate::damaged::damaged;
 use crate::disks::{created, reopened};
 use crate::files::file_of;
 use crate::gathered::Gathered;
+use crate::scripts::Script;
+use crate::scripts::damage::DAMAGE;
+use crate::scripts::full::FULL;
 use crate::scripts::loads::LOADS;
 use crate::scripts::marks::MARKS;
 use crate::scripts::questions::QUESTIONS;
 use crate::scripts::tables::TABLES;
 use crate::scripts::updates::UPDATES;
-use crate::scripts::{DAMAGE, Script};
 use crate::{be, be_at};
 use memory_archive::MemArchive;
 use service::{
-    Input, Invocation, Loading, Output, Question, ask_line, check_archive, command, load_file,
+    Input, Invocation, LoadReport, Loading, Output, Question, ask_line, check_archive, command,
+    load_file,
 };
 use std::alloc::Global;
 use std::io::Read;
@@ -38,10 +41,10 @@ impl Read for Pieces<'_> {
 
 /// What a command wrote on both writers, and its exit status.
 #[derive(Drop)]
-struct Ran {
-    out: Vec<u8>,
-    err: Vec<u8>,
-    code: u8,
+pub(crate) struct Ran {
+    pub(crate) out: Vec<u8>,
+    pub(crate) err: Vec<u8>,
+    pub(crate) code: u8,
 }
 
 /// Loads the file that a command line names: the exit status. None where there is no such file.
@@ -60,7 +63,16 @@ fn load(
     });
     let mut lines = Output::new(out);
     let mut refusals = Output::new(err);
-    Some(load_file(alloc, archive, asked, &mut file, &mut lines, &mut refusals))
+    let mut report = LoadReport::new();
+    Some(load_file(
+        alloc,
+        archive,
+        asked,
+        &mut file,
+        &mut lines,
+        &mut refusals,
+        &mut report,
+    ))
 }
 
 /// Answers the line that a command line asks: the exit status.
@@ -98,7 +110,7 @@ fn run(
         Invocation::Load(asked) => load(alloc, archive, asked, most, &mut out, &mut err)?,
         Invocation::Ask(asked) => ask(alloc, archive, asked, &mut out, &mut err),
         Invocation::Check(_) => check(alloc, archive, &mut out, &mut err),
-        Invocation::Create(_) | Invocation::Serve(_) => return None,
+        Invocation::Create(_) | Invocation::Serve(_) | Invocation::Info(_) => return None,
     };
     Some(Ran { out, err, code })
 }
@@ -111,79 +123,6 @@ fn run_line(alloc: Global, archive: &mut MemArchive, line: &str, most: usize) ->
     match command(alloc, words.as_slice()) {
         Ok(asked) => run(alloc, archive, &asked, most),
         Err(_) => None,
-    }
-}
-
-/// How a script shows a status.
-fn status_line(code: u8) -> &'static str {
-    match code {
-        0 => "",
-        1 => "status 1\n",
-        _ => "another status\n",
-    }
-}
-
-impl Gathered {
-    /// Adds a command line and what it wrote, as a script shows them.
-    fn add_command(&mut self, line: &str, ran: &Ran) {
-        self.add_text("$ ");
-        self.add_text(line);
-        self.add_text("\n");
-        self.add(&ran.out);
-        if !ran.err.is_empty() {
-            self.add_text("! ");
-            self.add(&ran.err);
-        }
-        self.add_text(status_line(ran.code));
-    }
-
-    /// Adds 256 lines: in each its number, from 0 on, takes the place of `#`.
-    fn add_rows(&mut self, row: &str) {
-        let (before, after) = match row.split_once('#') {
-            Some((before, after)) => (before, after),
-            None => (row, ""),
-        };
-        let is_numbered = row.len() > before.len();
-        for number in 0..256u16 {
-            self.add_text(before);
-            if is_numbered {
-                self.add_number(number);
-            }
-            self.add_text(after);
-            self.add_text("\n");
-        }
-    }
-
-    /// Adds a line of a script; one that stands for 256 rows is written out.
-    fn add_line(&mut self, line: &str) {
-        match line.strip_prefix("256 x ") {
-            Some(row) => self.add_rows(row),
-            None => {
-                self.add_text(line);
-                self.add_text("\n");
-            }
-        }
-    }
-
-    /// Adds all lines of a script.
-    fn add_lines(&mut self, text: &str) {
-        for line in text.lines() {
-            self.add_line(line);
-        }
-    }
-
-    /// The number of the line, from 1 on, in which this differs from the other; that after the last where it doesn't.
-    fn first_difference(&self, other: &Gathered) -> u64 {
-        let mut line = 1u64;
-        for (octet, wanted) in self.octets.iter().zip(other.octets.iter()) {
-            if octet != wanted {
-                return line;
-            }
-            if *octet == b'\n' {
-                line = line.saturating_add(1);
-            }
-        }
-        line
     }
 }
 
@@ -205,6 +144,22 @@ fn after_command(
     Some(archive)
 }
 
+/// The archive after a line that changes its disks. Another line changes nothing.
+fn after_damage(
+    alloc: Global,
+    archive: MemArchive,
+    line: &str,
+    shown: &mut Gathered,
+) -> Option<MemArchive> {
+    match line.strip_prefix("~ ") {
+        Some(text) => {
+            shown.add_line(line);
+            damaged(alloc, archive, text)
+        }
+        None => Some(archive),
+    }
+}
+
 /// The archive after a line of a script. What only shows something changes nothing.
 fn after(
     alloc: Global,
@@ -215,11 +170,7 @@ fn after(
 ) -> Option<MemArchive> {
     match line.strip_prefix("$ ") {
         Some(command) => after_command(alloc, archive, command, most, shown),
-        None if line == DAMAGE => {
-            shown.add_line(line);
-            damaged(alloc, archive)
-        }
-        None => Some(archive),
+        None => after_damage(alloc, archive, line, shown),
     }
 }
 
@@ -290,41 +241,57 @@ const WHOLE: usize = 1_000_000;
 #[test]
 fn updates_are_played(rt: HostRuntime) {
     let count = play_all(&rt, rt.alloc(), &UPDATES, WHOLE);
-    be(&rt, count.scripts == 18 && count.commands == 62, "updates");
+    be(&rt, count.scripts == 20 && count.commands == 71, "updates");
 }
 
 #[test]
 fn tables_are_played(rt: HostRuntime) {
     let count = play_all(&rt, rt.alloc(), &TABLES, WHOLE);
-    be(&rt, count.scripts == 13 && count.commands == 28, "tables");
+    be(&rt, count.scripts == 14 && count.commands == 47, "tables");
 }
 
 #[test]
 fn questions_are_played(rt: HostRuntime) {
     let count = play_all(&rt, rt.alloc(), &QUESTIONS, WHOLE);
-    be(&rt, count.scripts == 6 && count.commands == 41, "questions");
+    be(&rt, count.scripts == 5 && count.commands == 38, "questions");
 }
 
 #[test]
 fn marks_are_played(rt: HostRuntime) {
     let count = play_all(&rt, rt.alloc(), &MARKS, WHOLE);
-    be(&rt, count.scripts == 4 && count.commands == 27, "marks");
+    be(&rt, count.scripts == 4 && count.commands == 32, "marks");
 }
 
 #[test]
 fn loads_are_played(rt: HostRuntime) {
     let count = play_all(&rt, rt.alloc(), &LOADS, WHOLE);
-    be(&rt, count.scripts == 14 && count.commands == 39, "loads");
+    be(&rt, count.scripts == 12 && count.commands == 33, "loads");
+}
+
+#[test]
+fn full_archives_are_played(rt: HostRuntime) {
+    let count = play_all(&rt, rt.alloc(), &FULL, WHOLE);
+    be(
+        &rt,
+        count.scripts == 4 && count.commands == 37,
+        "full archives",
+    );
+}
+
+#[test]
+fn damage_is_played(rt: HostRuntime) {
+    let count = play_all(&rt, rt.alloc(), &DAMAGE, WHOLE);
+    be(&rt, count.scripts == 4 && count.commands == 34, "damage");
 }
 
 #[test]
 fn files_are_read_octet_by_octet(rt: HostRuntime) {
     let updates = play_all(&rt, rt.alloc(), &UPDATES, 1);
     let loads = play_all(&rt, rt.alloc(), &LOADS, 1);
-    be(&rt, updates.scripts == 18 && loads.scripts == 14, "scripts");
+    be(&rt, updates.scripts == 20 && loads.scripts == 12, "scripts");
     be(
         &rt,
-        updates.commands == 62 && loads.commands == 39,
+        updates.commands == 71 && loads.commands == 33,
         "command lines",
     );
 }

@@ -7,8 +7,8 @@ use crate::pure::Pure;
 use crate::samples::{EARLIER, LONG_PREFIX, UPDATE, stream};
 use route_model::Mark;
 use service::{
-    Creation, Input, Loading, Output, Question, Refusal, ask_line, load_file, tell_created,
-    tell_listening, tell_refusal,
+    Creation, Input, LoadReport, Loading, Output, Question, Refusal, ask_line, load_file,
+    tell_created, tell_listening, tell_refusal,
 };
 use std::alloc::Global;
 use std::io::{BufWriter, Write};
@@ -36,7 +36,16 @@ fn load_to<W: Write + Drop>(
     err: &mut Vec<u8>,
 ) -> u8 {
     let mut file = Input::new(octets);
-    load_file(alloc, archive, asked, &mut file, out, &mut Output::new(err))
+    let mut report = LoadReport::new();
+    load_file(
+        alloc,
+        archive,
+        asked,
+        &mut file,
+        out,
+        &mut Output::new(err),
+        &mut report,
+    )
 }
 
 /// Asks a line: the exit status. None where there is no memory for the line.

@@ -1,6 +1,8 @@
 //! Scripts: command lines over one archive, and what the program has to show of each. The lines are from outside: they were worked out
 //! by hand from the octets of the records.
 
+pub(crate) mod damage;
+pub(crate) mod full;
 pub(crate) mod loads;
 pub(crate) mod marks;
 pub(crate) mod questions;
@@ -16,12 +18,11 @@ pub(crate) struct Script {
     /// The archive, which has no record when the script begins.
     pub(crate) made: Made,
     /// The command lines after `$ `, the file of a `load` being the names of its records. After each its lines, then what standard error
-    /// shows after `! `, then the status where it isn't 0. `256 x` is before a line that stands for 256, with their numbers for `#`.
+    /// shows after `! `, then the status where it isn't 0. `1..4 x ROW` stands for three lines with 1, 2 and 3 for `#`, and in a line
+    /// `<3 x ab>` for `ababab`. After `~ ` stands which octets of the disks become others: of a home page, of a block whose digest stays, or
+    /// of one that gets the digest of what it is then (`sealed`).
     pub(crate) shown: &'static str,
 }
-
-/// The line of a script that stands between command lines: one octet of block 0 becomes another.
-pub(crate) const DAMAGE: &str = "~ an octet of block 0 changes";
 
 /// An archive of one collector.
 pub(crate) const PLAIN: Made = Made {

@@ -26,16 +26,18 @@ Commands:
   ask     Answers a request line
   serve   Serves an archive on a socket, until a client asks it to stop
   check   Reads through an archive, and tells the first damage
+  info    Shows how far an archive has come, and how much room it has left
 
 Options:
   -h, --help     Print help
   -V, --version  Print version
 
 Example:
-  rha create a --collectors 1 --ring 16 --pages 64 --blocks 64
+  rha create a
   rha load a --collector 0 --mark 2024-01-01T00:15:00Z updates.mrt
   rha ask a at 2024-01-01T00:10:00Z prefix 10.0.0.0/8
   rha check a
+  rha info a
   rha serve a --listen 127.0.0.1:17900 --workers 4
 
 `rha COMMAND --help` has the limits of a command, its defaults and its exit statuses.
@@ -46,25 +48,27 @@ error as `rha: NUMBER NAME` where it has no line of its own), 2 where the comman
 
 const CREATE_HELP: &str = "Makes the folder DIR, which isn't there yet, with an empty archive
 
-Usage: rha create --collectors <N> --ring <P> --pages <N> --blocks <N> <DIR>
+Usage: rha create [OPTIONS] <DIR>
 
 Arguments:
   <DIR>  The folder of the archive
 
 Options:
-      --collectors <N>  How many collectors there will be, 1 to 16
-      --ring <P>        The pages of each collector's ring, 9 to 65535
-      --pages <N>       The pages of the archive, its rings' included, 1 to 1000000000
-      --blocks <N>      The write-once blocks of the archive, 1 to 1000000000
+      --collectors <N>  How many collectors there will be, 1 to 16 [default: 1]
+      --ring <P>        The pages of each collector's ring, 9 to 65535 [default: 4096]
+      --pages <N>       The pages of the archive, its rings' included, 1 to 1000000000 [default: 10000000]
+      --blocks <N>      The write-once blocks of the archive, 1 to 1000000000 [default: 100000000]
   -h, --help            Print help
 
-Pages and blocks have 16384 octets each, and take room on the disk as they are used. What is loaded of a
-collector waits in its ring until it may be applied; a table dump of one moment waits there whole. There must
-be a page for each page of each ring and 3 more. Nothing is left behind where the archive can't be made.
-Prints `created COLLECTORS RING PAGES BLOCKS`.
+Pages and blocks have 16384 octets each, and take room on the disk as they are used: unused ones take none,
+however many there are. What is loaded of a collector waits in its ring until it may be applied; a table dump
+of one moment waits there whole. There must be a page for each page of each ring and 3 more. Nothing is left
+behind where the archive can't be made. Prints `created COLLECTORS RING PAGES BLOCKS`.
+
+The files have holes, which a copy has to keep: `cp -a --sparse=always`, `tar -cS`, `rsync -aS`.
 
 Example:
-  rha create a --collectors 1 --ring 16 --pages 64 --blocks 64
+  rha create a --collectors 2
 
 Exit status: 0 where the archive is made; 1 where it is refused, told on standard error as
 `rha: NUMBER NAME`; 2 where the command line isn't accepted.
@@ -86,7 +90,7 @@ Options:
   -h, --help           Print help
 
 M is seconds since 1970, 0 to 4294967296, or a timestamp as 2024-01-01T00:00:00Z. It is set where FILE was
-read to its end: what the collector gives later isn't of earlier moments. FILE may be a pipe, as /dev/stdin.
+read to its end: what the collector gives later isn't of earlier moments. FILE may be a pipe; - is standard input.
 With --resume, FILE is all that the collector ever gave, from its beginning: as many of its first records as
 were offered before are left out, so a load that was broken off goes on.
 
@@ -193,11 +197,32 @@ isn't what may stand there, which standard error tells as `rha: 8 Damaged` or `r
 else was refused or couldn't be written (`rha: NUMBER NAME`); 2 where the command line isn't accepted.
 ";
 
+const INFO_HELP: &str = "Shows how far an archive has come, and how much room it has left
+
+Usage: rha info [OPTIONS] <DIR>
+
+Arguments:
+  <DIR>  The folder of the archive
+
+Options:
+      --json  Prints one object of JSON, for programs
+  -h, --help  Print help
+
+Prints lines for a person: the settled watermark, the time of the last change that is applied, how many pages and
+blocks are used of how many, how many slots of the journal were open before this command, and of each collector
+its mark, its records and how much of its ring is used. With --json, the same as one object in one line.
+
+Example:
+  rha info a
+
+Exit status: 0 where the archive could be read; 1 where something was refused or couldn't be written (told on
+standard error as `rha: NUMBER NAME`); 2 where the command line isn't accepted.
+";
+
 /// What is told of a wrong use ends with a usage: of the program, of what a command requires, or of all that it takes.
 const USAGE_END: &str = "\n\nUsage: rha <COMMAND>\n\nFor more information, try '--help'.\n";
 
-const CREATE_END: &str =
-    "\n\nUsage: rha create --collectors <N> --ring <P> --pages <N> --blocks <N> <DIR>\n\nFor more information, try '--help'.\n";
+const CREATE_END: &str = "\n\nUsage: rha create <DIR>\n\nFor more information, try '--help'.\n";
 
 const LOAD_END: &str =
     "\n\nUsage: rha load [OPTIONS] --collector <C> <DIR> <FILE>\n\nFor more information, try '--help'.\n";
@@ -212,7 +237,7 @@ const CHECK_END: &str = "\n\nUsage: rha check <DIR>\n\nFor more information, try
 const MORE_END: &str = "\n\nFor more information, try '--help'.\n";
 
 /// Help and the version.
-const ASKED_FOR: [Shown; 8] = [
+const ASKED_FOR: [Shown; 9] = [
     Shown {
         words: "rha|--help",
         kind: ErrorKind::DisplayHelp,
@@ -263,6 +288,13 @@ const ASKED_FOR: [Shown; 8] = [
         end: "",
     },
     Shown {
+        words: "rha|info|--help",
+        kind: ErrorKind::DisplayHelp,
+        code: 0,
+        text: INFO_HELP,
+        end: "",
+    },
+    Shown {
         words: "rha|--version",
         kind: ErrorKind::DisplayVersion,
         code: 0,
@@ -277,7 +309,7 @@ const WRONG: [Shown; 15] = [
         words: "rha",
         kind: ErrorKind::MissingSubcommand,
         code: 2,
-        text: "error: 'rha' requires a subcommand but one was not provided\n  [subcommands: create, load, ask, serve, check]",
+        text: "error: 'rha' requires a subcommand but one was not provided\n  [subcommands: create, load, ask, serve, check, info]",
         end: USAGE_END,
     },
     Shown {
@@ -295,10 +327,10 @@ const WRONG: [Shown; 15] = [
         end: USAGE_END,
     },
     Shown {
-        words: "rha|create|a",
+        words: "rha|create",
         kind: ErrorKind::MissingRequiredArgument,
         code: 2,
-        text: "error: the following required arguments were not provided:\n  --collectors <N>\n  --ring <P>\n  --pages <N>\n  --blocks <N>",
+        text: "error: the following required arguments were not provided:\n  <DIR>",
         end: CREATE_END,
     },
     Shown {

@@ -1,8 +1,8 @@
-//! Files as a whole: what their ends, their batches and earlier loads make of them, and an archive that is full.
+//! Files as a whole: what their ends, their batches and earlier loads make of them.
 
-use crate::scripts::{FEW_BLOCKS, FEW_PAGES, PLAIN, SMALL_RING, Script};
+use crate::scripts::{PLAIN, SMALL_RING, Script};
 
-pub(crate) const LOADS: [Script; 14] = [
+pub(crate) const LOADS: [Script; 12] = [
     Script {
         name: "an empty file gives nothing",
         made: PLAIN,
@@ -193,13 +193,13 @@ S|1704067200
     Script {
         name: "a full ring ends a load, and what it kept stays",
         made: SMALL_RING,
-        shown: "$ rha load a --collector 0 updates-2076+update
+        shown: "$ rha load a --collector 0 2076*update+update
 B|0|1000|1000
 B|1000|2000|2000
 X|23|IntakeFull
 S|1704067200
 status 1
-$ rha load a --collector 0 --batch 76 --resume updates-2076
+$ rha load a --collector 0 --batch 76 --resume 2076*update
 B|2000|2076|2076
 F|2076|76|0|0|0
 S|1704067200
@@ -209,42 +209,6 @@ S|1704067200
 status 1
 $ rha ask a durable 0
 N|2076
-",
-    },
-    Script {
-        name: "an archive without a page that is left answers what it applied",
-        made: FEW_PAGES,
-        shown: "$ rha load a --collector 0 --mark 1704067200 earlier
-B|0|1|1
-F|1|1|0|0|0
-S|1704067200
-$ rha load a --collector 0 --mark 1704067201 prefixes-257
-B|1|2|2
-F|1|1|0|0|0
-! rha: 6 PagesFull
-status 1
-$ rha ask a at 1704067199 all
-R|0|192.0.2.1|65001|10.0.0.0/8|65001 65002|IGP|192.0.2.1|||NAG||
-E|1
-",
-    },
-    Script {
-        name: "an archive without a block that is left answers what it applied",
-        made: FEW_BLOCKS,
-        shown: "$ rha load a --collector 0 --mark 1704067200 earlier
-B|0|1|1
-F|1|1|0|0|0
-S|1704067200
-$ rha load a --collector 0 --mark 1704067201 updates-2076
-B|1|1001|1001
-B|1001|2001|2001
-B|2001|2077|2077
-F|2076|2076|0|0|0
-! rha: 7 OnceFull
-status 1
-$ rha ask a at 1704067199 all
-R|0|192.0.2.1|65001|10.0.0.0/8|65001 65002|IGP|192.0.2.1|||NAG||
-E|1
 ",
     },
 ];

@@ -19,6 +19,11 @@ S|10
 $ rha load a --collector 1 --mark 5 nothing
 ! rha: 22 NoCollector
 status 1
+$ rha load a --collector 1 --mark 5 update
+! rha: 22 NoCollector
+status 1
+$ rha ask a durable 0
+N|0
 $ rha ask a watermark
 S|10
 $ rha load a --collector 0 --mark 1 update
@@ -83,7 +88,7 @@ ok|1|61
     Script {
         name: "a full ring waits for a silent collector, and the last mark releases all",
         made: OF_TWO,
-        shown: "$ rha load a --collector 0 updates-2076
+        shown: "$ rha load a --collector 0 2076*update
 B|0|1000|1000
 B|1000|2000|2000
 B|2000|2076|2076
@@ -93,6 +98,12 @@ $ rha load a --collector 0 update
 X|23|IntakeFull
 S|0
 status 1
+$ rha ask a durable 0
+N|2076
+$ rha ask a durable 1
+N|0
+$ rha check a
+ok|0|0
 $ rha load a --collector 1 --mark 4294967296 nothing
 F|0|0|0|0|0
 S|1704067200

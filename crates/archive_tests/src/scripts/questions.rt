@@ -2,7 +2,7 @@
 
 use crate::scripts::{PLAIN, Script};
 
-pub(crate) const QUESTIONS: [Script; 6] = [
+pub(crate) const QUESTIONS: [Script; 5] = [
     Script {
         name: "two prefixes of a peer are found in each way",
         made: PLAIN,
@@ -57,7 +57,7 @@ B|0|1|1
 F|1|1|0|0|0
 S|1704067201
 $ rha ask a at 1704067200 all
-256 x R|0|192.0.2.1|65001|10.0.#.0/24|65001 65002|IGP|192.0.2.1|||NAG||
+0..256 x R|0|192.0.2.1|65001|10.0.#.0/24|65001 65002|IGP|192.0.2.1|||NAG||
 E|256
 $ rha check a
 ok|256|1704067201
@@ -71,31 +71,35 @@ B|0|1|1
 F|1|1|0|0|0
 S|1704067201
 $ rha ask a at 1704067200 all
-256 x R|0|192.0.2.1|65001|10.0.#.0/24|65001 65002|IGP|192.0.2.1|||NAG||
+0..256 x R|0|192.0.2.1|65001|10.0.#.0/24|65001 65002|IGP|192.0.2.1|||NAG||
 M|0|192.0.2.1|65001|10.0.255.0/24
 $ rha ask a at 1704067200 all after 0 192.0.2.1 65001 10.0.255.0/24
 R|0|192.0.2.1|65001|10.1.0.0/24|65001 65002|IGP|192.0.2.1|||NAG||
 E|1
+$ rha ask a at 1704067200 all after 0 192.0.2.1 65001 10.0.0.0/24
+1..256 x R|0|192.0.2.1|65001|10.0.#.0/24|65001 65002|IGP|192.0.2.1|||NAG||
+R|0|192.0.2.1|65001|10.1.0.0/24|65001 65002|IGP|192.0.2.1|||NAG||
+E|256
 $ rha ask a at 1704067200 peer 0 192.0.2.1 65001
-256 x R|0|192.0.2.1|65001|10.0.#.0/24|65001 65002|IGP|192.0.2.1|||NAG||
+0..256 x R|0|192.0.2.1|65001|10.0.#.0/24|65001 65002|IGP|192.0.2.1|||NAG||
 M|0|192.0.2.1|65001|10.0.255.0/24
 ",
     },
     Script {
         name: "256 events are an end, and of more the last one says where to go on",
         made: PLAIN,
-        shown: "$ rha load a --collector 0 --mark 1704067201 updates-513
+        shown: "$ rha load a --collector 0 --mark 1704067201 513*update
 B|0|513|513
 F|513|513|0|0|0
 S|1704067201
 $ rha ask a history 0 1704067200 0 192.0.2.1 65001 10.0.0.0/8
-256 x A|1704067200|65001 65002|IGP|192.0.2.1|||NAG||
+0..256 x A|1704067200|65001 65002|IGP|192.0.2.1|||NAG||
 M|256
 $ rha ask a history 0 1704067200 0 192.0.2.1 65001 10.0.0.0/8 skip 256
-256 x A|1704067200|65001 65002|IGP|192.0.2.1|||NAG||
+0..256 x A|1704067200|65001 65002|IGP|192.0.2.1|||NAG||
 M|512
 $ rha ask a history 0 1704067200 0 192.0.2.1 65001 10.0.0.0/8 skip 257
-256 x A|1704067200|65001 65002|IGP|192.0.2.1|||NAG||
+0..256 x A|1704067200|65001 65002|IGP|192.0.2.1|||NAG||
 E|256
 $ rha ask a history 0 1704067200 0 192.0.2.1 65001 10.0.0.0/8 skip 512
 A|1704067200|65001 65002|IGP|192.0.2.1|||NAG||
@@ -134,25 +138,6 @@ X|28|BadRequest
 status 1
 $ rha ask a quit
 X|28|BadRequest
-status 1
-",
-    },
-    Script {
-        name: "what a damaged block has isn't answered, and a check finds it",
-        made: PLAIN,
-        shown: "$ rha load a --collector 0 --mark 1704067201 updates-513
-B|0|513|513
-F|513|513|0|0|0
-S|1704067201
-~ an octet of block 0 changes
-$ rha ask a history 0 1704067200 0 192.0.2.1 65001 10.0.0.0/8
-X|8|Damaged|0
-status 1
-$ rha ask a at 1704067200 prefix 10.0.0.0/8
-R|0|192.0.2.1|65001|10.0.0.0/8|65001 65002|IGP|192.0.2.1|||NAG||
-E|1
-$ rha check a
-! rha: 8 Damaged
 status 1
 ",
     },

@@ -1,8 +1,8 @@
 //! Updates and session changes of one peer, and the routes that they leave.
 
-use crate::scripts::{PLAIN, Script};
+use crate::scripts::{PLAIN, SMALL_RING, Script};
 
-pub(crate) const UPDATES: [Script; 18] = [
+pub(crate) const UPDATES: [Script; 20] = [
     Script {
         name: "an announcement is answered one second below the mark",
         made: PLAIN,
@@ -180,8 +180,34 @@ E|0
 B|0|1|1
 F|1|1|0|0|0
 S|1704067201
+$ rha ask a at 1704067200 route 0 192.0.2.1 65001 10.0.0.0/8
+R|0|192.0.2.1|65001|10.0.0.0/8|<762 x 65001 >65001|IGP|192.0.2.1|||NAG||
+E|1
+$ rha ask a history 0 1704067200 0 192.0.2.1 65001 10.0.0.0/8
+A|1704067200|<762 x 65001 >65001|IGP|192.0.2.1|||NAG||
+E|1
 $ rha check a
 ok|1|1704067201
+",
+    },
+    // Its ring has 147,456 octets. An UPDATE takes 71 of them, one without prefixes 18, and this route 50 and its own: 3,069.
+    Script {
+        name: "the longest route has 3069 octets",
+        made: SMALL_RING,
+        shown: "$ rha load a --collector 0 path-of-763+2000*update
+B|0|1000|1000
+B|1000|2000|2000
+B|2000|2001|2001
+F|2001|2001|0|0|0
+S|1704067200
+$ rha load a --collector 0 2*update+122*empty
+X|23|IntakeFull
+S|1704067200
+status 1
+$ rha load a --collector 0 3*update+118*empty
+B|2001|2122|2122
+F|121|121|0|0|0
+S|1704067200
 ",
     },
     Script {
@@ -215,6 +241,23 @@ F|2|2|0|0|0
 S|1704067201
 $ rha ask a at 1704067200 prefix 10.0.0.0/8
 E|0
+",
+    },
+    Script {
+        name: "the end of a session is one change, whatever it ends",
+        made: PLAIN,
+        shown: "$ rha load a --collector 0 --mark 1704067201 two-prefixes+session-down
+B|0|2|2
+F|2|2|0|0|0
+S|1704067201
+$ rha ask a at 1704067200 peer 0 192.0.2.1 65001
+E|0
+$ rha ask a history 0 1704067200 0 192.0.2.1 65001 10.128.0.0/9
+A|1704067200|65001 65002|IGP|192.0.2.1|||NAG||
+D|1704067200
+E|2
+$ rha check a
+ok|3|1704067201
 ",
     },
     Script {

@@ -1,0 +1,103 @@
+//! What a load reports besides its lines.
+
+use crate::be;
+use crate::pure::Pure;
+use crate::samples::{EARLIER, LONG_PREFIX, UPDATE, stream};
+use route_model::Mark;
+use service::{FeedCounts, Input, LoadReport, LoadSettings, Output, Refusal, load};
+use std::alloc::Global;
+
+/// Records that are loaded into an archive of one collector, and what is reported.
+struct Reported {
+    collector: u8,
+    mark: u64,
+    records: &'static [&'static str],
+    /// How many records, and how many of these are admitted, late and refused.
+    counts: Option<[u64; 4]>,
+    refusal: Option<Refusal>,
+}
+
+/// The counts of a feed of which nothing was skipped.
+fn counted(counts: [u64; 4]) -> FeedCounts {
+    let [records, admitted, late, refused] = counts;
+    FeedCounts {
+        records,
+        admitted,
+        late,
+        refused,
+        skipped: 0,
+    }
+}
+
+const REPORTS: [Reported; 4] = [
+    Reported {
+        collector: 0,
+        mark: 1_704_067_201,
+        records: &[UPDATE, EARLIER, LONG_PREFIX],
+        counts: Some([3, 1, 1, 1]),
+        refusal: None,
+    },
+    Reported {
+        collector: 0,
+        mark: 1_704_067_201,
+        records: &[],
+        counts: Some([0, 0, 0, 0]),
+        refusal: None,
+    },
+    Reported {
+        collector: 0,
+        mark: 1,
+        records: &[UPDATE],
+        counts: Some([1, 1, 0, 0]),
+        refusal: Some(Refusal::MarkBack),
+    },
+    Reported {
+        collector: 1,
+        mark: 1_704_067_201,
+        records: &[UPDATE],
+        counts: None,
+        refusal: Some(Refusal::NoCollector),
+    },
+];
+
+/// What a load of the records reports.
+fn report_of(alloc: Global, it: &Reported) -> Option<LoadReport> {
+    let mut archive = Pure::new(alloc, 1)?;
+    let how = LoadSettings {
+        collector: it.collector,
+        limit: 1000,
+        mark: Mark::new(it.mark),
+        resume: false,
+    };
+    let octets = stream(alloc, it.records)?;
+    let mut file = Input::new(octets.as_slice());
+    let mut out: Vec<u8> = Vec::new(alloc);
+    let mut err: Vec<u8> = Vec::new(alloc);
+    let mut lines = Output::new(&mut out);
+    let mut refusals = Output::new(&mut err);
+    let mut report = LoadReport::new();
+    let _ = load(
+        alloc,
+        &mut archive,
+        how,
+        &mut file,
+        &mut lines,
+        &mut refusals,
+        &mut report,
+    );
+    Some(report)
+}
+
+/// Whether a load of the records reports this.
+fn is_reported(alloc: Global, it: &Reported) -> bool {
+    let counts = it.counts.map(counted);
+    let refusal = it.refusal;
+    report_of(alloc, it) == Some(LoadReport { counts, refusal })
+}
+
+#[test]
+fn a_load_reports_its_counts_and_its_refusal(rt: HostRuntime) {
+    for it in &REPORTS {
+        be(&rt, is_reported(rt.alloc(), it), "a report");
+    }
+}
