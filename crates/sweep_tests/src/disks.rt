@@ -11,7 +11,7 @@ pub(crate) type Played = Archive<MemErase, MemOnce>;
 #[derive(Drop)]
 pub(crate) struct Both {
     pub(crate) erase: MemErase,
-    pub(crate) once: MemOnce,
+    pub(crate) once: Arc<MemOnce>,
     pub(crate) pen: MemPen,
 }
 
@@ -29,7 +29,7 @@ pub(crate) const KINDS: u64 = 4;
 /// isn't synced.
 pub(crate) const WAYS: u64 = 5;
 
-fn torn(kind: u64) -> Torn {
+pub(crate) fn torn(kind: u64) -> Torn {
     match kind {
         0 => Torn::Old,
         1 => Torn::New,
@@ -42,7 +42,8 @@ impl Both {
     /// The same disks once more. No failure is to come.
     pub(crate) fn copy(&self) -> Option<Both> {
         let erase = self.erase.copy().ok()?;
-        let (once, pen) = self.once.copy(&self.pen).ok()?;
+        let (_, pen) = self.once.copy(&self.pen).ok()?;
+        let once = self.once.clone().ok()?;
         Some(Both { erase, once, pen })
     }
 
@@ -64,7 +65,8 @@ impl Both {
     }
 
     fn crash(&self, kind: u64) -> Option<Both> {
-        let (erase, once, pen) = crash_all(&self.erase, &self.once, &self.pen, &torn(kind)).ok()?;
+        let (erase, _, pen) = crash_all(&self.erase, &self.once, &self.pen, &torn(kind)).ok()?;
+        let once = self.once.clone().ok()?;
         Some(Both { erase, once, pen })
     }
 }
@@ -72,27 +74,21 @@ impl Both {
 /// The disks of an archive.
 pub(crate) fn given_up(archive: Played) -> Both {
     let (erase, once, pen) = archive.into_disks();
-    Both {
-        erase,
-        once: *once,
-        pen,
-    }
+    Both { erase, once, pen }
 }
 
-fn handed_back(disks: Both, error: OpenError) -> Option<Result<Played, Both>> {
-    if error != OpenError::Fault {
-        return None;
-    }
-    Some(Err(disks))
+/// The disks that an opening handed back, and why.
+#[derive(Drop)]
+pub(crate) struct Handed {
+    pub(crate) disks: Both,
+    pub(crate) error: OpenError,
 }
 
-/// What opening these disks answers: the archive, or the disks where one of them failed. None where there is no memory, or they are
-/// refused for another reason.
-pub(crate) fn open(alloc: Global, disks: Both) -> Option<Result<Played, Both>> {
+/// What opening these disks returns. It takes no memory but the archive's.
+pub(crate) fn try_open(alloc: Global, disks: Both) -> Result<Played, Handed> {
     let Both { erase, once, pen } = disks;
-    let once = Arc::new(alloc, once).ok()?;
     match Archive::open(alloc, erase, once, pen) {
-        Ok(archive) => Some(Ok(archive)),
+        Ok(archive) => Ok(archive),
         Err(
             Refused {
                 erase,
@@ -100,18 +96,29 @@ pub(crate) fn open(alloc: Global, disks: Both) -> Option<Result<Played, Both>> {
                 pen,
                 error,
             },
-        ) => handed_back(
-            Both {
-                erase,
-                once: *once,
-                pen,
-            },
+        ) => Err(Handed {
+            disks: Both { erase, once, pen },
             error,
-        ),
+        }),
     }
+}
+
+/// The archive on these disks, or the disks where one of them failed. None where they are refused for another reason.
+pub(crate) fn open(alloc: Global, disks: Both) -> Option<Result<Played, Both>> {
+    match try_open(alloc, disks) {
+        Ok(archive) => Some(Ok(archive)),
+        Err(handed) => handed_back(handed),
+    }
+}
+
+fn handed_back(handed: Handed) -> Option<Result<Played, Both>> {
+    if handed.error != OpenError::Fault {
+        return None;
+    }
+    Some(Err(handed.disks))
 }
 
 /// The archive on these disks.
 pub(crate) fn opened(alloc: Global, disks: Both) -> Option<Played> {
-    open(alloc, disks)?.ok()
+    try_open(alloc, disks).ok()
 }

@@ -19,7 +19,7 @@ pub(crate) fn octets_of(alloc: Global, disk: &mut MemErase, page: u64) -> Option
 }
 
 /// Writes a page.
-fn lay(disk: &mut MemErase, page: u64, octets: &[u8]) -> Option<()> {
+pub(crate) fn lay(disk: &mut MemErase, page: u64, octets: &[u8]) -> Option<()> {
     if page > 65_536 || octets.len() > 16_384 || disk.size() < (page + 1) * PAGE {
         return None;
     }

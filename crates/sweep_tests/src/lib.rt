@@ -1,5 +1,6 @@
 //! A whole life of an archive on two disks in memory is cut off at each call that writes, and so is each opening after it. What a crash
-//! leaves then is compared with the pure machine, and the life goes on from there.
+//! leaves then is compared with the pure machine, and the life goes on from there. In other runs one call of a disk fails, memory is
+//! refused once, or what the disks hold is damaged.
 #![tactic(auto)]
 
 #[cfg(test)]
@@ -7,7 +8,13 @@ mod acts;
 #[cfg(test)]
 mod asked;
 #[cfg(test)]
+mod blocks;
+#[cfg(test)]
 mod disks;
+#[cfg(test)]
+mod failing;
+#[cfg(test)]
+mod failures;
 #[cfg(test)]
 mod laid;
 #[cfg(test)]
@@ -15,11 +22,17 @@ mod lives;
 #[cfg(test)]
 mod loads;
 #[cfg(test)]
+mod memory;
+#[cfg(test)]
+mod octets;
+#[cfg(test)]
 mod played;
 #[cfg(test)]
 mod pure;
 #[cfg(test)]
 mod records;
+#[cfg(test)]
+mod refused;
 #[cfg(test)]
 mod stage;
 #[cfg(test)]

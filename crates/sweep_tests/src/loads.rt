@@ -3,7 +3,7 @@
 use crate::acts::{Load, Script};
 use crate::disks::{Both, Played, given_up};
 use crate::laid::laid_anew;
-use crate::played::{apply_all, flush_all, give, set_mark, state_of};
+use crate::played::{Outcome, apply_all, flush_all, give, set_mark, state_of};
 use crate::pure::Pure;
 use crate::records::{Record, batch_of};
 use archive_pages::Settings;
@@ -73,7 +73,7 @@ fn take(
     batch: &[Admission],
     mark: u32,
 ) -> bool {
-    give(archive, collector, batch)
+    give(archive, collector, batch) == Outcome::Done
         && pure.give(collector, batch)
         && raise(archive, pure, mark)
         && apply_all(archive)
@@ -81,8 +81,8 @@ fn take(
 }
 
 fn raise(archive: &mut Played, pure: &mut Pure, mark: u32) -> bool {
-    set_mark(archive, 0, mark)
-        && set_mark(archive, 1, mark)
+    set_mark(archive, 0, mark) == Outcome::Done
+        && set_mark(archive, 1, mark) == Outcome::Done
         && pure.set_mark(0, mark)
         && pure.set_mark(1, mark)
 }

@@ -3,7 +3,7 @@
 use crate::acts::{Act, Script};
 use crate::disks::{Both, Played, given_up, opened};
 use crate::loads::{Loaded, load_disks};
-use crate::played::{apply, flush, give, set_mark, state_of};
+use crate::played::{Outcome, apply, flush, give, set_mark, state_of};
 use crate::pure::{Known, Pure};
 use crate::records::{Record, batch_of};
 use route_model::Admission;
@@ -37,17 +37,22 @@ fn batches(alloc: Global, all: &[&[Record]]) -> Option<Vec<Batch>> {
     Some(batches)
 }
 
-/// The archive makes a call of a life: whether nothing stopped it.
-pub(crate) fn does(archive: &mut Played, batches: &[Batch], act: &Act) -> bool {
+/// The archive makes a call of a life.
+pub(crate) fn call(archive: &mut Played, batches: &[Batch], act: &Act) -> Outcome {
     match *act {
         Act::Admit(collector, number) => match batches.get(number) {
             Some(batch) => give(archive, collector, &batch.records),
-            None => false,
+            None => Outcome::Other,
         },
         Act::Mark(collector, seconds) => set_mark(archive, collector, seconds),
         Act::Apply => apply(archive),
         Act::Flush => flush(archive),
     }
+}
+
+/// The same, and whether nothing stopped it.
+pub(crate) fn does(archive: &mut Played, batches: &[Batch], act: &Act) -> bool {
+    call(archive, batches, act) == Outcome::Done
 }
 
 /// The archive makes these calls.
@@ -83,6 +88,35 @@ fn begin(archive: &mut Played, pure: &mut Pure, batches: &[Batch], acts: &[Act])
 }
 
 impl Stage {
+    /// How many acts there are, with those after the life.
+    pub(crate) fn acts(&self) -> usize {
+        self.places.len().saturating_sub(1)
+    }
+
+    /// The act of this number.
+    pub(crate) fn act(&self, number: usize) -> Option<Act> {
+        let (life, after) = (self.script.life, self.script.after);
+        match life.get(number) {
+            Some(act) => Some(*act),
+            None => after.get(number.saturating_sub(life.len())).copied(),
+        }
+    }
+
+    /// An archive takes the first batch.
+    pub(crate) fn gives(&self, archive: &mut Played) -> Outcome {
+        call(archive, &self.batches, &Act::Admit(0, 0))
+    }
+
+    /// Whether a check, which reads all blocks, takes little time.
+    pub(crate) fn has_few_blocks(&self) -> bool {
+        self.disks.pen.settled().len() < 100
+    }
+
+    /// The place of the state at the end.
+    pub(crate) fn last_place(&self) -> usize {
+        self.known.len().saturating_sub(1)
+    }
+
     /// The place of the state before the act of this number.
     pub(crate) fn place_at(&self, act: usize) -> usize {
         self.places.get(act).copied().unwrap_or(0)
@@ -104,7 +138,7 @@ impl Stage {
 
     /// Remembers where the state before the next act stands.
     fn note_place(&mut self) -> Option<()> {
-        let place = self.known.len().saturating_sub(1);
+        let place = self.last_place();
         self.places.push(place).ok()
     }
 

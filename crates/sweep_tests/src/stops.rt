@@ -82,7 +82,7 @@ fn left_of(stage: &Stage, stop: &Stop) -> Option<Left> {
 }
 
 /// Whether this is the state at a place.
-fn is_state(stage: &Stage, place: usize, state: &State) -> bool {
+pub(crate) fn is_state(stage: &Stage, place: usize, state: &State) -> bool {
     match stage.known.get(place) {
         Some(known) => known.state == *state,
         None => false,
@@ -138,12 +138,12 @@ fn answers_one(stage: &Stage, archive: &mut Played, place: usize, turn: u64) -> 
 }
 
 /// Whether an archive is in the state at a place, and answers each question so.
-fn is_at(stage: &Stage, archive: &mut Played, place: usize) -> bool {
+pub(crate) fn is_at(stage: &Stage, archive: &mut Played, place: usize) -> bool {
     is_now_at(stage, archive, place) && answers_all(stage, archive, place)
 }
 
 /// The life goes on from an act, and what follows it.
-fn play_from(stage: &Stage, archive: &mut Played, from: usize) -> bool {
+pub(crate) fn play_from(stage: &Stage, archive: &mut Played, from: usize) -> bool {
     let acts = stage.script.life.get(from..).unwrap_or(&[]);
     does_all(archive, &stage.batches, acts)
         && does_all(archive, &stage.batches, stage.script.after)
@@ -165,7 +165,7 @@ fn rise(burns: &[Burn]) -> bool {
 
 /// Whether a life that goes on from an act comes to the end of one that is never stopped, and burnt no block twice.
 fn ends_well(stage: &Stage, mut archive: Played, from: usize) -> bool {
-    let last = stage.known.len().saturating_sub(1);
+    let last = stage.last_place();
     let is_done = play_from(stage, &mut archive, from) && is_at(stage, &mut archive, last);
     is_done && rise(given_up(archive).pen.settled())
 }

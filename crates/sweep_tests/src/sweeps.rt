@@ -50,7 +50,7 @@ const BURNS: Deal = Deal {
     from: 1,
     to: 11,
     lives: 50,
-    openings: 2_600,
+    openings: 2_400,
 };
 
 const FIRST: Deal = Deal {

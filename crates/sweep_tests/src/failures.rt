@@ -1,0 +1,223 @@
+//! Each call of a disk in a life fails once, alone, dealt out over some tests.
+
+use crate::acts::{ASKED, LONG, RISING};
+use crate::asked::query_of;
+use crate::be_at;
+use crate::disks::opened;
+use crate::failing::Device;
+use crate::played::{Outcome, ask, check};
+use crate::refused::{Refusal, Trial, end, live};
+use crate::stage::{Stage, prepare};
+use std::process::Abort;
+
+/// Failures of calls of one kind, from one on and before another one, and how many of them come in a life.
+struct Deal {
+    call: Device,
+    from: u64,
+    to: u64,
+    failures: u64,
+}
+
+fn refusal_of(call: Device) -> Refusal {
+    if call.is_of_pages() {
+        Refusal::Pages
+    } else {
+        Refusal::Device
+    }
+}
+
+/// A life in which this failure may come. Each that comes is returned by a call.
+fn fail(rt: &impl Abort, stage: &Stage, call: Device, number: u64) -> Trial {
+    let mut trial = Trial::new(refusal_of(call), number);
+    let mut disks = stage.disks.copy().expect(rt, "disks");
+    disks
+        .fail(stage.alloc, call, number)
+        .expect(rt, "a failure");
+    let disks = live(rt, &mut trial, stage, disks);
+    be_at(
+        rt,
+        disks.faults() == trial.refused,
+        "a failure is returned",
+        number,
+    );
+    end(rt, &trial, stage, &disks);
+    trial
+}
+
+/// Each failure of a deal, of which there are as many as it says.
+fn sweep(rt: &impl Abort, stage: &Stage, deal: &Deal) {
+    let mut failures: u64 = 0;
+    for number in deal.from..deal.to {
+        let trial = fail(rt, stage, deal.call, number);
+        failures = failures.saturating_add(trial.refused);
+    }
+    be_at(rt, failures == deal.failures, "failures", failures);
+}
+
+/// Each of these deals of a life.
+fn sweep_all(rt: &impl Abort, stage: &Stage, deals: &[Deal]) {
+    for deal in deals {
+        sweep(rt, stage, deal);
+    }
+}
+
+fn is_fault(rt: &impl Abort, outcome: Outcome, number: u64) -> u64 {
+    let is_either = outcome == Outcome::Done || outcome == Outcome::Fault;
+    be_at(rt, is_either, "an answer where a block isn't read", number);
+    u64::from(outcome == Outcome::Fault)
+}
+
+/// How many questions, and whether a check, are refused where each read of a block that has this number in its question fails.
+fn refused_reads(rt: &impl Abort, stage: &Stage, number: u64) -> u64 {
+    let mut disks = stage.disks.copy().expect(rt, "disks");
+    disks
+        .fail(stage.alloc, Device::ReadBlock, number)
+        .expect(rt, "a failure");
+    let mut archive = opened(stage.alloc, disks).expect(rt, "an archive");
+    let known = stage.known.first().expect(rt, "a state");
+    let mut refused: u64 = 0;
+    for (asked, wanted) in ASKED.iter().zip(known.answers.iter()) {
+        let outcome = ask(&mut archive, &query_of(asked), wanted);
+        refused = refused.saturating_add(is_fault(rt, outcome, number));
+    }
+    let outcome = check(&mut archive, known.state.applied);
+    refused.saturating_add(is_fault(rt, outcome, number))
+}
+
+/// Of a life whose column is split in time: all calls but writes.
+const CALLS: [Deal; 6] = [
+    Deal {
+        call: Device::Read,
+        from: 0,
+        to: 38,
+        failures: 37,
+    },
+    Deal {
+        call: Device::Sync,
+        from: 0,
+        to: 58,
+        failures: 57,
+    },
+    Deal {
+        call: Device::Blank,
+        from: 0,
+        to: 8,
+        failures: 7,
+    },
+    Deal {
+        call: Device::Burn,
+        from: 0,
+        to: 28,
+        failures: 24,
+    },
+    Deal {
+        call: Device::Settle,
+        from: 0,
+        to: 7,
+        failures: 6,
+    },
+    Deal {
+        call: Device::Look,
+        from: 0,
+        to: 33,
+        failures: 32,
+    },
+];
+
+/// Its first writes.
+const WRITES: [Deal; 1] = [Deal {
+    call: Device::Write,
+    from: 0,
+    to: 320,
+    failures: 320,
+}];
+
+/// All its later writes.
+const LATER_WRITES: [Deal; 1] = [Deal {
+    call: Device::Write,
+    from: 320,
+    to: 512,
+    failures: 188,
+}];
+
+/// Of a life in which the root rises.
+const RISE: [Deal; 7] = [
+    Deal {
+        call: Device::Read,
+        from: 0,
+        to: 26,
+        failures: 25,
+    },
+    Deal {
+        call: Device::Write,
+        from: 0,
+        to: 260,
+        failures: 256,
+    },
+    Deal {
+        call: Device::Sync,
+        from: 0,
+        to: 34,
+        failures: 33,
+    },
+    Deal {
+        call: Device::Blank,
+        from: 0,
+        to: 4,
+        failures: 3,
+    },
+    Deal {
+        call: Device::Burn,
+        from: 0,
+        to: 12,
+        failures: 8,
+    },
+    Deal {
+        call: Device::Settle,
+        from: 0,
+        to: 3,
+        failures: 2,
+    },
+    Deal {
+        call: Device::Look,
+        from: 0,
+        to: 30,
+        failures: 29,
+    },
+];
+
+/// How many questions and checks are refused where each read of a block that has this number in its question fails, from number 0 on.
+const READS: [u64; 3] = [5, 2, 2];
+
+#[test]
+fn all_calls_but_writes_fail_once(rt: HostRuntime) {
+    let stage = prepare(rt.alloc(), &LONG).expect(&rt, "a stage");
+    sweep_all(&rt, &stage, &CALLS);
+}
+
+#[test]
+fn writes_fail_once(rt: HostRuntime) {
+    let stage = prepare(rt.alloc(), &LONG).expect(&rt, "a stage");
+    sweep_all(&rt, &stage, &WRITES);
+}
+
+#[test]
+fn later_writes_fail_once(rt: HostRuntime) {
+    let stage = prepare(rt.alloc(), &LONG).expect(&rt, "a stage");
+    sweep_all(&rt, &stage, &LATER_WRITES);
+}
+
+#[test]
+fn calls_fail_once_where_the_root_rises(rt: HostRuntime) {
+    let stage = prepare(rt.alloc(), &RISING).expect(&rt, "a stage");
+    sweep_all(&rt, &stage, &RISE);
+}
+
+#[test]
+fn reads_of_blocks_fail(rt: HostRuntime) {
+    let stage = prepare(rt.alloc(), &LONG).expect(&rt, "a stage");
+    for (number, wanted) in READS.iter().enumerate() {
+        let refused = refused_reads(&rt, &stage, number as u64);
+        be_at(&rt, refused == *wanted, "refused questions", refused);
+    }
+}

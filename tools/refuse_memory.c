@@ -1,0 +1,37 @@
+/* Refuses one allocation of a program: preloaded by tools/refuse-memory, which says more.
+
+   Allocations are counted after one of FIRST octets and up to one of LAST octets. Only the one whose number stands in REFUSED is refused. At the
+   end their count is written to the descriptor whose number stands in COUNTED. */
+#include <stdio.h>
+#include <stdlib.h>
+
+enum { FIRST = 70001, LAST = 70003 };
+
+extern void *__libc_malloc(size_t size);
+extern void *__libc_realloc(void *old, size_t size);
+
+static int counts;
+static long counted;
+static long refused;
+
+static int refuses(size_t size) {
+  if (size == FIRST || size == LAST) {
+    counts = size == FIRST;
+    return 0;
+  }
+  return counts && ++counted == refused;
+}
+
+void *malloc(size_t size) { return refuses(size) ? NULL : __libc_malloc(size); }
+
+void *realloc(void *old, size_t size) { return refuses(size) ? NULL : __libc_realloc(old, size); }
+
+__attribute__((constructor)) static void begin(void) {
+  const char *number = getenv("REFUSED");
+  refused = number ? atol(number) : 0;
+}
+
+__attribute__((destructor)) static void end(void) {
+  const char *descriptor = getenv("COUNTED");
+  if (descriptor) dprintf(atoi(descriptor), "%ld\n", counted);
+}
