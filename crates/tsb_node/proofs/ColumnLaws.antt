@@ -20,37 +20,25 @@ use Rattle.tsb_node.specs.inner.Reading.{area}
 use Rattle.tsb_node.proofs.NumberLaws.{octets_of-size, octets_of-number, field_in, drop_twice}
 use Rattle.tsb_node.proofs.Leaves.{body_says, body_area}
 
--- ---- the scan
+-- ---- the search
 
-pub record IsOn (bytes : List ℕ) (stamp i at : ℕ) : Type 0 where
-  pub place : ℕ
-  pub next : suc place ≡ i
-  pub at_place : at ≡ 25 * place
-  pub passed : (start_at place bytes ≤ stamp) ⊎ (place ≡ 0)
+-- a search among entries by halves: what is before `first` is passed, what is from `end` on starts after the stamp
+pub record IsBetween (count : ℕ) (bytes : List ℕ) (stamp first end : ℕ) : Type 0 where
+  pub some : first < end
+  pub within : end ≤ count
+  pub passed : (start_at first bytes ≤ stamp) ⊎ (first ≡ 0)
+  pub above : end < count → stamp < start_at end bytes
 
-pub on_first : (bytes : List ℕ) (stamp : ℕ) → IsOn bytes stamp 1 0
-on_first bytes stamp = record { place = 0; next = refl; at_place = omega arith; passed = inr refl }
-
-pub on_next : (bytes : List ℕ) (stamp i : ℕ) → start_at i bytes ≤ stamp → IsOn bytes stamp (i + 1) (25 * i)
-on_next bytes stamp i le = record { place = i; next = omega arith; at_place = refl; passed = inl le }
-
-pub on_stop : (count : ℕ) (bytes : List ℕ) (stamp i at : ℕ) → IsOn bytes stamp i at → i < count → stamp < start_at i bytes → IsPlaceBefore count bytes stamp at
-on_stop count bytes stamp i at on lt before = record {
-  place = on.place;
-  at_place = on.at_place;
-  below = omega (arith, on.next);
-  passed = on.passed;
-  next = λ more. subst (λ (k : ℕ). stamp < start_at k bytes) (sym on.next) before;
-}
-
-pub on_end : (count : ℕ) (bytes : List ℕ) (stamp i at : ℕ) → IsOn bytes stamp i at → (i ≡ count) → IsPlaceBefore count bytes stamp at
-on_end count bytes stamp i at on done = record {
-  place = on.place;
-  at_place = on.at_place;
-  below = omega (arith, on.next);
-  passed = on.passed;
-  next = λ more. absurd (omega (arith, on.next));
-}
+pub found_before : (count : ℕ) (bytes : List ℕ) (stamp first end : ℕ) → IsBetween count bytes stamp first end → end ≤ first + 1 → IsPlaceBefore count bytes stamp (25 * first)
+found_before count bytes stamp first end between done =
+    let last : end ≡ suc first = omega (arith, done, between.some) in
+    record {
+      place = first;
+      at_place = refl;
+      below = omega (arith, between.some, between.within);
+      passed = between.passed;
+      next = λ more. subst (λ (k : ℕ). stamp < start_at k bytes) last (between.above (omega (arith, more, last)));
+    }
 
 -- ---- one entry
 

@@ -3,6 +3,7 @@ use Rattle.std.proofs.Common.{◌≡◌, ℕ, zero, suc, ◌+◌, ◌-◌, ◌*�
 use Rattle.std.specs.List.{flat_map, AllByRecursion}
 use Rattle.std.specs.Option.{IfSome}
 use Rattle.std.proofs.lemmas.List.{length-append, take_at, drop_at}
+use Rattle.std.proofs.lemmas.Bool.{cases_order}
 use Rattle.std.proofs.lemmas.Option.{same_Some}
 use Rattle.route_model.specs.Keys.{number_of}
 use Rattle.tsb_node.specs.Numbers.{octets_of, bound_octets}
@@ -12,7 +13,7 @@ use Rattle.version_model.specs.declared.child.Child.{Child}
 use Rattle.tsb_node.specs.Columns.{BeginsAt}
 use Rattle.tsb_node.specs.KeyNodes.{KeyNodeInPage, IsKeyNode, IsChildEntry, child_octets, lows_of}
 use Rattle.tsb_node.specs.Children.{BeginsAsKeyNode, IsKeyWithin, IsUnder, high_of}
-use Rattle.tsb_node.specs.inner.ChildReading.{child_in, children_in}
+use Rattle.tsb_node.specs.inner.ChildReading.{child_in, children_in, IsChildBefore}
 use Rattle.tsb_node.specs.inner.Reading.{area}
 use Rattle.tsb_node.proofs.NumberLaws.{octets_of-size, octets_of-number, field_in, drop_twice}
 use Rattle.tsb_node.proofs.HeaderLaws.{bound_one, first_some}
@@ -85,21 +86,12 @@ some_child node octets count is e =
     first [] low b = absurd b
     first (c ∷ cs) low b = omega arith
 
--- the child that is looked at, and those before it passed by
-pub record IsAtChild (count key : ℕ) (bytes : List ℕ) (i low page : ℕ) : Type 0 where
-  pub place : ℕ
-  pub next : suc place ≡ i
-  pub at : slice_get (children_in count bytes) place ≡ Some (record { low = low; page = page })
-  pub passed : (low ≤ key) ⊎ (place ≡ 0)
-
-pub at_first : (count key : ℕ) (bytes : List ℕ) (low page : ℕ) → 0 < count → low ≡ number_in 40 0 bytes → page ≡ number_in 8 40 bytes → IsAtChild count key bytes 1 low page
-unfolding child_in
-at_first count key bytes low page lt l p = record {
-  place = 0;
-  next = refl;
-  at = child_at count 0 bytes lt ∙ ap (λ (k : ℕ). Some (child_in (drop k bytes))) (let e : 48 * 0 ≡ 0 = omega arith in e) ∙ ap Some (λ i. record { low = sym l i; page = sym p i });
-  passed = inr refl;
-}
+-- a search among children by halves: what is before `first` is passed, what is from `end` on lies above the key
+pub record IsBetween (count key : ℕ) (bytes : List ℕ) (first end : ℕ) : Type 0 where
+  pub some : first < end
+  pub within : end ≤ count
+  pub passed : (number_in 40 (48 * first) bytes ≤ key) ⊎ (first ≡ 0)
+  pub above : end < count → key < number_in 40 (48 * end) bytes
 
 said : (i : ℕ) (bytes : List ℕ) (low page : ℕ) → low ≡ number_in 40 (48 * i) bytes → page ≡ number_in 8 (48 * i + 40) bytes → child_in (drop (48 * i) bytes) ≡ record { low = low; page = page }
 unfolding child_in
@@ -107,54 +99,46 @@ said i bytes low page l p =
     let q : number_in 8 40 (drop (48 * i) bytes) ≡ page = ap (λ (t : List ℕ). number_of (take 8 t)) (drop_twice (48 * i) 40 bytes) ∙ sym p in
     λ j. record { low = sym l j; page = q j }
 
-pub at_next : (count key : ℕ) (bytes : List ℕ) (i low page : ℕ) → i < count → low ≡ number_in 40 (48 * i) bytes → page ≡ number_in 8 (48 * i + 40) bytes → low ≤ key → IsAtChild count key bytes (i + 1) low page
-at_next count key bytes i low page lt l p le = record {
-  place = i;
-  next = omega arith;
-  at = child_at count i bytes lt ∙ ap Some (said i bytes low page l p);
-  passed = inl le;
-}
-
 lowest : (cs : List Child) (low : ℕ) (c : Child) → BeginsAt low (lows_of cs) → slice_get cs 0 ≡ Some c → c.low ≡ low
 lowest [] low c b e = absurd b
 lowest (d ∷ cs) low c b e = ap (λ (x : Child). x.low) (sym (same_Some d c e)) ∙ b
 
-low_le : (node : KeyNodeInPage) (octets : List ℕ) (count key i low page : ℕ) → BeginsAsKeyNode node octets → IsKeyWithin node.bounds key → (at : IsAtChild count key (area octets) i low page)
-    → slice_get node.children at.place ≡ Some (record { low = low; page = page }) → low ≤ key
-low_le node octets count key i low page is within at e = elim at.passed [
-  | inl le ↦ le
-  | inr first ↦ omega (arith, within.low, lowest node.children node.bounds.low (record { low = low; page = page }) is.valid.first (ap (slice_get node.children) (sym first) ∙ e))
-]
+module _ (node : KeyNodeInPage) (octets : List ℕ) (count key place low page : ℕ) (is : BeginsAsKeyNode node octets) (within : IsKeyWithin node.bounds key) (counted : count ≡ number_in 2 4 octets)
+    (before : IsChildBefore count (area octets) key place) (l : low ≡ number_in 40 (48 * place) (area octets)) (p : page ≡ number_in 8 (48 * place + 40) (area octets)) where
+  same : children_in count (area octets) ≡ node.children
+  same = children_are node octets count is counted
 
-pub under_next : (node : KeyNodeInPage) (octets : List ℕ) (count key i low page next : ℕ) → BeginsAsKeyNode node octets → IsKeyWithin node.bounds key → count ≡ number_in 2 4 octets → i < count
-    → IsAtChild count key (area octets) i low page → next ≡ number_in 40 (48 * i) (area octets) → key < next → IsUnder node key (record { low = low; high = Some next; page = page })
-unfolding child_in
-under_next node octets count key i low page next is within counted lt at n below =
-    let same = children_are node octets count is counted in
-    let here : slice_get node.children at.place ≡ Some (record { low = low; page = page }) = ap (λ (t : List Child). slice_get t at.place) (sym same) ∙ at.at in
-    let behind : slice_get node.children (suc at.place) ≡ Some (child_in (drop (48 * i) (area octets))) =
-    ap (slice_get node.children) at.next ∙ ap (λ (t : List Child). slice_get t i) (sym same) ∙ child_at count i (area octets) lt in
-    record {
-      place = at.place;
-      at = here;
-      to_high = ap Some n ∙ sym (ap (high_of node.bounds.high) behind);
-      low = low_le node octets count key i low page is within at here;
-      high = below;
-    }
+  here : slice_get node.children place ≡ Some (record { low = low; page = page })
+  here = ap (λ (t : List Child). slice_get t place) (sym same) ∙ child_at count place (area octets) before.below ∙ ap Some (said place (area octets) low page l p)
 
-pub under_last : (node : KeyNodeInPage) (octets : List ℕ) (count key i low page : ℕ) (high : Option ℕ) → BeginsAsKeyNode node octets → IsKeyWithin node.bounds key → count ≡ number_in 2 4 octets → i ≡ count
-    → IsAtChild count key (area octets) i low page → bound_octets 40 high ≡ take 40 (drop 48 octets) → IfSome high (λ n. n + 1 < 256 ^ 40) → IsUnder node key (record { low = low; high = high; page = page })
-under_last node octets count key i low page high is within counted done at spelled apart =
-    let same = children_are node octets count is counted in
-    let here : slice_get node.children at.place ≡ Some (record { low = low; page = page }) = ap (λ (t : List Child). slice_get t at.place) (sym same) ∙ at.at in
-    let past : slice_get node.children (suc at.place) ≡ None =
-    ap (slice_get node.children) (at.next ∙ done) ∙ ap (λ (t : List Child). slice_get t count) (sym same) ∙ child_past count (area octets) in
-    let top : high ≡ node.bounds.high =
-    bound_one 40 high node.bounds.high apart (first_some (λ n. n + 1 < 256 ^ 40) (λ n. node.bounds.low < n) node.bounds.high is.valid.bounds.order.high) (spelled ∙ (key_node_says node octets is).high_is) in
-    record {
-      place = at.place;
-      at = here;
-      to_high = top ∙ sym (ap (high_of node.bounds.high) past);
-      low = low_le node octets count key i low page is within at here;
-      high = subst (λ (o : Option ℕ). IfSome o (λ n. key < n)) (sym top) within.high;
-    }
+  low_le : low ≤ key
+  low_le = elim before.passed [
+    | inl le ↦ omega (arith, le, l)
+    | inr first ↦ omega (arith, within.low, lowest node.children node.bounds.low (record { low = low; page = page }) is.valid.first (ap (slice_get node.children) (sym first) ∙ here))
+  ]
+
+  pub under_next : (next : ℕ) → (place + 1 ≡ count → ⊥) → next ≡ number_in 40 (48 * place + 48) (area octets) → IsUnder node key (record { low = low; high = Some next; page = page })
+  unfolding child_in
+  under_next next never n =
+      let lt : suc place < count = elim (cases_order (suc place) count) [
+        | inl done ↦ absurd (never (omega (arith, done)))
+        | inr other ↦ omega (arith, other, before.below)
+      ] in
+      let to : 48 * place + 48 ≡ 48 * suc place = omega arith in
+      let n' : next ≡ number_in 40 (48 * suc place) (area octets) = n ∙ ap (λ (k : ℕ). number_in 40 k (area octets)) to in
+      let behind : slice_get node.children (suc place) ≡ Some (child_in (drop (48 * suc place) (area octets))) = ap (λ (t : List Child). slice_get t (suc place)) (sym same) ∙ child_at count (suc place) (area octets) lt in
+      record { place = place; at = here; to_high = ap Some n' ∙ sym (ap (high_of node.bounds.high) behind); low = low_le; high = omega (arith, n', before.next lt) }
+
+  pub under_last : (high : Option ℕ) → place + 1 ≡ count → bound_octets 40 high ≡ take 40 (drop 48 octets) → IfSome high (λ n. n + 1 < 256 ^ 40) → IsUnder node key (record { low = low; high = high; page = page })
+  under_last high done spelled apart =
+      let to : suc place ≡ count = omega (arith, done) in
+      let past : slice_get node.children (suc place) ≡ None = ap (slice_get node.children) to ∙ ap (λ (t : List Child). slice_get t count) (sym same) ∙ child_past count (area octets) in
+      let top : high ≡ node.bounds.high =
+      bound_one 40 high node.bounds.high apart (first_some (λ n. n + 1 < 256 ^ 40) (λ n. node.bounds.low < n) node.bounds.high is.valid.bounds.order.high) (spelled ∙ (key_node_says node octets is).high_is) in
+      record {
+        place = place;
+        at = here;
+        to_high = top ∙ sym (ap (high_of node.bounds.high) past);
+        low = low_le;
+        high = subst (λ (o : Option ℕ). IfSome o (λ n. key < n)) (sym top) within.high;
+      }

@@ -12,6 +12,5 @@ pub mod Parts
 pub mod Splitting
 pub mod Holding
 pub mod Saying
-pub mod Heads
 pub mod Views
 pub mod inner

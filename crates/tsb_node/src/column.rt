@@ -67,7 +67,7 @@ pub fn part_in(area: &[u8], at: usize) -> Result<Part, NotANode>
     })
 }
 
-/// Of so many entries, the place of the last one that doesn't start after the stamp; the first where all do.
+/// Of the entries in these octets, the place of the last one that doesn't start after the stamp, or of the first where all do.
 fn place_before(area: &[u8], count: u16, stamp: Stamp) -> usize
     requires some { 0 < count }
     requires few { count ≤ 649 }
@@ -75,15 +75,17 @@ fn place_before(area: &[u8], count: u16, stamp: Stamp) -> usize
     ensures within { result ≤ 16200 }
     ensures place { IsPlaceBefore count area.now stamp result }
 {
-    let mut at = 0;
-    for i in 1..count {
-        let next = 25 * i as usize;
-        if is_stamp_below(stamp, stamp_at(area, next)) {
-            return at;
+    let mut first = 0;
+    let mut end = count as usize;
+    while first + 1 < end {
+        let middle = first + (end - first) / 2;
+        if is_stamp_below(stamp, stamp_at(area, 25 * middle)) {
+            end = middle;
+        } else {
+            first = middle;
         }
-        at = next;
     }
-    at
+    25 * first
 }
 
 /// Where the column that begins these octets of a page has its versions at a stamp.

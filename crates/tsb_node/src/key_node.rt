@@ -1,8 +1,9 @@
 //! Key nodes: children by their lowest keys.
 
-ghost use Rattle.std.specs.Prelude.{◌≡◌, length};
+ghost use Rattle.std.specs.Prelude.{◌≡◌, ◌≤◌, ◌<◌, length};
 ghost use Rattle.tsb_node.specs.KeyNodes.{KeyNodeInPage};
 ghost use Rattle.tsb_node.specs.Children.{BeginsAsKeyNode, IsKeyWithin, IsUnder};
+ghost use Rattle.tsb_node.specs.inner.ChildReading.{IsChildBefore};
 ghost use Rattle.std.specs.Result.{MatchResult};
 
 use crate::header::{high_at, is_key_below};
@@ -21,7 +22,27 @@ pub struct Under {
 /// How many children a key node may have.
 const CHILDREN: u16 = 338;
 
-/// The child under which a key lies, of the key node that begins these octets.
+/// Of the children in these octets, the place of the last one whose keys begin at or below the key, or of the first where none do.
+fn child_before(area: &[u8], count: u16, key: Key) -> usize
+    requires some { 0 < count }
+    requires few { count ≤ 338 }
+    requires size { length area.now ≡ 16232 }
+    ensures before { IsChildBefore count area.now key result }
+{
+    let mut first = 0;
+    let mut end = count as usize;
+    while first + 1 < end {
+        let middle = first + (end - first) / 2;
+        if is_key_below(key, key_at(area, 48 * middle)) {
+            end = middle;
+        } else {
+            first = middle;
+        }
+    }
+    first
+}
+
+/// The child under which a key lies, of the key node that begins these octets: found by halves.
 /// Refused only where they aren't a key node, and not always there.
 pub fn child_for(octets: &[u8], key: Key) -> Result<Under, NotANode>
     requires size { length octets.now ≡ 16384 }
@@ -35,23 +56,13 @@ pub fn child_for(octets: &[u8], key: Key) -> Result<Under, NotANode>
         return Err(NotANode);
     }
     let area = octets.split_at(LAST).0.split_at(FIRST).1;
-    let mut low = key_at(area, 0);
-    let mut page = number8(area, 40);
-    for i in 1..count {
-        let next = key_at(area, 48 * i as usize);
-        if is_key_below(key, next) {
-            return Ok(Under {
-                low,
-                high: Some(next),
-                page,
-            });
-        }
-        low = next;
-        page = number8(area, 48 * i as usize + 40);
+    let at = child_before(area, count, key);
+    let low = key_at(area, 48 * at);
+    let page = number8(area, 48 * at + 40);
+    if at + 1 == count as usize {
+        let high = high_at(octets, 48);
+        return Ok(Under { low, high, page });
     }
-    Ok(Under {
-        low,
-        high: high_at(octets, 48),
-        page,
-    })
+    let high = Some(key_at(area, 48 * at + 48));
+    Ok(Under { low, high, page })
 }

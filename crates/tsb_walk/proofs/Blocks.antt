@@ -9,12 +9,12 @@ use Rattle.version_model.specs.Ranges.{Range, IsPoint, range_of, high_or, end_or
 use Rattle.version_model.specs.Blocks.{BlockNode, OldLeaf, OldColumn, IsWider, start_or}
 use Rattle.once_store.specs.Digests.{IsWhole}
 use Rattle.tsb_node.specs.declared.column.PartAt.{PartAt}
-use Rattle.tsb_node.specs.Leaves.{LeafNode, BeginsAsLeaf, IsLeafBlock}
+use Rattle.tsb_node.specs.Leaves.{LeafNode, IsLeafBlock}
 use Rattle.std.proofs.lemmas.Option.{same_Some}
 use Rattle.tsb_node.specs.Columns.{ColumnInBlock, IsColumnBlock, AreAscending, starts_of}
-use Rattle.tsb_node.specs.Parts.{BeginsAsOldColumn, IsPartAt}
+use Rattle.tsb_node.specs.Parts.{IsPartAt}
 use Rattle.tsb_node.specs.Views.{BlockSays, says_old_leaf, says_old_column}
-use Rattle.tsb_node.proofs.api.Blocks.{leaf_begins, leaf_made, column_begins, column_made, one_leaf, one_column}
+use Rattle.tsb_node.proofs.api.Blocks.{leaf_begins, leaf_whole, column_begins, column_made, column_whole, one_column}
 use Rattle.tsb_walk.specs.Ways.{IsLeafFor, IsColumnFor, IsFit, LeadsTo}
 use Rattle.tsb_walk.specs.inner.Steps.{IsLeafOf, IsEndOf}
 use Rattle.tsb_walk.proofs.Spots.{LiesIn, one_place}
@@ -47,9 +47,6 @@ said_column octets _ (says_old_column column is) wide parts e =
 
 -- ---- leaves
 
-pub leaf_for : (place : Place) (octets : List ℕ) (leaf : LeafNode) → place.part.kind ≡ LeafBlock → IsWhole octets → IsLeafOf place.bounds octets leaf → IsLeafFor place octets leaf.versions
-leaf_for place octets leaf kind whole of = record { wide = range_of leaf.bounds; kind = kind; says = says_old_leaf leaf (leaf_made leaf octets of.begins of.ended whole); wider = of.wider }
-
 pub record LeafOf (place : Place) (octets : List ℕ) (versions : List Version) : Type 0 where
   pub leaf : LeafNode
   pub of : IsLeafOf place.bounds octets leaf
@@ -64,22 +61,11 @@ leaf_of place octets versions for =
       same = said.same;
     }
 
--- bounds that are found in octets are those of each leaf with which they begin
-pub found_leaf : (bounds wide : Bounds) (octets : List ℕ) → ((leaf : LeafNode) × BeginsAsLeaf leaf octets × (leaf.bounds ≡ wide)) → (leaf : LeafNode) → IsLeafOf bounds octets leaf → IsSome wide.end × IsWider (range_of wide) (range_of bounds)
-found_leaf bounds wide octets found leaf of =
-    let same : leaf.bounds ≡ wide = ap (λ (l : LeafNode). l.bounds) (one_leaf leaf found.0 octets of.begins found.1) ∙ found.2 in (
-      subst (λ (b : Bounds). IsSome b.end) same of.ended,
-      subst (λ (b : Bounds). IsWider (range_of b) (range_of bounds)) same of.wider,
-    )
-
-pub leaf_found : (bounds wide : Bounds) (octets : List ℕ) → ((leaf : LeafNode) × BeginsAsLeaf leaf octets × (leaf.bounds ≡ wide)) → IsSome wide.end × IsWider (range_of wide) (range_of bounds) → (leaf : LeafNode) × IsLeafOf bounds octets leaf
-leaf_found bounds wide octets found is = (
-  found.0,
-  record {
-    begins = found.1;
-    ended = subst (λ (b : Bounds). IsSome b.end) (sym found.2) is.0;
-    wider = subst (λ (b : Bounds). IsWider (range_of b) (range_of bounds)) (sym found.2) is.1;
-  },
+-- bounds that are read of octets are those of each leaf with which they begin
+pub found_leaf : (bounds wide : Bounds) (octets : List ℕ) (leaf : LeafNode) → IsLeafOf bounds octets leaf → leaf.bounds ≡ wide → IsSome wide.end × IsWider (range_of wide) (range_of bounds)
+found_leaf bounds wide octets leaf of same = (
+  subst (λ (b : Bounds). IsSome b.end) same of.ended,
+  subst (λ (b : Bounds). IsWider (range_of b) (range_of bounds)) same of.wider,
 )
 
 -- ---- columns
@@ -105,20 +91,29 @@ column_of place octets parts for =
       same = said.same;
     }
 
--- the end of a column is one
-pub end_found : (bounds wide : Bounds) (octets : List ℕ) → ((column : ColumnInBlock) × BeginsAsOldColumn column octets × (column.bounds ≡ wide)) → (column : ColumnInBlock) (end : ℕ) → IsEndOf bounds octets column end
-    → IsSome wide.end × IsWider (range_of wide) (range_of bounds)
-end_found bounds wide octets found column end of =
-    let same : column.bounds ≡ wide = ap (λ (c : ColumnInBlock). c.bounds) (one_column column found.0 octets of.begins found.1) ∙ found.2 in
+-- and of each column
+pub end_found : (bounds wide : Bounds) (octets : List ℕ) (column : ColumnInBlock) (end : ℕ) → IsEndOf bounds octets column end → column.bounds ≡ wide → IsSome wide.end × IsWider (range_of wide) (range_of bounds)
+end_found bounds wide octets column end of same =
     let some : IsSome column.bounds.end = subst IsSome (sym of.ended) refl in (
       subst (λ (b : Bounds). IsSome b.end) same some,
       subst (λ (b : Bounds). IsWider (range_of b) (range_of bounds)) same of.wider,
     )
 
--- a place without a fit block
-pub none_fits : (place : Place) (octets : List ℕ) (key stamp : ℕ) → place.part.kind ≡ ColumnBlock → ((column : ColumnInBlock) (end : ℕ) → IsEndOf place.bounds octets column end → ⊥) → IsFit place octets key stamp → ⊥
-none_fits place octets key stamp kind never (inl leaf) = absurd (let k : LeafBlock ≡ ColumnBlock = sym leaf.1.kind ∙ kind in cc)
-none_fits place octets key stamp kind never (inr next) = (let of = column_of place octets next.1.parts next.1.column in never of.column of.end of.of)
+-- a block that is fit carries its digest
+pub fit_whole : (place : Place) (octets : List ℕ) (key stamp : ℕ) → IsFit place octets key stamp → IsWhole octets
+fit_whole place octets key stamp (inl leaf) = (let said = said_leaf octets _ leaf.1.says leaf.1.wide leaf.0 refl in leaf_whole said.leaf octets said.block)
+fit_whole place octets key stamp (inr next) = (let said = said_column octets _ next.1.column.says next.1.column.wide next.1.parts refl in column_whole said.column octets said.block)
+
+-- a block that is fit for a leaf's place is the leaf
+pub fit_leaf : (place : Place) (octets : List ℕ) (key stamp : ℕ) → place.part.kind ≡ LeafBlock → IsFit place octets key stamp → (versions : List Version) × IsLeafFor place octets versions
+fit_leaf place octets key stamp kind (inl leaf) = leaf
+fit_leaf place octets key stamp kind (inr next) = absurd (let k : LeafBlock ≡ ColumnBlock = sym kind ∙ next.1.column.kind in cc)
+
+-- and one that is fit for a column's place is the column, whose end is read
+pub fit_column : (place : Place) (octets : List ℕ) (key stamp : ℕ) (read : Option ℕ) → ((column : ColumnInBlock) (end : ℕ) → IsEndOf place.bounds octets column end → read ≡ Some end)
+    → place.part.kind ≡ ColumnBlock → IsFit place octets key stamp → (column : ColumnInBlock) × (end : ℕ) × IsEndOf place.bounds octets column end × (read ≡ Some end)
+fit_column place octets key stamp read is kind (inl leaf) = absurd (let k : LeafBlock ≡ ColumnBlock = sym leaf.1.kind ∙ kind in cc)
+fit_column place octets key stamp read is kind (inr next) = (let of = column_of place octets next.1.parts next.1.column in (of.column, of.end, of.of, is of.column of.end of.of))
 
 -- the stamp lies in the part to which a column leads
 pub leads_lies : (place : Place) (octets : List ℕ) (key stamp : ℕ) (next : Place) (leads : LeadsTo place octets key stamp next) → LiesIn leads.parts (end_or place.bounds.end) stamp leads.part.place next.part

@@ -13,16 +13,12 @@ use Rattle.version_model.specs.Ranges.{end_or}
 use Rattle.version_model.specs.Looks.{is_of, IsPart}
 use Rattle.version_model.specs.Entries.{versions_of, version_of}
 use Rattle.version_model.specs.Blocks.{BlockNode}
-use Rattle.version_model.specs.Pages.{Store}
 use Rattle.version_model.proofs.api.LooksShown.{is_of_no}
 use Rattle.version_model.proofs.api.PartsJoined.{joined}
 use Rattle.tsb_walk.specs.declared.error.NodeError.TheVariants as nodes
-use Rattle.tsb_walk.specs.declared.page_place.PagePlace.{PagePlace}
 use Rattle.tsb_walk.specs.Knowing.{ReadsWell, AreKnown, StandsKnown}
-use Rattle.tsb_walk.specs.PageLooks.{InPastOf}
+use Rattle.tsb_walk.specs.Looked.{GoesOnIn}
 use Rattle.tsb_walk.specs.Refusals.{of_block}
-use Rattle.tsb_walk.specs.Shown.{StandsShown}
-use Rattle.tsb_walk.proofs.PageStanding.{past_stands}
 
 -- a refusal that is told as damage is damage
 pub of_damaged : (refusal : BlockError) (block : ℕ) → of_block refusal ≡ nodes.Damaged block → refusal ≡ blocks.Damaged block
@@ -32,9 +28,9 @@ of_damaged blocks.OutOfMemory block e = absurd (cc)
 
 module _ {O Pen Seen : Type 0} (device : Ghosts O Pen Seen) where
   -- a place in the past of a tree that stands stands by known blocks, where the tree's blocks are known
-  pub place_known : (reader : ShelfReader O Pen Seen device) (seen : Seen) (shown : List (List ℕ)) (s : Store) (all : List Version) (root : PagePlace) (key stamp : ℕ) (place : Place) → InPastOf shown root key stamp place → StandsShown shown s all root
-      → ReadsWell device reader seen → AreKnown (device.known seen) (device.block_count (reader_disk reader)) s.blocks → StandsKnown device reader seen all place
-  place_known reader seen shown s all root key stamp place is st well known = record { well = well; blocks = s.blocks; known = known; stands = past_stands shown s all root key stamp place is st }
+  pub place_known : (reader : ShelfReader O Pen Seen device) (seen : Seen) (blocks : ℕ → Option BlockNode) (all : List Version) (key stamp : ℕ) (place : Place) → GoesOnIn blocks all key stamp place
+      → ReadsWell device reader seen → AreKnown (device.known seen) (device.block_count (reader_disk reader)) blocks → StandsKnown device reader seen all place
+  place_known reader seen blocks all key stamp place goes well known = record { well = well; blocks = blocks; known = known; stands = goes.stands }
 
   -- what is known stays known
   pub known_on : (reader reader' : ShelfReader O Pen Seen device) (seen seen' : Seen) (nodes : ℕ → Option BlockNode) → device.known seen' ≡ device.known seen → reader_disk reader' ≡ reader_disk reader

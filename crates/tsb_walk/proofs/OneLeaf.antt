@@ -36,16 +36,3 @@ shows_itself versions high = record {
 
 pub point_below : (high key stamp : ℕ) → key < high → stamp < stamp_end → IsPoint (all_below high) key stamp
 point_below high key stamp lt fits = record { low = omega arith; high = lt; start = omega arith; end = fits }
-
--- all keys below a high one, at the stamps before an end
-abbrev pub all_until : ℕ → ℕ → Range
-all_until high end = record { low = 0; high = high; start = 0; end = end }
-
--- versions show themselves there
-pub shows_until : (versions : List Version) (high end : ℕ) → Shows versions (all_until high end) versions
-shows_until versions high end = record {
-  whole = λ v has key from before. has;
-  true_ones = λ v has key before. has;
-  copies = λ v has key before. absurd (omega (arith, before));
-  spanning = λ v key before as_of some. absurd (omega (arith, before));
-}

@@ -1,11 +1,9 @@
 -- Walks through known blocks.
-use Rattle.std.proofs.Common.{◌≡◌, ◌↔◌, ℕ, suc, ◌<◌, ◌≤◌, ◌⊎◌, inl, inr, List, Option, Some, None, IsSome, slice_get, refl, sym, ◌∙◌, ap, subst, arith}
+use Rattle.std.proofs.Common.{◌≡◌, ◌↔◌, ℕ, suc, ◌≤◌, inl, inr, List, Option, Some, IsSome, slice_get, refl, sym, ◌∙◌, ap, subst, arith}
 use Rattle.std.proofs.lemmas.Option.{same_Some}
-use Rattle.std.proofs.lemmas.Bool.{cases_lt}
 use Rattle.disk_models.specs.declared.once.OnceDisk.{Ghosts}
 use Rattle.once_store.specs.declared.reader.ShelfReader.{ShelfReader}
 use Rattle.once_store.specs.Readers.{IsKept, KnowsKept, reader_disk}
-use Rattle.once_store.specs.Digests.{IsWhole}
 use Rattle.version_model.specs.declared.part.Part.{Part}
 use Rattle.version_model.specs.declared.part.PartKind.TheVariants.{LeafBlock, ColumnBlock}
 use Rattle.version_model.specs.declared.part.Place.{Place}
@@ -15,28 +13,11 @@ use Rattle.version_model.specs.Shows.{Shows}
 use Rattle.version_model.specs.Blocks.{BlockNode, OldLeaf, OldColumn, PartStands, PlaceStands, by_leaf, by_parts, AreParts, IsWider, start_or}
 use Rattle.version_model.proofs.api.Standing.{leaf_stands, column_stands}
 use Rattle.tsb_node.specs.Views.{BlockSays}
-use Rattle.tsb_node.proofs.api.Blocks.{leaf_whole, column_whole, one_said}
+use Rattle.tsb_node.proofs.api.Blocks.{one_said}
 use Rattle.tsb_walk.specs.Knowing.{ReadsWell, IsKnown, AreKnown, StandsKnown}
-use Rattle.tsb_walk.specs.Ways.{IsLeafFor, IsFit, LeadsTo, Way, here, further, ComesTo, ComesToUnknown}
+use Rattle.tsb_walk.specs.Ways.{IsLeafFor, IsFit, LeadsTo}
 use Rattle.tsb_walk.specs.inner.Arriving.{HasLeaf}
-use Rattle.tsb_walk.proofs.Blocks.{said_leaf, said_column}
 use Rattle.tsb_walk.proofs.Spots.{spot_in}
-
--- a block that is fit carries its digest
-pub fit_whole : (place : Place) (octets : List ℕ) (key stamp : ℕ) → IsFit place octets key stamp → IsWhole octets
-fit_whole place octets key stamp (inl leaf) = (let said = said_leaf octets _ leaf.1.says leaf.1.wide leaf.0 refl in leaf_whole said.leaf octets said.block)
-fit_whole place octets key stamp (inr next) = (let said = said_column octets _ next.1.column.says next.1.column.wide next.1.parts refl in column_whole said.column octets said.block)
-
--- a number is that of a known block, or not
-pub known_or : (known : ℕ → Option (List ℕ)) (count n : ℕ) → ((octets : List ℕ) × IsKnown known count n octets) ⊎ ((octets : List ℕ) → IsKnown known count n octets → ⊥)
-known_or known count n = elim (cases_lt n count) [
-  | inl lt ↦ by_octets (known n) lt refl
-  | inr ge ↦ inr (λ octets is. absurd (omega (arith, is.inside, ge)))
-]
-  where
-    by_octets : (o : Option (List ℕ)) → n < count → known n ≡ o → ((octets : List ℕ) × IsKnown known count n octets) ⊎ ((octets : List ℕ) → IsKnown known count n octets → ⊥)
-    by_octets None lt e = inr (λ octets is. absurd (let d : Some octets ≡ None = sym is.at ∙ e in cc))
-    by_octets (Some octets) lt e = inl (octets, record { inside = lt; at = e })
 
 module _ {O Pen Seen : Type 0} (device : Ghosts O Pen Seen) (old new : ShelfReader O Pen Seen device) (seen seen' : Seen) where
   -- a reader that has read a known block reads on well
@@ -123,27 +104,27 @@ module _ {O Pen Seen : Type 0} (device : Ghosts O Pen Seen) (reader reader' : Sh
   pub place_fit : (key stamp : ℕ) → IsPoint (range_of place.bounds) key stamp → (octets : List ℕ) × IsKnown (device.known seen) (device.block_count (reader_disk reader)) place.part.block octets × IsFit place octets key stamp
   place_fit key stamp point = stands_fit (device.known seen) (device.block_count (reader_disk reader)) stands.blocks stands.known all place stands.stands key stamp point
 
-  pub stands_on : (key stamp : ℕ) (next : Place) → device.known seen' ≡ device.known seen → reader_disk reader' ≡ reader_disk reader
-      → ((octets : List ℕ) → IsKnown (device.known seen) (device.block_count (reader_disk reader)) place.part.block octets → LeadsTo place octets key stamp next)
+  pub stands_on : (key stamp : ℕ) (next : Place) → IsPoint (range_of place.bounds) key stamp → device.known seen' ≡ device.known seen → reader_disk reader' ≡ reader_disk reader
+      → ((octets : List ℕ) → IsKnown (device.known seen) (device.block_count (reader_disk reader)) place.part.block octets → IsFit place octets key stamp → LeadsTo place octets key stamp next)
       → ((octets : List ℕ) → IsKnown (device.known seen) (device.block_count (reader_disk reader)) place.part.block octets → ReadsWell device reader' seen')
       → StandsKnown device reader' seen' all next
-  stands_on key stamp next same disk leads reads =
-      let fit = place_block in
+  stands_on key stamp next point same disk leads reads =
+      let fit = place_fit key stamp point in
       record {
         well = reads fit.0 fit.1;
         blocks = stands.blocks;
         known = subst (λ (d : O). AreKnown (device.known seen') (device.block_count d) stands.blocks) (sym disk)
             (subst (λ (f : ℕ → Option (List ℕ)). AreKnown f (device.block_count (reader_disk reader)) stands.blocks) (sym same) stands.known);
-        stands = next_stands (device.known seen) (device.block_count (reader_disk reader)) stands.blocks stands.known all place stands.stands fit.0 key stamp next fit.1 (leads fit.0 fit.1);
+        stands = next_stands (device.known seen) (device.block_count (reader_disk reader)) stands.blocks stands.known all place stands.stands fit.0 key stamp next fit.1 (leads fit.0 fit.1 fit.2);
       }
 
-  pub has_leaf : device.known seen' ≡ device.known seen
-      → ((octets : List ℕ) → IsKnown (device.known seen) (device.block_count (reader_disk reader)) place.part.block octets → (versions : List Version) × IsLeafFor place octets versions)
+  pub has_leaf : (key stamp : ℕ) → IsPoint (range_of place.bounds) key stamp → device.known seen' ≡ device.known seen
+      → ((octets : List ℕ) → IsKnown (device.known seen) (device.block_count (reader_disk reader)) place.part.block octets → IsFit place octets key stamp → (versions : List Version) × IsLeafFor place octets versions)
       → ((octets : List ℕ) → IsKnown (device.known seen) (device.block_count (reader_disk reader)) place.part.block octets → ReadsWell device reader' seen')
       → HasLeaf device reader' all place
-  has_leaf same leaf reads =
-      let fit = place_block in
-      let for = leaf fit.0 fit.1 in
+  has_leaf key stamp point same leaf reads =
+      let fit = place_fit key stamp point in
+      let for = leaf fit.0 fit.1 fit.2 in
       record {
         octets = fit.0;
         only = only_kept device reader reader' seen seen' place.part.block fit.0 (reads fit.0 fit.1) same fit.1;
@@ -151,52 +132,6 @@ module _ {O Pen Seen : Type 0} (device : Ghosts O Pen Seen) (reader reader' : Sh
         leaf = for.1;
         shows = leaf_shows (device.known seen) (device.block_count (reader_disk reader)) stands.blocks stands.known all place stands.stands fit.0 for.0 fit.1 for.1;
       }
-
-module _ {O Pen Seen : Type 0} (device : Ghosts O Pen Seen) (key stamp : ℕ) (first : Place) (reader₀ : ShelfReader O Pen Seen device) (seen₀ : Seen) where
-  -- The walk has come to a place through known blocks, and the reader reads well still; or it has met a block that isn't known.
-  abbrev pub Walked : ShelfReader O Pen Seen device → Seen → Place → Type 0
-  Walked reader seen at = ReadsWell device reader₀ seen₀
-      → (Way (device.known seen₀) (device.block_count (reader_disk reader₀)) key stamp first at × ReadsWell device reader seen)
-      ⊎ ((last : Place) × Way (device.known seen₀) (device.block_count (reader_disk reader₀)) key stamp first last
-      × ((octets : List ℕ) → IsKnown (device.known seen₀) (device.block_count (reader_disk reader₀)) last.part.block octets → ⊥))
-
-  pub walk_starts : Walked reader₀ seen₀ first
-  walk_starts = λ well. inl (here first, well)
-
-  module _ (reader : ShelfReader O Pen Seen device) (seen : Seen) (at : Place) (same : device.honest_seen (reader_disk reader₀) seen₀ → device.known seen ≡ device.known seen₀) (disk : reader_disk reader ≡ reader_disk reader₀) (walked : Walked reader seen at) where
-    along : ReadsWell device reader₀ seen₀ → (n : ℕ) (octets : List ℕ) → IsKnown (device.known seen₀) (device.block_count (reader_disk reader₀)) n octets → IsKnown (device.known seen) (device.block_count (reader_disk reader)) n octets
-    along well n octets is = record { inside = subst (λ (d : O). n < device.block_count d) (sym disk) is.inside; at = ap (λ (f : ℕ → Option (List ℕ)). f n) (same well.honest) ∙ is.at }
-
-    pub walk_on : (reader' : ShelfReader O Pen Seen device) (seen' : Seen) (next : Place)
-        → (ReadsWell device reader seen → (octets : List ℕ) → IsKnown (device.known seen) (device.block_count (reader_disk reader)) at.part.block octets → LeadsTo at octets key stamp next)
-        → (ReadsWell device reader seen → (octets : List ℕ) → IsKnown (device.known seen) (device.block_count (reader_disk reader)) at.part.block octets → ReadsWell device reader' seen')
-        → Walked reader' seen' next
-    walk_on reader' seen' next leads reads = λ well. elim (walked well) [
-      | inl there ↦ elim (known_or (device.known seen₀) (device.block_count (reader_disk reader₀)) at.part.block) [
-        | inl k ↦ inl (further first at next k.0 there.0 k.1 (leads there.1 k.0 (along well at.part.block k.0 k.1)), reads there.1 k.0 (along well at.part.block k.0 k.1))
-        | inr never ↦ inr (at, there.0, never)
-      ]
-      | inr lost ↦ inr lost
-    ]
-
-    -- the reader reads on well, or the way has come to a block that isn't known
-    pub reads_or : (reader' : ShelfReader O Pen Seen device) (seen' : Seen)
-        → (ReadsWell device reader seen → (octets : List ℕ) → IsKnown (device.known seen) (device.block_count (reader_disk reader)) at.part.block octets → ReadsWell device reader' seen')
-        → ReadsWell device reader₀ seen₀ → ReadsWell device reader' seen' ⊎ ComesToUnknown (device.known seen₀) (device.block_count (reader_disk reader₀)) key stamp first
-    reads_or reader' seen' reads well = elim (walked well) [
-      | inl there ↦ elim (known_or (device.known seen₀) (device.block_count (reader_disk reader₀)) at.part.block) [
-        | inl k ↦ inl (reads there.1 k.0 (along well at.part.block k.0 k.1))
-        | inr never ↦ inr (record { last = at; way = there.0; unknown = never })
-      ]
-      | inr lost ↦ inr (record { last = lost.0; way = lost.1; unknown = lost.2 })
-    ]
-
-    pub comes : (IsSo : Place → List ℕ → Type 0) → (ReadsWell device reader seen → (octets : List ℕ) → IsKnown (device.known seen) (device.block_count (reader_disk reader)) at.part.block octets → IsSo at octets)
-        → ReadsWell device reader₀ seen₀ → ComesTo (device.known seen₀) (device.block_count (reader_disk reader₀)) key stamp first IsSo
-    comes IsSo so well = elim (walked well) [
-      | inl there ↦ record { last = at; way = there.0; is = λ octets is. so there.1 octets (along well at.part.block octets is) }
-      | inr lost ↦ record { last = lost.0; way = lost.1; is = λ octets is. absurd (lost.2 octets is) }
-    ]
 
 -- what is seen stays honest, from the first state on
 pub honest_on : {O Seen : Type 0} (H : O → Seen → Type 0) (first disk : O) (s t u : Seen) → disk ≡ first → (H first s ↔ H first t) → (H disk t ↔ H disk u) → (H first s ↔ H first u)

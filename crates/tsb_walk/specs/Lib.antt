@@ -1,7 +1,6 @@
 pub mod AllVersions
 pub mod Answers
 pub mod Borders
-pub mod HistLooks
 pub mod Inside
 pub mod Knowing
 pub mod Looked
@@ -11,4 +10,3 @@ pub mod Refusals
 pub mod Shown
 pub mod Ways
 pub mod inner
-pub mod Keeping

@@ -1,4 +1,5 @@
--- The ways of keys through the pages of a tree.
+-- The ways of keys through the pages of a tree. A walk reads of each page what it needs to go on, so a way is what the pages lead to:
+-- where they are the nodes that they are to be, it is the way to the key's column.
 use Rattle.std.specs.Prelude.{◌≡◌, ℕ, suc, ◌<◌, List}
 use Rattle.tsb_walk.specs.declared.page_place.PagePlace.{PagePlace}
 use Rattle.tsb_walk.specs.Shown.{Says, keys_at, HasKey}
@@ -15,10 +16,18 @@ pub record IsLower (shown : List (List ℕ)) (key : ℕ) (place next : PagePlace
   pub level : suc next.level ≡ place.level
   pub has : HasKey next key
 
--- the way of a key from one page down to another
+-- Where the page says a key node of its level and its keys, the other place is its child that has the key. Of other pages it is said only
+-- that the next place is one level below, and is to have the key.
+pub record IsLed (shown : List (List ℕ)) (key : ℕ) (place next : PagePlace) : Type 0 where
+  pub lower : (children : List Child) → Says shown place.page (KeyNode place.level (keys_at place) children) → IsLower shown key place next
+  pub above : 1 < place.level
+  pub level : suc next.level ≡ place.level
+  pub has : HasKey next key
+
+-- the way of a key from one page down to another, as the pages lead it
 pub data PageWay (shown : List (List ℕ)) (key : ℕ) : PagePlace → PagePlace → Type 0 where
   here : (place : PagePlace) → PageWay shown key place place
-  further : (first place next : PagePlace) → PageWay shown key first place → IsLower shown key place next → PageWay shown key first next
+  further : (first place next : PagePlace) → PageWay shown key first place → IsLed shown key place next → PageWay shown key first next
 
 -- the page doesn't say a key node of its level and its keys
 abbrev pub IsNoKeyNode : List (List ℕ) → PagePlace → Type 0
@@ -32,12 +41,11 @@ IsNoColumn shown place = (parts : List Part) (start current : ℕ) → Says show
 abbrev pub IsNoLeaf : List (List ℕ) → PagePlace → ℕ → ℕ → Type 0
 IsNoLeaf shown column start page = (versions : List Version) → Says shown page (CurrentLeaf (keys_at column) start versions) → ⊥
 
--- the way of the key comes to a column of its keys: with these parts, and a current leaf of this start on this page
-pub record ComesToColumn (shown : List (List ℕ)) (root : PagePlace) (key : ℕ) (column : PagePlace) (parts : List Part) (start current : ℕ) : Type 0 where
+-- the way of the key comes to this place of a column
+pub record ComesToColumn (shown : List (List ℕ)) (root : PagePlace) (key : ℕ) (column : PagePlace) : Type 0 where
   pub way : PageWay shown key root column
   pub lowest : column.level ≡ 1
   pub has : HasKey column key
-  pub says : Says shown column.page (ColumnNode (keys_at column) parts start current)
 
 -- the way of the key comes to this page, which isn't the key node that it is to be
 pub record IsBadKeyNode (shown : List (List ℕ)) (root : PagePlace) (key page : ℕ) : Type 0 where

@@ -1,18 +1,17 @@
 //! What one block says to a place: that it is the leaf, or where to go on.
 
-ghost use Rattle.std.specs.Prelude.{◌≡◌, ◌<◌, ◌≤◌, ◌↔◌, length, IsTrue, IfSome, IfNone, IsSome, Some};
+ghost use Rattle.std.specs.Prelude.{◌≡◌, ◌<◌, ◌≤◌, ◌↔◌, ℕ, length, IsTrue, IfSome, IfNone, IsSome, Some};
 ghost use Rattle.version_model.specs.Ranges.{IsPoint, range_of, high_or, end_or};
 ghost use Rattle.version_model.specs.Blocks.{IsWider};
 ghost use Rattle.version_model.specs.declared.part.PartKind.TheVariants.{ColumnBlock};
-ghost use Rattle.once_store.specs.Digests.{IsWhole};
-ghost use Rattle.tsb_node.specs.Leaves.{LeafNode, BeginsAsLeaf};
+ghost use Rattle.tsb_node.specs.Leaves.{LeafNode};
 ghost use Rattle.tsb_node.specs.Columns.{ColumnInBlock};
-ghost use Rattle.tsb_node.specs.Parts.{BeginsAsOldColumn};
 ghost use Rattle.tsb_walk.specs.Ways.{IsFit};
 ghost use Rattle.tsb_walk.specs.inner.Steps.{IsStep, GoesDown, IsLeafOf, IsEndOf};
 
+use crate::page_steps::is_in;
 use route_model::Key;
-use tsb_node::{PartAt, key_fits, leaf_in, old_column_in, part_for, stamp_fits};
+use tsb_node::{PartAt, column_head, key_fits, leaf_head, part_for, stamp_fits};
 use version_model::{Bounds, PartKind, Place, Stamp};
 
 /// What a block says to a place.
@@ -77,30 +76,36 @@ fn is_wider(wide: &Bounds, bounds: &Bounds) -> bool
         && is_same_end(wide.end, bounds.end)
 }
 
-// Whether octets begin as a leaf for bounds.
+// Whether octets may begin as a leaf for bounds: they don't where this says no.
 fn is_leaf_for(octets: &[u8], bounds: &Bounds) -> bool
     requires size { length octets.now ≡ 16384 }
-    ensures { IsTrue result ↔ ((leaf : LeafNode) × IsLeafOf bounds.now octets.now leaf) }
+    ensures { (leaf : LeafNode) → IsLeafOf bounds.now octets.now leaf → IsTrue result }
 {
-    match leaf_in(octets) {
-        Some(wide) => is_wider(&wide, bounds),
-        None => false,
+    match leaf_head(octets) {
+        Ok(wide) => is_wider(&wide, bounds),
+        Err(_) => false,
     }
 }
 
-// The end of the column for bounds with which octets begin.
+// The end of the column for bounds with which octets begin. None only where they begin with none, and not always there.
 fn column_end(octets: &[u8], bounds: &Bounds) -> Option<Stamp>
     requires size { length octets.now ≡ 16384 }
-    ensures found { IfSome result (λ end. (column : ColumnInBlock) × IsEndOf bounds.now octets.now column end) }
-    ensures none { IfNone result ((column : ColumnInBlock) (end : _) → IsEndOf bounds.now octets.now column end → ⊥) }
+    ensures found { (column : ColumnInBlock) (end : ℕ) → IsEndOf bounds.now octets.now column end → result ≡ Some end }
 {
-    let Some(wide) = old_column_in(octets) else {
+    let Ok(wide) = column_head(octets) else {
         return None;
     };
     if !is_wider(&wide, bounds) {
         return None;
     }
     wide.end
+}
+
+// Whether a stamp is before another.
+fn is_before(stamp: Stamp, end: Stamp) -> bool
+    ensures { IsTrue result ↔ (stamp < end) }
+{
+    stamp < end
 }
 
 // The place of a part that is found in the column at a place.
@@ -124,30 +129,37 @@ fn part_step(octets: &[u8], place: &Place, key: Key, stamp: Stamp) -> Option<Ste
     requires size { length octets.now ≡ 16384 }
     requires kind { place.now.part.kind ≡ ColumnBlock }
     requires point { IsPoint (range_of place.now.bounds) key stamp }
-    ensures step { IsWhole octets.now → IfSome result (IsStep place.now octets.now key stamp) }
-    ensures down { IfSome result (GoesDown place.now key stamp) }
+    ensures step { IsFit place.now octets.now key stamp → IfSome result (IsStep place.now octets.now key stamp) }
     ensures none { IfNone result (IsFit place.now octets.now key stamp → ⊥) }
+    ensures down { IfSome result (GoesDown place.now key stamp) }
 {
     let Some(end) = column_end(octets, &place.bounds) else {
         return None;
     };
+    if !is_before(stamp, end) {
+        return None;
+    }
     let Ok(found) = part_for(octets, end, stamp) else {
         return None;
     };
+    if !is_in(&found, stamp) {
+        return None;
+    }
     if found.part.block >= place.part.block {
         return None;
     }
     Some(Step::Further(place_of(place, &found)))
 }
 
-/// What the octets of a block say to a place, for a key and a stamp. None where they aren't what the place asks: they are
-/// neither a leaf nor a column for it, or the part that is next isn't in a block of a lower number.
+/// What the octets of a block say to a place, for a key and a stamp, by their header and the part that has the stamp. None only where they
+/// aren't what the place asks, and not always there: neither a leaf nor a column for it, or the part that is next isn't in a block of a
+/// lower number.
 pub fn step_in(octets: &[u8], place: &Place, key: Key, stamp: Stamp) -> Option<Step>
     requires size { length octets.now ≡ 16384 }
     requires point { IsPoint (range_of place.now.bounds) key stamp }
-    ensures step { IsWhole octets.now → IfSome result (IsStep place.now octets.now key stamp) }
-    ensures down { IfSome result (GoesDown place.now key stamp) }
+    ensures step { IsFit place.now octets.now key stamp → IfSome result (IsStep place.now octets.now key stamp) }
     ensures none { IfNone result (IsFit place.now octets.now key stamp → ⊥) }
+    ensures down { IfSome result (GoesDown place.now key stamp) }
 {
     match place.part.kind {
         PartKind::LeafBlock => {

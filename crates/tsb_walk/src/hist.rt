@@ -7,12 +7,9 @@ ghost use Rattle.version_model.specs.Looks.{IsReached, IsPart};
 ghost use Rattle.version_model.specs.Entries.{versions_of};
 ghost use Rattle.once_store.specs.Readers.{capacity_of, reader_disk};
 ghost use Rattle.tsb_walk.specs.Answers.{found_as, reached_as};
-ghost use Rattle.tsb_walk.specs.HistLooks.{TellsNext, TellsPart, TellsFound, ComesToTelling};
 ghost use Rattle.tsb_walk.specs.Inside.{KeepsInside};
-ghost use Rattle.tsb_walk.specs.Keeping.{KeepsWay};
 ghost use Rattle.tsb_walk.specs.Knowing.{ReadsWell, StandsKnown};
 ghost use Rattle.tsb_walk.specs.Looked.{GoesOnFrom, TellsFrom};
-ghost use Rattle.tsb_walk.specs.Ways.{ComesToLeaf, ComesToDamage, ComesToUnknown};
 
 use crate::looks::{Found, KeyVersions, Reached, found_in, part_in, reached_in};
 use crate::walk::leaf_place;
@@ -25,8 +22,7 @@ use version_model::{Place, Stamp};
 
 // Why a leaf in a block isn't looked into.
 fn fault_of(fault: ReadFault, block: u64) -> BlockError
-    ensures damaged { (m : ℕ) → result ≡ BlockError.Damaged m → (m ≡ block) × (fault ≡ ReadFault.NotANode) }
-    ensures memory { result ≡ BlockError.OutOfMemory → fault ≡ ReadFault.Memory }
+    ensures damaged { (m : ℕ) → result ≡ BlockError.Damaged m → fault ≡ ReadFault.NotANode }
     ensures never { result ≡ BlockError.Fault → ⊥ }
 {
     match fault {
@@ -52,13 +48,7 @@ pub fn hist_next<O: OnceDisk + Drop>(
     ensures next { (all : List Version) → StandsKnown O.OnceDisk reader.old seen.old all place.now → IfOk result (λ reached. IsReached all stamp from (reached_as reached)) }
     ensures reads { (all : List Version) → StandsKnown O.OnceDisk reader.old seen.old all place.now → ReadsWell O.OnceDisk reader.new seen.new }
     ensures never { (all : List Version) → StandsKnown O.OnceDisk reader.old seen.old all place.now → (block : ℕ) → result ≡ Err (BlockError.Damaged block) → ⊥ }
-    ensures reads_on { ReadsWell O.OnceDisk reader.old seen.old → ReadsWell O.OnceDisk reader.new seen.new ⊎ ComesToUnknown (O.known seen.old) (O.block_count (reader_disk reader.old)) from stamp place.now }
-    ensures checked { ReadsWell O.OnceDisk reader.old seen.old → IfOk result (λ reached. ComesToTelling (O.known seen.old) (O.block_count (reader_disk reader.old)) from stamp place.now (TellsNext from stamp reached)) }
-    ensures damaged { ReadsWell O.OnceDisk reader.old seen.old → (block : ℕ) → result ≡ Err (BlockError.Damaged block) → ComesToDamage (O.known seen.old) (O.block_count (reader_disk reader.old)) from stamp place.now block }
     ensures onward { IfOk result (GoesOnFrom from) }
-    ensures memory { KeepsWay O.OnceDisk reader.old seen.old from stamp place.now → result ≡ Err BlockError.OutOfMemory → ComesToLeaf (O.known seen.old) (O.block_count (reader_disk reader.old)) from stamp place.now }
-    ensures unread { KeepsWay O.OnceDisk reader.old seen.old from stamp place.now → seen.new ≡ seen.old }
-    ensures no_fault { KeepsWay O.OnceDisk reader.old seen.old from stamp place.now → result ≡ Err BlockError.Fault → ⊥ }
     ensures inside { KeepsInside O.OnceDisk reader.old → KeepsInside O.OnceDisk reader.new }
     ensures same { O.honest_seen (reader_disk reader.old) seen.old → O.known seen.new ≡ O.known seen.old }
     ensures disk { reader_disk reader.new ≡ reader_disk reader.old }
@@ -93,13 +83,7 @@ pub fn hist_part<O: OnceDisk + Drop>(
     ensures part { (all : List Version) → IsRising all → StandsKnown O.OnceDisk reader.old seen.old all place.now → IfOk result (λ part. IsPart all key from (versions_of part.entries.items) part.told) }
     ensures reads { (all : List Version) → StandsKnown O.OnceDisk reader.old seen.old all place.now → ReadsWell O.OnceDisk reader.new seen.new }
     ensures never { (all : List Version) → StandsKnown O.OnceDisk reader.old seen.old all place.now → (block : ℕ) → result ≡ Err (BlockError.Damaged block) → ⊥ }
-    ensures reads_on { ReadsWell O.OnceDisk reader.old seen.old → ReadsWell O.OnceDisk reader.new seen.new ⊎ ComesToUnknown (O.known seen.old) (O.block_count (reader_disk reader.old)) key from place.now }
-    ensures checked { ReadsWell O.OnceDisk reader.old seen.old → IfOk result (λ part. ComesToTelling (O.known seen.old) (O.block_count (reader_disk reader.old)) key from place.now (TellsPart key from part)) }
-    ensures damaged { ReadsWell O.OnceDisk reader.old seen.old → (block : ℕ) → result ≡ Err (BlockError.Damaged block) → ComesToDamage (O.known seen.old) (O.block_count (reader_disk reader.old)) key from place.now block }
     ensures told { IfOk result (TellsFrom from) }
-    ensures memory { KeepsWay O.OnceDisk reader.old seen.old key from place.now → result ≡ Err BlockError.OutOfMemory → ComesToLeaf (O.known seen.old) (O.block_count (reader_disk reader.old)) key from place.now }
-    ensures unread { KeepsWay O.OnceDisk reader.old seen.old key from place.now → seen.new ≡ seen.old }
-    ensures no_fault { KeepsWay O.OnceDisk reader.old seen.old key from place.now → result ≡ Err BlockError.Fault → ⊥ }
     ensures inside { KeepsInside O.OnceDisk reader.old → KeepsInside O.OnceDisk reader.new }
     ensures same { O.honest_seen (reader_disk reader.old) seen.old → O.known seen.new ≡ O.known seen.old }
     ensures disk { reader_disk reader.new ≡ reader_disk reader.old }
@@ -134,12 +118,6 @@ pub fn hist_find<O: OnceDisk + Drop>(
     ensures found { (all : List Version) → StandsKnown O.OnceDisk reader.old seen.old all place.now → IfOk result (λ found. Answers all key stamp (found_as found)) }
     ensures reads { (all : List Version) → StandsKnown O.OnceDisk reader.old seen.old all place.now → ReadsWell O.OnceDisk reader.new seen.new }
     ensures never { (all : List Version) → StandsKnown O.OnceDisk reader.old seen.old all place.now → (block : ℕ) → result ≡ Err (BlockError.Damaged block) → ⊥ }
-    ensures reads_on { ReadsWell O.OnceDisk reader.old seen.old → ReadsWell O.OnceDisk reader.new seen.new ⊎ ComesToUnknown (O.known seen.old) (O.block_count (reader_disk reader.old)) key stamp place.now }
-    ensures checked { ReadsWell O.OnceDisk reader.old seen.old → IfOk result (λ found. ComesToTelling (O.known seen.old) (O.block_count (reader_disk reader.old)) key stamp place.now (TellsFound key stamp found)) }
-    ensures damaged { ReadsWell O.OnceDisk reader.old seen.old → (block : ℕ) → result ≡ Err (BlockError.Damaged block) → ComesToDamage (O.known seen.old) (O.block_count (reader_disk reader.old)) key stamp place.now block }
-    ensures memory { KeepsWay O.OnceDisk reader.old seen.old key stamp place.now → result ≡ Err BlockError.OutOfMemory → ComesToLeaf (O.known seen.old) (O.block_count (reader_disk reader.old)) key stamp place.now }
-    ensures unread { KeepsWay O.OnceDisk reader.old seen.old key stamp place.now → seen.new ≡ seen.old }
-    ensures no_fault { KeepsWay O.OnceDisk reader.old seen.old key stamp place.now → result ≡ Err BlockError.Fault → ⊥ }
     ensures inside { KeepsInside O.OnceDisk reader.old → KeepsInside O.OnceDisk reader.new }
     ensures same { O.honest_seen (reader_disk reader.old) seen.old → O.known seen.new ≡ O.known seen.old }
     ensures disk { reader_disk reader.new ≡ reader_disk reader.old }

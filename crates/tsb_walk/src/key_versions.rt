@@ -1,18 +1,16 @@
 //! All versions of a key, by way of parts that follow one another.
 
-ghost use Rattle.std.specs.Prelude.{◌≡◌, ◌↔◌, ◌⊎◌, ◌+◌, ◌<◌, ◌≤◌, ℕ, List, None, IfOk, IfErr, Err, IsErrOf, min};
+ghost use Rattle.std.specs.Prelude.{◌≡◌, ◌↔◌, ◌+◌, ◌≤◌, ℕ, List, None, IfOk, IfErr, Err, IsErrOf, min};
 ghost use Rattle.once_store.specs.Readers.{capacity_of, reader_disk};
-ghost use Rattle.page_journal.specs.Recovers.{IsListed};
 ghost use Rattle.page_tx.specs.Start.{Start};
 ghost use Rattle.version_model.specs.Versions.{Version, IsRising};
 ghost use Rattle.version_model.specs.Looks.{IsPart};
 ghost use Rattle.version_model.specs.Entries.{versions_of};
 ghost use Rattle.version_model.specs.Pages.{Store};
-ghost use Rattle.tsb_walk.specs.AllVersions.{VersionsRefusal, IsPartOfTree, AreAllTold, MeetsUnknown, MeetsDamage, ComesToPart};
+ghost use Rattle.tsb_walk.specs.AllVersions.{VersionsRefusal};
 ghost use Rattle.tsb_walk.specs.Inside.{KeepsInside};
 ghost use Rattle.tsb_walk.specs.Knowing.{ReadsWell, AreKnown};
 ghost use Rattle.tsb_walk.specs.Looked.{TellsFrom};
-ghost use Rattle.tsb_walk.specs.PageLooks.{IsBadLook};
 ghost use Rattle.tsb_walk.specs.Refusals.{OnlyReads};
 ghost use Rattle.tsb_walk.specs.Shown.{StandsShown, HasKey};
 
@@ -44,19 +42,13 @@ fn next_part<P: Pages, O: OnceDisk + Drop>(
     ensures part { (start : Start) (shown : List (List ℕ)) → P.shows pages.old start shown → (s : Store) (all : List Version) → IsRising all → StandsShown shown s all root.now
         → ReadsWell O.OnceDisk reader.old seen.old → AreKnown (O.known seen.old) (O.block_count (reader_disk reader.old)) s.blocks
         → IfOk result (λ part. IsPart all key from (versions_of part.entries.items) part.told) }
-    ensures reads { (start : Start) (shown : List (List ℕ)) → P.shows pages.old start shown → (s : Store) (all : List Version) → StandsShown shown s all root.now
+    ensures reads { (start : Start) (shown : List (List ℕ)) → P.shows pages.old start shown → (s : Store) (all : List Version) → IsRising all → StandsShown shown s all root.now
         → ReadsWell O.OnceDisk reader.old seen.old → AreKnown (O.known seen.old) (O.block_count (reader_disk reader.old)) s.blocks
         → ReadsWell O.OnceDisk reader.new seen.new }
     ensures blames { (start : Start) (shown : List (List ℕ)) → P.shows pages.old start shown → (s : Store) (all : List Version) → StandsShown shown s all root.now → (page : ℕ) → result ≡ Err (NodeError.BadNode page) → ⊥ }
-    ensures never { (start : Start) (shown : List (List ℕ)) → P.shows pages.old start shown → (s : Store) (all : List Version) → StandsShown shown s all root.now
+    ensures never { (start : Start) (shown : List (List ℕ)) → P.shows pages.old start shown → (s : Store) (all : List Version) → IsRising all → StandsShown shown s all root.now
         → ReadsWell O.OnceDisk reader.old seen.old → AreKnown (O.known seen.old) (O.block_count (reader_disk reader.old)) s.blocks
         → (block : ℕ) → result ≡ Err (NodeError.Damaged block) → ⊥ }
-    ensures reads_on { (start : Start) (shown : List (List ℕ)) → P.shows pages.old start shown → ReadsWell O.OnceDisk reader.old seen.old → ReadsWell O.OnceDisk reader.new seen.new ⊎ MeetsUnknown shown (O.known seen.old) (O.block_count (reader_disk reader.old)) root.now key }
-    ensures checked { (start : Start) (shown : List (List ℕ)) → P.shows pages.old start shown → ReadsWell O.OnceDisk reader.old seen.old → IfOk result (IsPartOfTree shown (O.known seen.old) (O.block_count (reader_disk reader.old)) root.now key from) }
-    ensures damaged { (start : Start) (shown : List (List ℕ)) → P.shows pages.old start shown → ReadsWell O.OnceDisk reader.old seen.old → (block : ℕ) → result ≡ Err (NodeError.Damaged block) → MeetsDamage shown (O.known seen.old) (O.block_count (reader_disk reader.old)) root.now key block }
-    ensures bad { (start : Start) (shown : List (List ℕ)) → P.shows pages.old start shown → (page : ℕ) → result ≡ Err (NodeError.BadNode page) → IsBadLook shown root.now key from page }
-    ensures comes { (start : Start) (shown : List (List ℕ)) → P.shows pages.old start shown → IfOk result (λ part. ComesToPart shown root.now key) }
-    ensures memory { (start : Start) (shown : List (List ℕ)) → P.shows pages.old start shown → ((n : ℕ) → n < P.homes pages.old → IsListed n (P.named pages.old)) → result ≡ Err NodeError.OutOfMemory → ComesToPart shown root.now key }
     ensures inside { KeepsInside O.OnceDisk reader.old → KeepsInside O.OnceDisk reader.new }
     ensures told { IfOk result (TellsFrom from) }
     ensures refused { IfErr result (VersionsRefusal (P.down pages.old)) }
@@ -81,8 +73,8 @@ fn next_part<P: Pages, O: OnceDisk + Drop>(
 /// All versions of the key, ends included, in the order of their stamps: those of the past part after part, then those of the
 /// current leaf.
 ///
-/// It is refused, and leaves the pages, as `next` does, and as `hist_next` is: where images of the pages are held, want of memory
-/// is told only of a key whose way comes to a part. Each part is told from where the one before it ended, so the look ends.
+/// It is refused, and leaves the pages, as `next` does, and as `hist_next` is. Each part goes on from where the one before it ended, so
+/// the look ends.
 pub fn versions<P: Pages, O: OnceDisk + Drop>(
     pages: &mut P,
     reader: &mut ShelfReader<O>,
@@ -96,20 +88,14 @@ pub fn versions<P: Pages, O: OnceDisk + Drop>(
     ensures versions { (start : Start) (shown : List (List ℕ)) → P.shows pages.old start shown → (s : Store) (all : List Version) → IsRising all → StandsShown shown s all root.now
         → ReadsWell O.OnceDisk reader.old seen.old → AreKnown (O.known seen.old) (O.block_count (reader_disk reader.old)) s.blocks
         → IfOk result (λ entries. IsPart all key 0 (versions_of entries.items) None) }
-    ensures reads { (start : Start) (shown : List (List ℕ)) → P.shows pages.old start shown → (s : Store) (all : List Version) → StandsShown shown s all root.now
+    ensures reads { (start : Start) (shown : List (List ℕ)) → P.shows pages.old start shown → (s : Store) (all : List Version) → IsRising all → StandsShown shown s all root.now
         → ReadsWell O.OnceDisk reader.old seen.old → AreKnown (O.known seen.old) (O.block_count (reader_disk reader.old)) s.blocks
         → ReadsWell O.OnceDisk reader.new seen.new }
     ensures blames { (start : Start) (shown : List (List ℕ)) → P.shows pages.old start shown → (s : Store) (all : List Version) → StandsShown shown s all root.now → (page : ℕ) → result ≡ Err (NodeError.BadNode page) → ⊥ }
-    ensures never { (start : Start) (shown : List (List ℕ)) → P.shows pages.old start shown → (s : Store) (all : List Version) → StandsShown shown s all root.now
+    ensures never { (start : Start) (shown : List (List ℕ)) → P.shows pages.old start shown → (s : Store) (all : List Version) → IsRising all → StandsShown shown s all root.now
         → ReadsWell O.OnceDisk reader.old seen.old → AreKnown (O.known seen.old) (O.block_count (reader_disk reader.old)) s.blocks
         → (block : ℕ) → result ≡ Err (NodeError.Damaged block) → ⊥ }
-    ensures reads_on { (start : Start) (shown : List (List ℕ)) → P.shows pages.old start shown → ReadsWell O.OnceDisk reader.old seen.old → ReadsWell O.OnceDisk reader.new seen.new ⊎ MeetsUnknown shown (O.known seen.old) (O.block_count (reader_disk reader.old)) root.now key }
     ensures inside { KeepsInside O.OnceDisk reader.old → KeepsInside O.OnceDisk reader.new }
-    ensures checked { (start : Start) (shown : List (List ℕ)) → P.shows pages.old start shown → ReadsWell O.OnceDisk reader.old seen.old
-        → IfOk result (λ entries. AreAllTold shown (O.known seen.old) (O.block_count (reader_disk reader.old)) root.now key (versions_of entries.items) ⊎ MeetsUnknown shown (O.known seen.old) (O.block_count (reader_disk reader.old)) root.now key) }
-    ensures damaged { (start : Start) (shown : List (List ℕ)) → P.shows pages.old start shown → ReadsWell O.OnceDisk reader.old seen.old → (block : ℕ) → result ≡ Err (NodeError.Damaged block) → MeetsDamage shown (O.known seen.old) (O.block_count (reader_disk reader.old)) root.now key block ⊎ MeetsUnknown shown (O.known seen.old) (O.block_count (reader_disk reader.old)) root.now key }
-    ensures bad { (start : Start) (shown : List (List ℕ)) → P.shows pages.old start shown → (page : ℕ) → result ≡ Err (NodeError.BadNode page) → (from : ℕ) × IsBadLook shown root.now key from page }
-    ensures memory { (start : Start) (shown : List (List ℕ)) → P.shows pages.old start shown → ((n : ℕ) → n < P.homes pages.old → IsListed n (P.named pages.old)) → result ≡ Err NodeError.OutOfMemory → ComesToPart shown root.now key }
     ensures refused { IfErr result (VersionsRefusal (P.down pages.old)) }
     ensures same { OnlyReads P.Pages pages.old pages.new (result ≡ Err NodeError.Fault) }
     ensures known { O.honest_seen (reader_disk reader.old) seen.old → O.known seen.new ≡ O.known seen.old }

@@ -9,6 +9,7 @@ ghost use Rattle.version_model.specs.Pages.{CurrentLeaf};
 ghost use Rattle.tsb_node.specs.Views.{PageSays};
 ghost use Rattle.tsb_walk.specs.Answers.{found_as, reached_as};
 ghost use Rattle.tsb_walk.specs.Borders.{ReachesTo};
+ghost use Rattle.tsb_walk.specs.Looked.{GoesOnFrom};
 ghost use Rattle.tsb_walk.specs.Shown.{keys_at, HasKey};
 
 use crate::looks::{Found, KeyVersions, Reached, found_in, part_in, reached_in};
@@ -17,11 +18,11 @@ use crate::page_steps::is_current_leaf;
 use disk_models::Page;
 use route_model::Key;
 use std::alloc::Global;
-use tsb_node::{ReadFault, key_fits, stamp_fits};
+use tsb_node::{ReadFault, stamp_fits};
 use version_model::Stamp;
 
-/// How far a look for the next key comes in the current leaf of a column, which starts there. Refused as no node exactly where the
-/// page isn't that leaf.
+/// How far a look for the next key comes in the current leaf of a column, which starts there. Refused as no node only where the
+/// page isn't that leaf, and not always there.
 pub fn reached_on(
     alloc: Global,
     page: &Page,
@@ -31,10 +32,10 @@ pub fn reached_on(
     stamp: Stamp,
 ) -> Result<Reached, ReadFault>
     requires has { HasKey column.now from }
-    ensures reached { IfOk result (λ reached. (versions : List Version) × PageSays page.now (CurrentLeaf (keys_at column.now) start versions) × IsReached versions stamp from (reached_as reached)) }
+    ensures reached { (versions : List Version) → PageSays page.now (CurrentLeaf (keys_at column.now) start versions) → IfOk result (λ reached. IsReached versions stamp from (reached_as reached)) }
+    ensures onward { IfOk result (GoesOnFrom from) }
     ensures border { IfOk result (ReachesTo (high_or column.now.high)) }
     ensures none { result ≡ Err ReadFault.NotANode → (versions : List Version) → PageSays page.now (CurrentLeaf (keys_at column.now) start versions) → ⊥ }
-    ensures memory { result ≡ Err ReadFault.Memory → (versions : List Version) × PageSays page.now (CurrentLeaf (keys_at column.now) start versions) }
 {
     stamp_fits(stamp);
     if !is_current_leaf(page, column, start) {
@@ -44,7 +45,7 @@ pub fn reached_on(
 }
 
 /// The versions of a key from a stamp on in the current leaf of a column, which starts there: all that there are. Refused as no
-/// node exactly where the page isn't that leaf.
+/// node only where the page isn't that leaf, and not always there.
 pub fn part_on(
     alloc: Global,
     page: &Page,
@@ -53,21 +54,18 @@ pub fn part_on(
     key: Key,
     from: Stamp,
 ) -> Result<KeyVersions, ReadFault>
-    ensures part { IfOk result (λ part. (versions : List Version) × PageSays page.now (CurrentLeaf (keys_at column.now) start versions) × (versions_of part.entries.items ≡ filter (is_of key from stamp_end) versions)) }
+    ensures part { (versions : List Version) → PageSays page.now (CurrentLeaf (keys_at column.now) start versions) → IfOk result (λ part. versions_of part.entries.items ≡ filter (is_of key from stamp_end) versions) }
     ensures told { IfOk result (λ part. part.told ≡ None) }
     ensures none { result ≡ Err ReadFault.NotANode → (versions : List Version) → PageSays page.now (CurrentLeaf (keys_at column.now) start versions) → ⊥ }
-    ensures memory { result ≡ Err ReadFault.Memory → (versions : List Version) × PageSays page.now (CurrentLeaf (keys_at column.now) start versions) }
 {
-    key_fits(key);
-    stamp_fits(from);
     if !is_current_leaf(page, column, start) {
         return Err(ReadFault::NotANode);
     }
     part_in(alloc, page.octets(), &None, key, from)
 }
 
-/// What a key has as of a stamp in the current leaf of a column, which starts there. Refused as no node exactly where the page
-/// isn't that leaf.
+/// What a key has as of a stamp in the current leaf of a column, which starts there. Refused as no node only where the page
+/// isn't that leaf, and not always there.
 pub fn found_on(
     alloc: Global,
     page: &Page,
@@ -76,9 +74,8 @@ pub fn found_on(
     key: Key,
     stamp: Stamp,
 ) -> Result<Option<Found>, ReadFault>
-    ensures found { IfOk result (λ found. (versions : List Version) × PageSays page.now (CurrentLeaf (keys_at column.now) start versions) × Answers versions key stamp (found_as found)) }
+    ensures found { (versions : List Version) → PageSays page.now (CurrentLeaf (keys_at column.now) start versions) → IfOk result (λ found. Answers versions key stamp (found_as found)) }
     ensures none { result ≡ Err ReadFault.NotANode → (versions : List Version) → PageSays page.now (CurrentLeaf (keys_at column.now) start versions) → ⊥ }
-    ensures memory { result ≡ Err ReadFault.Memory → (versions : List Version) × PageSays page.now (CurrentLeaf (keys_at column.now) start versions) }
 {
     if !is_current_leaf(page, column, start) {
         return Err(ReadFault::NotANode);

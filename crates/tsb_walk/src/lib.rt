@@ -18,10 +18,7 @@ mod walk;
 pub use error::NodeError;
 pub use hist::{hist_find, hist_next, hist_part};
 pub use key_versions::versions;
-pub use laws::{
-    answers_and_bad_pages_exclude_each_other, answers_and_damage_exclude_each_other,
-    looks_are_true_where_the_root_stands,
-};
+pub use laws::no_page_is_bad_where_the_root_stands;
 pub use locating::{bring, down, locate};
 pub use looks::{Descended, Found, KeyVersions, Looked, Parted, Reached};
 pub use page_looks::{descend, next, part};

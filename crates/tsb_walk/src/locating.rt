@@ -1,13 +1,11 @@
 //! The way of a key through the pages of a tree, down to the column that has it.
 
 ghost use Rattle.std.specs.Prelude.{◌≡◌, ◌<◌, ◌≤◌, ℕ, suc, Bool, List, IfOk, OnOk, IfErr, Err};
-ghost use Rattle.page_journal.specs.Recovers.{IsListed};
 ghost use Rattle.page_tx.specs.Refusals.{FetchRefusal};
 ghost use Rattle.page_tx.specs.Start.{Start};
-ghost use Rattle.tsb_walk.specs.declared.page_place.PagePlace.{PagePlace as PagePlaceValue};
 ghost use Rattle.tsb_walk.specs.Shown.{HasKey};
-ghost use Rattle.tsb_walk.specs.PageWays.{IsLower, PageWay, IsNoKeyNode, IsBadKeyNode};
-ghost use Rattle.tsb_walk.specs.Refusals.{OnlyReads, WalkRefusal, IsDamage};
+ghost use Rattle.tsb_walk.specs.PageWays.{IsLed, PageWay, IsNoKeyNode, IsBadKeyNode};
+ghost use Rattle.tsb_walk.specs.Refusals.{OnlyReads, WalkRefusal};
 
 use crate::error::NodeError;
 use crate::page_place::PagePlace;
@@ -37,7 +35,6 @@ pub fn bring<P: Pages>(pages: &mut P, n: u64) -> Result<(), NodeError>
     ensures there { OnOk result (P.resident pages.new n) }
     ensures inside { OnOk result (n < P.homes pages.old) }
     ensures bad { (page : ℕ) → result ≡ Err (NodeError.BadNode page) → (page ≡ n) × (P.homes pages.old ≤ n) }
-    ensures held { (n < P.homes pages.old → IsListed n (P.named pages.old)) → IfErr result IsDamage }
     ensures refused { IfErr result (WalkRefusal (P.down pages.old)) }
     ensures same { OnlyReads P.Pages pages.old pages.new (result ≡ Err NodeError.Fault) }
 {
@@ -50,16 +47,15 @@ pub fn bring<P: Pages>(pages: &mut P, n: u64) -> Result<(), NodeError>
     }
 }
 
-/// Goes down from a key node to its child that has the key: one level below, of just the keys that the key node gives it. A page that
-/// isn't a key node of just the place's level and keys is called bad. Pages are only read.
+/// Goes down from a key node to its child that has the key: one level below, of just the keys that the key node gives it. Of the page its
+/// header and that child alone are read: a page that is called bad isn't a key node of just the place's level and keys, and not each that
+/// isn't is called bad. Pages are only read.
 pub fn down<P: Pages>(pages: &mut P, place: &PagePlace, key: Key) -> Result<PagePlace, NodeError>
     requires has { HasKey place.now key }
     ensures has { IfOk result (λ next. HasKey next key) }
     ensures level { IfOk result (λ next. suc next.level ≡ place.now.level) }
-    ensures lower { (start : Start) (shown : List (List ℕ)) → P.shows pages.old start shown → IfOk result (IsLower shown key place.now) }
+    ensures led { (start : Start) (shown : List (List ℕ)) → P.shows pages.old start shown → IfOk result (IsLed shown key place.now) }
     ensures bad { (start : Start) (shown : List (List ℕ)) → P.shows pages.old start shown → (page : ℕ) → result ≡ Err (NodeError.BadNode page) → (place.now.page ≡ page) × IsNoKeyNode shown place.now }
-    ensures held { ((n : ℕ) → n < P.homes pages.old → IsListed n (P.named pages.old)) → IfErr result IsDamage }
-    ensures held_here { (place.now.page < P.homes pages.old → IsListed place.now.page (P.named pages.old)) → IfErr result IsDamage }
     ensures refused { IfErr result (WalkRefusal (P.down pages.old)) }
     ensures same { OnlyReads P.Pages pages.old pages.new (result ≡ Err NodeError.Fault) }
 {
@@ -73,10 +69,9 @@ pub fn down<P: Pages>(pages: &mut P, place: &PagePlace, key: Key) -> Result<Page
     }
 }
 
-/// The place of the column that has a key, by the way from the root of a tree. Each page on it is a key node one level below the
-/// one before, of just the keys that this one gives it.
+/// The place of the column that has a key, by the way on which the pages lead from the root of a tree.
 ///
-/// The first page that isn't is called bad. Pages are only read.
+/// A page that is called bad isn't the key node that it is to be. Pages are only read.
 pub fn locate<P: Pages>(pages: &mut P, root: &PagePlace, key: Key) -> Result<PagePlace, NodeError>
     requires has { HasKey root.now key }
     requires level { 1 ≤ root.now.level }
@@ -84,9 +79,6 @@ pub fn locate<P: Pages>(pages: &mut P, root: &PagePlace, key: Key) -> Result<Pag
     ensures level { IfOk result (λ column. column.level ≡ 1) }
     ensures way { (start : Start) (shown : List (List ℕ)) → P.shows pages.old start shown → IfOk result (PageWay shown key root.now) }
     ensures bad { (start : Start) (shown : List (List ℕ)) → P.shows pages.old start shown → (page : ℕ) → result ≡ Err (NodeError.BadNode page) → IsBadKeyNode shown root.now key page }
-    ensures held { ((n : ℕ) → n < P.homes pages.old → IsListed n (P.named pages.old)) → IfErr result IsDamage }
-    ensures held_on_way { (start : Start) (shown : List (List ℕ)) → P.shows pages.old start shown
-        → ((place : PagePlaceValue) → PageWay shown key root.now place → 1 < place.level → place.page < P.homes pages.old → IsListed place.page (P.named pages.old)) → IfErr result IsDamage }
     ensures refused { IfErr result (WalkRefusal (P.down pages.old)) }
     ensures same { OnlyReads P.Pages pages.old pages.new (result ≡ Err NodeError.Fault) }
 {

@@ -1,9 +1,7 @@
 //! Looks that begin at current pages. Those into the past answer the place in settled blocks where they go on.
 
 ghost use Rattle.std.specs.Prelude.{◌≡◌, ◌<◌, ◌≤◌, ℕ, Bool, List, None, IfOk, IfErr, Err, filter};
-ghost use Rattle.page_journal.specs.Recovers.{IsListed};
 ghost use Rattle.page_tx.specs.Start.{Start};
-ghost use Rattle.tsb_walk.specs.declared.page_place.PagePlace.{PagePlace as PagePlaceValue};
 ghost use Rattle.version_model.specs.Versions.{Version, Answers, IsRising};
 ghost use Rattle.version_model.specs.Ranges.{high_or, stamp_end};
 ghost use Rattle.version_model.specs.Looks.{IsReached, is_of};
@@ -13,10 +11,11 @@ ghost use Rattle.tsb_walk.specs.Answers.{found_as, reached_as};
 ghost use Rattle.tsb_walk.specs.Borders.{ReachesTo};
 ghost use Rattle.tsb_walk.specs.Looked.{IsLooked, IsParted, IsDescended, GoesOnFrom, LooksOn, LooksAt, PartsAt, DescendsAt, TellsAll};
 ghost use Rattle.tsb_walk.specs.Shown.{Says, StandsShown, keys_at, HasKey};
-ghost use Rattle.tsb_walk.specs.PageWays.{PageWay, IsNoColumn, IsNoLeaf};
-ghost use Rattle.tsb_walk.specs.PageLooks.{InCurrentLeaf, IsLookOf, IsPartLookOf, IsFoundLookOf, IsReadFor, IsBadLook};
-ghost use Rattle.tsb_walk.specs.Refusals.{OnlyReads, WalkRefusal, LookRefusal, IsDamage, NeedsNoDevice};
-ghost use Rattle.tsb_walk.specs.inner.ColumnSpots.{IsSpotAt, IsThere, HasPoint};
+ghost use Rattle.tsb_walk.specs.PageWays.{IsNoColumn, IsNoLeaf};
+ghost use Rattle.tsb_walk.specs.PageLooks.{IsBadLook};
+ghost use Rattle.tsb_walk.specs.Refusals.{OnlyReads, WalkRefusal, LookRefusal};
+ghost use Rattle.tsb_walk.specs.inner.ColumnSpots.{IsSpotAt, IsThere};
+ghost use Rattle.tsb_walk.specs.inner.PageSteps.{HasPoint};
 
 use crate::error::NodeError;
 use crate::leaf_looks::{found_on, part_on, reached_on};
@@ -48,7 +47,6 @@ fn spot_at<P: Pages>(
     ensures spot { (start : Start) (shown : List (List ℕ)) → P.shows pages.old start shown → IfOk result (IsSpotAt shown column.now key stamp) }
     ensures point { IfOk result (HasPoint key stamp) }
     ensures bad { (start : Start) (shown : List (List ℕ)) → P.shows pages.old start shown → (page : ℕ) → result ≡ Err (NodeError.BadNode page) → (column.now.page ≡ page) × IsNoColumn shown column.now }
-    ensures held { (column.now.page < P.homes pages.old → IsListed column.now.page (P.named pages.old)) → IfErr result IsDamage }
     ensures refused { IfErr result (WalkRefusal (P.down pages.old)) }
     ensures same { OnlyReads P.Pages pages.old pages.new (result ≡ Err NodeError.Fault) }
 {
@@ -75,9 +73,6 @@ fn column_at<P: Pages>(
     ensures has { IfOk result (λ at. HasKey at.column key) }
     ensures point { IfOk result (λ at. HasPoint key stamp at.spot) }
     ensures bad { (start : Start) (shown : List (List ℕ)) → P.shows pages.old start shown → (page : ℕ) → result ≡ Err (NodeError.BadNode page) → IsBadLook shown root.now key stamp page }
-    ensures held { ((n : ℕ) → n < P.homes pages.old → IsListed n (P.named pages.old)) → IfErr result IsDamage }
-    ensures held_on_way { (start : Start) (shown : List (List ℕ)) → P.shows pages.old start shown
-        → ((place : PagePlaceValue) → PageWay shown key root.now place → place.page < P.homes pages.old → IsListed place.page (P.named pages.old)) → IfErr result IsDamage }
     ensures refused { IfErr result (WalkRefusal (P.down pages.old)) }
     ensures same { OnlyReads P.Pages pages.old pages.new (result ≡ Err NodeError.Fault) }
 {
@@ -89,10 +84,8 @@ fn column_at<P: Pages>(
 // Why a current leaf isn't looked into.
 fn leaf_refusal(fault: ReadFault, page: u64) -> NodeError
     ensures bad { (n : ℕ) → result ≡ NodeError.BadNode n → (page ≡ n) × (fault ≡ ReadFault.NotANode) }
-    ensures memory { result ≡ NodeError.OutOfMemory → fault ≡ ReadFault.Memory }
     ensures refused { (down : Bool) → LookRefusal down result }
     ensures never { result ≡ NodeError.Fault → ⊥ }
-    ensures quiet { NeedsNoDevice result }
 {
     match fault {
         ReadFault::NotANode => NodeError::BadNode(page),
@@ -110,13 +103,10 @@ fn next_here<P: Pages>(
     stamp: Stamp,
 ) -> Result<Reached, NodeError>
     requires has { HasKey column.now from }
-    ensures reached { (start : Start) (shown : List (List ℕ)) → P.shows pages.old start shown → IfOk result (λ reached. (versions : List Version) × Says shown current.now.page (CurrentLeaf (keys_at column.now) current.now.start versions) × IsReached versions stamp from (reached_as reached)) }
+    ensures reached { (start : Start) (shown : List (List ℕ)) → P.shows pages.old start shown → (versions : List Version) → Says shown current.now.page (CurrentLeaf (keys_at column.now) current.now.start versions) → IfOk result (λ reached. IsReached versions stamp from (reached_as reached)) }
     ensures border { IfOk result (ReachesTo (high_or column.now.high)) }
     ensures onward { IfOk result (GoesOnFrom from) }
     ensures bad { (start : Start) (shown : List (List ℕ)) → P.shows pages.old start shown → (page : ℕ) → result ≡ Err (NodeError.BadNode page) → (current.now.page ≡ page) × IsNoLeaf shown column.now current.now.start page }
-    ensures memory { (start : Start) (shown : List (List ℕ)) → P.shows pages.old start shown → (current.now.page < P.homes pages.old → IsListed current.now.page (P.named pages.old)) → result ≡ Err NodeError.OutOfMemory
-        → (versions : List Version) × Says shown current.now.page (CurrentLeaf (keys_at column.now) current.now.start versions) }
-    ensures held { (current.now.page < P.homes pages.old → IsListed current.now.page (P.named pages.old)) → IfErr result NeedsNoDevice }
     ensures refused { IfErr result (LookRefusal (P.down pages.old)) }
     ensures same { OnlyReads P.Pages pages.old pages.new (result ≡ Err NodeError.Fault) }
 {
@@ -140,12 +130,9 @@ fn part_here<P: Pages>(
     from: Stamp,
 ) -> Result<KeyVersions, NodeError>
     requires has { HasKey column.now key }
-    ensures part { (start : Start) (shown : List (List ℕ)) → P.shows pages.old start shown → IfOk result (λ part. (versions : List Version) × Says shown current.now.page (CurrentLeaf (keys_at column.now) current.now.start versions) × (versions_of part.entries.items ≡ filter (is_of key from stamp_end) versions)) }
+    ensures part { (start : Start) (shown : List (List ℕ)) → P.shows pages.old start shown → (versions : List Version) → Says shown current.now.page (CurrentLeaf (keys_at column.now) current.now.start versions) → IfOk result (λ part. versions_of part.entries.items ≡ filter (is_of key from stamp_end) versions) }
     ensures told { IfOk result (λ part. part.told ≡ None) }
     ensures bad { (start : Start) (shown : List (List ℕ)) → P.shows pages.old start shown → (page : ℕ) → result ≡ Err (NodeError.BadNode page) → (current.now.page ≡ page) × IsNoLeaf shown column.now current.now.start page }
-    ensures memory { (start : Start) (shown : List (List ℕ)) → P.shows pages.old start shown → (current.now.page < P.homes pages.old → IsListed current.now.page (P.named pages.old)) → result ≡ Err NodeError.OutOfMemory
-        → (versions : List Version) × Says shown current.now.page (CurrentLeaf (keys_at column.now) current.now.start versions) }
-    ensures held { (current.now.page < P.homes pages.old → IsListed current.now.page (P.named pages.old)) → IfErr result NeedsNoDevice }
     ensures refused { IfErr result (LookRefusal (P.down pages.old)) }
     ensures same { OnlyReads P.Pages pages.old pages.new (result ≡ Err NodeError.Fault) }
 {
@@ -169,11 +156,8 @@ fn found_here<P: Pages>(
     stamp: Stamp,
 ) -> Result<Option<Found>, NodeError>
     requires has { HasKey column.now key }
-    ensures found { (start : Start) (shown : List (List ℕ)) → P.shows pages.old start shown → IfOk result (λ found. (versions : List Version) × Says shown current.now.page (CurrentLeaf (keys_at column.now) current.now.start versions) × Answers versions key stamp (found_as found)) }
+    ensures found { (start : Start) (shown : List (List ℕ)) → P.shows pages.old start shown → (versions : List Version) → Says shown current.now.page (CurrentLeaf (keys_at column.now) current.now.start versions) → IfOk result (λ found. Answers versions key stamp (found_as found)) }
     ensures bad { (start : Start) (shown : List (List ℕ)) → P.shows pages.old start shown → (page : ℕ) → result ≡ Err (NodeError.BadNode page) → (current.now.page ≡ page) × IsNoLeaf shown column.now current.now.start page }
-    ensures memory { (start : Start) (shown : List (List ℕ)) → P.shows pages.old start shown → (current.now.page < P.homes pages.old → IsListed current.now.page (P.named pages.old)) → result ≡ Err NodeError.OutOfMemory
-        → (versions : List Version) × Says shown current.now.page (CurrentLeaf (keys_at column.now) current.now.start versions) }
-    ensures held { (current.now.page < P.homes pages.old → IsListed current.now.page (P.named pages.old)) → IfErr result NeedsNoDevice }
     ensures refused { IfErr result (LookRefusal (P.down pages.old)) }
     ensures same { OnlyReads P.Pages pages.old pages.new (result ≡ Err NodeError.Fault) }
 {
@@ -190,10 +174,10 @@ fn found_here<P: Pages>(
 /// The next key from `from` on, itself included, that has a value as of the stamp, among the keys of the column that has `from`;
 /// or the place in the past where it is looked for.
 ///
-/// The first page on the way that isn't what it is to be is called bad: a key node, the column, or its current leaf where the
-/// stamp lies in it. A failure of the disk, the need of opening and want of memory refuse it too; where images of the pages are
-/// held, want of memory is told only where the current leaf is what it is to be. No page is asked for but those on the way and,
-/// where the stamp lies in it, the current leaf. Pages are only read, whatever is answered.
+/// Where the root stands, that is what its versions have, and no page is called bad. A page that is called bad lies on the way on which
+/// the pages lead the key, and isn't what it is to be there: a key node, the column, or its current leaf where the stamp lies in it. Not
+/// each such page is called bad, since of a page its header and what the key needs alone are read; `tsb_check` reads all. A failure of the
+/// disk, a journal that must be opened again and lack of memory refuse it too. Pages are only read, whatever is answered.
 pub fn next<P: Pages>(
     pages: &mut P,
     alloc: Global,
@@ -204,15 +188,10 @@ pub fn next<P: Pages>(
     requires has { HasKey root.now from }
     requires level { 1 ≤ root.now.level }
     ensures next { (start : Start) (shown : List (List ℕ)) → P.shows pages.old start shown → (s : Store) (all : List Version) → StandsShown shown s all root.now → IfOk result (IsLooked s.blocks all from stamp) }
-    ensures checked { (start : Start) (shown : List (List ℕ)) → P.shows pages.old start shown → IfOk result (IsLookOf shown root.now from stamp) }
     ensures bad { (start : Start) (shown : List (List ℕ)) → P.shows pages.old start shown → (page : ℕ) → result ≡ Err (NodeError.BadNode page) → IsBadLook shown root.now from stamp page }
     ensures blames { (start : Start) (shown : List (List ℕ)) → P.shows pages.old start shown → (s : Store) (all : List Version) → StandsShown shown s all root.now → (page : ℕ) → result ≡ Err (NodeError.BadNode page) → ⊥ }
     ensures point { IfOk result (LooksAt from stamp) }
     ensures onward { IfOk result (LooksOn from) }
-    ensures memory { (start : Start) (shown : List (List ℕ)) → P.shows pages.old start shown → ((n : ℕ) → n < P.homes pages.old → IsListed n (P.named pages.old)) → result ≡ Err NodeError.OutOfMemory
-        → (column : PagePlaceValue) × (versions : List Version) × InCurrentLeaf shown root.now from stamp column versions }
-    ensures held { (start : Start) (shown : List (List ℕ)) → P.shows pages.old start shown
-        → ((page : ℕ) → IsReadFor shown root.now from stamp page → page < P.homes pages.old → IsListed page (P.named pages.old)) → IfErr result NeedsNoDevice }
     ensures refused { IfErr result (LookRefusal (P.down pages.old)) }
     ensures same { OnlyReads P.Pages pages.old pages.new (result ≡ Err NodeError.Fault) }
 {
@@ -241,15 +220,10 @@ pub fn part<P: Pages>(
     requires has { HasKey root.now key }
     requires level { 1 ≤ root.now.level }
     ensures part { (start : Start) (shown : List (List ℕ)) → P.shows pages.old start shown → (s : Store) (all : List Version) → IsRising all → StandsShown shown s all root.now → IfOk result (IsParted s.blocks all key from) }
-    ensures checked { (start : Start) (shown : List (List ℕ)) → P.shows pages.old start shown → IfOk result (IsPartLookOf shown root.now key from) }
     ensures bad { (start : Start) (shown : List (List ℕ)) → P.shows pages.old start shown → (page : ℕ) → result ≡ Err (NodeError.BadNode page) → IsBadLook shown root.now key from page }
     ensures blames { (start : Start) (shown : List (List ℕ)) → P.shows pages.old start shown → (s : Store) (all : List Version) → StandsShown shown s all root.now → (page : ℕ) → result ≡ Err (NodeError.BadNode page) → ⊥ }
     ensures point { IfOk result (PartsAt key from) }
     ensures told { IfOk result TellsAll }
-    ensures memory { (start : Start) (shown : List (List ℕ)) → P.shows pages.old start shown → ((n : ℕ) → n < P.homes pages.old → IsListed n (P.named pages.old)) → result ≡ Err NodeError.OutOfMemory
-        → (column : PagePlaceValue) × (versions : List Version) × InCurrentLeaf shown root.now key from column versions }
-    ensures held { (start : Start) (shown : List (List ℕ)) → P.shows pages.old start shown
-        → ((page : ℕ) → IsReadFor shown root.now key from page → page < P.homes pages.old → IsListed page (P.named pages.old)) → IfErr result NeedsNoDevice }
     ensures refused { IfErr result (LookRefusal (P.down pages.old)) }
     ensures same { OnlyReads P.Pages pages.old pages.new (result ≡ Err NodeError.Fault) }
 {
@@ -277,14 +251,9 @@ pub fn descend<P: Pages>(
     requires has { HasKey root.now key }
     requires level { 1 ≤ root.now.level }
     ensures descended { (start : Start) (shown : List (List ℕ)) → P.shows pages.old start shown → (s : Store) (all : List Version) → StandsShown shown s all root.now → IfOk result (IsDescended s.blocks all key stamp) }
-    ensures checked { (start : Start) (shown : List (List ℕ)) → P.shows pages.old start shown → IfOk result (IsFoundLookOf shown root.now key stamp) }
     ensures bad { (start : Start) (shown : List (List ℕ)) → P.shows pages.old start shown → (page : ℕ) → result ≡ Err (NodeError.BadNode page) → IsBadLook shown root.now key stamp page }
     ensures blames { (start : Start) (shown : List (List ℕ)) → P.shows pages.old start shown → (s : Store) (all : List Version) → StandsShown shown s all root.now → (page : ℕ) → result ≡ Err (NodeError.BadNode page) → ⊥ }
     ensures point { IfOk result (DescendsAt key stamp) }
-    ensures memory { (start : Start) (shown : List (List ℕ)) → P.shows pages.old start shown → ((n : ℕ) → n < P.homes pages.old → IsListed n (P.named pages.old)) → result ≡ Err NodeError.OutOfMemory
-        → (column : PagePlaceValue) × (versions : List Version) × InCurrentLeaf shown root.now key stamp column versions }
-    ensures held { (start : Start) (shown : List (List ℕ)) → P.shows pages.old start shown
-        → ((page : ℕ) → IsReadFor shown root.now key stamp page → page < P.homes pages.old → IsListed page (P.named pages.old)) → IfErr result NeedsNoDevice }
     ensures refused { IfErr result (LookRefusal (P.down pages.old)) }
     ensures same { OnlyReads P.Pages pages.old pages.new (result ≡ Err NodeError.Fault) }
 {

@@ -1,6 +1,8 @@
-//! What one page of a tree says to a key and a stamp: which page is next, or where the column has them.
+//! What one page of a tree says to a key and a stamp: which page is next, or where the column has them. Of each page that is read which a
+//! walk needs to go on: its header, and the entry that has the key or the stamp. Where the page is the node that it is to be, the answer
+//! is that node's; of other pages it is said only that the walk goes down and keeps to the key and the stamp.
 
-ghost use Rattle.std.specs.Prelude.{◌≡◌, ◌↔◌, ◌<◌, ℕ, suc, List, Some, IsTrue, IfSome, IfNone};
+ghost use Rattle.std.specs.Prelude.{◌≡◌, ◌↔◌, ◌<◌, ◌≤◌, ℕ, suc, List, Some, IsTrue, IfSome, IfNone};
 ghost use Rattle.version_model.specs.declared.child.Child.{Child as ChildValue};
 ghost use Rattle.version_model.specs.declared.part.Part.{Part as PartValue};
 ghost use Rattle.version_model.specs.Versions.{Version};
@@ -9,13 +11,13 @@ ghost use Rattle.tsb_node.specs.Columns.{ColumnInPage};
 ghost use Rattle.tsb_node.specs.Parts.{IsSpot};
 ghost use Rattle.tsb_node.specs.Views.{PageSays, keys_between};
 ghost use Rattle.tsb_walk.specs.Shown.{keys_at, HasKey};
-ghost use Rattle.tsb_walk.specs.inner.PageSteps.{IsChildIn, IsSpotIn, IsSpotOf};
+ghost use Rattle.tsb_walk.specs.inner.PageSteps.{IsChildAt, IsSpotOf, HasPoint};
 
 use crate::page_place::{PagePlace, are_its_keys};
 use disk_models::Page;
 use route_model::Key;
 use tsb_node::{
-    Current, PartAt, Spot, Under, child_for, key_fits, read_column, read_key_node, read_leaf,
+    Current, PartAt, Spot, Under, child_for, column_head, key_fits, key_node_head, leaf_head,
     spot_for,
 };
 use version_model::{Bounds, Place, Stamp};
@@ -45,14 +47,18 @@ fn child_place(place: &PagePlace, under: &Under) -> PagePlace
     }
 }
 
-/// The child of the key node that a page is, for a key. None where the page is no key node of just the place's level and keys.
+/// The child of the key node that a page is, for a key: one level below, of keys that have it. None only where the page is no key node of
+/// just the place's level and keys, and not always there.
 pub fn child_in(page: &Page, place: &PagePlace, key: Key) -> Option<PagePlace>
     requires has { HasKey place.now key }
-    ensures child { IfSome result (IsChildIn page.now place.now key) }
+    ensures child { (children : List ChildValue) → PageSays page.now (KeyNode place.now.level (keys_at place.now) children) → IfSome result (IsChildAt place.now children) }
     ensures none { IfNone result ((children : List ChildValue) → PageSays page.now (KeyNode place.now.level (keys_at place.now) children) → ⊥) }
+    ensures above { IfSome result (λ next. 1 < place.now.level) }
+    ensures level { IfSome result (λ next. suc next.level ≡ place.now.level) }
+    ensures has { IfSome result (λ next. HasKey next key) }
 {
     key_fits(key);
-    let Some(head) = read_key_node(page) else {
+    let Ok(head) = key_node_head(page.octets()) else {
         return None;
     };
     if head.level != place.level {
@@ -64,7 +70,11 @@ pub fn child_in(page: &Page, place: &PagePlace, key: Key) -> Option<PagePlace>
     let Ok(under) = child_for(page.octets(), key) else {
         return None;
     };
-    Some(child_place(place, &under))
+    let next = child_place(place, &under);
+    if !next.has(key) {
+        return None;
+    }
+    Some(next)
 }
 
 // The place of a part of the past of a column.
@@ -83,41 +93,60 @@ fn past_place(place: &PagePlace, found: &PartAt) -> Place
     }
 }
 
-// Where the column at a place has its versions, of its keys.
-fn column_spot(place: &PagePlace, spot: &Spot) -> ColumnSpot
-    ensures { (column : ColumnInPage) (key stamp : ℕ) → keys_between column.bounds ≡ keys_at place.now → HasKey place.now key → IsSpot column stamp spot.now
-        → IsSpotOf place.now column.parts column.current.start column.current.page key stamp result }
+/// Whether a stamp lies in a part.
+pub fn is_in(found: &PartAt, stamp: Stamp) -> bool
+    ensures { IsTrue result ↔ ((found.now.part.start ≤ stamp) × (stamp < found.now.end)) }
+{
+    found.part.start <= stamp && stamp < found.end
+}
+
+// Where the column at a place has its versions, of its keys: none where the stamp isn't in the part.
+fn column_spot(place: &PagePlace, spot: &Spot, key: Key, stamp: Stamp) -> Option<ColumnSpot>
+    requires has { HasKey place.now key }
+    ensures spot { (column : ColumnInPage) → keys_between column.bounds ≡ keys_at place.now → IsSpot column stamp spot.now
+        → IfSome result (IsSpotOf place.now column.parts column.current.start column.current.page key stamp) }
+    ensures none { IfNone result ((column : ColumnInPage) → IsSpot column stamp spot.now → ⊥) }
+    ensures point { IfSome result (HasPoint key stamp) }
 {
     match spot {
-        Spot::InPage(current) => ColumnSpot::InLeaf(*current),
-        Spot::InBlock(found) => ColumnSpot::InPast(past_place(place, found)),
+        Spot::InPage(current) => Some(ColumnSpot::InLeaf(*current)),
+        Spot::InBlock(found) => {
+            if !is_in(found, stamp) {
+                return None;
+            }
+            Some(ColumnSpot::InPast(past_place(place, found)))
+        }
     }
 }
 
-/// Where the column that a page is has its versions at a stamp. None where the page is no column of just the place's keys.
+/// Where the column that a page is has its versions at a stamp. None only where the page is no column of just the place's keys, and not
+/// always there.
 pub fn spot_in(page: &Page, place: &PagePlace, key: Key, stamp: Stamp) -> Option<ColumnSpot>
     requires has { HasKey place.now key }
-    ensures spot { IfSome result (IsSpotIn page.now place.now key stamp) }
+    ensures spot { (parts : List PartValue) (start current : ℕ) → PageSays page.now (ColumnNode (keys_at place.now) parts start current)
+        → IfSome result (IsSpotOf place.now parts start current key stamp) }
     ensures none { IfNone result ((parts : List PartValue) (start current : ℕ) → PageSays page.now (ColumnNode (keys_at place.now) parts start current) → ⊥) }
+    ensures point { IfSome result (HasPoint key stamp) }
 {
-    let Some(head) = read_column(page) else {
+    let Ok(bounds) = column_head(page.octets()) else {
         return None;
     };
-    if !are_its_keys(&head.bounds, place) {
+    if !are_its_keys(&bounds, place) {
         return None;
     }
     let Ok(spot) = spot_for(page.octets(), stamp) else {
         return None;
     };
-    Some(column_spot(place, &spot))
+    column_spot(place, &spot, key, stamp)
 }
 
-/// Whether a page is the current leaf of a column's keys from a start on.
+/// Whether a page may be the current leaf of a column's keys from a start on: it is none where this says no, and not always one where it
+/// says yes.
 pub fn is_current_leaf(page: &Page, column: &PagePlace, start: Stamp) -> bool
-    ensures { IsTrue result ↔ ((versions : List Version) × PageSays page.now (CurrentLeaf (keys_at column.now) start versions)) }
+    ensures { (versions : List Version) → PageSays page.now (CurrentLeaf (keys_at column.now) start versions) → IsTrue result }
 {
-    match read_leaf(page) {
-        Some(bounds) => bounds.start == start && are_its_keys(&bounds, column),
-        None => false,
+    match leaf_head(page.octets()) {
+        Ok(bounds) => bounds.start == start && are_its_keys(&bounds, column),
+        Err(_) => false,
     }
 }

@@ -5,11 +5,10 @@ ghost use Rattle.version_model.specs.Versions.{Version};
 ghost use Rattle.version_model.specs.Ranges.{IsPoint, range_of};
 ghost use Rattle.once_store.specs.Readers.{IsKept, capacity_of, reader_disk};
 ghost use Rattle.tsb_walk.specs.Inside.{KeepsInside};
-ghost use Rattle.tsb_walk.specs.Keeping.{KeepsWay};
 ghost use Rattle.tsb_walk.specs.Knowing.{ReadsWell, IsKnown, StandsKnown};
-ghost use Rattle.tsb_walk.specs.Ways.{IsFit, ComesToDamage, ComesToUnknown};
+ghost use Rattle.tsb_walk.specs.Ways.{IsFit};
 ghost use Rattle.tsb_walk.specs.inner.Steps.{IsStep, GoesDown};
-ghost use Rattle.tsb_walk.specs.inner.Arriving.{Arrives, HasLeaf};
+ghost use Rattle.tsb_walk.specs.inner.Arriving.{HasLeaf};
 
 use crate::block::{Step, step_in};
 use disk_models::OnceDisk;
@@ -26,14 +25,9 @@ fn take_step<O: OnceDisk + Drop>(
     stamp: Stamp,
 ) -> Result<Step, BlockError>
     requires point { IsPoint (range_of place.now.bounds) key stamp }
-    ensures step { ReadsWell O.OnceDisk reader.old seen.old → (octets : List ℕ) → IsKnown (O.known seen.old) (O.block_count (reader_disk reader.old)) place.now.part.block octets → IfOk result (IsStep place.now octets key stamp) }
+    ensures step { ReadsWell O.OnceDisk reader.old seen.old → (octets : List ℕ) → IsKnown (O.known seen.old) (O.block_count (reader_disk reader.old)) place.now.part.block octets → IsFit place.now octets key stamp → IfOk result (IsStep place.now octets key stamp) }
     ensures reads { ReadsWell O.OnceDisk reader.old seen.old → (octets : List ℕ) → IsKnown (O.known seen.old) (O.block_count (reader_disk reader.old)) place.now.part.block octets → ReadsWell O.OnceDisk reader.new seen.new }
     ensures unfit { ReadsWell O.OnceDisk reader.old seen.old → (octets : List ℕ) → IsKnown (O.known seen.old) (O.block_count (reader_disk reader.old)) place.now.part.block octets → (m : ℕ) → result ≡ Err (BlockError.Damaged m) → IsFit place.now octets key stamp → ⊥ }
-    ensures number { (m : ℕ) → result ≡ Err (BlockError.Damaged m) → m ≡ place.now.part.block }
-    ensures hit { (octets : List ℕ) → IsKept reader.old place.now.part.block octets → IfErr result (λ e. e ≡ BlockError.Damaged place.now.part.block) }
-    ensures unread { (octets : List ℕ) → IsKept reader.old place.now.part.block octets → seen.new ≡ seen.old }
-    ensures all { (octets : List ℕ) → IsKept reader.old place.now.part.block octets → (m : ℕ) (other : List ℕ) → IsKept reader.old m other → IsKept reader.new m other }
-    ensures beyond { KeepsInside O.OnceDisk reader.old → O.block_count (reader_disk reader.old) ≤ place.now.part.block → result ≡ Err (BlockError.Damaged place.now.part.block) }
     ensures down { IfOk result (GoesDown place.now key stamp) }
     ensures kept { OnOk result ((octets : List ℕ) × IsKept reader.new place.now.part.block octets) }
     ensures inside { KeepsInside O.OnceDisk reader.old → KeepsInside O.OnceDisk reader.new }
@@ -67,11 +61,6 @@ pub fn leaf_place<O: OnceDisk + Drop>(
     ensures leaf { (all : List Version) → StandsKnown O.OnceDisk reader.old seen.old all place.now → IfOk result (HasLeaf O.OnceDisk reader.new all) }
     ensures reads { (all : List Version) → StandsKnown O.OnceDisk reader.old seen.old all place.now → ReadsWell O.OnceDisk reader.new seen.new }
     ensures never { (all : List Version) → StandsKnown O.OnceDisk reader.old seen.old all place.now → (m : ℕ) → result ≡ Err (BlockError.Damaged m) → ⊥ }
-    ensures reads_on { ReadsWell O.OnceDisk reader.old seen.old → ReadsWell O.OnceDisk reader.new seen.new ⊎ ComesToUnknown (O.known seen.old) (O.block_count (reader_disk reader.old)) key stamp place.now }
-    ensures arrives { ReadsWell O.OnceDisk reader.old seen.old → IfOk result (Arrives O.OnceDisk reader.new (O.known seen.old) (O.block_count (reader_disk reader.old)) key stamp place.now) }
-    ensures damaged { ReadsWell O.OnceDisk reader.old seen.old → (m : ℕ) → result ≡ Err (BlockError.Damaged m) → ComesToDamage (O.known seen.old) (O.block_count (reader_disk reader.old)) key stamp place.now m }
-    ensures kept_on_way { KeepsWay O.OnceDisk reader.old seen.old key stamp place.now → IfErr result (λ e. (m : ℕ) × (e ≡ BlockError.Damaged m)) }
-    ensures unread { KeepsWay O.OnceDisk reader.old seen.old key stamp place.now → seen.new ≡ seen.old }
     ensures point { IfOk result (λ last. IsPoint (range_of last.bounds) key stamp) }
     ensures kept { IfOk result (λ last. (octets : List ℕ) × IsKept reader.new last.part.block octets) }
     ensures inside { KeepsInside O.OnceDisk reader.old → KeepsInside O.OnceDisk reader.new }

@@ -1,5 +1,5 @@
 -- What octets say of a key node where they are one.
-use Rattle.std.specs.Prelude.{◌≡◌, ℕ, zero, suc, List, [], ◌∷◌, length, drop}
+use Rattle.std.specs.Prelude.{◌≡◌, ℕ, zero, suc, ◌*◌, ◌<◌, ◌≤◌, ◌⊎◌, List, [], ◌∷◌, length, drop}
 use Rattle.std.specs.List.{flat_map}
 use Rattle.version_model.specs.declared.bounds.Bounds.{Bounds}
 use Rattle.tsb_node.specs.declared.header.Header.{Header}
@@ -16,6 +16,12 @@ child_in bytes = record { low = number_in 40 0 bytes; page = number_in 8 40 byte
 unfoldable pub children_in : ℕ → List ℕ → List Child
 children_in zero bytes = []
 children_in (suc n) bytes = child_in bytes ∷ children_in n (drop 48 bytes)
+
+-- the place is that of the last child whose keys begin at or below the key, or of the first where none do
+pub record IsChildBefore (count : ℕ) (bytes : List ℕ) (key place : ℕ) : Type 0 where
+  pub below : place < count
+  pub passed : (number_in 40 (48 * place) bytes ≤ key) ⊎ (place ≡ 0)
+  pub next : suc place < count → key < number_in 40 (48 * suc place) bytes
 
 -- the octets are just these children, so many, that follow one another from the lowest key on
 abbrev pub AreChildrenOf : Bounds → ℕ → List ℕ → List Child → Type 0

@@ -1,5 +1,5 @@
 -- What a walk has when it comes to a leaf.
-use Rattle.std.specs.Prelude.{◌≡◌, ℕ, List, Option}
+use Rattle.std.specs.Prelude.{◌≡◌, ℕ, List}
 use Rattle.disk_models.specs.declared.once.OnceDisk.{Ghosts}
 use Rattle.once_store.specs.declared.reader.ShelfReader.{ShelfReader}
 use Rattle.once_store.specs.Readers.{IsKept}
@@ -7,7 +7,7 @@ use Rattle.version_model.specs.declared.part.Place.{Place}
 use Rattle.version_model.specs.Versions.{Version}
 use Rattle.version_model.specs.Ranges.{range_of}
 use Rattle.version_model.specs.Shows.{Shows}
-use Rattle.tsb_walk.specs.Ways.{IsLeafFor, ComesTo}
+use Rattle.tsb_walk.specs.Ways.{IsLeafFor}
 
 -- each block that the reader keeps under the place's number is a leaf that shows the versions in the place's range
 pub record HasLeaf {O Pen Seen : Type 0} (device : Ghosts O Pen Seen) (reader : ShelfReader O Pen Seen device) (all : List Version) (place : Place) : Type 0 where
@@ -16,8 +16,3 @@ pub record HasLeaf {O Pen Seen : Type 0} (device : Ghosts O Pen Seen) (reader : 
   pub versions : List Version
   pub leaf : IsLeafFor place octets versions
   pub shows : Shows all (range_of place.bounds) versions
-
--- the way comes to the place; where its block is known, the reader keeps just that block under its number, and it is a leaf for the place
-abbrev pub Arrives : {O Pen Seen : Type 0} (device : Ghosts O Pen Seen) → ShelfReader O Pen Seen device → (ℕ → Option (List ℕ)) → ℕ → ℕ → ℕ → Place → Place → Type 0
-Arrives device reader known count key stamp first arrived = ComesTo known count key stamp first
-    (λ last octets. (last ≡ arrived) × ((block : List ℕ) → IsKept reader last.part.block block → block ≡ octets) × ((versions : List Version) × IsLeafFor last octets versions))

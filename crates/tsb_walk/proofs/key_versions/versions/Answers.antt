@@ -1,13 +1,9 @@
-use Rattle.std.proofs.Common.{rules, ◌≡◌, ◌∙◌, inl, inr, Err, ap, refl, sym, subst, filter, ℕ, ◌<◌, Option, arith}
+use Rattle.std.proofs.Common.{◌≡◌, ◌∙◌, ap, refl, sym, subst, filter, ℕ, Option, arith}
 use Rattle.once_store.specs.Readers.{reader_disk}
 use Rattle.version_model.specs.Ranges.{end_or}
 use Rattle.version_model.specs.Looks.{is_of}
 use Rattle.version_model.specs.Entries.{versions_of}
 use Rattle.tsb_walk.proofs.Gathering.{known_on, none_gathered, gathered}
-use Rattle.page_journal.specs.Recovers.{IsListed}
-use Rattle.tsb_walk.specs.declared.error.NodeError.TheVariants.{Damaged, OutOfMemory}
-use Rattle.tsb_walk.specs.AllVersions.{IsPartOfTree, MeetsUnknown, MeetsDamage}
-use Rattle.tsb_walk.proofs.Made.{by_same, none_yet, one_more, all_made}
 use Rattle.tsb_walk.proofs.Untouched.{reads_none, reads_then, reads_as}
 use Rattle.tsb_walk.proofs.Walking.{honest_on}
 use Rattle.tsb_walk.proofs.key_versions.versions.Goals as goal
@@ -16,8 +12,7 @@ pub loop-all-init : goal.loop-all-init
 loop-all-init g c = record {
   pages = reads_none g.P.Pages c.args.pages.now ⊥ (λ never. never);
   told = λ start shown shows s all rising st well known. none_gathered c.args.key c.new-from.result all c.new-all.result.items c.new-all.ensures.items c.new-from.ensures.number;
-  reads = λ start shown shows s all st well known. well;
-  made = λ start shown shows well. inl (none_yet shown (g.O.OnceDisk.known c.args.seen.now) (g.O.OnceDisk.block_count (reader_disk c.args.reader.now)) c.args.root.now c.args.key c.new-from.result c.new-all.result.items c.new-all.ensures.items c.new-from.ensures.number, well);
+  reads = λ start shown shows s all rising st well known. well;
   inside = λ k. k;
   known = λ h. refl;
   disk = refl;
@@ -30,7 +25,7 @@ pub returns-in-None-clause-versions : goal.returns-in-None-clause-versions
 returns-in-None-clause-versions g c = λ start shown shows s all rising st well known.
     let i = c.loop-all.invariant in
     let shows' = i.pages.shown start shown shows in
-    let w = i.reads start shown shows s all st well known in
+    let w = i.reads start shown shows s all rising st well known in
     let k = known_on g.O.OnceDisk c.args.reader.now c.loop-all.reader c.args.seen.now c.loop-all.seen s.blocks (i.known well.honest) i.disk known in
     let part = c.in_ok-part.ensures.part start shown shows' s all rising st w k in
     let new : versions_of c.append.new.self.items ≡ filter (is_of c.args.key 0 (end_or c.in_ok-part.part.told)) all =
@@ -46,38 +41,18 @@ loop-all-preserved g c =
       told = λ start shown shows s all rising st well known.
           let i = c.loop-all.invariant in
           let shows' = i.pages.shown start shown shows in
-          let w = i.reads start shown shows s all st well known in
+          let w = i.reads start shown shows s all rising st well known in
           let k = known_on g.O.OnceDisk c.args.reader.now c.loop-all.reader c.args.seen.now c.loop-all.seen s.blocks (i.known well.honest) i.disk known in
           let part = c.in_ok-part.ensures.part start shown shows' s all rising st w k in
           let new : versions_of c.append.new.self.items ≡ filter (is_of c.args.key 0 (end_or c.in_ok-part.part.told)) all =
           gathered all c.args.key c.loop-all.from c.in_ok-part.part.told c.loop-all.all.items c.in_ok-part.part.entries.items c.append.new.self.items rising c.in_ok-append.ensures.items (i.told start shown shows s all rising st well known) part in
           new ∙ ap (λ (t : Option ℕ). filter (is_of c.args.key 0 (end_or t)) all) c.in-Some.is;
-      reads = λ start shown shows s all st well known.
+      reads = λ start shown shows s all rising st well known.
           let i = c.loop-all.invariant in
           let shows' = i.pages.shown start shown shows in
-          let w = i.reads start shown shows s all st well known in
+          let w = i.reads start shown shows s all rising st well known in
           let k = known_on g.O.OnceDisk c.args.reader.now c.loop-all.reader c.args.seen.now c.loop-all.seen s.blocks (i.known well.honest) i.disk known in
-          c.in_ok-part.ensures.reads start shown shows' s all st w k;
-      made = λ start shown shows well.
-          let i = c.loop-all.invariant in
-          let shows' = i.pages.shown start shown shows in
-          let K = g.O.OnceDisk.known c.args.seen.now in
-          let N = g.O.OnceDisk.block_count (reader_disk c.args.reader.now) in
-          let K' = g.O.OnceDisk.known c.loop-all.seen in
-          let N' = g.O.OnceDisk.block_count (reader_disk c.loop-all.reader) in
-          let same = i.known well.honest in
-          let counts : N' ≡ N = ap g.O.OnceDisk.block_count i.disk in
-          elim (i.made start shown shows well) [
-            | inl there ↦ elim (c.in_ok-part.ensures.reads_on start shown shows' there.1) [
-              | inl on ↦ inl (
-                one_more shown K N c.args.root.now c.args.key c.loop-all.from c.in-Some.told c.loop-all.all.items c.append.new.self.items c.in_ok-part.part c.in_ok-append.ensures.items there.0
-                    (by_same K' K N' N (λ f n. IsPartOfTree shown f n c.args.root.now c.args.key c.loop-all.from c.in_ok-part.part) same counts (c.in_ok-part.ensures.checked start shown shows' there.1)) c.in-Some.is,
-                on,
-              )
-              | inr lost ↦ inr (by_same K' K N' N (λ f n. MeetsUnknown shown f n c.args.root.now c.args.key) same counts lost)
-            ]
-            | inr lost ↦ inr lost
-          ];
+          c.in_ok-part.ensures.reads start shown shows' s all rising st w k;
       inside = λ k. c.in_ok-part.ensures.inside (i.inside k);
       known = λ h. c.in_ok-part.ensures.known (subst (λ d. H d c.loop-all.seen) (sym i.disk) (i.honest.0 h)) ∙ i.known h;
       disk = c.in_ok-part.ensures.disk ∙ i.disk;
@@ -86,110 +61,11 @@ loop-all-preserved g c =
       faults = c.in_ok-part.ensures.quiet (λ e. absurd (cc)) ∙ i.faults;
     }
 
-pub returns-in-None-clause-checked : goal.returns-in-None-clause-checked
-returns-in-None-clause-checked g c = λ start shown shows well.
-    let i = c.loop-all.invariant in
-    let shows' = i.pages.shown start shown shows in
-    let K = g.O.OnceDisk.known c.args.seen.now in
-    let N = g.O.OnceDisk.block_count (reader_disk c.args.reader.now) in
-    let K' = g.O.OnceDisk.known c.loop-all.seen in
-    let N' = g.O.OnceDisk.block_count (reader_disk c.loop-all.reader) in
-    let same = i.known well.honest in
-    let counts : N' ≡ N = ap g.O.OnceDisk.block_count i.disk in
-    elim (i.made start shown shows well) [
-      | inl there ↦ inl (all_made shown K N c.args.root.now c.args.key c.loop-all.from c.loop-all.all.items c.append.new.self.items c.in_ok-part.part c.in_ok-append.ensures.items there.0
-          (by_same K' K N' N (λ f n. IsPartOfTree shown f n c.args.root.now c.args.key c.loop-all.from c.in_ok-part.part) same counts (c.in_ok-part.ensures.checked start shown shows' there.1)) c.in-None.is)
-      | inr lost ↦ inr lost
-    ]
-
-pub returns-in_err-part-clause-damaged : goal.returns-in_err-part-clause-damaged
-returns-in_err-part-clause-damaged g c = λ start shown shows well block e.
-    let i = c.loop-all.invariant in
-    let shows' = i.pages.shown start shown shows in
-    let K = g.O.OnceDisk.known c.args.seen.now in
-    let N = g.O.OnceDisk.block_count (reader_disk c.args.reader.now) in
-    let K' = g.O.OnceDisk.known c.loop-all.seen in
-    let N' = g.O.OnceDisk.block_count (reader_disk c.loop-all.reader) in
-    let same = i.known well.honest in
-    let counts : N' ≡ N = ap g.O.OnceDisk.block_count i.disk in
-    let d : c.next_part.result ≡ Err (Damaged block) = search rules in
-    elim (i.made start shown shows well) [
-      | inl there ↦ inl (by_same K' K N' N (λ f n. MeetsDamage shown f n c.args.root.now c.args.key block) same counts (c.next_part.ensures.damaged start shown shows' there.1 block d))
-      | inr lost ↦ inr lost
-    ]
-
-pub returns-in_err-part-clause-reads_on : goal.returns-in_err-part-clause-reads_on
-returns-in_err-part-clause-reads_on g c = λ start shown shows well.
-    let i = c.loop-all.invariant in
-    let shows' = i.pages.shown start shown shows in
-    let K = g.O.OnceDisk.known c.args.seen.now in
-    let N = g.O.OnceDisk.block_count (reader_disk c.args.reader.now) in
-    let K' = g.O.OnceDisk.known c.loop-all.seen in
-    let N' = g.O.OnceDisk.block_count (reader_disk c.loop-all.reader) in
-    let same = i.known well.honest in
-    let counts : N' ≡ N = ap g.O.OnceDisk.block_count i.disk in
-    elim (i.made start shown shows well) [
-      | inl there ↦ elim (c.next_part.ensures.reads_on start shown shows' there.1) [
-        | inl on ↦ inl on
-        | inr lost ↦ inr (by_same K' K N' N (λ f n. MeetsUnknown shown f n c.args.root.now c.args.key) same counts lost)
-      ]
-      | inr lost ↦ inr lost
-    ]
-
 pub returns-in_err-part-clause-inside : goal.returns-in_err-part-clause-inside
 returns-in_err-part-clause-inside g c = λ k. c.next_part.ensures.inside (c.loop-all.invariant.inside k)
-
-pub returns-in_err-append-clause-reads_on : goal.returns-in_err-append-clause-reads_on
-returns-in_err-append-clause-reads_on g c = λ start shown shows well.
-    let i = c.loop-all.invariant in
-    let shows' = i.pages.shown start shown shows in
-    let K = g.O.OnceDisk.known c.args.seen.now in
-    let N = g.O.OnceDisk.block_count (reader_disk c.args.reader.now) in
-    let K' = g.O.OnceDisk.known c.loop-all.seen in
-    let N' = g.O.OnceDisk.block_count (reader_disk c.loop-all.reader) in
-    let same = i.known well.honest in
-    let counts : N' ≡ N = ap g.O.OnceDisk.block_count i.disk in
-    elim (i.made start shown shows well) [
-      | inl there ↦ elim (c.next_part.ensures.reads_on start shown shows' there.1) [
-        | inl on ↦ inl on
-        | inr lost ↦ inr (by_same K' K N' N (λ f n. MeetsUnknown shown f n c.args.root.now c.args.key) same counts lost)
-      ]
-      | inr lost ↦ inr lost
-    ]
 
 pub returns-in_err-append-clause-inside : goal.returns-in_err-append-clause-inside
 returns-in_err-append-clause-inside g c = λ k. c.next_part.ensures.inside (c.loop-all.invariant.inside k)
 
-pub returns-in-None-clause-reads_on : goal.returns-in-None-clause-reads_on
-returns-in-None-clause-reads_on g c = λ start shown shows well.
-    let i = c.loop-all.invariant in
-    let shows' = i.pages.shown start shown shows in
-    let K = g.O.OnceDisk.known c.args.seen.now in
-    let N = g.O.OnceDisk.block_count (reader_disk c.args.reader.now) in
-    let K' = g.O.OnceDisk.known c.loop-all.seen in
-    let N' = g.O.OnceDisk.block_count (reader_disk c.loop-all.reader) in
-    let same = i.known well.honest in
-    let counts : N' ≡ N = ap g.O.OnceDisk.block_count i.disk in
-    elim (i.made start shown shows well) [
-      | inl there ↦ elim (c.next_part.ensures.reads_on start shown shows' there.1) [
-        | inl on ↦ inl on
-        | inr lost ↦ inr (by_same K' K N' N (λ f n. MeetsUnknown shown f n c.args.root.now c.args.key) same counts lost)
-      ]
-      | inr lost ↦ inr lost
-    ]
-
 pub returns-in-None-clause-inside : goal.returns-in-None-clause-inside
 returns-in-None-clause-inside g c = λ k. c.next_part.ensures.inside (c.loop-all.invariant.inside k)
-
-pub returns-in_err-part-clause-memory : goal.returns-in_err-part-clause-memory
-returns-in_err-part-clause-memory g c = λ start shown shows held e.
-    let i = c.loop-all.invariant in
-    let shows' = i.pages.shown start shown shows in
-    let d : c.next_part.result ≡ Err OutOfMemory = search rules in
-    let held' : (n : ℕ) → n < g.P.Pages.homes c.loop-all.pages → IsListed n (g.P.Pages.named c.loop-all.pages) =
-    λ n low. subst (IsListed n) (sym i.pages.named) (held n (subst (λ h. n < h) i.pages.homes low)) in
-    c.next_part.ensures.memory start shown shows' held' d
-
-pub returns-in_err-append-clause-memory : goal.returns-in_err-append-clause-memory
-returns-in_err-append-clause-memory g c = λ start shown shows held e.
-    c.in_ok-part.ensures.comes start shown (c.loop-all.invariant.pages.shown start shown shows)

@@ -1,4 +1,4 @@
-use Rattle.std.proofs.Common.{◌≡◌, ◌↔◌, ◌⊎◌, ◌-◌, ℕ, List, filter}
+use Rattle.std.proofs.Common.{◌≡◌, ◌↔◌, ◌-◌, ℕ, List, filter}
 use Rattle.once_store.specs.Readers.{capacity_of, reader_disk}
 use Rattle.page_tx.specs.Start.{Start}
 use Rattle.version_model.specs.Versions.{Version, IsRising}
@@ -6,7 +6,6 @@ use Rattle.version_model.specs.Ranges.{stamp_end}
 use Rattle.version_model.specs.Looks.{is_of}
 use Rattle.version_model.specs.Entries.{versions_of}
 use Rattle.version_model.specs.Pages.{Store}
-use Rattle.tsb_walk.specs.AllVersions.{AreTold, MeetsUnknown}
 use Rattle.tsb_walk.specs.Inside.{KeepsInside}
 use Rattle.tsb_walk.specs.Knowing.{ReadsWell, AreKnown}
 use Rattle.tsb_walk.specs.Refusals.{OnlyReads}
@@ -19,12 +18,9 @@ invariant-loop-all g l = record {
   told : (start : Start) (shown : List (List ℕ)) → g.P.Pages.shows l.initial.pages start shown → (s : Store) (all : List Version) → IsRising all → StandsShown shown s all l.root
       → ReadsWell g.O.OnceDisk l.initial.reader l.initial.seen → AreKnown (g.O.OnceDisk.known l.initial.seen) (g.O.OnceDisk.block_count (reader_disk l.initial.reader)) s.blocks
       → versions_of l.all.items ≡ filter (is_of l.key 0 l.from) all;
-  reads : (start : Start) (shown : List (List ℕ)) → g.P.Pages.shows l.initial.pages start shown → (s : Store) (all : List Version) → StandsShown shown s all l.root
+  reads : (start : Start) (shown : List (List ℕ)) → g.P.Pages.shows l.initial.pages start shown → (s : Store) (all : List Version) → IsRising all → StandsShown shown s all l.root
       → ReadsWell g.O.OnceDisk l.initial.reader l.initial.seen → AreKnown (g.O.OnceDisk.known l.initial.seen) (g.O.OnceDisk.block_count (reader_disk l.initial.reader)) s.blocks
       → ReadsWell g.O.OnceDisk l.reader l.seen;
-  made : (start : Start) (shown : List (List ℕ)) → g.P.Pages.shows l.initial.pages start shown → ReadsWell g.O.OnceDisk l.initial.reader l.initial.seen
-      → (AreTold shown (g.O.OnceDisk.known l.initial.seen) (g.O.OnceDisk.block_count (reader_disk l.initial.reader)) l.root l.key l.from (versions_of l.all.items) × ReadsWell g.O.OnceDisk l.reader l.seen)
-      ⊎ MeetsUnknown shown (g.O.OnceDisk.known l.initial.seen) (g.O.OnceDisk.block_count (reader_disk l.initial.reader)) l.root l.key;
   inside : KeepsInside g.O.OnceDisk l.initial.reader → KeepsInside g.O.OnceDisk l.reader;
   known : g.O.OnceDisk.honest_seen (reader_disk l.initial.reader) l.initial.seen → g.O.OnceDisk.known l.seen ≡ g.O.OnceDisk.known l.initial.seen;
   disk : reader_disk l.reader ≡ reader_disk l.initial.reader;

@@ -10,27 +10,23 @@ use Rattle.tsb_walk.proofs.Ons.{if_ok}
 use Rattle.tsb_walk.proofs.leaf_looks.reached_on.Goals as goal
 
 pub returns-then-not-is_current_leaf-clause-none : goal.returns-then-not-is_current_leaf-clause-none
-returns-then-not-is_current_leaf-clause-none c = λ e versions says. absurd (cc (c.is_current_leaf.ensures.1 (versions, says), c.if-not-is_current_leaf.true))
+returns-then-not-is_current_leaf-clause-none c = λ e versions says. absurd (cc (c.is_current_leaf.ensures versions says, c.if-not-is_current_leaf.true))
 
 pub returns-clause-reached : goal.returns-clause-reached
-returns-clause-reached c =
+returns-clause-reached c = λ versions says.
     let column = c.args.column.now in
-    let says = c.is_current_leaf.ensures.0 (cc c.if-not-is_current_leaf.false) in
-    let leaf = begun_leaf c.args.page.now _ says.1 (keys_at column) c.args.start says.0 refl in
+    let leaf = begun_leaf c.args.page.now _ says (keys_at column) c.args.start versions refl in
     let begins = subst (BeginsAsLeaf leaf.leaf) (sym c.octets.ensures.value) leaf.begins in
     if_ok c.reached_in.result _ _
-    (λ reached is. (
-      says.0,
-      says.1,
-      subst (λ (vs : List Version). IsReached vs c.args.stamp c.args.from (reached_as reached)) leaf.same
-          (is leaf.leaf.versions (all_below (high_or column.high)) leaf.leaf begins (shows_itself leaf.leaf.versions (high_or column.high)) refl (point_below (high_or column.high) c.args.from c.args.stamp c.requires.has.high (omega (arith, c.stamp_fits.ensures.fits)))),
-    ))
+    (λ reached is.
+        subst (λ (vs : List Version). IsReached vs c.args.stamp c.args.from (reached_as reached)) leaf.same
+        (is leaf.leaf.versions (all_below (high_or column.high)) leaf.leaf begins (shows_itself leaf.leaf.versions (high_or column.high)) refl (point_below (high_or column.high) c.args.from c.args.stamp c.requires.has.high (omega (arith, c.stamp_fits.ensures.fits)))))
     c.reached_in.ensures.reached
+
+pub returns-clause-onward : goal.returns-clause-onward
+returns-clause-onward c = c.reached_in.ensures.onward c.requires.has.high
 
 pub returns-clause-none : goal.returns-clause-none
 returns-clause-none c = λ e versions says.
     let leaf = begun_leaf c.args.page.now _ says (keys_at c.args.column.now) c.args.start versions refl in
     c.reached_in.ensures.leaf leaf.leaf (subst (BeginsAsLeaf leaf.leaf) (sym c.octets.ensures.value) leaf.begins) e
-
-pub returns-clause-memory : goal.returns-clause-memory
-returns-clause-memory c = λ e. c.is_current_leaf.ensures.0 (cc c.if-not-is_current_leaf.false)

@@ -1,17 +1,8 @@
-use Rattle.std.proofs.Common.{rules, ◌≡◌, Err, IfErr, Result, subst, sym}
-use Rattle.tsb_walk.specs.declared.error.NodeError.{NodeError}
-use Rattle.tsb_walk.specs.declared.page_place.PagePlace.{PagePlace}
-use Rattle.tsb_walk.specs.Refusals.{IsDamage}
+use Rattle.std.proofs.Common.{◌<◌, sym, subst}
+use Rattle.tsb_walk.proofs.PageWalking.{led_is}
 use Rattle.tsb_walk.proofs.locating.down.Goals as goal
 
-pub returns-in_err-bring-clause-held : goal.returns-in_err-bring-clause-held
-returns-in_err-bring-clause-held g c = λ listed.
-    let h = c.in_err-bring.ensures.held (λ inside. listed c.args.place.now.page inside) in
-    let d : c.from_residual.result ≡ Err c.in_err-bring.field-0.0 = search rules in
-    subst (λ (r : Result PagePlace NodeError). IfErr r IsDamage) (sym d) h
-
-pub returns-in_err-bring-clause-held_here : goal.returns-in_err-bring-clause-held_here
-returns-in_err-bring-clause-held_here g c = λ listed.
-    let h = c.in_err-bring.ensures.held listed in
-    let d : c.from_residual.result ≡ Err c.in_err-bring.field-0.0 = search rules in
-    subst (λ (r : Result PagePlace NodeError). IfErr r IsDamage) (sym d) h
+pub returns-in-Some-child_in-clause-led : goal.returns-in-Some-child_in-clause-led
+returns-in-Some-child_in-clause-led g c = λ start shown shows.
+    let at = c.in-Some.ensures.shown start shown (c.bring.ensures.same.shown start shown shows) (subst (λ n. c.args.place.now.page < n) (sym c.bring.ensures.same.homes) c.in_ok-bring.ensures.inside) in
+    led_is shown c.in-Some.page.now c.args.place.now c.in-Some-child_in.next c.args.key at c.in-Some-child_in.ensures.child c.in-Some-child_in.ensures.above c.in-Some-child_in.ensures.level c.in-Some-child_in.ensures.has

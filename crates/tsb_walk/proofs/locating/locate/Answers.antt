@@ -1,10 +1,6 @@
-use Rattle.std.proofs.Common.{rules, ◌≡◌, Err, IfErr, Result, sym, subst, arith}
-use Rattle.page_journal.specs.Recovers.{IsListed}
-use Rattle.tsb_walk.specs.declared.error.NodeError.{NodeError}
+use Rattle.std.proofs.Common.{rules, ◌≡◌, Err, arith}
 use Rattle.tsb_walk.specs.declared.error.NodeError.TheVariants.{BadNode}
-use Rattle.tsb_walk.specs.declared.page_place.PagePlace.{PagePlace}
 use Rattle.tsb_walk.specs.PageWays.{here, further}
-use Rattle.tsb_walk.specs.Refusals.{IsDamage}
 use Rattle.tsb_walk.proofs.Untouched.{reads_none, reads_then, reads_as}
 use Rattle.tsb_walk.proofs.locating.locate.Goals as goal
 
@@ -22,7 +18,7 @@ loop-at-preserved g c =
     record {
       has = c.in_ok-at.ensures.has;
       some = omega (arith, c.in_ok-at.ensures.level, c.loop-at-test.true);
-      way = λ start shown shows. further c.args.root.now c.loop-at.at c.in_ok-at.at (i.way start shown shows) (c.in_ok-at.ensures.lower start shown (i.same.shown start shown shows));
+      way = λ start shown shows. further c.args.root.now c.loop-at.at c.in_ok-at.at (i.way start shown shows) (c.in_ok-at.ensures.led start shown (i.same.shown start shown shows));
       same = reads_then g.P.Pages c.args.pages.now c.loop-at.pages c.down.new.pages ⊥ ⊥ i.same (λ no. no) (reads_as g.P.Pages c.loop-at.pages c.down.new.pages _ ⊥ c.in_ok-at.ensures.same (λ e. absurd (cc)) (λ no. absurd no));
     }
 
@@ -32,18 +28,3 @@ returns-in_err-at-clause-bad g c = λ start shown shows page e.
     let i = c.loop-at.invariant in
     let b = c.down.ensures.bad start shown (i.same.shown start shown shows) page d in
     record { last = c.loop-at.at; way = i.way start shown shows; above = c.loop-at-test.true; is = b.0; bad = b.1 }
-
-pub returns-in_err-at-clause-held : goal.returns-in_err-at-clause-held
-returns-in_err-at-clause-held g c = λ listed.
-    let i = c.loop-at.invariant in
-    let h = c.in_err-at.ensures.held (λ n inside. subst (IsListed n) (sym i.same.named) (listed n (omega (arith, inside, i.same.homes)))) in
-    let d : c.from_residual.result ≡ Err c.in_err-at.field-0.0 = search rules in
-    subst (λ (r : Result PagePlace NodeError). IfErr r IsDamage) (sym d) h
-
-pub returns-in_err-at-clause-held_on_way : goal.returns-in_err-at-clause-held_on_way
-returns-in_err-at-clause-held_on_way g c = λ start shown shows listed.
-    let i = c.loop-at.invariant in
-    let h = c.in_err-at.ensures.held_here (λ inside. subst (IsListed c.loop-at.at.page) (sym i.same.named)
-    (listed c.loop-at.at (i.way start shown shows) c.loop-at-test.true (omega (arith, inside, i.same.homes)))) in
-    let d : c.from_residual.result ≡ Err c.in_err-at.field-0.0 = search rules in
-    subst (λ (r : Result PagePlace NodeError). IfErr r IsDamage) (sym d) h

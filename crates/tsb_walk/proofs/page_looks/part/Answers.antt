@@ -1,15 +1,8 @@
-use Rattle.std.proofs.Common.{rules, ◌≡◌, ◌<◌, Err, arith, subst, sym, Result, IfErr}
-use Rattle.page_journal.specs.Recovers.{IsListed}
+use Rattle.std.proofs.Common.{rules, ◌≡◌, ◌<◌, Err, arith}
 use Rattle.version_model.specs.Ranges.{stamp_end}
-use Rattle.tsb_walk.specs.Refusals.{IsDamage, NeedsNoDevice}
-use Rattle.tsb_walk.specs.PageLooks.{on_way}
-use Rattle.tsb_walk.specs.declared.looks.Parted.{Parted}
-use Rattle.tsb_walk.specs.declared.error.NodeError.{NodeError}
-use Rattle.tsb_walk.specs.declared.page_looks.ColumnAt.{ColumnAt}
-use Rattle.tsb_walk.specs.declared.error.NodeError.TheVariants.{BadNode, OutOfMemory}
-use Rattle.tsb_walk.specs.declared.looks.Parted.TheVariants as parted
-use Rattle.tsb_walk.proofs.PageWalking.{in_leaf, in_past, bad_here, read_leaf, no_device}
-use Rattle.tsb_walk.proofs.PageStanding.{parted_stands, none_bad}
+use Rattle.tsb_walk.specs.declared.error.NodeError.TheVariants.{BadNode}
+use Rattle.tsb_walk.proofs.PageWalking.{bad_here}
+use Rattle.tsb_walk.proofs.PageStanding.{parted_here, goes_on_here, none_bad}
 use Rattle.tsb_walk.proofs.page_looks.part.Goals as goal
 
 pub returns-in_err-at-clause-blames : goal.returns-in_err-at-clause-blames
@@ -32,42 +25,10 @@ returns-in_err-answer-in-InLeaf-clause-blames g c = λ start shown shows s all s
 
 pub returns-in_ok-answer-in-InLeaf-clause-part : goal.returns-in_ok-answer-in-InLeaf-clause-part
 returns-in_ok-answer-in-InLeaf-clause-part g c = λ start shown shows s all rising st.
-    let at = c.in_ok-at.at in
-    let h = c.in_ok-answer-in-InLeaf.ensures.part start shown (c.column_at.ensures.same.shown start shown shows) in
-    let leaf = in_leaf shown c.args.root.now c.args.key c.args.from at (c.in_ok-at.ensures.there start shown shows) c.in-InLeaf.current c.in-InLeaf.is h.0 h.1 in
     let fits : c.args.from < stamp_end = omega (arith, c.stamp_fits.ensures.fits) in
-    parted_stands shown s all c.args.root.now c.args.key c.args.from (parted.Here c.in_ok-answer-in-InLeaf.answer) fits rising (at.column, h.0, leaf, c.in_ok-answer-in-InLeaf.ensures.told, h.2) st
+    parted_here shown s all c.args.root.now c.args.key c.args.from c.in_ok-at.at (c.in_ok-at.ensures.there start shown shows) st c.in-InLeaf.current c.in-InLeaf.is fits rising c.in_ok-answer-in-InLeaf.answer
+    (λ versions says. c.in_ok-answer-in-InLeaf.ensures.part start shown (c.column_at.ensures.same.shown start shown shows) versions says) c.in_ok-answer-in-InLeaf.ensures.told
 
 pub returns-in-InPast-clause-part : goal.returns-in-InPast-clause-part
 returns-in-InPast-clause-part g c = λ start shown shows s all rising st.
-    let fits : c.args.from < stamp_end = omega (arith, c.stamp_fits.ensures.fits) in
-    let past = in_past shown c.args.root.now c.args.key c.args.from c.in_ok-at.at (c.in_ok-at.ensures.there start shown shows) c.in-InPast.place c.in-InPast.is in
-    parted_stands shown s all c.args.root.now c.args.key c.args.from (parted.InBlock c.in-InPast.place) fits rising past st
-
-pub returns-in_err-at-clause-memory : goal.returns-in_err-at-clause-memory
-returns-in_err-at-clause-memory g c = λ start shown shows listed e.
-    let d : c.column_at.result ≡ Err OutOfMemory = search rules in
-    absurd (subst (λ (r : Result ColumnAt NodeError). IfErr r IsDamage) d (c.column_at.ensures.held listed))
-
-pub returns-in_err-answer-in-InLeaf-clause-memory : goal.returns-in_err-answer-in-InLeaf-clause-memory
-returns-in_err-answer-in-InLeaf-clause-memory g c = λ start shown shows listed e.
-    let d : c.part_here.result ≡ Err OutOfMemory = search rules in
-    let same = c.column_at.ensures.same in
-    let page = c.in-InLeaf.current.page in
-    let m = c.part_here.ensures.memory start shown (same.shown start shown shows) (λ inside. subst (IsListed page) (sym same.named) (listed page (omega (arith, inside, same.homes)))) d in
-    (c.in_ok-at.at.column, m.0, in_leaf shown c.args.root.now c.args.key c.args.from c.in_ok-at.at (c.in_ok-at.ensures.there start shown shows) c.in-InLeaf.current c.in-InLeaf.is m.0 m.1)
-
-pub returns-in_err-at-clause-held : goal.returns-in_err-at-clause-held
-returns-in_err-at-clause-held g c = λ start shown shows listed.
-    let h = no_device c.in_err-at.field-0.0 (c.in_err-at.ensures.held_on_way start shown shows (λ place way. listed place.page (on_way place way))) in
-    let d : c.from_residual.result ≡ Err c.in_err-at.field-0.0 = search rules in
-    subst (λ (r : Result Parted NodeError). IfErr r NeedsNoDevice) (sym d) h
-
-pub returns-in_err-answer-in-InLeaf-clause-held : goal.returns-in_err-answer-in-InLeaf-clause-held
-returns-in_err-answer-in-InLeaf-clause-held g c = λ start shown shows listed.
-    let same = c.column_at.ensures.same in
-    let page = c.in-InLeaf.current.page in
-    let read = read_leaf shown c.args.root.now c.args.key c.args.from c.in_ok-at.at (c.in_ok-at.ensures.there start shown shows) c.in-InLeaf.current c.in-InLeaf.is in
-    let h = c.in_err-answer-in-InLeaf.ensures.held (λ inside. subst (IsListed page) (sym same.named) (listed page read (omega (arith, inside, same.homes)))) in
-    let d : c.from_residual-in_err-answer-in-InLeaf.result ≡ Err c.in_err-answer-in-InLeaf.field-0.0 = search rules in
-    subst (λ (r : Result Parted NodeError). IfErr r NeedsNoDevice) (sym d) h
+    goes_on_here shown s all c.args.root.now c.args.key c.args.from c.in_ok-at.at (c.in_ok-at.ensures.there start shown shows) st c.in-InPast.place c.in-InPast.is

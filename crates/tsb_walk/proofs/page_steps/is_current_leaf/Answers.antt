@@ -1,25 +1,30 @@
-use Rattle.std.proofs.Common.{sym, ◌∙◌}
-use Rattle.std.proofs.lemmas.Bool.{eqb-true, eq-eqb}
+use Rattle.std.proofs.Common.{◌≡◌, ◌∙◌, ap, refl, sym, subst}
+use Rattle.std.proofs.lemmas.Bool.{eq-eqb}
+use Rattle.version_model.specs.declared.bounds.Bounds.{Bounds}
+use Rattle.tsb_node.specs.Leaves.{BeginsAsLeaf}
+use Rattle.tsb_node.specs.Views.{keys_between}
+use Rattle.tsb_node.proofs.api.Pages.{leaf_begins}
 use Rattle.tsb_walk.specs.Shown.{keys_at}
-use Rattle.tsb_walk.proofs.OnePage.{leaf_for_page, leaf_same}
+use Rattle.tsb_walk.proofs.OnePage.{said_leaf_page}
 use Rattle.tsb_walk.proofs.page_steps.is_current_leaf.Goals as goal
 
 pub returns-then-eq : goal.returns-then-eq
-returns-then-eq c =
-    let page = c.args.page.now in
-    let column = c.args.column.now in
-    let found = c.in-Some.ensures.found in
-    let start = eqb-true c.in-Some.bounds.start c.args.start (sym c.eq.ensures ∙ c.if-eq.true) in (
-      λ yes. (found.0.versions, leaf_for_page page found.0 c.in-Some.bounds column c.args.start found.1 found.2 (c.are_its_keys.ensures.0 yes) start),
-      λ is. c.are_its_keys.ensures.1 (leaf_same page found.0 c.in-Some.bounds (keys_at column) c.args.start is.0 found.1 found.2 is.1).1,
-    )
+returns-then-eq c = λ versions says.
+    let said = said_leaf_page c.args.page.now _ says (keys_at c.args.column.now) c.args.start versions refl in
+    let head = c.leaf_head.ensures.leaf said.leaf (subst (BeginsAsLeaf said.leaf) (sym c.octets.ensures.value) (leaf_begins said.leaf c.args.page.now said.page)) in
+    let bounds : c.in-Ok.bounds ≡ said.leaf.bounds = cc (c.in-Ok.is, head) in
+    c.are_its_keys.ensures.1 (ap keys_between bounds ∙ said.keys_are)
 
 pub returns-else-eq : goal.returns-else-eq
-returns-else-eq c = (
-  λ yes. absurd (cc),
-  λ is. absurd (
-      let found = c.in-Some.ensures.found in
-      let start = (leaf_same c.args.page.now found.0 c.in-Some.bounds (keys_at c.args.column.now) c.args.start is.0 found.1 found.2 is.1).0 in
-      let same = eq-eqb c.in-Some.bounds.start c.args.start start in
-      cc (c.eq.ensures, same, c.if-eq.false)),
-)
+returns-else-eq c = λ versions says.
+    let said = said_leaf_page c.args.page.now _ says (keys_at c.args.column.now) c.args.start versions refl in
+    let head = c.leaf_head.ensures.leaf said.leaf (subst (BeginsAsLeaf said.leaf) (sym c.octets.ensures.value) (leaf_begins said.leaf c.args.page.now said.page)) in
+    let bounds : c.in-Ok.bounds ≡ said.leaf.bounds = cc (c.in-Ok.is, head) in
+    let same = eq-eqb c.in-Ok.bounds.start c.args.start (ap (λ (b : Bounds). b.start) bounds ∙ said.start_is) in
+    absurd (cc (c.eq.ensures, same, c.if-eq.false))
+
+pub returns-in-Err : goal.returns-in-Err
+returns-in-Err c = λ versions says.
+    let said = said_leaf_page c.args.page.now _ says (keys_at c.args.column.now) c.args.start versions refl in
+    let head = c.leaf_head.ensures.leaf said.leaf (subst (BeginsAsLeaf said.leaf) (sym c.octets.ensures.value) (leaf_begins said.leaf c.args.page.now said.page)) in
+    absurd (cc (c.in-Err.is, head))
