@@ -10,7 +10,7 @@ use Rattle.route_history.specs.EventTurns.{IsEventsErrandOf, Stand}
 use Rattle.route_history.specs.Kept.{Kept}
 use Rattle.route_history.specs.RowTurns.{IsErrandOf}
 use Rattle.route_history.specs.Walks.{Rose, NotBack}
-use Rattle.tree_questions.specs.Naming.{PartsBelow}
+use Rattle.tsb_walk.specs.Looked.{PartsBelow}
 use Rattle.tsb_walk.specs.Knowing.{ReadsWell}
 use Rattle.version_model.specs.Blocks.{BlockNode, PlaceStands}
 use Rattle.version_model.specs.Versions.{Version}

@@ -1,4 +1,3 @@
 mod Reading
-mod Unburnt
 mod Going
 mod Turned

@@ -1,4 +1,3 @@
-pub mod Naming
 pub mod Reading
 pub mod Turning
 pub mod inner

@@ -21,7 +21,7 @@ use Rattle.tsb_walk.specs.Shown.{StandsShown}
 use Rattle.version_model.specs.Blocks.{BlockNode, PlaceStands}
 use Rattle.version_model.specs.Pages.{Store}
 use Rattle.version_model.specs.Versions.{Version, IsRising}
-use Rattle.tree_questions.specs.Naming.{PartsBelow}
+use Rattle.tsb_walk.specs.Looked.{PartsBelow}
 
 -- The pages of a transaction show a tree whose root is at this place. By what they and blocks of this store say it stands for these
 -- versions, whose stamps rise. It names no block from the first on that was never burnt.

@@ -6,13 +6,12 @@ ghost use Rattle.route_meaning.specs.Events.{IsEventsAnswer};
 ghost use Rattle.route_meaning.specs.Merged.{Placed};
 ghost use Rattle.version_model.specs.Pages.{Store, all_keys};
 ghost use Rattle.version_model.specs.Versions.{Version};
-ghost use Rattle.tsb_walk.specs.Looked.{IsParted};
+ghost use Rattle.tsb_walk.specs.Looked.{IsParted, PartsBelow};
 ghost use Rattle.tsb_walk.specs.Refusals.{LookRefusal, OnlyReads};
 ghost use Rattle.tsb_walk.specs.Shown.{keys_at};
 ghost use Rattle.route_history.specs.Blame.{BlamesNone};
 ghost use Rattle.route_history.specs.Points.{PartsAt};
 ghost use Rattle.route_history.specs.Spans.{TellsEvents, HasToldSo};
-ghost use Rattle.tree_questions.specs.Naming.{PartsBelow};
 ghost use Rattle.tree_questions.specs.Turning.{ShowsTree, TurnsEvents, GoesOnEvents, EventsBelow};
 ghost use Rattle.tree_questions.specs.inner.Telling.{KeepsEvents, TellsOn, ToldEvents};
 

@@ -1,14 +1,12 @@
 //! Looks that begin at current pages, and go on in no block that was never burnt.
 
-ghost use Rattle.std.specs.Prelude.{◌≡◌, ◌<◌, ◌≤◌, ◌⊎◌, ℕ, List, IfOk, OnOk, IfErr, Err};
+ghost use Rattle.std.specs.Prelude.{◌≡◌, ◌<◌, ◌≤◌, ℕ, List, IfOk, OnOk, IfErr, Err};
 ghost use Rattle.page_tx.specs.Start.{Start};
 ghost use Rattle.version_model.specs.Pages.{Store};
 ghost use Rattle.version_model.specs.Versions.{Version, IsRising};
-ghost use Rattle.tsb_walk.specs.Looked.{IsLooked, IsParted, LooksAt, LooksOn, PartsAt, TellsAll};
-ghost use Rattle.tsb_walk.specs.PageLooks.{InPastOf, IsBadLook};
+ghost use Rattle.tsb_walk.specs.Looked.{IsLooked, IsParted, LooksAt, LooksBelow, LooksOn, PartsAt, PartsBelow, TellsAll};
 ghost use Rattle.tsb_walk.specs.Refusals.{LookRefusal, OnlyReads};
 ghost use Rattle.tsb_walk.specs.Shown.{HasKey, StandsShown};
-ghost use Rattle.tree_questions.specs.Naming.{NamesUnburnt, GoesBelow, PartsBelow};
 
 use page_tx::Pages;
 use route_model::Key;
@@ -27,7 +25,7 @@ fn check_named<P: Pages>(
     requires has { HasKey root.now key }
     requires level { 1 ≤ root.now.level }
     ensures named { OnOk result (place.now.part.block < burnt) }
-    ensures bad { (start : Start) (shown : List (List ℕ)) → P.shows pages.old start shown → (stamp : ℕ) → InPastOf shown root.now key stamp place.now → (page : ℕ) → result ≡ Err (NodeError.BadNode page) → NamesUnburnt shown root.now key burnt page }
+    ensures bad { (page : ℕ) → result ≡ Err (NodeError.BadNode page) → burnt ≤ place.now.part.block }
     ensures refused { IfErr result (LookRefusal (P.down pages.old)) }
     ensures same { OnlyReads P.Pages pages.old pages.new (result ≡ Err NodeError.Fault) }
 {
@@ -51,8 +49,7 @@ pub(crate) fn next_named<P: Pages>(
     requires has { HasKey root.now from }
     requires level { 1 ≤ root.now.level }
     ensures next { (start : Start) (shown : List (List ℕ)) → P.shows pages.old start shown → (s : Store) (all : List Version) → StandsShown shown s all root.now → IfOk result (IsLooked s.blocks all from stamp) }
-    ensures named { IfOk result (GoesBelow burnt) }
-    ensures bad { (start : Start) (shown : List (List ℕ)) → P.shows pages.old start shown → (page : ℕ) → result ≡ Err (NodeError.BadNode page) → IsBadLook shown root.now from stamp page ⊎ NamesUnburnt shown root.now from burnt page }
+    ensures named { IfOk result (LooksBelow burnt) }
     ensures blames { (start : Start) (shown : List (List ℕ)) → P.shows pages.old start shown → (s : Store) (all : List Version) → StandsShown shown s all root.now → s.next ≤ burnt → (page : ℕ) → result ≡ Err (NodeError.BadNode page) → ⊥ }
     ensures point { IfOk result (LooksAt from stamp) }
     ensures onward { IfOk result (LooksOn from) }
@@ -79,7 +76,6 @@ pub(crate) fn part_named<P: Pages>(
     requires level { 1 ≤ root.now.level }
     ensures part { (start : Start) (shown : List (List ℕ)) → P.shows pages.old start shown → (s : Store) (all : List Version) → IsRising all → StandsShown shown s all root.now → IfOk result (IsParted s.blocks all key from) }
     ensures named { IfOk result (PartsBelow burnt) }
-    ensures bad { (start : Start) (shown : List (List ℕ)) → P.shows pages.old start shown → (page : ℕ) → result ≡ Err (NodeError.BadNode page) → IsBadLook shown root.now key from page ⊎ NamesUnburnt shown root.now key burnt page }
     ensures blames { (start : Start) (shown : List (List ℕ)) → P.shows pages.old start shown → (s : Store) (all : List Version) → StandsShown shown s all root.now → s.next ≤ burnt → (page : ℕ) → result ≡ Err (NodeError.BadNode page) → ⊥ }
     ensures point { IfOk result (PartsAt key from) }
     ensures told { IfOk result TellsAll }

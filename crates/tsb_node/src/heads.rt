@@ -1,7 +1,7 @@
 //! The headers of nodes, read alone. A walk through a tree goes on by what they say, and doesn't look at the entries that it doesn't
 //! need: where octets are a node, its header is answered; of other octets nothing is promised but that the call ends.
 
-ghost use Rattle.std.specs.Prelude.{◌≡◌, ◌≤◌, length, IfOk, Ok};
+ghost use Rattle.std.specs.Prelude.{◌≡◌, ◌≤◌, length, IfOk, IsErr, Ok};
 ghost use Rattle.tsb_node.specs.Leaves.{LeafNode, BeginsAsLeaf};
 ghost use Rattle.tsb_node.specs.Columns.{ColumnInPage, ColumnInBlock};
 ghost use Rattle.tsb_node.specs.Parts.{BeginsAsColumn, BeginsAsOldColumn};
@@ -22,10 +22,12 @@ pub struct KeyNodeHead {
     pub bounds: Bounds,
 }
 
-/// The level and the bounds of the key node that begins these octets. Refused only where they aren't a key node, and not always there.
+/// The level and the bounds of the key node that begins these octets. Refused where they are a column; else only where they aren't a key
+/// node, and not always there.
 pub fn key_node_head(octets: &[u8]) -> Result<KeyNodeHead, NotANode>
     requires size { length octets.now ≡ 16384 }
     ensures head { (node : KeyNodeInPage) → BeginsAsKeyNode node octets.now → result ≡ Ok (record { level = node.level; bounds = node.bounds }) }
+    ensures column { (column : ColumnInPage) → BeginsAsColumn column octets.now → IsErr result }
     ensures level { IfOk result (λ head. (2 ≤ head.level) × (head.level ≤ 7)) }
 {
     let Some(header) = read_header(octets) else {

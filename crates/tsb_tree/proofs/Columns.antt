@@ -1,13 +1,15 @@
 -- A column that stands is what its pages say, and what is laid of it is planned.
 use Rattle.std.proofs.Common.{◌≡◌, ℕ, ◌<◌, inl, inr, List, [], ◌∷◌, ◌++◌, Some, Result, Ok, Err, IfOk, slice_get, refl, sym, ◌∙◌, ap, subst, arith}
 use Rattle.std.proofs.lemmas.Option.{same_Some}
+use Rattle.tsb_node.specs.declared.column.Current.{Current}
 use Rattle.tsb_node.specs.Views.{PageSays, says_leaf}
 use Rattle.tsb_node.proofs.api.Pages.{one_said}
 use Rattle.tsb_node.specs.Leaves.{IsLeafPage, IsVersionOf}
 use Rattle.tsb_node.specs.Columns.{ColumnInPage, IsColumn, BeginsAt, starts_of}
 use Rattle.tsb_walk.specs.declared.page_place.PagePlace.{PagePlace}
+use Rattle.tsb_walk.specs.declared.page_steps.ColumnSpot.{ColumnSpot}
 use Rattle.tsb_walk.specs.declared.page_steps.ColumnSpot.TheVariants.{InPast}
-use Rattle.tsb_walk.specs.inner.PageSteps.{IsSpotIn}
+use Rattle.tsb_walk.specs.inner.PageSteps.{IsSpotOf}
 use Rattle.tsb_walk.specs.Shown.{Says, AreShown, keys_at}
 use Rattle.version_model.specs.declared.bounds.Bounds.{Bounds}
 use Rattle.version_model.specs.declared.part.Part.{Part}
@@ -62,17 +64,14 @@ module _ (s : Store) (all : List Version) (place : PagePlace) (shown : List (Lis
       }
 
 -- where the parts follow one another up to the current leaf, a stamp that isn't before it lies in none of them
-pub past_not : (octets : List ℕ) (place : PagePlace) (key stamp : ℕ) (past : Place) (parts : List Part) (start current next : ℕ) → IsSpotIn octets place key stamp (InPast past) → IsColumnFor octets place stamp parts start current next → ⊥
-past_not octets place key stamp past parts start current next is col =
-    let same : ColumnNode (keys_at place) is.parts is.start is.current ≡ ColumnNode (keys_at place) parts start current = one_said octets _ _ is.says col.says in
-    let p : is.parts ≡ parts = cc in
-    let from : is.start ≡ start = cc in
-    let part : IsPartOf (past_range (keys_at place) start) parts (range_of past.bounds) past.part
-    = subst (λ (n : ℕ). IsPartOf (past_range (keys_at place) n) parts (range_of past.bounds) past.part) from (subst (λ (ps : List Part). IsPartOf (past_range (keys_at place) is.start) ps (range_of past.bounds) past.part) p is.there.0) in
+pub past_not : (octets : List ℕ) (place : PagePlace) (key stamp : ℕ) (spot : ColumnSpot) (past : Place) (parts : List Part) (start current next : ℕ) → spot ≡ InPast past → IsSpotOf place parts start current key stamp spot
+    → IsColumnFor octets place stamp parts start current next → ⊥
+past_not octets place key stamp spot past parts start current next e there col =
+    let is : IsSpotOf place parts start current key stamp (InPast past) = subst (IsSpotOf place parts start current key stamp) e there in
     elim col.are_parts [
-      | inl none ↦ no_at_nil part.place past.part (subst (λ (ps : List Part). slice_get ps part.place ≡ Some past.part) none part.at)
-      | inr are ↦ (let inside = are.inside _ _ part in let before = is.there.1.end in absurd (omega (arith, inside.1, before, col.before)))
-    ]
+  | inl none ↦ no_at_nil is.0.place past.part (subst (λ (ps : List Part). slice_get ps is.0.place ≡ Some past.part) none is.0.at)
+  | inr are ↦ (let inside = are.inside _ _ is.0 in let before = is.1.end in absurd (omega (arith, inside.1, before, col.before)))
+]
 
 -- what was read of a column and its leaf fits a page
 pub whole_read : (w : Whole) (said : ColumnInPage) (image : List ℕ) → IsColumn said → w.parts.items ≡ said.parts → w.start ≡ said.current.start → IsLeafPage (leaf_in_page w) image → IsWhole w
@@ -106,3 +105,10 @@ ok_map P Q (Err e) f h = tt
 pub ok_both : {A E : Type 0} (P Q R : A → Type 0) (r : Result A E) → ((x : A) → P x → Q x → R x) → IfOk r P → IfOk r Q → IfOk r R
 ok_both P Q R (Ok x) f h k = f x h k
 ok_both P Q R (Err e) f h k = tt
+
+-- the image of the page where a column has its current leaf says that leaf
+pub current_says : (shown : List (List ℕ)) (place : PagePlace) (found : Current) (stamp : ℕ) (image : List ℕ) (is : IsColumnShown shown place stamp) → found.start ≡ is.start → found.page ≡ is.current → slice_get shown found.page ≡ Some image
+    → PageSays image (CurrentLeaf (keys_at place) found.start is.versions)
+current_says shown place found stamp image is start page at =
+    said_at shown found.page image _ at
+    (subst (λ (n : ℕ). Says shown n (CurrentLeaf (keys_at place) found.start is.versions)) (sym page) (subst (λ (b : ℕ). Says shown is.current (CurrentLeaf (keys_at place) b is.versions)) (sym start) is.leaf))

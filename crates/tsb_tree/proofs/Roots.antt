@@ -1,11 +1,16 @@
 -- Roots of trees, by what their pages say.
-use Rattle.std.proofs.Common.{◌≡◌, ℕ, suc, ◌<◌, ◌≤◌, List, Option, Some, None, IfSome, length, slice_get, refl, sym, ◌∙◌, subst, arith}
+use Rattle.std.proofs.Common.{◌≡◌, ℕ, suc, ◌<◌, ◌≤◌, ◌⊎◌, inl, inr, List, Option, Some, None, IfSome, length, slice_get, refl, sym, ◌∙◌, subst, arith}
 use Rattle.std.proofs.lemmas.Option.{same_Some, slice_get_within}
 use Rattle.version_model.specs.Versions.{Version}
 use Rattle.version_model.specs.Blocks.{BlockNode}
 use Rattle.version_model.specs.Pages.{Keys, PageNode, ColumnNode, KeyNode, Stands, column, key_node, Store, TreeStands, all_keys}
-use Rattle.tsb_node.specs.Views.{PageSays}
-use Rattle.tsb_node.proofs.api.Pages.{one_said}
+use Rattle.tsb_node.specs.Columns.{ColumnInPage}
+use Rattle.tsb_node.specs.Parts.{BeginsAsColumn}
+use Rattle.tsb_node.specs.KeyNodes.{KeyNodeInPage}
+use Rattle.tsb_node.specs.Children.{BeginsAsKeyNode}
+use Rattle.tsb_node.specs.Views.{PageSays, keys_between}
+use Rattle.tsb_node.proofs.api.Pages.{one_said, column_begins, key_node_begins}
+use Rattle.tsb_walk.proofs.OnePage.{said_column_page, said_key_node}
 use Rattle.tsb_walk.specs.Shown.{AreShown}
 use Rattle.tsb_walk.specs.declared.error.NodeError.{NodeError}
 use Rattle.tsb_walk.specs.declared.error.NodeError.TheVariants as walks
@@ -22,6 +27,24 @@ one_root octets _ _ (is_key_node level children p) (is_column parts start curren
 one_root octets _ _ (is_key_node level children p) (is_key_node level' children' q) =
     let e = one_said octets (KeyNode level all_keys children) (KeyNode level' all_keys children') p q in
     let l : level ≡ level' = cc in l
+
+-- a root is a column or a key node of all keys
+pub record RootColumn (octets : List ℕ) : Type 0 where
+  pub column : ColumnInPage
+  pub begins : BeginsAsColumn column octets
+  pub keys : keys_between column.bounds ≡ all_keys
+
+pub record RootKeyNode (octets : List ℕ) (level : ℕ) : Type 0 where
+  pub node : KeyNodeInPage
+  pub begins : BeginsAsKeyNode node octets
+  pub level_is : node.level ≡ level
+  pub keys : keys_between node.bounds ≡ all_keys
+
+pub root_cases : (octets : List ℕ) (level : ℕ) → IsRoot octets level → ((level ≡ 1) × RootColumn octets) ⊎ RootKeyNode octets level
+root_cases octets _ (is_column parts start current p) =
+    (let said = said_column_page octets _ p all_keys parts start current refl in inl (refl, record { column = said.column; begins = column_begins said.column octets said.page; keys = said.keys_are }))
+root_cases octets _ (is_key_node level children p) =
+    (let said = said_key_node octets _ p level all_keys children refl in inr (record { node = said.node; begins = key_node_begins said.node octets said.page; level_is = said.level_is; keys = said.keys_are }))
 
 -- the page is a root of one level at most
 pub level_is : (shown : List (List ℕ)) (root : ℕ) (octets : List ℕ) (a b : ℕ) → slice_get shown root ≡ Some octets → IsRoot octets a → ShowsRoot shown root b → a ≡ b

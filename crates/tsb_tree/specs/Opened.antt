@@ -19,6 +19,10 @@ pub data IsRoot (octets : List ℕ) : ℕ → Type 0 where
 abbrev pub ShowsRoot : List (List ℕ) → ℕ → ℕ → Type 0
 ShowsRoot shown root level = (octets : List ℕ) × (slice_get shown root ≡ Some octets) × IsRoot octets level
 
+-- where the page of the root is a root, this is its level
+abbrev pub HasRootLevel : List (List ℕ) → ℕ → ℕ → Type 0
+HasRootLevel shown root level = (other : ℕ) → ShowsRoot shown root other → level ≡ other
+
 -- The pages of a transaction show a tree with this root, which with these settled blocks stands for these versions.
 pub record ShowsVersions {P : Type 0} (pages : Ghosts P) (held : P) (blocks : ℕ → Option BlockNode) (all : List Version) (root level : ℕ) : Type 0 where
   pub start : Start

@@ -27,7 +27,7 @@ pub struct LeafImage {
 // Which page the current leaf of the column in this page is, for a version that is no earlier than the leaf.
 fn current_in(page: &Page, place: &PagePlace, entry: &Entry) -> Result<Current, TreeError>
     requires has { HasKey place.now entry.now.key }
-    ensures says { IfOk result (λ current. (parts : List Part) × PageSays page.now (ColumnNode (keys_at place.now) parts current.start current.page)) }
+    ensures current { (parts : List Part) (start current next : ℕ) → IsColumnFor page.now place.now entry.now.stamp parts start current next → IfOk result (λ found. (found.start ≡ start) × (found.page ≡ current)) }
     ensures honest { (parts : List Part) (start current next : ℕ) → IsColumnFor page.now place.now entry.now.stamp parts start current next → IsHonest result }
     ensures bad { IfErr result (λ e. e ≡ TreeError.BadNode place.now.page) }
 {
@@ -45,7 +45,7 @@ fn current_of<P: Pages>(
     entry: &Entry,
 ) -> Result<Current, TreeError>
     requires has { HasKey place.now entry.now.key }
-    ensures column { (start : Start) (shown : List (List ℕ)) → P.shows pages.old start shown → IfOk result (λ current. (parts : List Part) × Says shown place.now.page (ColumnNode (keys_at place.now) parts current.start current.page)) }
+    ensures current { (start : Start) (shown : List (List ℕ)) → P.shows pages.old start shown → (is : IsColumnShown shown place.now entry.now.stamp) → IfOk result (λ found. (found.start ≡ is.start) × (found.page ≡ is.current)) }
     ensures honest { (start : Start) (shown : List (List ℕ)) → P.shows pages.old start shown → IsColumnShown shown place.now entry.now.stamp → IsHonest result }
     ensures inside { OnOk result (place.now.page < P.homes pages.old) }
     ensures refused { IfErr result (ReadRefusal (P.down pages.old)) }
@@ -65,7 +65,7 @@ pub fn current_leaf<P: Pages>(
     entry: &Entry,
 ) -> Result<LeafImage, TreeError>
     requires has { HasKey place.now entry.now.key }
-    ensures leaf { (start : Start) (shown : List (List ℕ)) → P.shows pages.old start shown → IfOk result (λ leaf. IsLeafOf shown place.now leaf.page leaf.image) }
+    ensures leaf { (start : Start) (shown : List (List ℕ)) → P.shows pages.old start shown → IsColumnShown shown place.now entry.now.stamp → IfOk result (λ leaf. IsLeafOf shown place.now leaf.page leaf.image) }
     ensures honest { (start : Start) (shown : List (List ℕ)) → P.shows pages.old start shown → IsColumnShown shown place.now entry.now.stamp → IsHonest result }
     ensures column { OnOk result (place.now.page < P.homes pages.old) }
     ensures inside { IfOk result (λ leaf. leaf.page < P.homes pages.old) }

@@ -45,7 +45,7 @@ fn child_at<P: Pages>(pages: &mut P, place: &PagePlace, key: Key) -> Result<Page
     requires has { HasKey place.now key }
     ensures has { IfOk result (λ next. HasKey next key) }
     ensures level { IfOk result (λ next. suc next.level ≡ place.now.level) }
-    ensures lower { (start : Start) (shown : List (List ℕ)) → P.shows pages.old start shown → IfOk result (IsLower shown key place.now) }
+    ensures lower { (start : Start) (shown : List (List ℕ)) (children : List ChildValue) → P.shows pages.old start shown → Says shown place.now.page (KeyNode place.now.level (keys_at place.now) children) → IfOk result (IsLower shown key place.now) }
     ensures honest { (start : Start) (shown : List (List ℕ)) (children : List ChildValue) → P.shows pages.old start shown → Says shown place.now.page (KeyNode place.now.level (keys_at place.now) children) → IsHonest result }
     ensures refused { IfErr result (ReadRefusal (P.down pages.old)) }
     ensures reads { ReadsAlone P.Pages pages.old pages.new result }

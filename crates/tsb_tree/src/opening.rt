@@ -1,14 +1,11 @@
-//! A tree is opened: the page of its root tells its level.
-ghost use Rattle.std.specs.Prelude.{◌≡◌, ◌↔◌, ◌<◌, ◌≤◌, ℕ, List, IsTrue, IfOk, IfErr, IfSome, IfNone, Err};
+//! A tree is opened: the header of its root's page has its level.
+ghost use Rattle.std.specs.Prelude.{◌≡◌, ◌≤◌, ℕ, List, IfOk, IfErr, IfSome, Some, Err};
 ghost use Rattle.page_tx.specs.Start.{Start};
-ghost use Rattle.tsb_node.specs.Views.{PageSays};
 ghost use Rattle.tsb_walk.specs.Shown.{AreShown};
-ghost use Rattle.tsb_tree.specs.Opened.{IsRoot, ShowsRoot};
+ghost use Rattle.tsb_tree.specs.Opened.{IsRoot, ShowsRoot, HasRootLevel};
 ghost use Rattle.tsb_tree.specs.Refusals.{IsHonest, ReadRefusal};
 ghost use Rattle.tsb_tree.specs.Stores.{ReadsAlone};
-ghost use Rattle.version_model.specs.declared.child.Child.{Child as ChildValue};
-ghost use Rattle.version_model.specs.declared.part.Part.{Part as PartValue};
-ghost use Rattle.version_model.specs.Pages.{ColumnNode, KeyNode, Store, TreeStands, all_keys};
+ghost use Rattle.version_model.specs.Pages.{Store, TreeStands};
 ghost use Rattle.version_model.specs.Versions.{Version};
 
 use crate::error::TreeError;
@@ -16,53 +13,35 @@ use crate::reading::see;
 use crate::tree::TreePlace;
 use disk_models::Page;
 use page_tx::Pages;
-use tsb_node::{read_column, read_key_node};
+use tsb_node::{column_head, key_node_head};
 use tsb_walk::{PagePlace, are_its_keys};
 use version_model::Stamp;
 
-// Whether a page is a column of all keys.
-fn is_root_column(page: &Page) -> bool
-    ensures { IsTrue result ↔ ((parts : List PartValue) × (start : ℕ) × (current : ℕ) × PageSays page.now (ColumnNode all_keys parts start current)) }
-{
-    let root = PagePlace::root(0, 1);
-    match read_column(page) {
-        Some(head) => are_its_keys(&head.bounds, &root),
-        None => false,
-    }
-}
-
-// The level of the key node of all keys that a page is.
-fn root_key_node(page: &Page) -> Option<u8>
-    ensures level { IfSome result (λ level. (children : List ChildValue) × PageSays page.now (KeyNode level all_keys children)) }
+// The level of the root that a page is, by its header.
+fn root_level(page: &Page) -> Option<u8>
+    ensures level { (level : ℕ) → IsRoot page.now level → result ≡ Some level }
     ensures some { IfSome result (λ level. (1 ≤ level) × (level ≤ 7)) }
-    ensures none { IfNone result ((level : ℕ) (children : List ChildValue) → PageSays page.now (KeyNode level all_keys children) → ⊥) }
 {
     let root = PagePlace::root(0, 1);
-    let Some(head) = read_key_node(page) else {
+    if let Ok(head) = key_node_head(page.octets()) {
+        if !are_its_keys(&head.bounds, &root) {
+            return None;
+        }
+        return Some(head.level);
+    }
+    let Ok(bounds) = column_head(page.octets()) else {
         return None;
     };
-    if !are_its_keys(&head.bounds, &root) {
+    if !are_its_keys(&bounds, &root) {
         return None;
     }
-    Some(head.level)
+    Some(1)
 }
 
-// The level of the root that a page is.
-fn root_level(page: &Page) -> Option<u8>
-    ensures level { IfSome result (λ level. IsRoot page.now level) }
-    ensures some { IfSome result (λ level. (1 ≤ level) × (level ≤ 7)) }
-    ensures none { IfNone result ((level : ℕ) → IsRoot page.now level → ⊥) }
-{
-    if is_root_column(page) {
-        return Some(1);
-    }
-    root_key_node(page)
-}
-
-/// Opens the tree with this root, to which versions of stamps from `least` on may come: its root's page tells the level. A page that is
-/// no root is called bad. Pages are only read.
+/// Opens the tree with this root, to which versions of stamps from `least` on may come: the header of its root's page has the level. A page
+/// that is called bad is no root, and not each that is none is called bad. Pages are only read.
 pub fn open<P: Pages>(pages: &mut P, root: u64, least: Stamp) -> Result<TreePlace, TreeError>
-    ensures level { (start : Start) (shown : List (List ℕ)) → P.shows pages.old start shown → IfOk result (λ place. ShowsRoot shown root place.level) }
+    ensures level { (start : Start) (shown : List (List ℕ)) → P.shows pages.old start shown → IfOk result (λ place. HasRootLevel shown root place.level) }
     ensures bad { (start : Start) (shown : List (List ℕ)) → P.shows pages.old start shown → (page : ℕ) → result ≡ Err (TreeError.BadNode page) → (page ≡ root) × ((level : ℕ) → ShowsRoot shown root level → ⊥) }
     ensures opened { (start : Start) (shown : List (List ℕ)) → P.shows pages.old start shown → (s : Store) (all : List Version) (level : ℕ) → AreShown shown s.nodes → TreeStands s all root level
         → IfOk result (λ place. place.level ≡ level) }

@@ -1,6 +1,6 @@
 -- Where the tree stands, looks answer what its versions have, and no page is bad.
-use Rattle.std.proofs.Common.{◌≡◌, ℕ, ◌<◌, ◌≤◌, List, Option, None, filter, refl, sym, ◌∙◌, subst, arith}
-use Rattle.std.proofs.lemmas.Option.{same_Some}
+use Rattle.std.proofs.Common.{◌≡◌, ℕ, ◌<◌, ◌≤◌, List, Option, None, filter, length, inl, inr, ap, refl, sym, ◌∙◌, subst, arith}
+use Rattle.std.proofs.lemmas.Option.{same_Some, slice_get_within}
 use Rattle.version_model.specs.declared.part.Part.{Part}
 use Rattle.version_model.specs.declared.part.Place.{Place}
 use Rattle.version_model.specs.declared.child.Child.{Child}
@@ -150,3 +150,16 @@ module _ (shown : List (List ℕ)) (s : Store) (all : List Version) where
         let spot : IsSpotOf at.column column_here.parts column_here.start column_here.current key stamp (InPast place) =
         subst (IsSpotOf at.column column_here.parts column_here.start column_here.current key stamp) e spot_here in
         record { point = spot.1; stands = column_here.past.stand (range_of place.bounds) place.part spot.0 }
+
+    -- in a block that is in use
+    pub below_here : (place : Place) → at.spot ≡ InPast place → place.part.block < s.next
+    below_here place e =
+        let spot : IsSpotOf at.column column_here.parts column_here.start column_here.current key stamp (InPast place) =
+        subst (IsSpotOf at.column column_here.parts column_here.start column_here.current key stamp) e spot_here in
+        elim column_here.past.are_parts [
+          | inl none ↦ absurd (
+              let within = slice_get_within column_here.parts spot.0.place place.part spot.0.at in
+              let empty : length column_here.parts ≡ 0 = ap length none.0 in
+              omega (arith, within, empty))
+          | inr are ↦ are.lower spot.0.place place.part spot.0.at
+        ]

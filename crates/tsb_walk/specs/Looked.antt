@@ -57,7 +57,22 @@ abbrev pub LooksAt : ℕ → ℕ → Looked → Type 0
 LooksAt key stamp (looked.Here reached) = Unit {0}
 LooksAt key stamp (looked.InBlock place) = IsPoint (range_of place.bounds) key stamp
 
+-- where a look goes on in the past, it does so in a block below this number
+abbrev pub LooksBelow : ℕ → Looked → Type 0
+LooksBelow number (looked.Here reached) = Unit {0}
+LooksBelow number (looked.InBlock place) = place.part.block < number
+
 -- the same of a look for versions
+abbrev pub PartsBelow : ℕ → Parted → Type 0
+PartsBelow number (parted.Here part) = Unit {0}
+PartsBelow number (parted.InBlock place) = place.part.block < number
+
+-- the same of a look for a key
+abbrev pub DescendsBelow : ℕ → Descended → Type 0
+DescendsBelow number (descended.Here found) = Unit {0}
+DescendsBelow number (descended.InBlock place) = place.part.block < number
+
+-- where a look for versions tells of a place in the past, it has the key and the stamp
 abbrev pub PartsAt : ℕ → ℕ → Parted → Type 0
 PartsAt key stamp (parted.Here part) = Unit {0}
 PartsAt key stamp (parted.InBlock place) = IsPoint (range_of place.bounds) key stamp

@@ -5,7 +5,7 @@ use Rattle.tsb_node.specs.KeyNodes.{child_octets}
 use Rattle.tsb_node.proofs.ChildLaws.{key_node_header}
 use Rattle.tsb_node.proofs.KeyNodeLaws.{key_node_says, some_child}
 use Rattle.tsb_node.proofs.NodeLaws.{begun_header}
-use Rattle.tsb_node.proofs.OneNode.{key_node_begun, header_of_key_node}
+use Rattle.tsb_node.proofs.OneNode.{key_node_begun, header_of_key_node, header_of_column}
 use Rattle.tsb_node.proofs.heads.key_node_head.Goals as goal
 
 pub returns-in_default-clause-head : goal.returns-in_default-clause-head
@@ -27,3 +27,8 @@ pub returns-clause-level : goal.returns-clause-level
 returns-clause-level c =
     let of = c.is_of_key_nodes.ensures.0 (cc c.if-not-is_of_key_nodes.false) in
     (of.1, of.2)
+
+pub returns-clause-column : goal.returns-clause-column
+returns-clause-column c = λ column is.
+    let of = header_of_column column c.in-Some.header c.args.octets.now is c.in-Some.ensures.found in
+    absurd (omega (arith, of.kind_is, (c.is_of_key_nodes.ensures.0 (cc c.if-not-is_of_key_nodes.false)).0))

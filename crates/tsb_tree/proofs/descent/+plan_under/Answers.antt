@@ -28,7 +28,8 @@ returns-in_err-next-clause-honest g t c s all can =
 pub returns-in_err-change-clause-honest : goal.returns-in_err-change-clause-honest
 returns-in_err-change-clause-honest g t c s all can =
     let above : 1 < c.args.place.now.level = omega (arith, c.requires.level, c.if-place-eq1.false) in
-    let lower = c.in_ok-next.ensures.lower can.start can.shown can.is.shows in
+    let said = can_said g.P.Pages c.args.pages.now g.O.OnceDisk c.args.shelf.now s all c.args.place.now (version_of c.args.entry.now) can above in
+    let lower = c.in_ok-next.ensures.lower can.start can.shown said.0 can.is.shows said.1 in
     let can' = take_lower g.P.Pages c.args.pages.now c.child_at.new.pages _ g.O.OnceDisk c.args.shelf.now s all c.args.place.now c.in_ok-next.next (version_of c.args.entry.now) c.in_ok-next.ensures.reads can above lower in
     let h = c.in_err-change.ensures.honest s all can' in
     search rules
@@ -41,7 +42,8 @@ returns-clause-plans g t c s all can =
     let v : Version = version_of c.args.entry.now in
     let change = c.in_ok-change.change in
     let above : 1 < place.level = omega (arith, c.requires.level, c.if-place-eq1.false) in
-    let lower = c.in_ok-next.ensures.lower can.start can.shown can.is.shows in
+    let said = can_said g.P.Pages c.args.pages.now g.O.OnceDisk c.args.shelf.now s all c.args.place.now (version_of c.args.entry.now) can above in
+    let lower = c.in_ok-next.ensures.lower can.start can.shown said.0 can.is.shows said.1 in
     let can' = take_lower g.P.Pages c.args.pages.now c.child_at.new.pages _ g.O.OnceDisk c.args.shelf.now s all place next v c.in_ok-next.ensures.reads can above lower in
     let down : pages.homes c.child_at.new.pages ≡ pages.homes c.args.pages.now = c.in_ok-next.ensures.reads.homes in
     let up : pages.homes c.plan_under.new.pages ≡ pages.homes c.child_at.new.pages = c.in_ok-change.ensures.reads.homes in
@@ -63,7 +65,8 @@ returns-clause-honest g t c s all can =
     let v : Version = version_of c.args.entry.now in
     let change = c.in_ok-change.change in
     let above : 1 < place.level = omega (arith, c.requires.level, c.if-place-eq1.false) in
-    let lower = c.in_ok-next.ensures.lower can.start can.shown can.is.shows in
+    let said = can_said g.P.Pages c.args.pages.now g.O.OnceDisk c.args.shelf.now s all c.args.place.now (version_of c.args.entry.now) can above in
+    let lower = c.in_ok-next.ensures.lower can.start can.shown said.0 can.is.shows said.1 in
     let can' = take_lower g.P.Pages c.args.pages.now c.child_at.new.pages _ g.O.OnceDisk c.args.shelf.now s all place next v c.in_ok-next.ensures.reads can above lower in
     let plans = c.in_ok-change.ensures.plans s all can' in
     let shows = c.in_ok-change.ensures.reads.shown can.start can.shown (c.in_ok-next.ensures.reads.shown can.start can.shown can.is.shows) in
@@ -78,7 +81,8 @@ returns-in_err-next-clause-wants g t c s all can =
 pub returns-in_err-change-clause-wants : goal.returns-in_err-change-clause-wants
 returns-in_err-change-clause-wants g t c s all can =
     let above : 1 < c.args.place.now.level = omega (arith, c.requires.level, c.if-place-eq1.false) in
-    let lower = c.in_ok-next.ensures.lower can.start can.shown can.is.shows in
+    let said = can_said g.P.Pages c.args.pages.now g.O.OnceDisk c.args.shelf.now s all c.args.place.now (version_of c.args.entry.now) can above in
+    let lower = c.in_ok-next.ensures.lower can.start can.shown said.0 can.is.shows said.1 in
     let can' = take_lower g.P.Pages c.args.pages.now c.child_at.new.pages _ g.O.OnceDisk c.args.shelf.now s all c.args.place.now c.in_ok-next.next (version_of c.args.entry.now) c.in_ok-next.ensures.reads can above lower in
     let h : IsForWant c.in_err-change.field-0.0 → LeadsToFullLeaf can.shown (version_of c.args.entry.now) c.args.place.now = λ want. leads_lower g.P.Pages c.args.pages.now c.child_at.new.pages _ g.O.OnceDisk c.args.shelf.now s all c.args.place.now c.in_ok-next.next (version_of c.args.entry.now) c.in_ok-next.ensures.reads can above lower (c.in_err-change.ensures.wants s all can' want) in
     search rules
@@ -90,7 +94,8 @@ returns-clause-wants g t c s all can =
     let next : PagePlace = c.in_ok-next.next in
     let v : Version = version_of c.args.entry.now in
     let above : 1 < place.level = omega (arith, c.requires.level, c.if-place-eq1.false) in
-    let lower = c.in_ok-next.ensures.lower can.start can.shown can.is.shows in
+    let said = can_said g.P.Pages c.args.pages.now g.O.OnceDisk c.args.shelf.now s all c.args.place.now (version_of c.args.entry.now) can above in
+    let lower = c.in_ok-next.ensures.lower can.start can.shown said.0 can.is.shows said.1 in
     let can' = take_lower pages c.args.pages.now c.child_at.new.pages _ g.O.OnceDisk c.args.shelf.now s all place next v c.in_ok-next.ensures.reads can above lower in
     let change = c.in_ok-change.change in
     let unused : ℕ = pages.next c.child_at.new.pages in
@@ -104,7 +109,8 @@ returns-clause-uses g t c s all can =
     let next : PagePlace = c.in_ok-next.next in
     let v : Version = version_of c.args.entry.now in
     let above : 1 < place.level = omega (arith, c.requires.level, c.if-place-eq1.false) in
-    let lower = c.in_ok-next.ensures.lower can.start can.shown can.is.shows in
+    let said = can_said g.P.Pages c.args.pages.now g.O.OnceDisk c.args.shelf.now s all c.args.place.now (version_of c.args.entry.now) can above in
+    let lower = c.in_ok-next.ensures.lower can.start can.shown said.0 can.is.shows said.1 in
     let can' = take_lower pages c.args.pages.now c.child_at.new.pages _ g.O.OnceDisk c.args.shelf.now s all place next v c.in_ok-next.ensures.reads can above lower in
     let change = c.in_ok-change.change in
     let unused : ℕ = pages.next c.child_at.new.pages in
@@ -120,7 +126,8 @@ returns-clause-wants_pages g t c s all can is =
     let next : PagePlace = c.in_ok-next.next in
     let v : Version = version_of c.args.entry.now in
     let above : 1 < place.level = omega (arith, c.requires.level, c.if-place-eq1.false) in
-    let lower = c.in_ok-next.ensures.lower can.start can.shown can.is.shows in
+    let said = can_said g.P.Pages c.args.pages.now g.O.OnceDisk c.args.shelf.now s all c.args.place.now (version_of c.args.entry.now) can above in
+    let lower = c.in_ok-next.ensures.lower can.start can.shown said.0 can.is.shows said.1 in
     let can' = take_lower pages c.args.pages.now c.child_at.new.pages _ g.O.OnceDisk c.args.shelf.now s all place next v c.in_ok-next.ensures.reads can above lower in
     let change = c.in_ok-change.change in
     let unused : ℕ = pages.next c.child_at.new.pages in
@@ -154,7 +161,8 @@ returns-in_err-change-clause-wants_pages g t c s all can is =
     let next : PagePlace = c.in_ok-next.next in
     let v : Version = version_of c.args.entry.now in
     let above : 1 < place.level = omega (arith, c.requires.level, c.if-place-eq1.false) in
-    let lower = c.in_ok-next.ensures.lower can.start can.shown can.is.shows in
+    let said = can_said g.P.Pages c.args.pages.now g.O.OnceDisk c.args.shelf.now s all c.args.place.now (version_of c.args.entry.now) can above in
+    let lower = c.in_ok-next.ensures.lower can.start can.shown said.0 can.is.shows said.1 in
     let can' = take_lower pages c.args.pages.now c.child_at.new.pages _ g.O.OnceDisk c.args.shelf.now s all place next v c.in_ok-next.ensures.reads can above lower in
     let p = err_from_is_err_and c.from_residual-in_err-change.result c.from_residual-in_err-change.ensures.1 in
     let wants = at_lower pages c.args.pages.now c.child_at.new.pages _ g.O.OnceDisk c.args.shelf.now s all place next v c.in_ok-next.ensures.reads can above lower (λ shown. WantsPages shown v next (pages.homes c.child_at.new.pages) (pages.next c.child_at.new.pages)) (c.in_err-change.ensures.wants_pages s all can' (cc)) in
@@ -168,7 +176,8 @@ returns-in_err-change-clause-once g t c s all can refusal is =
     let next : PagePlace = c.in_ok-next.next in
     let v : Version = version_of c.args.entry.now in
     let above : 1 < place.level = omega (arith, c.requires.level, c.if-place-eq1.false) in
-    let lower = c.in_ok-next.ensures.lower can.start can.shown can.is.shows in
+    let said = can_said g.P.Pages c.args.pages.now g.O.OnceDisk c.args.shelf.now s all c.args.place.now (version_of c.args.entry.now) can above in
+    let lower = c.in_ok-next.ensures.lower can.start can.shown said.0 can.is.shows said.1 in
     let can' = take_lower pages c.args.pages.now c.child_at.new.pages _ g.O.OnceDisk c.args.shelf.now s all place next v c.in_ok-next.ensures.reads can above lower in
     let p = err_from_is_err_and c.from_residual-in_err-change.result c.from_residual-in_err-change.ensures.1 in
     outdated_lower pages c.args.pages.now c.child_at.new.pages _ g.O.OnceDisk c.args.shelf.now s all place next v c.in_ok-next.ensures.reads can above lower (c.in_err-change.ensures.once s all can' refusal (cc))
@@ -176,7 +185,8 @@ returns-in_err-change-clause-once g t c s all can refusal is =
 pub returns-clause-light : goal.returns-clause-light
 returns-clause-light g t c s all can =
     let above : 1 < c.args.place.now.level = omega (arith, c.requires.level, c.if-place-eq1.false) in
-    let lower = c.in_ok-next.ensures.lower can.start can.shown can.is.shows in
+    let said = can_said g.P.Pages c.args.pages.now g.O.OnceDisk c.args.shelf.now s all c.args.place.now (version_of c.args.entry.now) can above in
+    let lower = c.in_ok-next.ensures.lower can.start can.shown said.0 can.is.shows said.1 in
     let can' = take_lower g.P.Pages c.args.pages.now c.child_at.new.pages _ g.O.OnceDisk c.args.shelf.now s all c.args.place.now c.in_ok-next.next (version_of c.args.entry.now) c.in_ok-next.ensures.reads can above lower in
     raised_light (g.P.Pages.next c.args.pages.now) (g.P.Pages.next c.child_at.new.pages) c.in_ok-change.change c.raise.result c.raise.ensures.kept c.in_ok-next.ensures.reads.next
     (leads_lower g.P.Pages c.args.pages.now c.child_at.new.pages _ g.O.OnceDisk c.args.shelf.now s all c.args.place.now c.in_ok-next.next (version_of c.args.entry.now) c.in_ok-next.ensures.reads can above lower)
@@ -185,14 +195,16 @@ returns-clause-light g t c s all can =
 pub returns-in_err-change-clause-burns : goal.returns-in_err-change-clause-burns
 returns-in_err-change-clause-burns g t c s all can =
     let above : 1 < c.args.place.now.level = omega (arith, c.requires.level, c.if-place-eq1.false) in
-    let lower = c.in_ok-next.ensures.lower can.start can.shown can.is.shows in
+    let said = can_said g.P.Pages c.args.pages.now g.O.OnceDisk c.args.shelf.now s all c.args.place.now (version_of c.args.entry.now) can above in
+    let lower = c.in_ok-next.ensures.lower can.start can.shown said.0 can.is.shows said.1 in
     let can' = take_lower g.P.Pages c.args.pages.now c.child_at.new.pages _ g.O.OnceDisk c.args.shelf.now s all c.args.place.now c.in_ok-next.next (version_of c.args.entry.now) c.in_ok-next.ensures.reads can above lower in
     or_else (outdated_lower g.P.Pages c.args.pages.now c.child_at.new.pages _ g.O.OnceDisk c.args.shelf.now s all c.args.place.now c.in_ok-next.next (version_of c.args.entry.now) c.in_ok-next.ensures.reads can above lower) (c.in_err-change.ensures.burns s all can')
 
 pub returns-clause-burns : goal.returns-clause-burns
 returns-clause-burns g t c s all can =
     let above : 1 < c.args.place.now.level = omega (arith, c.requires.level, c.if-place-eq1.false) in
-    let lower = c.in_ok-next.ensures.lower can.start can.shown can.is.shows in
+    let said = can_said g.P.Pages c.args.pages.now g.O.OnceDisk c.args.shelf.now s all c.args.place.now (version_of c.args.entry.now) can above in
+    let lower = c.in_ok-next.ensures.lower can.start can.shown said.0 can.is.shows said.1 in
     let can' = take_lower g.P.Pages c.args.pages.now c.child_at.new.pages _ g.O.OnceDisk c.args.shelf.now s all c.args.place.now c.in_ok-next.next (version_of c.args.entry.now) c.in_ok-next.ensures.reads can above lower in
     or_else (outdated_lower g.P.Pages c.args.pages.now c.child_at.new.pages _ g.O.OnceDisk c.args.shelf.now s all c.args.place.now c.in_ok-next.next (version_of c.args.entry.now) c.in_ok-next.ensures.reads can above lower) (c.in_ok-change.ensures.burns s all can')
 
@@ -206,7 +218,8 @@ returns-in_err-change-clause-one_block g t c s all can =
     let next : PagePlace = c.in_ok-next.next in
     let v : Version = version_of c.args.entry.now in
     let above : 1 < place.level = omega (arith, c.requires.level, c.if-place-eq1.false) in
-    let lower = c.in_ok-next.ensures.lower can.start can.shown can.is.shows in
+    let said = can_said g.P.Pages c.args.pages.now g.O.OnceDisk c.args.shelf.now s all c.args.place.now (version_of c.args.entry.now) can above in
+    let lower = c.in_ok-next.ensures.lower can.start can.shown said.0 can.is.shows said.1 in
     let can' = take_lower pages c.args.pages.now c.child_at.new.pages _ g.O.OnceDisk c.args.shelf.now s all place next v c.in_ok-next.ensures.reads can above lower in
     or_else (λ (full : LeadsToFullColumn can'.shown v next). full_column_below place next lower (at_lower pages c.args.pages.now c.child_at.new.pages _ g.O.OnceDisk c.args.shelf.now s all place next v c.in_ok-next.ensures.reads can above lower (λ shown. LeadsToFullColumn shown v next) full))
     (c.in_err-change.ensures.one_block s all can')
@@ -218,7 +231,8 @@ returns-clause-one_block g t c s all can =
     let next : PagePlace = c.in_ok-next.next in
     let v : Version = version_of c.args.entry.now in
     let above : 1 < place.level = omega (arith, c.requires.level, c.if-place-eq1.false) in
-    let lower = c.in_ok-next.ensures.lower can.start can.shown can.is.shows in
+    let said = can_said g.P.Pages c.args.pages.now g.O.OnceDisk c.args.shelf.now s all c.args.place.now (version_of c.args.entry.now) can above in
+    let lower = c.in_ok-next.ensures.lower can.start can.shown said.0 can.is.shows said.1 in
     let can' = take_lower pages c.args.pages.now c.child_at.new.pages _ g.O.OnceDisk c.args.shelf.now s all place next v c.in_ok-next.ensures.reads can above lower in
     or_else (λ (full : LeadsToFullColumn can'.shown v next). full_column_below place next lower (at_lower pages c.args.pages.now c.child_at.new.pages _ g.O.OnceDisk c.args.shelf.now s all place next v c.in_ok-next.ensures.reads can above lower (λ shown. LeadsToFullColumn shown v next) full))
     (c.in_ok-change.ensures.one_block s all can')

@@ -15,3 +15,6 @@ returns-in-Err-clause-reads g c =
 pub returns-in-Err-clause-honest : goal.returns-in-Err-clause-honest
 returns-in-Err-clause-honest g c start shown children shows says =
     subst BlamesNone (sym c.from.ensures) (walk_honest c.in-Err.refusal (g.P.Pages.down c.args.pages.now) c.in-Err.ensures.refused (λ page e. (c.in-Err.ensures.bad start shown shows page (ap Err e)).1 children says))
+
+pub returns-in-Ok-clause-lower : goal.returns-in-Ok-clause-lower
+returns-in-Ok-clause-lower g c start shown children shows says = (c.in-Ok.ensures.led start shown shows).lower children says

@@ -1,9 +1,10 @@
 use Rattle.std.proofs.Common.{rules, ◌≡◌, Err, Result, Some, length, slice_get, sym, subst, arith}
+use Rattle.std.proofs.lemmas.Option.{same_Some, none-some}
 use Rattle.tsb_tree.specs.declared.error.TreeError.TheVariants as errors
 use Rattle.tsb_tree.specs.declared.tree.TreePlace.{TreePlace}
 use Rattle.tsb_tree.specs.declared.error.TreeError.{TreeError}
 use Rattle.tsb_tree.specs.Refusals.{IsHonest}
-use Rattle.tsb_tree.proofs.Roots.{level_is, root_here, root_inside, tree_root}
+use Rattle.tsb_tree.proofs.Roots.{root_here, root_inside, tree_root}
 use Rattle.tsb_tree.proofs.opening.open.Goals as goal
 
 pub returns-in_err-see-clause-bad : goal.returns-in_err-see-clause-bad
@@ -20,12 +21,22 @@ returns-in_err-see-clause-honest g c = λ start shown shows s all level are tree
     let d : c.from_residual.result ≡ Err c.in_err-see.field-0.0 = search rules in
     subst (λ (r : Result TreePlace TreeError). IsHonest r) (sym d) h
 
+pub returns-in-Some-root_level-clause-level : goal.returns-in-Some-root_level-clause-level
+returns-in-Some-root_level-clause-level g c = λ start shown shows level is.
+    let at : slice_get shown c.args.root ≡ Some c.in-Some.page.now = c.in-Some.ensures.shown start shown (c.in_ok-see.ensures.reads.shown start shown shows) (omega (arith, c.in_ok-see.ensures.inside, c.in_ok-see.ensures.reads.homes)) in
+    same_Some _ _ (c.in-Some-root_level.ensures.level level (root_here shown c.args.root c.in-Some.page.now level at is))
+
 pub returns-in-Some-root_level-clause-opened : goal.returns-in-Some-root_level-clause-opened
 returns-in-Some-root_level-clause-opened g c = λ start shown shows s all level are tree.
     let at : slice_get shown c.args.root ≡ Some c.in-Some.page.now = c.in-Some.ensures.shown start shown (c.in_ok-see.ensures.reads.shown start shown shows) (omega (arith, c.in_ok-see.ensures.inside, c.in_ok-see.ensures.reads.homes)) in
-    level_is shown c.args.root c.in-Some.page.now c.in-Some-root_level.level level at c.in-Some-root_level.ensures.level (tree_root shown s all c.args.root level are tree)
+    same_Some _ _ (c.in-Some-root_level.ensures.level level (root_here shown c.args.root c.in-Some.page.now level at (tree_root shown s all c.args.root level are tree)))
+
+pub returns-in-None-clause-bad : goal.returns-in-None-clause-bad
+returns-in-None-clause-bad g c = λ start shown shows page e.
+    let at : slice_get shown c.args.root ≡ Some c.in-Some.page.now = c.in-Some.ensures.shown start shown (c.in_ok-see.ensures.reads.shown start shown shows) (omega (arith, c.in_ok-see.ensures.inside, c.in_ok-see.ensures.reads.homes)) in
+    (cc, λ level is. none-some level (c.in-None.ensures.level level (root_here shown c.args.root c.in-Some.page.now level at is)))
 
 pub returns-in-None-clause-honest : goal.returns-in-None-clause-honest
 returns-in-None-clause-honest g c = λ start shown shows s all level are tree.
     let at : slice_get shown c.args.root ≡ Some c.in-Some.page.now = c.in-Some.ensures.shown start shown (c.in_ok-see.ensures.reads.shown start shown shows) (omega (arith, c.in_ok-see.ensures.inside, c.in_ok-see.ensures.reads.homes)) in
-    c.in-None.ensures.none level (root_here shown c.args.root c.in-Some.page.now level at (tree_root shown s all c.args.root level are tree))
+    none-some level (c.in-None.ensures.level level (root_here shown c.args.root c.in-Some.page.now level at (tree_root shown s all c.args.root level are tree)))

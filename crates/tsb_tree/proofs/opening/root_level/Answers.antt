@@ -1,15 +1,52 @@
-use Rattle.std.proofs.Common.{List}
-use Rattle.version_model.specs.declared.child.Child.{Child}
-use Rattle.version_model.specs.Pages.{KeyNode, all_keys}
-use Rattle.tsb_node.specs.Views.{PageSays}
-use Rattle.tsb_tree.specs.Opened.{IsRoot, is_column, is_key_node}
-use Rattle.tsb_tree.proofs.Roots.{some_map}
+use Rattle.std.proofs.Common.{◌≡◌, ◌∙◌, Result, Some, Ok, Err, IsErr, inl, inr, sym, ap, subst}
+use Rattle.std.proofs.lemmas.Bool.{false≢true}
+use Rattle.tsb_node.specs.declared.heads.KeyNodeHead.{KeyNodeHead}
+use Rattle.tsb_node.specs.declared.leaf.NotANode.{NotANode}
+use Rattle.tsb_node.specs.Children.{BeginsAsKeyNode}
+use Rattle.tsb_node.specs.Parts.{BeginsAsColumn}
+use Rattle.tsb_node.specs.Views.{keys_between}
+use Rattle.tsb_tree.proofs.Roots.{root_cases}
 use Rattle.tsb_tree.proofs.opening.root_level.Goals as goal
 
-pub returns-then-is_root_column-clause-level : goal.returns-then-is_root_column-clause-level
-returns-then-is_root_column-clause-level c =
-    let is = c.is_root_column.ensures.0 c.if-is_root_column.true in
-    is_column is.0 is.1 is.2 is.3
+pub returns-then-not-are_its_keys-clause-level : goal.returns-then-not-are_its_keys-clause-level
+returns-then-not-are_its_keys-clause-level c = λ level is. elim (root_cases c.args.page.now level is) [
+  | inl column ↦ (
+      let no = c.key_node_head.ensures.column column.1.column (subst (BeginsAsColumn column.1.column) (sym c.octets.ensures.value) column.1.begins) in
+      absurd (false≢true (subst (λ (r : Result KeyNodeHead NotANode). IsErr r) c.in-Ok.is no)))
+  | inr node ↦ (
+      let head = c.key_node_head.ensures.head node.node (subst (BeginsAsKeyNode node.node) (sym c.octets.ensures.value) node.begins) in
+      let bounds : c.in-Ok.head.bounds ≡ node.node.bounds = cc (c.in-Ok.is, head) in
+      absurd (cc (c.are_its_keys.ensures.1 (ap keys_between bounds ∙ node.keys ∙ sym c.root-root.ensures.keys), c.if-not-are_its_keys.true)))
+]
+
+pub returns-in-Ok-clause-level : goal.returns-in-Ok-clause-level
+returns-in-Ok-clause-level c = λ level is. elim (root_cases c.args.page.now level is) [
+  | inl column ↦ (
+      let no = c.key_node_head.ensures.column column.1.column (subst (BeginsAsColumn column.1.column) (sym c.octets.ensures.value) column.1.begins) in
+      absurd (false≢true (subst (λ (r : Result KeyNodeHead NotANode). IsErr r) c.in-Ok.is no)))
+  | inr node ↦ (
+      let head = c.key_node_head.ensures.head node.node (subst (BeginsAsKeyNode node.node) (sym c.octets.ensures.value) node.begins) in
+      let same : c.in-Ok.head.level ≡ node.node.level = cc (c.in-Ok.is, head) in
+      ap Some (same ∙ node.level_is))
+]
+
+pub returns-in_default-column_head-clause-level : goal.returns-in_default-column_head-clause-level
+returns-in_default-column_head-clause-level c = λ level is. elim (root_cases c.args.page.now level is) [
+  | inl column ↦ absurd (c.in_default-column_head.not-Ok _ (c.column_head.ensures.column column.1.column (subst (BeginsAsColumn column.1.column) (sym c.octets-2.ensures.value) column.1.begins)))
+  | inr node ↦ absurd (c.in_default.not-Ok _ (c.key_node_head.ensures.head node.node (subst (BeginsAsKeyNode node.node) (sym c.octets.ensures.value) node.begins)))
+]
+
+pub returns-then-not-are_its_keys-2-clause-level : goal.returns-then-not-are_its_keys-2-clause-level
+returns-then-not-are_its_keys-2-clause-level c = λ level is. elim (root_cases c.args.page.now level is) [
+  | inl column ↦ (
+      let head = c.column_head.ensures.column column.1.column (subst (BeginsAsColumn column.1.column) (sym c.octets-2.ensures.value) column.1.begins) in
+      let bounds : c.in-Ok-column_head.bounds ≡ column.1.column.bounds = cc (c.in-Ok-column_head.is, head) in
+      absurd (cc (c.are_its_keys-2.ensures.1 (ap keys_between bounds ∙ column.1.keys ∙ sym c.root-root.ensures.keys), c.if-not-are_its_keys-2.true)))
+  | inr node ↦ absurd (c.in_default.not-Ok _ (c.key_node_head.ensures.head node.node (subst (BeginsAsKeyNode node.node) (sym c.octets.ensures.value) node.begins)))
+]
 
 pub returns-clause-level : goal.returns-clause-level
-returns-clause-level c = some_map (λ level. (children : List Child) × PageSays c.args.page.now (KeyNode level all_keys children)) (IsRoot c.args.page.now) c.root_key_node.result (λ level is. is_key_node level is.0 is.1) c.root_key_node.ensures.level
+returns-clause-level c = λ level is. elim (root_cases c.args.page.now level is) [
+  | inl column ↦ ap Some (sym column.0)
+  | inr node ↦ absurd (c.in_default.not-Ok _ (c.key_node_head.ensures.head node.node (subst (BeginsAsKeyNode node.node) (sym c.octets.ensures.value) node.begins)))
+]

@@ -30,7 +30,7 @@ returns-in_err-leaf-clause-honest g c s all can =
 
 pub returns-in_err-push_entry-clause-honest : goal.returns-in_err-push_entry-clause-honest
 returns-in_err-push_entry-clause-honest g c s all can =
-    let of = c.in_ok-leaf.ensures.leaf can.start can.shown can.is.shows in
+    let of = c.in_ok-leaf.ensures.leaf can.start can.shown can.is.shows (column_shown s all c.args.place.now can.shown c.requires.level can.is.tells can.stands c.args.entry.now.stamp can.above.above) in
     let l = leaf_here s all c.args.place.now can.shown c.requires.level can.is.tells can.stands c.in_ok-leaf.leaf.page c.in_ok-leaf.leaf.image of in
     absurd (c.in_err-push_entry.ensures.pushed l.leaf l.page (within s all c.args.place.now can.shown c.requires.level can.is.tells can.stands c.in_ok-leaf.leaf.page c.in_ok-leaf.leaf.image of c.args.entry.now.key c.requires.has) (above_leaf s all c.args.place.now can.shown c.requires.level can.is.tells can.stands c.in_ok-leaf.leaf.page c.in_ok-leaf.leaf.image of c.args.entry.now.stamp can.above))
 
@@ -38,7 +38,7 @@ pub returns-then-branch-clause-plans : goal.returns-then-branch-clause-plans
 returns-then-branch-clause-plans g c s all can =
     let place = c.args.place.now in
     let v = version_of c.args.entry.now in
-    let of = c.in_ok-leaf.ensures.leaf can.start can.shown can.is.shows in
+    let of = c.in_ok-leaf.ensures.leaf can.start can.shown can.is.shows (column_shown s all c.args.place.now can.shown c.requires.level can.is.tells can.stands c.args.entry.now.stamp can.above.above) in
     let l = leaf_here s all c.args.place.now can.shown c.requires.level can.is.tells can.stands c.in_ok-leaf.leaf.page c.in_ok-leaf.leaf.image of in
     let yes : c.in_ok-push_entry.field-0 ≡ true = search rules in
     let pushed = pushed_true TreeError l.leaf v c.push_entry.new.image c.in_ok-push_entry.field-0 yes (c.in_ok-push_entry.ensures.pushed l.leaf l.page (within s all c.args.place.now can.shown c.requires.level can.is.tells can.stands c.in_ok-leaf.leaf.page c.in_ok-leaf.leaf.image of c.args.entry.now.key c.requires.has) (above_leaf s all c.args.place.now can.shown c.requires.level can.is.tells can.stands c.in_ok-leaf.leaf.page c.in_ok-leaf.leaf.image of c.args.entry.now.stamp can.above)) in
@@ -58,7 +58,7 @@ pub returns-clause-plans : goal.returns-clause-plans
 returns-clause-plans g c s all can =
     let place = c.args.place.now in
     let v = version_of c.args.entry.now in
-    let of = c.in_ok-leaf.ensures.leaf can.start can.shown can.is.shows in
+    let of = c.in_ok-leaf.ensures.leaf can.start can.shown can.is.shows (column_shown s all c.args.place.now can.shown c.requires.level can.is.tells can.stands c.args.entry.now.stamp can.above.above) in
     let later = can_after g.P.Pages c.args.pages.now c.current_leaf.new.pages g.O.OnceDisk c.args.shelf.now s all place v _ c.in_ok-leaf.ensures.reads can in
     let no : c.in_ok-push_entry.field-0 ≡ false = search rules in
     let same : c.push_entry.new.image ≡ c.in_ok-leaf.leaf.image = stays_false TreeError _ _ c.in_ok-push_entry.field-0 no c.in_ok-push_entry.ensures.stays in
@@ -69,7 +69,7 @@ pub returns-clause-honest : goal.returns-clause-honest
 returns-clause-honest g c s all can =
     let place = c.args.place.now in
     let v = version_of c.args.entry.now in
-    let of = c.in_ok-leaf.ensures.leaf can.start can.shown can.is.shows in
+    let of = c.in_ok-leaf.ensures.leaf can.start can.shown can.is.shows (column_shown s all c.args.place.now can.shown c.requires.level can.is.tells can.stands c.args.entry.now.stamp can.above.above) in
     let l = leaf_here s all c.args.place.now can.shown c.requires.level can.is.tells can.stands c.in_ok-leaf.leaf.page c.in_ok-leaf.leaf.image of in
     let later = can_after g.P.Pages c.args.pages.now c.current_leaf.new.pages g.O.OnceDisk c.args.shelf.now s all place v _ c.in_ok-leaf.ensures.reads can in
     let no : c.in_ok-push_entry.field-0 ≡ false = search rules in
@@ -87,7 +87,7 @@ pub returns-clause-wants : goal.returns-clause-wants
 returns-clause-wants g c s all can =
     let place = c.args.place.now in
     let v = version_of c.args.entry.now in
-    let of = c.in_ok-leaf.ensures.leaf can.start can.shown can.is.shows in
+    let of = c.in_ok-leaf.ensures.leaf can.start can.shown can.is.shows (column_shown s all c.args.place.now can.shown c.requires.level can.is.tells can.stands c.args.entry.now.stamp can.above.above) in
     let l = leaf_here s all c.args.place.now can.shown c.requires.level can.is.tells can.stands c.in_ok-leaf.leaf.page c.in_ok-leaf.leaf.image of in
     let later = can_after g.P.Pages c.args.pages.now c.current_leaf.new.pages g.O.OnceDisk c.args.shelf.now s all place v _ c.in_ok-leaf.ensures.reads can in
     let no : c.in_ok-push_entry.field-0 ≡ false = search rules in
@@ -105,7 +105,7 @@ pub returns-clause-light : goal.returns-clause-light
 returns-clause-light g c s all can =
     let place = c.args.place.now in
     let v = version_of c.args.entry.now in
-    let of = c.in_ok-leaf.ensures.leaf can.start can.shown can.is.shows in
+    let of = c.in_ok-leaf.ensures.leaf can.start can.shown can.is.shows (column_shown s all c.args.place.now can.shown c.requires.level can.is.tells can.stands c.args.entry.now.stamp can.above.above) in
     let l = leaf_here s all c.args.place.now can.shown c.requires.level can.is.tells can.stands c.in_ok-leaf.leaf.page c.in_ok-leaf.leaf.image of in
     let no : c.in_ok-push_entry.field-0 ≡ false = search rules in
     let full = pushed_false TreeError l.leaf v c.push_entry.new.image c.in_ok-push_entry.field-0 no (c.in_ok-push_entry.ensures.pushed l.leaf l.page (within s all c.args.place.now can.shown c.requires.level can.is.tells can.stands c.in_ok-leaf.leaf.page c.in_ok-leaf.leaf.image of c.args.entry.now.key c.requires.has) (above_leaf s all c.args.place.now can.shown c.requires.level can.is.tells can.stands c.in_ok-leaf.leaf.page c.in_ok-leaf.leaf.image of c.args.entry.now.stamp can.above)) in
@@ -117,7 +117,7 @@ pub returns-clause-burns : goal.returns-clause-burns
 returns-clause-burns g c s all can =
     let place = c.args.place.now in
     let v = version_of c.args.entry.now in
-    let of = c.in_ok-leaf.ensures.leaf can.start can.shown can.is.shows in
+    let of = c.in_ok-leaf.ensures.leaf can.start can.shown can.is.shows (column_shown s all c.args.place.now can.shown c.requires.level can.is.tells can.stands c.args.entry.now.stamp can.above.above) in
     let l = leaf_here s all c.args.place.now can.shown c.requires.level can.is.tells can.stands c.in_ok-leaf.leaf.page c.in_ok-leaf.leaf.image of in
     let no : c.in_ok-push_entry.field-0 ≡ false = search rules in
     let same : c.push_entry.new.image ≡ c.in_ok-leaf.leaf.image = stays_false TreeError _ _ c.in_ok-push_entry.field-0 no c.in_ok-push_entry.ensures.stays in
@@ -129,7 +129,7 @@ pub returns-then-branch-clause-uses : goal.returns-then-branch-clause-uses
 returns-then-branch-clause-uses g c s all can =
     let place = c.args.place.now in
     let v = version_of c.args.entry.now in
-    let of = c.in_ok-leaf.ensures.leaf can.start can.shown can.is.shows in
+    let of = c.in_ok-leaf.ensures.leaf can.start can.shown can.is.shows (column_shown s all c.args.place.now can.shown c.requires.level can.is.tells can.stands c.args.entry.now.stamp can.above.above) in
     let l = leaf_here s all c.args.place.now can.shown c.requires.level can.is.tells can.stands c.in_ok-leaf.leaf.page c.in_ok-leaf.leaf.image of in
     let yes : c.in_ok-push_entry.field-0 ≡ true = search rules in
     let pushed = pushed_true TreeError l.leaf v c.push_entry.new.image c.in_ok-push_entry.field-0 yes (c.in_ok-push_entry.ensures.pushed l.leaf l.page (within s all c.args.place.now can.shown c.requires.level can.is.tells can.stands c.in_ok-leaf.leaf.page c.in_ok-leaf.leaf.image of c.args.entry.now.key c.requires.has) (above_leaf s all c.args.place.now can.shown c.requires.level can.is.tells can.stands c.in_ok-leaf.leaf.page c.in_ok-leaf.leaf.image of c.args.entry.now.stamp can.above)) in
@@ -141,7 +141,7 @@ pub returns-clause-uses : goal.returns-clause-uses
 returns-clause-uses g c s all can =
     let place = c.args.place.now in
     let v = version_of c.args.entry.now in
-    let of = c.in_ok-leaf.ensures.leaf can.start can.shown can.is.shows in
+    let of = c.in_ok-leaf.ensures.leaf can.start can.shown can.is.shows (column_shown s all c.args.place.now can.shown c.requires.level can.is.tells can.stands c.args.entry.now.stamp can.above.above) in
     let l = leaf_here s all c.args.place.now can.shown c.requires.level can.is.tells can.stands c.in_ok-leaf.leaf.page c.in_ok-leaf.leaf.image of in
     let no : c.in_ok-push_entry.field-0 ≡ false = search rules in
     let same : c.push_entry.new.image ≡ c.in_ok-leaf.leaf.image = stays_false TreeError _ _ c.in_ok-push_entry.field-0 no c.in_ok-push_entry.ensures.stays in
@@ -156,7 +156,7 @@ pub returns-clause-wants_pages : goal.returns-clause-wants_pages
 returns-clause-wants_pages g c s all can is =
     let place = c.args.place.now in
     let v = version_of c.args.entry.now in
-    let of = c.in_ok-leaf.ensures.leaf can.start can.shown can.is.shows in
+    let of = c.in_ok-leaf.ensures.leaf can.start can.shown can.is.shows (column_shown s all c.args.place.now can.shown c.requires.level can.is.tells can.stands c.args.entry.now.stamp can.above.above) in
     let l = leaf_here s all c.args.place.now can.shown c.requires.level can.is.tells can.stands c.in_ok-leaf.leaf.page c.in_ok-leaf.leaf.image of in
     let no : c.in_ok-push_entry.field-0 ≡ false = search rules in
     let same : c.push_entry.new.image ≡ c.in_ok-leaf.leaf.image = stays_false TreeError _ _ c.in_ok-push_entry.field-0 no c.in_ok-push_entry.ensures.stays in
@@ -173,7 +173,7 @@ pub returns-clause-once : goal.returns-clause-once
 returns-clause-once g c s all can refusal is =
     let place = c.args.place.now in
     let v = version_of c.args.entry.now in
-    let of = c.in_ok-leaf.ensures.leaf can.start can.shown can.is.shows in
+    let of = c.in_ok-leaf.ensures.leaf can.start can.shown can.is.shows (column_shown s all c.args.place.now can.shown c.requires.level can.is.tells can.stands c.args.entry.now.stamp can.above.above) in
     let l = leaf_here s all c.args.place.now can.shown c.requires.level can.is.tells can.stands c.in_ok-leaf.leaf.page c.in_ok-leaf.leaf.image of in
     let no : c.in_ok-push_entry.field-0 ≡ false = search rules in
     let same : c.push_entry.new.image ≡ c.in_ok-leaf.leaf.image = stays_false TreeError _ _ c.in_ok-push_entry.field-0 no c.in_ok-push_entry.ensures.stays in

@@ -2,7 +2,7 @@ use Rattle.std.proofs.Common.{rules, ◌≡◌, ◌<◌, Err, arith}
 use Rattle.version_model.specs.Ranges.{stamp_end}
 use Rattle.tsb_walk.specs.declared.error.NodeError.TheVariants.{BadNode}
 use Rattle.tsb_walk.proofs.PageWalking.{bad_here}
-use Rattle.tsb_walk.proofs.PageStanding.{looked_here, goes_on_here, none_bad}
+use Rattle.tsb_walk.proofs.PageStanding.{looked_here, goes_on_here, below_here, none_bad}
 use Rattle.tsb_walk.proofs.page_looks.next.Goals as goal
 
 pub returns-in_err-at-clause-blames : goal.returns-in_err-at-clause-blames
@@ -32,3 +32,7 @@ returns-in_ok-answer-in-InLeaf-clause-next g c = λ start shown shows s all st.
 pub returns-in-InPast-clause-next : goal.returns-in-InPast-clause-next
 returns-in-InPast-clause-next g c = λ start shown shows s all st.
     goes_on_here shown s all c.args.root.now c.args.from c.args.stamp c.in_ok-at.at (c.in_ok-at.ensures.there start shown shows) st c.in-InPast.place c.in-InPast.is
+
+pub returns-in-InPast-clause-below : goal.returns-in-InPast-clause-below
+returns-in-InPast-clause-below g c = λ start shown shows s all st.
+    below_here shown s all c.args.root.now c.args.from c.args.stamp c.in_ok-at.at (c.in_ok-at.ensures.there start shown shows) st c.in-InPast.place c.in-InPast.is
