@@ -50,7 +50,7 @@ impl<E: EraseDisk + Drop, O: OnceDisk + Drop> Archive<E, O> {
     ghost use Rattle.disk_archive.specs.Checks.{HasPages, root_in};
     ghost use Rattle.disk_archive.specs.Failures.{ReportsOne};
     ghost use Rattle.disk_archive.specs.Lacks.{IsNextVersion, LacksLevel, LacksPages};
-    ghost use Rattle.tsb_tree.specs.Opened.{ShowsRoot};
+    ghost use Rattle.tsb_tree.specs.Opened.{HasRootLevel};
     ghost use Rattle.tsb_tree.specs.Shelves.{SpendsAtMost};
     ghost use Rattle.disk_archive.specs.Sites.{LeftEither};
     ghost use Rattle.disk_archive.specs.Crashes.{Crashes, Lasts};
@@ -69,7 +69,7 @@ impl<E: EraseDisk + Drop, O: OnceDisk + Drop> Archive<E, O> {
         ensures refused { IfErr result (ApplyRefusal (is_down self.old)) }
         ensures limits { IfErr result (LimitRefusal (home_pages (journal_of (pool_of self.old.tx))) self.old.head.fresh self.old.head.applied) }
         ensures lacks { (h : History) (k : Carries self.old h) → IfErr result (LackRefusal (IsNextVersion h) k.pages (unused_pages self.old) (root_in self.old)) }
-        ensures high { IsHonest self.old → (pages : List (List ℕ)) → HasPages self.old pages → result ≡ Err ApplyError.TooHigh → ShowsRoot pages (root_in self.old) 7 }
+        ensures high { IsHonest self.old → (pages : List (List ℕ)) → HasPages self.old pages → result ≡ Err ApplyError.TooHigh → HasRootLevel pages (root_in self.old) 7 }
         ensures erase { E.honest (erase_of self.old) ↔ E.honest (erase_of self.new) }
         ensures settings { settings_of self.new ≡ settings_of self.old }
         ensures shelf { KeepsBlocks O.OnceDisk 2000 self.old.shelf self.new.shelf (result ≡ Err ApplyError.OnceFull) }
@@ -131,7 +131,7 @@ impl<E: EraseDisk + Drop, O: OnceDisk + Drop> Archive<E, O> {
         ensures counter_full { IsHonest self.old → (h : History) → Holds self.old h → result ≡ Err ApplyError.CounterFull → sum_by (λ p. length p.item.changes) (applied h) ≡ 18446744073709551615 }
         ensures pages_full { result ≡ Err ApplyError.PagesFull → unused_pages self.old < 9 }
         ensures pages_needed { IsHonest self.old → (h : History) → Holds self.old h → result ≡ Err ApplyError.PagesFull → (pages : List (List ℕ)) × HasPages self.old pages × LacksPages (IsNextVersion h) pages (unused_pages self.old) (root_in self.old) }
-        ensures too_high { IsHonest self.old → (pages : List (List ℕ)) → HasPages self.old pages → result ≡ Err ApplyError.TooHigh → ShowsRoot pages (root_in self.old) 7 }
+        ensures too_high { IsHonest self.old → (pages : List (List ℕ)) → HasPages self.old pages → result ≡ Err ApplyError.TooHigh → HasRootLevel pages (root_in self.old) 7 }
         ensures level_needed { IsHonest self.old → (h : History) → Holds self.old h → result ≡ Err ApplyError.TooHigh → (pages : List (List ℕ)) × HasPages self.old pages × LacksLevel (IsNextVersion h) pages (root_in self.old) }
         ensures full { IsHonest self.old → result ≡ Err ApplyError.OnceFull → NoneBlank self.new }
         ensures spends { IsHonest self.old → SpendsAtMost 2000 (once_state self.old) (once_state self.new) }

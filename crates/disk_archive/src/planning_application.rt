@@ -16,7 +16,7 @@ ghost use Rattle.version_model.specs.Sizes.{entry_octets};
 ghost use Rattle.version_model.specs.Versions.{Version};
 ghost use Rattle.route_history.specs.Kept.{AreVersions};
 ghost use Rattle.route_history.specs.Stamps.{stamp_of};
-ghost use Rattle.tsb_tree.specs.Opened.{ShowsRoot};
+ghost use Rattle.tsb_tree.specs.Opened.{HasRootLevel};
 ghost use Rattle.tsb_tree.specs.Refusals.{IsHonest};
 ghost use Rattle.archive_head.specs.declared.lane.Lane.{Lane};
 ghost use Rattle.intake.specs.Ring.{IsRing, Holds};
@@ -130,7 +130,7 @@ fn take_version<P: Pages, O: OnceDisk + Drop>(
     ensures as_named { OnErr result (P.named pages.new ≡ P.named pages.old) }
     ensures as_next { OnErr result (P.next pages.new ≡ P.next pages.old) }
     ensures refused { IfErr result (ApplyRefusal (P.down pages.old)) }
-    ensures high { (start : Start) (shown : List (List ℕ)) → P.shows pages.old start shown → result ≡ Err ApplyError.TooHigh → ShowsRoot shown head.now.root 7 }
+    ensures high { (start : Start) (shown : List (List ℕ)) → P.shows pages.old start shown → result ≡ Err ApplyError.TooHigh → HasRootLevel shown head.now.root 7 }
     ensures limits { IfErr result (LimitRefusal (P.homes pages.old) (P.next pages.old) head.now.applied) }
     ensures lacks { (start : Start) (shown : List (List ℕ)) (low : ℕ) (versions : List Version) → P.shows pages.old start shown → O.honest (disk_of shelf.old) (pen_of shelf.old)
         → TreeLies (O.block_count (disk_of shelf.old)) shown (settled_in (O.model (pen_of shelf.old))) low head.now.root head.now.fresh head.now.block (stamp_of head.now.last head.now.applied) versions
@@ -187,7 +187,7 @@ fn take_next<P: Pages, O: OnceDisk + Drop>(
     ensures as_named { OnErr result (P.named pages.new ≡ P.named pages.old) }
     ensures as_next { OnErr result (P.next pages.new ≡ P.next pages.old) }
     ensures refused { IfErr result (ApplyRefusal (P.down pages.old)) }
-    ensures high { (start : Start) (shown : List (List ℕ)) → P.shows pages.old start shown → result ≡ Err ApplyError.TooHigh → ShowsRoot shown head.now.root 7 }
+    ensures high { (start : Start) (shown : List (List ℕ)) → P.shows pages.old start shown → result ≡ Err ApplyError.TooHigh → HasRootLevel shown head.now.root 7 }
     ensures limits { IfErr result (LimitRefusal (P.homes pages.old) (P.next pages.old) head.now.applied) }
     ensures lacks { (start : Start) (shown : List (List ℕ)) (low collector : ℕ) (versions : List Version) → P.shows pages.old start shown → O.honest (disk_of shelf.old) (pen_of shelf.old)
         → TreeLies (O.block_count (disk_of shelf.old)) shown (settled_in (O.model (pen_of shelf.old))) low head.now.root head.now.fresh head.now.block (stamp_of head.now.last head.now.applied) versions
@@ -244,7 +244,7 @@ pub(crate) fn plan_change<P: Pages, O: OnceDisk + Drop>(
     ensures as_named { OnErr result (P.named pages.new ≡ P.named pages.old) }
     ensures as_next { OnErr result (P.next pages.new ≡ P.next pages.old) }
     ensures refused { IfErr result (ApplyRefusal (P.down pages.old)) }
-    ensures high { (start : Start) (shown : List (List ℕ)) → P.shows pages.old start shown → result ≡ Err ApplyError.TooHigh → ShowsRoot shown head.old.root 7 }
+    ensures high { (start : Start) (shown : List (List ℕ)) → P.shows pages.old start shown → result ≡ Err ApplyError.TooHigh → HasRootLevel shown head.old.root 7 }
     ensures limits { IfErr result (LimitRefusal (P.homes pages.old) (P.next pages.old) head.old.applied) }
     ensures lacks { (start : Start) (shown : List (List ℕ)) (h : History) (later : List (Placed Admitted)) → P.shows pages.old start shown → O.honest (disk_of shelf.old) (pen_of shelf.old)
         → Bears (TreeLies (O.block_count (disk_of shelf.old))) settings (settled_in (O.model (pen_of shelf.old))) head.old shown h → waiting h ≡ placed collector admission.now ∷ later

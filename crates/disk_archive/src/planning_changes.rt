@@ -11,7 +11,7 @@ ghost use Rattle.sequencer.specs.Ahead.{behind};
 ghost use Rattle.sequencer.specs.First.{IsNext};
 ghost use Rattle.sequencer.specs.Lanes.{Releases};
 ghost use Rattle.archive_pages.specs.Carried.{Bears};
-ghost use Rattle.tsb_tree.specs.Opened.{ShowsRoot};
+ghost use Rattle.tsb_tree.specs.Opened.{HasRootLevel};
 ghost use Rattle.disk_archive.specs.Failures.{ReportsOne};
 ghost use Rattle.disk_archive.specs.Lacks.{IsNextVersion};
 ghost use Rattle.disk_archive.specs.Mirrors.{Mirrors};
@@ -148,7 +148,7 @@ fn plan_step<P: Pages, O: OnceDisk + Drop>(
         → (page : ℕ) → result ≡ Err (ApplyError.BadNode page) → ⊥ }
     ensures few { length (P.named pages.new) ≤ 30 }
     ensures refused { IfErr result (ApplyRefusal (P.down pages.old)) }
-    ensures high { (start : Start) (shown : List (List ℕ)) → P.shows pages.old start shown → result ≡ Err ApplyError.TooHigh → ShowsRoot shown plan.old.head.root 7 }
+    ensures high { (start : Start) (shown : List (List ℕ)) → P.shows pages.old start shown → result ≡ Err ApplyError.TooHigh → HasRootLevel shown plan.old.head.root 7 }
     ensures limits { IfErr result (LimitRefusal (P.homes pages.old) (P.next pages.old) plan.old.head.applied) }
     ensures lacks { (start : Start) (h : History) → O.honest (disk_of shelf.old) (pen_of shelf.old)
         → (r : Reached (O.block_count (disk_of shelf.old)) settings (settled_in (O.model (pen_of shelf.old))) (P.shows pages.old start) sequencer.now plan.old h)
@@ -338,7 +338,7 @@ pub(crate) fn plan_changes<P: Pages, O: OnceDisk + Drop>(
     ensures count { IfOk result (λ plan. length plan.ahead ≡ length sequencer.now) }
     ensures block { IfOk result (λ plan. plan.head.block ≤ next_of shelf.new) }
     ensures refused { IfErr result (ApplyRefusal (P.down pages.old)) }
-    ensures high { (start : Start) (shown : List (List ℕ)) → P.shows pages.old start shown → result ≡ Err ApplyError.TooHigh → ShowsRoot shown head.now.root 7 }
+    ensures high { (start : Start) (shown : List (List ℕ)) → P.shows pages.old start shown → result ≡ Err ApplyError.TooHigh → HasRootLevel shown head.now.root 7 }
     ensures limits { IfErr result (LimitRefusal (P.homes pages.old) (P.next pages.old) head.now.applied) }
     ensures lacks { (start : Start) (shown : List (List ℕ)) (h : History) → P.shows pages.old start shown → O.honest (disk_of shelf.old) (pen_of shelf.old)
         → Bears (TreeLies (O.block_count (disk_of shelf.old))) settings (settled_in (O.model (pen_of shelf.old))) head.now shown h → Mirrors sequencer.now h

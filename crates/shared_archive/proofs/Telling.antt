@@ -5,7 +5,7 @@ use Rattle.disk_models.specs.declared.once.OnceDisk.{Ghosts as OnceGhosts}
 use Rattle.route_meaning.specs.History.{History, applied}
 use Rattle.once_store.specs.declared.error.BlockError.{BlockError}
 use Rattle.once_store.specs.declared.error.BlockError.TheVariants as blocks
-use Rattle.tsb_tree.specs.Opened.{ShowsRoot}
+use Rattle.tsb_tree.specs.Opened.{HasRootLevel}
 use Rattle.query_threads.specs.Troubles.{OnAdmitTrouble, OnMarkTrouble, OnAskTrouble}
 use Rattle.disk_archive.specs.declared.archive.Archive.{Archive}
 use Rattle.disk_archive.specs.declared.error.AdmitError.{AdmitError}
@@ -84,7 +84,7 @@ module _ {E O Pen Seen : Type 0} {erase : EraseGhosts E} {once : OnceGhosts O Pe
       → (is_down a ≡ false → is_down b ≡ true → ◌≡◌ {A = Result R ApplyError} (Err e) (Err applies.Fault))
       → (IsHonest a → (h : History) → Holds a h → e ≡ applies.CounterFull → sum_by (λ p. length p.item.changes) (applied h) ≡ 18446744073709551615)
       → (e ≡ applies.PagesFull → unused_pages a < 9)
-      → (IsHonest a → (pages : List (List ℕ)) → HasPages a pages → e ≡ applies.TooHigh → ShowsRoot pages (root_in a) 7)
+      → (IsHonest a → (pages : List (List ℕ)) → HasPages a pages → e ≡ applies.TooHigh → HasRootLevel pages (root_in a) 7)
       → (IsHonest a → e ≡ applies.OnceFull → NoneBlank b)
       → (IsHonest a → (h : History) → Holds a h → (page : ℕ) → e ≡ applies.BadNode page → ⊥)
       → Tells a (of_apply e) b

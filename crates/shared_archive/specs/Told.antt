@@ -3,7 +3,7 @@ use Rattle.std.specs.Prelude.{◌≡◌, ◌<◌, ◌⊎◌, ◌+◌, ℕ, List,
 use Rattle.disk_models.specs.declared.erase.EraseDisk.{Ghosts as EraseGhosts}
 use Rattle.disk_models.specs.declared.once.OnceDisk.{Ghosts as OnceGhosts}
 use Rattle.route_meaning.specs.History.{History, applied}
-use Rattle.tsb_tree.specs.Opened.{ShowsRoot}
+use Rattle.tsb_tree.specs.Opened.{HasRootLevel}
 use Rattle.query_threads.specs.declared.refusal.Trouble.{Trouble}
 use Rattle.query_threads.specs.declared.refusal.Trouble.TheVariants.{Fault, NeedsRecovery, DamagedPage, DamagedBlock, CounterFull, TooHigh, PagesFull, OnceFull, OutOfMemory}
 use Rattle.query_threads.specs.declared.refusal.Flush.{Flush}
@@ -32,7 +32,7 @@ Tells a NeedsRecovery b = is_down a ≡ true
 Tells a (DamagedPage page) b = StaysUp a b × ((h : History) → GoesOn a h → ⊥)
 Tells a (DamagedBlock block) b = ⊥
 Tells a CounterFull b = StaysUp a b × ((h : History) → GoesOn a h → sum_by (λ p. length p.item.changes) (applied h) ≡ 18446744073709551615)
-Tells a TooHigh b = StaysUp a b × (IsHonest a → (pages : List (List ℕ)) → HasPages a pages → ShowsRoot pages (root_in a) 7)
+Tells a TooHigh b = StaysUp a b × (IsHonest a → (pages : List (List ℕ)) → HasPages a pages → HasRootLevel pages (root_in a) 7)
 Tells a PagesFull b = StaysUp a b × (unused_pages a < 9)
 Tells a OnceFull b = StaysUp a b × (IsHonest a → NoneBlank b)
 Tells a OutOfMemory b = StaysUp a b

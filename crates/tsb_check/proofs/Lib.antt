@@ -1,3 +1,4 @@
+pub mod OnePage
 pub mod Tallies
 pub mod Stacks
 pub mod Weights

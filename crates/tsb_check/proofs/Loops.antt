@@ -1,11 +1,11 @@
 -- A count of the past goes on from block to block.
-use Rattle.std.proofs.Common.{◌≡◌, ℕ, ◌+◌, ◌<◌, ◌⊎◌, inl, inr, List, [], ◌∷◌, ◌++◌, Option, sym, ◌∙◌, ap, subst, min}
+use Rattle.std.proofs.Common.{◌≡◌, ℕ, ◌+◌, ◌<◌, ◌⊎◌, inl, inr, List, [], ◌∷◌, ◌++◌, Option, Some, None, refl, sym, ◌∙◌, ap, subst, min, arith}
+use Rattle.std.proofs.lemmas.Bool.{cases_lt}
 use Rattle.disk_models.specs.declared.once.OnceDisk.{Ghosts}
 use Rattle.once_store.specs.declared.reader.ShelfReader.{ShelfReader}
 use Rattle.once_store.specs.Readers.{reader_disk}
 use Rattle.version_model.specs.declared.part.Place.{Place}
 use Rattle.tsb_walk.specs.Knowing.{ReadsWell, IsKnown}
-use Rattle.tsb_walk.proofs.Walking.{known_or}
 use Rattle.tsb_check.specs.declared.block.Told.{Told}
 use Rattle.tsb_check.specs.declared.block.Told.TheVariants.{Versions, Parts}
 use Rattle.tsb_check.specs.Counted.{IsReached, IsSoundFor, MeetUnknown, MeetDamage}
@@ -13,6 +13,17 @@ use Rattle.tsb_check.specs.inner.Going.{GoesOn}
 use Rattle.tsb_check.specs.inner.Told.{IsToldOf, GoesLower, IsTaken, weight}
 use Rattle.tsb_check.proofs.Going.{goes_leaf, goes_column, reached_last}
 use Rattle.tsb_check.proofs.Weights.{falls, ends}
+
+-- a number is that of a known block, or not
+known_or : (known : ℕ → Option (List ℕ)) (count n : ℕ) → ((octets : List ℕ) × IsKnown known count n octets) ⊎ ((octets : List ℕ) → IsKnown known count n octets → ⊥)
+known_or known count n = elim (cases_lt n count) [
+  | inl lt ↦ by_octets (known n) lt refl
+  | inr ge ↦ inr (λ octets is. absurd (omega (arith, is.inside, ge)))
+]
+  where
+    by_octets : (o : Option (List ℕ)) → n < count → known n ≡ o → ((octets : List ℕ) × IsKnown known count n octets) ⊎ ((octets : List ℕ) → IsKnown known count n octets → ⊥)
+    by_octets None lt e = inr (λ octets is. absurd (let d : Some octets ≡ None = sym is.at ∙ e in cc))
+    by_octets (Some octets) lt e = inl (octets, record { inside = lt; at = e })
 
 pub goes_by : (known : ℕ → Option (List ℕ)) (count : ℕ) (places left rest left' : List Place) (place : Place) (n n' : ℕ) → left ≡ rest ++ place ∷ [] → GoesOn known count places left n
     → (octets : List ℕ) → IsKnown known count place.part.block octets → (told : Told) → IsToldOf place octets told → IsTaken place told rest left' n n' → GoesOn known count places left' n'

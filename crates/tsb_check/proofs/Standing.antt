@@ -17,7 +17,8 @@ use Rattle.tsb_node.specs.Views.{PageSays, BlockSays, says_leaf, says_column, sa
 use Rattle.tsb_walk.specs.declared.page_place.PagePlace.{PagePlace}
 use Rattle.tsb_walk.specs.Knowing.{IsKnown, AreKnown}
 use Rattle.tsb_walk.specs.Shown.{Says, AreShown, keys_at}
-use Rattle.tsb_walk.proofs.PageStanding.{says_one, high_level}
+use Rattle.tsb_walk.proofs.PageStanding.{says_one}
+use Rattle.tsb_check.proofs.OnePage.{high_level}
 use Rattle.tsb_walk.proofs.Walking.{node_of, stands_block, SuitsPart}
 use Rattle.tsb_check.specs.Counted.{AreCounted, IsReached, at_first, in_column, MeetUnknown, MeetDamage, IsOneOf, IsSoundFor, AreLower, places_of}
 use Rattle.tsb_check.specs.Pages.{AreCountedUnder, none_under, column_under, children_under, IsUnder, at_top, as_child, IsColumnUnder, IsBadUnder, no_key_node, no_column, no_leaf, IsUnknownUnder, IsDamagedUnder, past_of, places_under}

@@ -9,7 +9,8 @@ use Rattle.version_model.specs.Pages.{PageNode, ColumnNode, KeyNode, Store}
 use Rattle.version_model.specs.Ranges.{Range}
 use Rattle.tsb_walk.specs.declared.page_place.PagePlace.{PagePlace}
 use Rattle.tsb_walk.specs.Shown.{Says, AreShown, keys_at}
-use Rattle.tsb_walk.proofs.PageStanding.{says_one, high_level}
+use Rattle.tsb_walk.proofs.PageStanding.{says_one}
+use Rattle.tsb_check.proofs.OnePage.{high_level}
 use Rattle.tsb_check.specs.declared.in_use.InUse.{InUse}
 use Rattle.tsb_check.specs.Counted.{IsOneOf, AreLower}
 use Rattle.tsb_check.specs.InUse.{IsColumnUsed, IsColumnUnused, never_burnt, never_tried, page_unused, leaf_unused, IsPlaceUsed, AreInUse, IsUnusedUnder, unused_place, unused_column, IsWithin}

@@ -1,5 +1,5 @@
 -- Walks through known blocks.
-use Rattle.std.proofs.Common.{◌≡◌, ◌↔◌, ℕ, suc, ◌≤◌, inl, inr, List, Option, Some, IsSome, slice_get, refl, sym, ◌∙◌, ap, subst, arith}
+use Rattle.std.proofs.Common.{◌<◌, ◌≡◌, ◌↔◌, ℕ, suc, ◌≤◌, inl, inr, List, Option, Some, IsSome, slice_get, refl, sym, ◌∙◌, ap, subst, arith}
 use Rattle.std.proofs.lemmas.Option.{same_Some}
 use Rattle.disk_models.specs.declared.once.OnceDisk.{Ghosts}
 use Rattle.once_store.specs.declared.reader.ShelfReader.{ShelfReader}
@@ -132,6 +132,11 @@ module _ {O Pen Seen : Type 0} (device : Ghosts O Pen Seen) (reader reader' : Sh
         leaf = for.1;
         shows = leaf_shows (device.known seen) (device.block_count (reader_disk reader)) stands.blocks stands.known all place stands.stands fit.0 for.0 fit.1 for.1;
       }
+
+-- what is known stays known
+pub known_along : {O Pen Seen : Type 0} (device : Ghosts O Pen Seen) (first reader : ShelfReader O Pen Seen device) (before seen : Seen) → device.known seen ≡ device.known before → reader_disk reader ≡ reader_disk first
+    → (n : ℕ) (octets : List ℕ) → IsKnown (device.known before) (device.block_count (reader_disk first)) n octets → IsKnown (device.known seen) (device.block_count (reader_disk reader)) n octets
+known_along {O} device first reader before seen same disk n octets is = record { inside = subst (λ (d : O). n < device.block_count d) (sym disk) is.inside; at = ap (λ (f : ℕ → Option (List ℕ)). f n) same ∙ is.at }
 
 -- what is seen stays honest, from the first state on
 pub honest_on : {O Seen : Type 0} (H : O → Seen → Type 0) (first disk : O) (s t u : Seen) → disk ≡ first → (H first s ↔ H first t) → (H disk t ↔ H disk u) → (H first s ↔ H first u)

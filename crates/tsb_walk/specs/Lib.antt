@@ -9,4 +9,5 @@ pub mod PageWays
 pub mod Refusals
 pub mod Shown
 pub mod Ways
+pub mod BlockWays
 pub mod inner

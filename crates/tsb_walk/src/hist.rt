@@ -7,6 +7,7 @@ ghost use Rattle.version_model.specs.Looks.{IsReached, IsPart};
 ghost use Rattle.version_model.specs.Entries.{versions_of};
 ghost use Rattle.once_store.specs.Readers.{capacity_of, reader_disk};
 ghost use Rattle.tsb_walk.specs.Answers.{found_as, reached_as};
+ghost use Rattle.tsb_walk.specs.BlockWays.{AreKnownTo, IsBadBlock};
 ghost use Rattle.tsb_walk.specs.Inside.{KeepsInside};
 ghost use Rattle.tsb_walk.specs.Knowing.{ReadsWell, StandsKnown};
 ghost use Rattle.tsb_walk.specs.Looked.{GoesOnFrom, TellsFrom};
@@ -22,7 +23,7 @@ use version_model::{Place, Stamp};
 
 // Why a leaf in a block isn't looked into.
 fn fault_of(fault: ReadFault, block: u64) -> BlockError
-    ensures damaged { (m : ℕ) → result ≡ BlockError.Damaged m → fault ≡ ReadFault.NotANode }
+    ensures damaged { (m : ℕ) → result ≡ BlockError.Damaged m → (m ≡ block) × (fault ≡ ReadFault.NotANode) }
     ensures never { result ≡ BlockError.Fault → ⊥ }
 {
     match fault {
@@ -33,9 +34,9 @@ fn fault_of(fault: ReadFault, block: u64) -> BlockError
 
 /// The next key from `from` on, itself included, that has a value as of the stamp, among the keys of a place in the past.
 ///
-/// It takes no lock, and waits for nothing but the disk. Where the block that it comes to isn't what its place asks, that
-/// block is called damaged. A failure of the disk and want of memory refuse it too; where the reader keeps each block of the
-/// way the disk isn't asked, and want of memory is told only of a way that comes to a leaf.
+/// It takes no lock, and waits for nothing but the disk. Where the place stands, no block is called damaged. A block that is called damaged
+/// lies on the way on which the blocks lead the key, and isn't what its place asks; not each such block is called damaged, since of a block
+/// its digest, its header and what the key needs alone are read. A failure of the disk and lack of memory refuse it too.
 pub fn hist_next<O: OnceDisk + Drop>(
     reader: &mut ShelfReader<O>,
     seen: &mut O::Seen,
@@ -48,6 +49,7 @@ pub fn hist_next<O: OnceDisk + Drop>(
     ensures next { (all : List Version) → StandsKnown O.OnceDisk reader.old seen.old all place.now → IfOk result (λ reached. IsReached all stamp from (reached_as reached)) }
     ensures reads { (all : List Version) → StandsKnown O.OnceDisk reader.old seen.old all place.now → ReadsWell O.OnceDisk reader.new seen.new }
     ensures never { (all : List Version) → StandsKnown O.OnceDisk reader.old seen.old all place.now → (block : ℕ) → result ≡ Err (BlockError.Damaged block) → ⊥ }
+    ensures damaged { ReadsWell O.OnceDisk reader.old seen.old → AreKnownTo (O.known seen.old) (O.block_count (reader_disk reader.old)) place.now.part.block → (block : ℕ) → result ≡ Err (BlockError.Damaged block) → IsBadBlock (O.known seen.old) (O.block_count (reader_disk reader.old)) from stamp place.now block }
     ensures onward { IfOk result (GoesOnFrom from) }
     ensures inside { KeepsInside O.OnceDisk reader.old → KeepsInside O.OnceDisk reader.new }
     ensures same { O.honest_seen (reader_disk reader.old) seen.old → O.known seen.new ≡ O.known seen.old }
@@ -83,6 +85,7 @@ pub fn hist_part<O: OnceDisk + Drop>(
     ensures part { (all : List Version) → IsRising all → StandsKnown O.OnceDisk reader.old seen.old all place.now → IfOk result (λ part. IsPart all key from (versions_of part.entries.items) part.told) }
     ensures reads { (all : List Version) → StandsKnown O.OnceDisk reader.old seen.old all place.now → ReadsWell O.OnceDisk reader.new seen.new }
     ensures never { (all : List Version) → StandsKnown O.OnceDisk reader.old seen.old all place.now → (block : ℕ) → result ≡ Err (BlockError.Damaged block) → ⊥ }
+    ensures damaged { ReadsWell O.OnceDisk reader.old seen.old → AreKnownTo (O.known seen.old) (O.block_count (reader_disk reader.old)) place.now.part.block → (block : ℕ) → result ≡ Err (BlockError.Damaged block) → IsBadBlock (O.known seen.old) (O.block_count (reader_disk reader.old)) key from place.now block }
     ensures told { IfOk result (TellsFrom from) }
     ensures inside { KeepsInside O.OnceDisk reader.old → KeepsInside O.OnceDisk reader.new }
     ensures same { O.honest_seen (reader_disk reader.old) seen.old → O.known seen.new ≡ O.known seen.old }
@@ -118,6 +121,7 @@ pub fn hist_find<O: OnceDisk + Drop>(
     ensures found { (all : List Version) → StandsKnown O.OnceDisk reader.old seen.old all place.now → IfOk result (λ found. Answers all key stamp (found_as found)) }
     ensures reads { (all : List Version) → StandsKnown O.OnceDisk reader.old seen.old all place.now → ReadsWell O.OnceDisk reader.new seen.new }
     ensures never { (all : List Version) → StandsKnown O.OnceDisk reader.old seen.old all place.now → (block : ℕ) → result ≡ Err (BlockError.Damaged block) → ⊥ }
+    ensures damaged { ReadsWell O.OnceDisk reader.old seen.old → AreKnownTo (O.known seen.old) (O.block_count (reader_disk reader.old)) place.now.part.block → (block : ℕ) → result ≡ Err (BlockError.Damaged block) → IsBadBlock (O.known seen.old) (O.block_count (reader_disk reader.old)) key stamp place.now block }
     ensures inside { KeepsInside O.OnceDisk reader.old → KeepsInside O.OnceDisk reader.new }
     ensures same { O.honest_seen (reader_disk reader.old) seen.old → O.known seen.new ≡ O.known seen.old }
     ensures disk { reader_disk reader.new ≡ reader_disk reader.old }

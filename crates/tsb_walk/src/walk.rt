@@ -7,8 +7,9 @@ ghost use Rattle.once_store.specs.Readers.{IsKept, capacity_of, reader_disk};
 ghost use Rattle.tsb_walk.specs.Inside.{KeepsInside};
 ghost use Rattle.tsb_walk.specs.Knowing.{ReadsWell, IsKnown, StandsKnown};
 ghost use Rattle.tsb_walk.specs.Ways.{IsFit};
+ghost use Rattle.tsb_walk.specs.BlockWays.{AreKnownTo, IsBadBlock};
 ghost use Rattle.tsb_walk.specs.inner.Steps.{IsStep, GoesDown};
-ghost use Rattle.tsb_walk.specs.inner.Arriving.{HasLeaf};
+ghost use Rattle.tsb_walk.specs.inner.Arriving.{Arrives, HasLeaf};
 
 use crate::block::{Step, step_in};
 use disk_models::OnceDisk;
@@ -28,6 +29,7 @@ fn take_step<O: OnceDisk + Drop>(
     ensures step { ReadsWell O.OnceDisk reader.old seen.old → (octets : List ℕ) → IsKnown (O.known seen.old) (O.block_count (reader_disk reader.old)) place.now.part.block octets → IsFit place.now octets key stamp → IfOk result (IsStep place.now octets key stamp) }
     ensures reads { ReadsWell O.OnceDisk reader.old seen.old → (octets : List ℕ) → IsKnown (O.known seen.old) (O.block_count (reader_disk reader.old)) place.now.part.block octets → ReadsWell O.OnceDisk reader.new seen.new }
     ensures unfit { ReadsWell O.OnceDisk reader.old seen.old → (octets : List ℕ) → IsKnown (O.known seen.old) (O.block_count (reader_disk reader.old)) place.now.part.block octets → (m : ℕ) → result ≡ Err (BlockError.Damaged m) → IsFit place.now octets key stamp → ⊥ }
+    ensures number { (m : ℕ) → result ≡ Err (BlockError.Damaged m) → m ≡ place.now.part.block }
     ensures down { IfOk result (GoesDown place.now key stamp) }
     ensures kept { OnOk result ((octets : List ℕ) × IsKept reader.new place.now.part.block octets) }
     ensures inside { KeepsInside O.OnceDisk reader.old → KeepsInside O.OnceDisk reader.new }
@@ -61,6 +63,8 @@ pub fn leaf_place<O: OnceDisk + Drop>(
     ensures leaf { (all : List Version) → StandsKnown O.OnceDisk reader.old seen.old all place.now → IfOk result (HasLeaf O.OnceDisk reader.new all) }
     ensures reads { (all : List Version) → StandsKnown O.OnceDisk reader.old seen.old all place.now → ReadsWell O.OnceDisk reader.new seen.new }
     ensures never { (all : List Version) → StandsKnown O.OnceDisk reader.old seen.old all place.now → (m : ℕ) → result ≡ Err (BlockError.Damaged m) → ⊥ }
+    ensures arrives { ReadsWell O.OnceDisk reader.old seen.old → AreKnownTo (O.known seen.old) (O.block_count (reader_disk reader.old)) place.now.part.block → IfOk result (Arrives O.OnceDisk reader.new (O.known seen.old) (O.block_count (reader_disk reader.old)) key stamp place.now) }
+    ensures damaged { ReadsWell O.OnceDisk reader.old seen.old → AreKnownTo (O.known seen.old) (O.block_count (reader_disk reader.old)) place.now.part.block → (block : ℕ) → result ≡ Err (BlockError.Damaged block) → IsBadBlock (O.known seen.old) (O.block_count (reader_disk reader.old)) key stamp place.now block }
     ensures point { IfOk result (λ last. IsPoint (range_of last.bounds) key stamp) }
     ensures kept { IfOk result (λ last. (octets : List ℕ) × IsKept reader.new last.part.block octets) }
     ensures inside { KeepsInside O.OnceDisk reader.old → KeepsInside O.OnceDisk reader.new }

@@ -1,6 +1,7 @@
 -- What one block says to a place.
 use Rattle.std.specs.Prelude.{◌≡◌, ℕ, ◌<◌, List, Some, IsSome}
 use Rattle.version_model.specs.declared.bounds.Bounds.{Bounds}
+use Rattle.version_model.specs.declared.part.PartKind.TheVariants.{LeafBlock}
 use Rattle.version_model.specs.declared.part.Place.{Place}
 use Rattle.version_model.specs.Versions.{Version}
 use Rattle.version_model.specs.Ranges.{IsPoint, range_of}
@@ -29,7 +30,7 @@ abbrev pub IsStep : Place → List ℕ → ℕ → ℕ → Step → Type 0
 IsStep place octets key stamp InLeaf = (versions : List Version) × IsLeafFor place octets versions
 IsStep place octets key stamp (Further next) = LeadsTo place octets key stamp next
 
--- the next place is in a block of a lower number, and the key and the stamp lie in it
+-- the place is of a leaf; or the next place is in a block of a lower number, and the key and the stamp lie in it
 abbrev pub GoesDown : Place → ℕ → ℕ → Step → Type 0
-GoesDown place key stamp InLeaf = Unit {0}
+GoesDown place key stamp InLeaf = place.part.kind ≡ LeafBlock
 GoesDown place key stamp (Further next) = (next.part.block < place.part.block) × IsPoint (range_of next.bounds) key stamp

@@ -9,7 +9,7 @@ use Rattle.version_model.specs.Entries.{version_of}
 use Rattle.once_store.specs.declared.error.AppendError.TheVariants as appends
 use Rattle.page_tx.specs.declared.error.PageError.TheVariants as pages
 use Rattle.tsb_tree.specs.declared.error.TreeError.TheVariants as trees
-use Rattle.tsb_tree.specs.Opened.{ShowsRoot}
+use Rattle.tsb_tree.specs.Opened.{HasRootLevel}
 use Rattle.tsb_tree.specs.NoRoom.{AtRoot}
 use Rattle.tsb_tree.specs.Needs.{NeedsLevel, NeedsPages}
 use Rattle.tsb_tree.specs.Refusals.{BlamesNone, InsertRefusal, ReadRefusal}
@@ -101,7 +101,7 @@ returns-in-Err-insert-clause-high g c start shown shows told =
     let h = c.args.head.now in
     let level : c.in-Ok.place.level ≡ 7 = subst (InsertRefusal _ _ _ _ _ _ _) (c.of_tree-in-Err-insert.ensures.high (cc told)) c.in-Err-insert.ensures.refused in
     let root = ap (λ (x : Contents). x.root) c.head.view_is in
-    subst (λ (n : ℕ). ShowsRoot shown h.root n) level (subst (λ (r : ℕ). ShowsRoot shown r c.in-Ok.place.level) root (c.in-Ok.ensures.level start shown shows))
+    subst (λ (n : ℕ). HasRootLevel shown h.root n) level (subst (λ (r : ℕ). HasRootLevel shown r c.in-Ok.place.level) root (c.in-Ok.ensures.level start shown shows))
 
 pub returns-in-Err-clause-lacks : goal.returns-in-Err-clause-lacks
 returns-in-Err-clause-lacks g c start shown low versions shows honest t =

@@ -5,7 +5,7 @@ use Rattle.disk_models.specs.Once.{settled_in}
 use Rattle.once_store.specs.Shelves.{disk_of, next_of, pen_of}
 use Rattle.page_tx.specs.Images.{joined}
 use Rattle.archive_head.specs.Head.{Contents, head_octets}
-use Rattle.tsb_tree.specs.Opened.{ShowsRoot}
+use Rattle.tsb_tree.specs.Opened.{HasRootLevel}
 use Rattle.archive_pages.specs.Refusals.{HeadRefusal}
 use Rattle.archive_pages.specs.Carried.{Bears}
 use Rattle.disk_archive.specs.Trees.{TreeLies}
@@ -141,7 +141,7 @@ returns-in-Err-clause-lacks g c start shown h shows honest b m =
 
 pub returns-in_err-plan_step-clause-high : goal.returns-in_err-plan_step-clause-high
 returns-in_err-plan_step-clause-high g c start shown shows told =
-    subst (λ (x : Contents). ShowsRoot shown x.root 7) c.in_ok-plan.ensures.head (c.plan_step.ensures.high start shown (c.begin_plan.ensures.reads start shown shows) (search (rules, told)))
+    subst (λ (x : Contents). HasRootLevel shown x.root 7) c.in_ok-plan.ensures.head (c.plan_step.ensures.high start shown (c.begin_plan.ensures.reads start shown shows) (search (rules, told)))
 
 pub returns-in_err-plan_step-clause-limits : goal.returns-in_err-plan_step-clause-limits
 returns-in_err-plan_step-clause-limits g c =

@@ -1,6 +1,6 @@
 use Rattle.tsb_node.specs.Saying.{key_node_said}
 use Rattle.tsb_walk.specs.Shown.{keys_at}
-use Rattle.tsb_walk.proofs.OnePage.{key_node_same, key_node_for}
+use Rattle.tsb_check.proofs.OnePage.{key_node_same, key_node_for}
 use Rattle.tsb_check.proofs.page.children_in.Goals as goal
 
 pub returns-then-said-place-clause-none : goal.returns-then-said-place-clause-none

@@ -1,6 +1,6 @@
 use Rattle.tsb_node.specs.Saying.{column_said}
 use Rattle.tsb_walk.specs.Shown.{keys_at}
-use Rattle.tsb_walk.proofs.OnePage.{column_same, column_for}
+use Rattle.tsb_check.proofs.OnePage.{column_same, column_for}
 use Rattle.tsb_check.proofs.page.column_in.Goals as goal
 
 pub returns-then-not-are_its_keys-clause-none : goal.returns-then-not-are_its_keys-clause-none

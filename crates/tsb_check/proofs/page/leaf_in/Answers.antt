@@ -1,7 +1,7 @@
 use Rattle.std.proofs.Common.{rules, ◌≡◌, refl}
 use Rattle.tsb_node.specs.Saying.{leaf_said}
 use Rattle.tsb_walk.specs.Shown.{keys_at}
-use Rattle.tsb_walk.proofs.OnePage.{leaf_same, leaf_for_page}
+use Rattle.tsb_check.proofs.OnePage.{leaf_same, leaf_for_page}
 use Rattle.tsb_check.proofs.page.leaf_in.Goals as goal
 
 pub returns-then-ne-clause-none : goal.returns-then-ne-clause-none

@@ -19,8 +19,8 @@ returns-clause-reached c = λ versions says.
     let begins = subst (BeginsAsLeaf leaf.leaf) (sym c.octets.ensures.value) leaf.begins in
     if_ok c.reached_in.result _ _
     (λ reached is.
-        subst (λ (vs : List Version). IsReached vs c.args.stamp c.args.from (reached_as reached)) leaf.same
-        (is leaf.leaf.versions (all_below (high_or column.high)) leaf.leaf begins (shows_itself leaf.leaf.versions (high_or column.high)) refl (point_below (high_or column.high) c.args.from c.args.stamp c.requires.has.high (omega (arith, c.stamp_fits.ensures.fits)))))
+    subst (λ (vs : List Version). IsReached vs c.args.stamp c.args.from (reached_as reached)) leaf.same
+    (is leaf.leaf.versions (all_below (high_or column.high)) leaf.leaf begins (shows_itself leaf.leaf.versions (high_or column.high)) refl (point_below (high_or column.high) c.args.from c.args.stamp c.requires.has.high (omega (arith, c.stamp_fits.ensures.fits)))))
     c.reached_in.ensures.reached
 
 pub returns-clause-onward : goal.returns-clause-onward

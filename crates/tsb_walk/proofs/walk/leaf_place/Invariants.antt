@@ -1,14 +1,18 @@
-use Rattle.std.proofs.Common.{◌≡◌, ◌↔◌, List}
+use Rattle.std.proofs.Common.{◌≡◌, ◌↔◌, ◌≤◌, List}
 use Rattle.version_model.specs.Versions.{Version}
 use Rattle.version_model.specs.Ranges.{IsPoint, range_of}
 use Rattle.once_store.specs.Readers.{capacity_of, reader_disk}
 use Rattle.tsb_walk.specs.Inside.{KeepsInside}
-use Rattle.tsb_walk.specs.Knowing.{StandsKnown}
+use Rattle.tsb_walk.specs.BlockWays.{AreKnownTo, BlockWay}
+use Rattle.tsb_walk.specs.Knowing.{ReadsWell, StandsKnown}
 use Rattle.tsb_walk.proofs.walk.leaf_place.Given as goal
 
 abbrev pub invariant-loop-at : goal.invariant-loop-at
 invariant-loop-at g l = record {
   point : IsPoint (range_of l.at.bounds) l.key l.stamp;
+  low : l.at.part.block ≤ l.initial.at.part.block;
+  walked : ReadsWell g.O.OnceDisk l.initial.reader l.initial.seen → AreKnownTo (g.O.OnceDisk.known l.initial.seen) (g.O.OnceDisk.block_count (reader_disk l.initial.reader)) l.initial.at.part.block
+      → BlockWay (g.O.OnceDisk.known l.initial.seen) (g.O.OnceDisk.block_count (reader_disk l.initial.reader)) l.key l.stamp l.initial.at l.at × ReadsWell g.O.OnceDisk l.reader l.seen;
   stands : (all : List Version) → StandsKnown g.O.OnceDisk l.initial.reader l.initial.seen all l.initial.at → StandsKnown g.O.OnceDisk l.reader l.seen all l.at;
   inside : KeepsInside g.O.OnceDisk l.initial.reader → KeepsInside g.O.OnceDisk l.reader;
   same : g.O.OnceDisk.honest_seen (reader_disk l.initial.reader) l.initial.seen → g.O.OnceDisk.known l.seen ≡ g.O.OnceDisk.known l.initial.seen;
