@@ -1,16 +1,20 @@
 -- Looking for the next key over the entries of a leaf.
-use Rattle.std.proofs.Common.{◌≡◌, ℕ, ◌++◌, List, Option, Some, None, Bool, true, false, refl, sym, ap, ◌∙◌}
+use Rattle.std.proofs.Common.{◌≡◌, ℕ, suc, ◌+◌, ◌^◌, ◌<◌, ◌≤◌, ◌++◌, inl, inr, List, length, slice_get, Option, Some, None, IfSome, Bool, true, false, refl, sym, ap, subst, ◌∙◌, arith}
+use Rattle.std.proofs.lemmas.Bool.{cases_lt}
+use Rattle.std.proofs.lemmas.Option.{same_Some, slice_get_within}
 use Rattle.std.specs.Option.{is_some}
-use Rattle.version_model.specs.Versions.{Version, AsOf, IsRising}
+use Rattle.version_model.specs.Versions.{Version, Answers, AsOf, IsRising}
+use Rattle.version_model.specs.Looks.{NoneWithin, IsLeastLive}
+use Rattle.version_model.specs.inner.Lower.{IsLower}
 use Rattle.version_model.proofs.api.AsOfs.{dead_of, live_of}
 use Rattle.tsb_node.specs.declared.leaf.FoundVersion.{FoundVersion}
-use Rattle.tsb_node.specs.Leaves.{LeafNode, entry}
+use Rattle.tsb_node.specs.Leaves.{LeafNode, BeginsAsLeaf, IsVersionOf, entry}
 use Rattle.tsb_node.specs.Finding.{version_found}
-use Rattle.tsb_node.specs.inner.Nexts.{TellsLive}
+use Rattle.tsb_node.specs.inner.Nexts.{IsLeastOf, TellsLive}
 use Rattle.tsb_node.specs.inner.Fields.{number_in}
-use Rattle.tsb_node.proofs.SplittingLaws.{IsNext}
+use Rattle.tsb_node.proofs.SplittingLaws.{IsNext, all_at}
 use Rattle.tsb_node.proofs.Entries.{entry_read}
-use Rattle.tsb_node.proofs.Scanning.{key_said}
+use Rattle.tsb_node.proofs.Scanning.{key_said, stamp_said}
 
 -- what was found is a value, or an end
 pub live_found : (vs : List Version) (key s : ℕ) (found : FoundVersion) → IsRising vs → AsOf vs key s (version_found key found) → (b : Bool) → b ≡ is_some found.value → TellsLive vs key s b
@@ -26,3 +30,84 @@ pub key_next : (leaf : LeafNode) (n : ℕ) (rest : List ℕ) → (next : IsNext 
 key_next leaf n rest next =
     let r = entry_read leaf.bounds next.v next.more next.valid in
     ap (number_in 40 0) next.spelled ∙ sym (key_said (entry next.v ++ next.more)) ∙ ap (λ (w : Version). w.key) r.is
+
+-- and its stamp
+pub stamp_next : (leaf : LeafNode) (n : ℕ) (rest : List ℕ) → (next : IsNext leaf n rest) → number_in 16 40 rest ≡ next.v.stamp
+stamp_next leaf n rest next =
+    let r = entry_read leaf.bounds next.v next.more next.valid in
+    ap (number_in 16 40) next.spelled ∙ sym (stamp_said (entry next.v ++ next.more)) ∙ ap (λ (w : Version). w.stamp) r.is
+
+-- ---- the least key of which there is a version
+
+-- the least one of the first versions
+pub record LeastSo (vs : List Version) (s from n : ℕ) (best : Option ℕ) : Type 0 where
+  pub from_on : IfSome best (λ least. from ≤ least)
+  pub none_lower : (k : ℕ) (v : Version) → k < n → slice_get vs k ≡ Some v → from ≤ v.key → v.stamp ≤ s → IsLower best v.key → ⊥
+
+lower_on : (best : Option ℕ) (key other : ℕ) → IsLower best other → IsLower (Some other) key → IsLower best key
+lower_on None key other a b = tt
+lower_on (Some best) key other a b = omega (arith, a, b)
+
+pub least_yes : (vs : List Version) (s from n : ℕ) (v : Version) → slice_get vs n ≡ Some v → (best : Option ℕ) → from ≤ v.key → IsLower best v.key → LeastSo vs s from n best → LeastSo vs s from (n + 1) (Some v.key)
+least_yes vs s from n v at best above lower so = record {
+  from_on = above;
+  none_lower = λ k w lt is low by below. elim (cases_lt k n) [
+    | inl old ↦ so.none_lower k w old is low by (lower_on best w.key v.key lower below)
+    | inr new ↦ (
+        let e : k ≡ n = omega (arith, lt, new) in
+        let same : w ≡ v = same_Some w v (sym is ∙ subst (λ (i : ℕ). slice_get vs i ≡ Some v) (sym e) at) in
+        absurd (omega (arith, below, ap (λ (x : Version). x.key) same)))
+  ];
+}
+
+pub least_no : (vs : List Version) (s from n : ℕ) (v : Version) → slice_get vs n ≡ Some v → (best : Option ℕ) → (from ≤ v.key → v.stamp ≤ s → IsLower best v.key → ⊥) → LeastSo vs s from n best → LeastSo vs s from (n + 1) best
+least_no vs s from n v at best never so = record {
+  from_on = so.from_on;
+  none_lower = λ k w lt is low by below. elim (cases_lt k n) [
+    | inl old ↦ so.none_lower k w old is low by below
+    | inr new ↦ (
+        let e : k ≡ n = omega (arith, lt, new) in
+        let same : w ≡ v = same_Some w v (sym is ∙ subst (λ (i : ℕ). slice_get vs i ≡ Some v) (sym e) at) in
+        let key : w.key ≡ v.key = ap (λ (x : Version). x.key) same in
+        let stamp : w.stamp ≡ v.stamp = ap (λ (x : Version). x.stamp) same in
+        never (omega (arith, low, key)) (omega (arith, by, stamp)) (subst (IsLower best) key below))
+  ];
+}
+
+pub least_end : (vs : List Version) (s from : ℕ) (best : Option ℕ) → LeastSo vs s from (length vs) best → IsLeastOf vs s from best
+least_end vs s from None so = λ v has low by. so.none_lower has.place v (slice_get_within vs has.place v has.is) has.is low by tt
+least_end vs s from (Some least) so = (
+  so.from_on,
+  λ v has low by. elim (cases_lt v.key least) [
+    | inl below ↦ absurd (so.none_lower has.place v (slice_get_within vs has.place v has.is) has.is low by below)
+    | inr above ↦ above
+  ],
+)
+
+-- ---- the next key
+
+-- where there is no version from a key on, none has a value
+pub none_from : (vs : List Version) (s from first : ℕ) → NoneWithin vs s first from → IsLeastOf vs s from None → IsLeastLive vs s first None
+none_from vs s from first dead none = λ key above v holds. elim (cases_lt key from) [
+  | inl below ↦ dead key above below v holds
+  | inr on ↦ absurd (none v holds.has (omega (arith, on, holds.of_key)) holds.not_after)
+]
+
+-- below the least key of which there is a version none has a value
+pub none_to : (vs : List Version) (s from first least : ℕ) → NoneWithin vs s first from → IsLeastOf vs s from (Some least) → NoneWithin vs s first least
+none_to vs s from first least dead is = λ key above below v holds. elim (cases_lt key from) [
+  | inl low ↦ dead key above low v holds
+  | inr on ↦ (let up = is.1 v holds.has (omega (arith, on, holds.of_key)) holds.not_after in absurd (omega (arith, up, below, holds.of_key)))
+]
+
+pub none_behind : (vs : List Version) (s from first least : ℕ) → NoneWithin vs s first from → IsLeastOf vs s from (Some least) → Answers vs least s None → NoneWithin vs s first (suc least)
+none_behind vs s from first least dead is ended = λ key above below. elim (cases_lt key least) [
+  | inl low ↦ none_to vs s from first least dead is key above low
+  | inr on ↦ (let e : least ≡ key = omega (arith, below, on) in subst (λ (k : ℕ). Answers vs k s None) e ended)
+]
+
+-- the last key of all is the last
+pub none_at_last : (leaf : LeafNode) (octets : List ℕ) (s first least : ℕ) → BeginsAsLeaf leaf octets → NoneWithin leaf.versions s first (suc least) → suc least ≡ 2 ^ 320 → IsLeastLive leaf.versions s first None
+none_at_last leaf octets s first least is dead last = λ key above v holds.
+    let valid = all_at (IsVersionOf leaf.bounds) leaf.versions holds.has.place v is.valid.each holds.has.is in
+    dead key above (omega (arith, valid.key, last, holds.of_key)) v holds

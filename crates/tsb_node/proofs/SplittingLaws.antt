@@ -76,7 +76,7 @@ get_drop [] n lt = absurd (omega arith)
 get_drop (v ∷ vs) zero lt = (v, vs, refl, refl)
 get_drop (v ∷ vs) (suc n) lt = get_drop vs n (omega arith)
 
-all_at : (P : Version → Type 0) (vs : List Version) (n : ℕ) (v : Version) → AllByRecursion P vs → slice_get vs n ≡ Some v → P v
+pub all_at : (P : Version → Type 0) (vs : List Version) (n : ℕ) (v : Version) → AllByRecursion P vs → slice_get vs n ≡ Some v → P v
 all_at P [] n v all e = absurd (none-some v e)
 all_at P (w ∷ vs) zero v all e = subst P (same_Some w v e) all.0
 all_at P (w ∷ vs) (suc n) v all e = all_at P vs n v all.1 e

@@ -8,7 +8,7 @@ ghost use Rattle.tsb_node.specs.inner.NodeReading.{IsNode};
 
 use crate::header::{Header, is_below_high, is_key_below, is_of_kind, is_stamp_below};
 use crate::leaf::entry_size;
-use crate::node_reading::{node_in, node_of_block, node_of_page};
+use crate::node_reading::{node_of_block, node_of_page};
 use crate::numbers::{key_at, stamp_at};
 use disk_models::{Block, Page};
 use version_model::{Bounds, Stamp};
@@ -88,18 +88,6 @@ fn leaf_bounds(header: &Header, entries: &[u8]) -> Option<Bounds>
         return None;
     }
     Some(header.bounds)
-}
-
-/// The bounds of the leaf with which octets begin, or none where they begin with no leaf.
-pub fn leaf_in(octets: &[u8]) -> Option<Bounds>
-    requires size { length octets.now ≡ 16384 }
-    ensures found { IfSome result (λ bounds. (leaf : LeafNode) × BeginsAsLeaf leaf octets.now × (leaf.bounds ≡ bounds)) }
-    ensures none { IfNone result ((leaf : LeafNode) → BeginsAsLeaf leaf octets.now → ⊥) }
-{
-    let Some((header, entries)) = node_in(octets) else {
-        return None;
-    };
-    leaf_bounds(&header, entries)
 }
 
 /// The bounds of the leaf that a page is, or none where it is no leaf.

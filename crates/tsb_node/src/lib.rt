@@ -2,7 +2,6 @@
 #![tactic(auto)]
 
 mod column;
-mod column_bounds;
 mod column_reading;
 mod column_said;
 mod column_writing;
@@ -27,7 +26,6 @@ mod numbers;
 mod writing;
 
 pub use column::{Current, PartAt, Spot, part_for, spot_for};
-pub use column_bounds::old_column_in;
 pub use column_said::{ColumnSaid, OldColumnSaid, column_of_block, column_of_page};
 pub use column_writing::{write_column, write_old_column};
 pub use header::{Header, read_header};
@@ -43,7 +41,7 @@ pub use leaf::{FoundVersion, NotANode, Value, find, push, start_leaf};
 pub use leaf_entries::entries_in;
 pub use leaf_next::next;
 pub use leaf_part::{ReadFault, part};
-pub use leaf_reading::{leaf_in, leaves_are_one, read_leaf, read_leaf_block};
+pub use leaf_reading::{leaves_are_one, read_leaf, read_leaf_block};
 pub use leaf_said::{LeafSaid, leaf_of_block, leaf_of_page};
 pub use leaf_sealing::seal_leaf;
 pub use leaf_splitting::copy_side;

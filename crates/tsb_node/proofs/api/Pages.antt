@@ -1,5 +1,5 @@
 -- Pages, and what they say in the words of the tree.
-use Rattle.std.proofs.Common.{◌≡◌, ℕ, ◌≤◌, List, replicate}
+use Rattle.std.proofs.Common.{◌≡◌, ℕ, List, replicate}
 use Rattle.version_model.specs.Ranges.{high_or}
 use Rattle.version_model.specs.Blocks.{IsPartOf}
 use Rattle.version_model.specs.Pages.{PageNode, IsChildOf, past_range}

@@ -1,4 +1,4 @@
-use Rattle.std.proofs.Common.{◌≡◌, ◌∙◌, ◌<◌, ℕ, arith, length, sym}
+use Rattle.std.proofs.Common.{◌<◌, arith, length, sym}
 use Rattle.std.specs.List.{flat_map}
 use Rattle.std.specs.declared.result.Result.TheVariants.{Ok}
 use Rattle.tsb_node.specs.KeyNodes.{child_octets}

@@ -1,71 +1,42 @@
-use Rattle.std.proofs.Common.{arith, ◌≡◌, ◌∙◌, ◌<◌, ◌+◌, ℕ, Some, None, length, drop, ap, sym, subst}
-use Rattle.std.proofs.lemmas.Bool.{both_ways}
+use Rattle.std.proofs.Common.{arith, ◌≡◌, Option, None, ℕ, suc, IfSome, ◌≤◌, subst, sym}
 use Rattle.version_model.specs.Versions.{Answers}
-use Rattle.version_model.specs.Looks.{IsLive}
-use Rattle.version_model.specs.inner.Lower.{IsLower}
-use Rattle.version_model.proofs.api.Least.{LeastBelow, LeastBelow-yes, LeastBelow-no, LeastBelow-end}
-use Rattle.tsb_node.specs.Leaves.{LeafNode, BeginsAsLeaf}
-use Rattle.tsb_node.specs.inner.Reading.{area}
-use Rattle.tsb_node.specs.inner.Scanning.{IsWholeVersion}
-use Rattle.tsb_node.proofs.Leaves.{leaf_says}
-use Rattle.tsb_node.proofs.Scanning.{scan_on, broken_none}
-use Rattle.tsb_node.proofs.SplittingLaws.{next_version, after_none}
-use Rattle.tsb_node.proofs.Nexting.{key_next}
+use Rattle.version_model.specs.Looks.{IsLive, NoneWithin}
+use Rattle.tsb_node.specs.inner.Nexts.{IsLeastOf, TellsLive}
+use Rattle.tsb_node.proofs.Nexting.{none_from, none_to, none_behind, none_at_last}
 use Rattle.tsb_node.proofs.leaf_next.next.Goals as goal
-use Rattle.tsb_node.proofs.leaf_next.next.Goals.{then-is_candidate+in-Ok+then-live, then-is_candidate+in-Ok+else-live, else-is_candidate}
 
-pub loop-init : goal.loop-init
-loop-init c =
-    let there : c.split_at-2.result.1.now ≡ area c.args.octets.now = c.split_at-2.ensures.back ∙ ap (drop 120) c.split_at.ensures.front in
-    record {
-      there = there ∙ after_none (area c.args.octets.now);
-      least = λ leaf is. record { dead = λ k v lt. absurd (omega arith) };
-    }
-
-pub returns-in_default : goal.returns-in_default
-returns-in_default c = record {
+pub returns-in_default-least : goal.returns-in_default-least
+returns-in_default-least c = record {
   next = λ leaf is.
-      absurd (broken_none leaf c.args.octets.now (record {
-        place = c.loop.counter;
-        below = omega (arith, c.loop-test.true, c.number2-count.ensures.number);
-        broken = λ whole. c.in_default.ensures.none (subst IsWholeVersion (sym c.loop.invariant.there) whole);
-      }) is);
+      none_from leaf.versions c.args.stamp c.loop-least.from c.args.from (c.loop-least.invariant.dead leaf is)
+      (subst (IsLeastOf leaf.versions c.args.stamp c.loop-least.from) c.in_default-least.is (c.in-Ok.ensures.least leaf is));
 }
 
-pub loop-preserved : goal.loop-preserved
-loop-preserved c =
-    let found = c.in-Some.ensures.found in
-    let rest = c.loop.rest.now in
-    let octets = c.args.octets.now in
-    let s = c.args.stamp in
-    let from = c.args.from in
-    let key = c.key_at-key.result in
-    let few : (leaf : LeafNode) → BeginsAsLeaf leaf octets → c.loop.counter < length leaf.versions = λ leaf is. (let says = leaf_says leaf octets is in omega (arith, says.count_is, c.loop-test.true, c.number2-count.ensures.number)) in
-    record {
-      there = c.split_at-in-loop.ensures.back ∙ ap (λ (n : ℕ). drop n rest) found.0 ∙ scan_on c.loop.counter rest (area octets) c.loop.invariant.there;
-      least = λ leaf is.
-          (let n = next_version leaf octets rest c.loop.counter is (few leaf is) c.loop.invariant.there in
-          let same : key ≡ n.v.key = c.key_at-key.ensures.number ∙ key_next leaf c.loop.counter rest n in
-          let before = c.loop.invariant.least leaf is in
-          elim c.if-is_candidate.branch [
-            | then-is_candidate+in-Ok+then-live w ↦ rw w.best-is (
-                let candidate = c.is_candidate.ensures.0 w.if-is_candidate.true in
-                let live : IsLive leaf.versions s key = rw w.if-live.true at (w.in-Ok.ensures.live leaf is) in
-                subst (λ (k : ℕ). LeastBelow leaf.versions s from (c.loop.counter + 1) (Some k)) (sym same)
-                (LeastBelow-yes leaf.versions s from c.loop.counter n.v n.is c.loop.best (omega (arith, candidate.0, same)) (subst (IsLower c.loop.best) same candidate.1) (subst (IsLive leaf.versions s) same live) before))
-            | then-is_candidate+in-Ok+else-live w ↦ rw w.best-is (
-                let dead : Answers leaf.versions key s None = rw w.if-live.false at (w.in-Ok.ensures.live leaf is) in
-                LeastBelow-no leaf.versions s from c.loop.counter n.v n.is c.loop.best (λ above lower. subst (λ (k : ℕ). Answers leaf.versions k s None) same dead) before)
-            | else-is_candidate w ↦ rw w.best-is (
-                LeastBelow-no leaf.versions s from c.loop.counter n.v n.is c.loop.best
-                (λ above lower. absurd (both_ways _ w.if-is_candidate.false (c.is_candidate.ensures.1 (omega (arith, above, same), subst (IsLower c.loop.best) (sym same) lower)))) before)
-          ]);
-    }
-
-pub returns : goal.returns
-returns c = record {
+pub returns-then-live : goal.returns-then-live
+returns-then-live c = record {
   next = λ leaf is.
-      (let says = leaf_says leaf c.args.octets.now is in
-      let done : c.loop.counter ≡ length leaf.versions = omega (arith, c.loop-test.false, c.loop.auto.counter-end, c.number2-count.ensures.number, says.count_is) in
-      LeastBelow-end leaf.versions c.args.stamp c.args.from c.loop.best (subst (λ (n : ℕ). LeastBelow leaf.versions c.args.stamp c.args.from n c.loop.best) done (c.loop.invariant.least leaf is)));
+      (let least = subst (IsLeastOf leaf.versions c.args.stamp c.loop-least.from) c.in-Some.is (c.in-Ok.ensures.least leaf is) in
+      let live : IsLive leaf.versions c.args.stamp c.in-Some.key = subst (TellsLive leaf.versions c.in-Some.key c.args.stamp) c.if-live.true (c.in-Ok-is_live.ensures.live leaf is) in
+      (omega (arith, c.loop-least.invariant.onward, least.0), live, none_to leaf.versions c.args.stamp c.loop-least.from c.args.from c.in-Some.key (c.loop-least.invariant.dead leaf is) least));
 }
+
+pub returns-in_default-next : goal.returns-in_default-next
+returns-in_default-next c = record {
+  next = λ leaf is.
+      (let least = subst (IsLeastOf leaf.versions c.args.stamp c.loop-least.from) c.in-Some.is (c.in-Ok.ensures.least leaf is) in
+      let ended : Answers leaf.versions c.in-Some.key c.args.stamp None = subst (TellsLive leaf.versions c.in-Some.key c.args.stamp) c.if-live.false (c.in-Ok-is_live.ensures.live leaf is) in
+      none_at_last leaf c.args.octets.now c.args.stamp c.args.from c.in-Some.key is (none_behind leaf.versions c.args.stamp c.loop-least.from c.args.from c.in-Some.key (c.loop-least.invariant.dead leaf is) least ended)
+      (c.next.ensures.last.0 c.in_default-next.is));
+}
+
+pub loop-least-preserved : goal.loop-least-preserved
+loop-least-preserved c =
+    let rises = subst (λ (o : Option ℕ). IfSome o (λ n. n ≡ suc c.in-Some.key)) c.in-Some-next.is c.next.ensures.next in
+    let up = subst (λ (o : Option ℕ). IfSome o (λ n. c.loop-least.from ≤ n)) c.in-Some.is c.in-Ok.ensures.onward in
+    record {
+      dead = λ leaf is.
+          (let least = subst (IsLeastOf leaf.versions c.args.stamp c.loop-least.from) c.in-Some.is (c.in-Ok.ensures.least leaf is) in
+          let ended : Answers leaf.versions c.in-Some.key c.args.stamp None = subst (TellsLive leaf.versions c.in-Some.key c.args.stamp) c.if-live.false (c.in-Ok-is_live.ensures.live leaf is) in
+          subst (NoneWithin leaf.versions c.args.stamp c.args.from) (sym rises) (none_behind leaf.versions c.args.stamp c.loop-least.from c.args.from c.in-Some.key (c.loop-least.invariant.dead leaf is) least ended));
+      onward = omega (arith, c.loop-least.invariant.onward, up, rises);
+    }
