@@ -13,6 +13,7 @@ mod packed;
 mod questions;
 mod requests;
 mod saying;
+mod unnamed;
 
 pub use feeds::{FeedDoubt, doubts_of};
 pub use files::{FileAdvice, STDIN, advise_file};
@@ -26,3 +27,4 @@ pub use packed::{Packing, packing_of};
 pub use questions::advise_question;
 pub use requests::{Misread, first_misread};
 pub use saying::advise;
+pub use unnamed::{Found, NoArchive};

@@ -9,4 +9,4 @@ mod slots;
 pub use facts::{Facts, Lane, Use};
 pub use identity::{SIZES_LEN, Sizes};
 pub use shown::Date;
-pub use slots::{HEAD_PLACE, OPEN_GATE, SLOTS, gate_place};
+pub use slots::{HEAD_PLACE, JOURNAL_PAGES, OPEN_GATE, PAGE, SLOTS, gate_place};

@@ -6,10 +6,10 @@ ghost use Rattle.std.specs.Prelude.{◌≡◌, ◌+◌, ◌*◌, ◌<◌};
 pub const SLOTS: u64 = 8;
 
 /// The octets of a page.
-pub(crate) const PAGE: u64 = 16_384;
+pub const PAGE: u64 = 16_384;
 
 /// The pages of the journal, which stand before the home pages.
-const JOURNAL_PAGES: u64 = 265;
+pub const JOURNAL_PAGES: u64 = 265;
 
 /// The place of the head in `pages.rha`.
 pub const HEAD_PLACE: u64 = PAGE * JOURNAL_PAGES;

@@ -2,9 +2,9 @@
 
 use crate::opening::open_disks;
 use crate::refusals::tell_unopened;
+use crate::sizes::sizes_of;
 use advice::{FirstOctets, Loaded, NotedReader, STDIN, advise_load};
 use archive_calls::RouteArchive;
-use archive_facts::{SIZES_LEN, Sizes};
 use file_archive::FileArchive;
 use load_progress::{ClearedWriter, Meter, WatchedArchive, WatchedReader};
 use route_model::Mark;
@@ -14,7 +14,6 @@ use service::{
 use std::fs::File;
 use std::io;
 use std::io::{BufWriter, IsTerminal, Read, Stdin, Write};
-use std::os::unix::fs::FileExt;
 
 /// What is loaded. Standard input isn't opened by a name: where it is a socket, it has none.
 #[derive(Drop)]
@@ -54,19 +53,8 @@ pub(crate) fn load<E: Write>(rt: &HostRuntime, asked: &Loading<'_>, err: &mut Ou
     };
     match FileArchive::on(alloc, disks) {
         Ok(archive) => load_into(rt, archive, asked, file, err),
-        Err(fault) => tell_unopened(alloc, asked.folder, fault, err),
+        Err(fault) => tell_unopened(rt, asked.folder, fault, err),
     }
-}
-
-/// How large the archive of a folder was made, as far as its file can be read.
-fn sizes_of(rt: &HostRuntime, folder: &str) -> Option<Sizes> {
-    let path = format!(in rt.alloc(); "{folder}/pages.rha").ok()?;
-    let mut octets = [0; SIZES_LEN];
-    File::open(rt, path.as_str())
-        .ok()?
-        .read_at(&mut octets, 0)
-        .ok()?;
-    Sizes::read(&octets)
 }
 
 /// Says what a person may not expect of a load.

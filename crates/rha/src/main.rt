@@ -9,6 +9,7 @@ mod loading;
 mod opening;
 mod refusals;
 mod served;
+mod sizes;
 mod streams;
 
 use crate::commands::{ask, check, create};

@@ -9,7 +9,7 @@ use std::io::Write;
 
 /// Prints why the archive of a folder isn't opened, and which process has it where it is in use.
 fn tell_closed<E: Write>(rt: &HostRuntime, folder: &str, fault: OpenFault, err: &mut Output<E>) {
-    tell_unopened(rt.alloc(), folder, fault, err);
+    tell_unopened(rt, folder, fault, err);
     if let OpenFault::File(FileError::InUse(_)) = fault {
         advise_holder(rt, folder, err);
     }

@@ -1,5 +1,5 @@
 //! Why no archive is made or opened, as standard error shows it: `rha: NUMBER NAME`, and where a file failed, then on the same line
-//! which one, at which call, and why. The exit status is 1.
+//! which one, at which call, and why; where the files hold no archive, which of them, and why. The exit status is 1.
 
 ghost use Rattle.std.specs.Prelude.{◌≡◌, codes};
 ghost use Rattle.service.specs.Outputs.{Tells};
@@ -7,6 +7,7 @@ ghost use Rattle.service.specs.Refusals.{TellsError, error_line};
 ghost use Rattle.service.specs.Telling.{TellsOutside};
 ghost use Rattle.rha.specs.inner.Refusals.{of_create, of_open, of_serve, of_served};
 
+use crate::sizes::why_no_archive;
 use archive_calls::RouteArchive;
 use disk_archive::{CreateError, OpenError};
 use disk_files::{Failure, FileError};
@@ -55,14 +56,22 @@ fn tell_failure<E: Write>(alloc: Global, folder: &str, failure: Failure, err: &m
     tell_with(&Refusal::Fault, why, err)
 }
 
-/// Tells why no archive is opened on the files of a folder.
-fn tell_no_archive<E: Write>(why: OpenError, err: &mut Output<E>) -> u8
+/// Prints why no archive is opened on the files of a folder; where they hold none, also which of them is to blame.
+fn tell_no_archive<E: Write>(
+    rt: &HostRuntime,
+    folder: &str,
+    why: OpenError,
+    err: &mut Output<E>,
+) -> u8
     ensures code { result ≡ 1 }
-    ensures told { Tells err.old err.new (error_line (of_open why)) }
+    ensures told { TellsError (of_open why) err.old err.new }
+    ensures alone { (why ≡ OpenError.NotAJournal → ⊥) → Tells err.old err.new (error_line (of_open why)) }
 {
     let refusal = match why {
+        OpenError::NotAJournal => {
+            return tell_with(&Refusal::NotAJournal, why_no_archive(rt, folder), err);
+        }
         OpenError::Fault => Refusal::Fault,
-        OpenError::NotAJournal => Refusal::NotAJournal,
         OpenError::BadSlot(page) | OpenError::BadNode(page) => Refusal::BadNode(page),
         OpenError::OutOfMemory => Refusal::OutOfMemory,
     };
@@ -71,7 +80,7 @@ fn tell_no_archive<E: Write>(why: OpenError, err: &mut Output<E>) -> u8
 
 /// Prints why no archive is opened in a folder.
 pub(crate) fn tell_unopened<E: Write>(
-    alloc: Global,
+    rt: &HostRuntime,
     folder: &str,
     fault: OpenFault,
     err: &mut Output<E>,
@@ -79,9 +88,9 @@ pub(crate) fn tell_unopened<E: Write>(
     ensures code { result ≡ 1 }
 {
     match fault {
-        OpenFault::File(why) => tell_no_file(alloc, folder, why, err),
-        OpenFault::Archive(why) => tell_no_archive(why, err),
-        OpenFault::Failed(failure) => tell_failure(alloc, folder, failure, err),
+        OpenFault::File(why) => tell_no_file(rt.alloc(), folder, why, err),
+        OpenFault::Archive(why) => tell_no_archive(rt, folder, why, err),
+        OpenFault::Failed(failure) => tell_failure(rt.alloc(), folder, failure, err),
     }
 }
 
