@@ -13,8 +13,22 @@ use std::time::{Clock, Duration};
 /// How many milliseconds a thread rests that finds nothing to do.
 const REST: u64 = 10;
 
+/// Why a call on a device failed, in words, if no such call was warned of since the archive was opened. Of the calls that break nothing,
+/// as a read for a question, the archive keeps the first one.
+fn unnoted_failure<A: Store, N: Named + OnDisk<A::Disk>, G: Gate + Drop>(
+    rt: &impl Wait,
+    alloc: Global,
+    shared: &Shared<A, N, G>,
+    outage: &Outage,
+) -> Option<String> {
+    if outage.is_noted() {
+        return None;
+    }
+    shared.failure(rt, alloc)
+}
+
 /// Applies the next change, if one may be applied, and returns whether there was one. If a device of the archive failed, the
-/// archive is opened again.
+/// archive is opened again. A failed call that the archive can go on after is warned of.
 fn apply_next<A: Store, N: Named + OnDisk<A::Disk>, G: Gate + Drop, R: Wait + Clock, L: Log>(
     rt: &R,
     alloc: Global,
@@ -23,6 +37,8 @@ fn apply_next<A: Store, N: Named + OnDisk<A::Disk>, G: Gate + Drop, R: Wait + Cl
     outage: &mut Outage,
     log: &L,
 ) -> bool {
+    // It is looked for before the step: the step fails where this one broke a disk, so that it isn't warned of twice.
+    let failure = unnoted_failure(rt, alloc, shared, outage);
     match shared.apply(rt, pass) {
         Err(Trouble::Fault | Trouble::NeedsRecovery) => {
             outage.goes_on(rt, log, shared.failure(rt, alloc));
@@ -30,14 +46,14 @@ fn apply_next<A: Store, N: Named + OnDisk<A::Disk>, G: Gate + Drop, R: Wait + Cl
             let _ = shared.reopen(rt, pass, alloc);
             false
         }
-        Ok(Step::Applied) => {
+        step => {
             outage.ends(rt, log);
+            outage.notes(rt, log, failure);
+            if step != Ok(Step::Applied) {
+                return false;
+            }
             outage.is_over();
             true
-        }
-        _ => {
-            outage.ends(rt, log);
-            false
         }
     }
 }

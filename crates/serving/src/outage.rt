@@ -11,6 +11,8 @@ const LONGEST: u64 = 1_000;
 #[derive(Drop)]
 pub(crate) struct Outage {
     is_down: bool,
+    /// A failed call was warned of since the archive was opened.
+    is_noted: bool,
     /// How many rests the next pause has.
     pause: u64,
     /// How many rests of a pause are to come.
@@ -22,6 +24,7 @@ impl Outage {
     pub(crate) fn none() -> Outage {
         Outage {
             is_down: false,
+            is_noted: false,
             pause: 1,
             left: 0,
         }
@@ -34,6 +37,20 @@ impl Outage {
         }
         self.left -= 1;
         true
+    }
+
+    /// Whether a failed call was warned of since the archive was opened.
+    pub(crate) fn is_noted(&self) -> bool {
+        self.is_noted
+    }
+
+    /// The archive can be used. If a call on a device failed all the same, a warning says so.
+    pub(crate) fn notes<R: Clock, L: Log>(&mut self, rt: &R, log: &L, failure: Option<String>) {
+        if let Some(failure) = failure {
+            let now = Moment::present(rt);
+            warn!(log; "1 Fault: {failure}{now}");
+            self.is_noted = true;
+        }
     }
 
     /// The archive can't be used: a call on a device failed. If it could be used before, a warning says so, with that call if it is
@@ -49,6 +66,7 @@ impl Outage {
             }
         }
         self.is_down = true;
+        self.is_noted = true;
         self.left = self.pause;
         self.pause = self.pause.saturating_mul(2).min(LONGEST);
     }
@@ -60,6 +78,7 @@ impl Outage {
             let now = Moment::present(rt);
             warn!(log; "the archive is open again{now}");
             self.is_down = false;
+            self.is_noted = false;
         }
     }
 
