@@ -9,6 +9,8 @@ mod commands;
 #[cfg(test)]
 mod conversations;
 #[cfg(test)]
+mod full;
+#[cfg(test)]
 mod held;
 #[cfg(test)]
 mod made;

@@ -28,6 +28,11 @@ pub(crate) const RIB: &str = "65920080 000D 0002 00000028 00000000 08 0A 0001 00
 /// A record of a type that isn't read.
 pub(crate) const SKIPPED: &str = "65920080 000C 0001 00000001 00";
 
+/// The UPDATE as far as its prefixes, of which 257 follow, each of four octets.
+pub(crate) const BEFORE_257: &str =
+    "65920080 0010 0001 0000043F FDE9 FC00 0000 0001 C0000201 C0000202
+    FFFFFFFFFFFFFFFFFFFFFFFFFFFFFFFF 042F 02 0000 0014 40010100 4002060202FDE9FDEA 400304C0000201";
+
 /// A header whose Length is 131,073.
 pub(crate) const TOO_LONG: &str = "65920080 0010 0001 00020001";
 

@@ -1,13 +1,16 @@
 //! What clients do, and what they are told.
 
+use crate::full::{self, APPLIED, BLOCKS, OFFERED, PAGES, RING};
+use crate::made::{Made, PLAIN};
 use crate::records::{EARLIER, FRONT, LATER, UPDATE};
 use crate::steps::Step;
 use crate::steps::Step::{
     AskOften, AskUntil, Connect, GoAway, Hear, HearLast, Send, SendNoMore, SendOctets,
     SendOctetsOften, SendOften,
 };
+use query_threads::Trouble;
 
-/// What clients do with a server of an empty archive.
+/// What clients do with a server of an archive to which nothing was given.
 #[derive(Clone, Copy)]
 pub(crate) enum Scene {
     Three,
@@ -17,9 +20,14 @@ pub(crate) enum Scene {
     Open,
     Unmarked,
     Last,
+    Blocks,
+    Pages,
+    Ring,
+    Offered,
+    Applied,
 }
 
-pub(crate) const SCENES: [Scene; 7] = [
+pub(crate) const SCENES: [Scene; 12] = [
     Scene::Three,
     Scene::Long,
     Scene::Cut,
@@ -27,6 +35,11 @@ pub(crate) const SCENES: [Scene; 7] = [
     Scene::Open,
     Scene::Unmarked,
     Scene::Last,
+    Scene::Blocks,
+    Scene::Pages,
+    Scene::Ring,
+    Scene::Offered,
+    Scene::Applied,
 ];
 
 impl Scene {
@@ -40,6 +53,47 @@ impl Scene {
             Scene::Open => "a connection that is open",
             Scene::Unmarked => "records without a mark",
             Scene::Last => "the last connection",
+            Scene::Blocks => "no block is left",
+            Scene::Pages => "no page is left",
+            Scene::Ring => "a full ring",
+            Scene::Offered => "no more records can be counted",
+            Scene::Applied => "no more changes can be counted",
+        }
+    }
+
+    /// How the archive is made.
+    pub(crate) fn made(self) -> Made {
+        match self {
+            Scene::Blocks => full::FEW_BLOCKS,
+            Scene::Pages => full::FEW_PAGES,
+            Scene::Ring => full::SMALL_RING,
+            Scene::Offered => full::MANY_OFFERED,
+            Scene::Applied => full::MANY_APPLIED,
+            Scene::Three
+            | Scene::Long
+            | Scene::Cut
+            | Scene::Slow
+            | Scene::Open
+            | Scene::Unmarked
+            | Scene::Last => PLAIN,
+        }
+    }
+
+    /// Why the next change can't be applied then, if one may be.
+    pub(crate) fn trouble(self) -> Option<Trouble> {
+        match self {
+            Scene::Blocks => Some(Trouble::OnceFull),
+            Scene::Pages => Some(Trouble::PagesFull),
+            Scene::Applied => Some(Trouble::CounterFull),
+            Scene::Three
+            | Scene::Long
+            | Scene::Cut
+            | Scene::Slow
+            | Scene::Open
+            | Scene::Unmarked
+            | Scene::Last
+            | Scene::Ring
+            | Scene::Offered => None,
         }
     }
 
@@ -53,17 +107,24 @@ impl Scene {
             Scene::Open => &OPEN,
             Scene::Unmarked => &UNMARKED,
             Scene::Last => &LAST,
+            Scene::Blocks => &BLOCKS,
+            Scene::Pages => &PAGES,
+            Scene::Ring => &RING,
+            Scene::Offered => &OFFERED,
+            Scene::Applied => &APPLIED,
         }
     }
 
     /// How many records the archive has then.
     pub(crate) fn records(self) -> u64 {
         match self {
-            Scene::Three => 1,
+            Scene::Three | Scene::Offered | Scene::Applied => 1,
             Scene::Cut => 2,
-            Scene::Unmarked => 3,
+            Scene::Unmarked | Scene::Pages => 3,
             Scene::Last => 101,
             Scene::Slow => 300,
+            Scene::Blocks => 702,
+            Scene::Ring => 2077,
             Scene::Long | Scene::Open => 0,
         }
     }
@@ -72,7 +133,16 @@ impl Scene {
     pub(crate) fn warnings(self) -> usize {
         match self {
             Scene::Cut | Scene::Slow => 1,
-            Scene::Three | Scene::Long | Scene::Open | Scene::Unmarked | Scene::Last => 0,
+            Scene::Three
+            | Scene::Long
+            | Scene::Open
+            | Scene::Unmarked
+            | Scene::Last
+            | Scene::Blocks
+            | Scene::Pages
+            | Scene::Ring
+            | Scene::Offered
+            | Scene::Applied => 0,
         }
     }
 }

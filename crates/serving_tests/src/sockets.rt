@@ -4,7 +4,7 @@ ghost use Rattle.std.specs.Prelude.{◌≡◌, ◌≤◌};
 ghost use Rattle.board.specs.Opened.{name_of};
 
 use crate::be;
-use crate::made::{COLLECTORS, empty_store};
+use crate::made::{COLLECTORS, store_of};
 use crate::scenes::{SCENES, Scene};
 use crate::steps::count_right;
 use board::{Named, Opened};
@@ -85,12 +85,16 @@ pub(crate) fn are_warnings(lines: &[u8], count: usize) -> bool {
     left == 0
 }
 
-/// Whether the archive has the scene's records, all are applied, and all pages are written home.
+/// Whether the archive has the scene's records, what may be applied is, and all pages are written home.
 fn is_whole(store: Option<MemStore>, scene: Scene) -> bool {
     let Some(mut store) = store else {
         return false;
     };
-    store.apply_step() == Ok(Step::Idle)
+    let next = match scene.trouble() {
+        Some(trouble) => Err(trouble),
+        None => Ok(Step::Idle),
+    };
+    store.apply_step() == next
         && store.flush_step() == Ok(Flush::Clean)
         && store.admitted(0) == scene.records()
 }
@@ -103,7 +107,7 @@ fn clients_are_told_what_they_have_to_be(rt: HostRuntime) {
         let listener = TcpListener::bind(&rt, "127.0.0.1:0").expect(&rt, name);
         let address = listener.local_addr().expect(&rt, name);
         let log = Locked::new(rt, Vec::new(alloc));
-        let store = empty_store(alloc).expect(&rt, name);
+        let store = store_of(alloc, &scene.made()).expect(&rt, name);
         let steps = scene.steps();
         let clients = thread::spawn(&rt, move || count_right(&rt, alloc, address, steps));
         let opened = Opened::new(alloc, COLLECTORS).expect(&rt, name);

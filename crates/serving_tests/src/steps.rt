@@ -27,6 +27,8 @@ pub(crate) enum Step {
     SendOctets(usize, &'static str),
     /// It sends such octets so many times.
     SendOctetsOften(usize, &'static str, usize),
+    /// It sends such octets with a number of two octets after them, for each number below this one.
+    SendOctetsEach(usize, &'static str, u16),
     /// It sends a text so many times.
     SendOften(usize, &'static str, usize),
     /// It sends no more.
@@ -106,6 +108,22 @@ fn send_often(clients: &Clients, number: usize, octets: &[u8], times: usize) -> 
     Some(())
 }
 
+/// Sends octets with a number of two octets after them, for each number below this one.
+fn send_each(
+    alloc: Global,
+    clients: &Clients,
+    number: usize,
+    octets: &[u8],
+    end: u16,
+) -> Option<()> {
+    let mut all = Vec::new(alloc);
+    for it in 0..end {
+        all.extend_from_slice(octets).ok()?;
+        all.extend_from_slice(&it.to_be_bytes()).ok()?;
+    }
+    clients.send(number, &all)
+}
+
 /// Sends a line until what is told is this text. Whether it is in time.
 fn ask_until(
     clock: &impl Clock,
@@ -161,6 +179,9 @@ fn take_step<R: Net<Listener = TcpListener, Stream = TcpStream> + Clock>(
         }
         Step::SendOctetsOften(number, digits, times) => {
             send_often(clients, *number, &octets(alloc, digits).ok()?, *times)?;
+        }
+        Step::SendOctetsEach(number, digits, end) => {
+            send_each(alloc, clients, *number, &octets(alloc, digits).ok()?, *end)?;
         }
         Step::SendOften(number, text, times) => {
             send_often(clients, *number, text.as_bytes(), *times)?;
