@@ -57,6 +57,8 @@ pub enum Reason {
     Kind(ErrorKind),
     /// The file is shorter than it is to be.
     Cut,
+    /// The file is shared, so that it is only read.
+    Shared,
 }
 
 impl Reason {
@@ -75,6 +77,7 @@ impl fmt::Display for Reason {
             Reason::System(number) => write!(f, "{}", io::Error::from_raw_os_error(number)),
             Reason::Kind(kind) => write!(f, "{kind}"),
             Reason::Cut => f.write_str("the file is shorter than it should be"),
+            Reason::Shared => f.write_str("the file was opened for reading alone"),
         }
     }
 }

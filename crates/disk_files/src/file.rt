@@ -1,6 +1,6 @@
 //! A file, as the disks use it.
 
-ghost use Rattle.std.specs.Prelude.{◌≡◌, ◌↔◌, ◌≤◌, ℕ, length, take, true, IfOk, OnOk};
+ghost use Rattle.std.specs.Prelude.{◌≡◌, ◌↔◌, ◌≤◌, ℕ, length, take, true, IfOk, IsTrue, OnOk};
 ghost use Rattle.disk_models.specs.Octets.{octets};
 ghost use Rattle.disk_models.specs.Erase.{DiskState, Lingers, Stays, Syncs, WritesWithin};
 
@@ -14,6 +14,24 @@ pub struct FileIdentity {
     pub device: u64,
     /// Its number there.
     pub number: u64,
+}
+
+/// How the lock of a file is taken, and what may be done with the file while it is held.
+#[derive(Clone, Copy, Debug, PartialEq, Eq)]
+pub enum Access {
+    /// By no one else: it is read and written.
+    Alone,
+    /// By any number at once, while no one has it alone: it is only read.
+    Shared,
+}
+
+impl Access {
+    /// Whether the file is only read.
+    pub fn is_shared(self) -> bool
+        ensures { IsTrue result ↔ (self ≡ Access.Shared) }
+    {
+        matches!(self, Access::Shared)
+    }
 }
 
 /// What the system says of an open file.
@@ -32,6 +50,8 @@ pub struct FileFacts {
 /// What a call promises of octets, of the size and of the lock, it promises of a file that follows its model. One of the
 /// system never does, as far as a contract knows.
 pub trait OctetFile {
+    ghost use Rattle.disk_files.specs.declared.file.Access.{Access};
+
     /// It does what its model says. Each call keeps this both ways.
     ghost follows: { Self → Type 0 };
 
@@ -41,31 +61,31 @@ pub trait OctetFile {
     /// How many octets it has.
     ghost octet_count: { Self → ℕ };
 
-    /// No one else holds it.
-    ghost is_held: { Self → Type 0 };
+    /// It is held so: no one else holds it, or no one else holds it alone.
+    ghost is_held: { Self → Access → Type 0 };
 
     /// What it is.
     fn facts(&self) -> io::Result<FileFacts>
         ensures size { follows self.now → IfOk result (λ facts. facts.size ≡ octet_count self.now) };
 
-    /// Takes its lock, which is let go when the file is closed. Answers whether it was free, and waits for no one.
-    fn hold(&mut self) -> io::Result<bool>
+    /// Takes its lock so, which is let go when the file is closed. Answers whether that was free, and waits for no one.
+    fn hold(&mut self, access: Access) -> io::Result<bool>
         ensures follows { follows self.old ↔ follows self.new }
         ensures size { follows self.old → octet_count self.new ≡ octet_count self.old }
-        ensures held { follows self.old → IfOk result (λ free. free ≡ true → is_held self.new) }
+        ensures held { follows self.old → IfOk result (λ free. free ≡ true → is_held self.new access) }
         ensures stays { follows self.old → Stays (model self.old) (model self.new) };
 
     /// Gives it a size. What is added is zeros.
     fn resize(&mut self, size: u64) -> io::Result<()>
         ensures follows { follows self.old ↔ follows self.new }
         ensures size { follows self.old → OnOk result (octet_count self.new ≡ size) }
-        ensures held { is_held self.old → is_held self.new };
+        ensures held { (access : Access) → is_held self.old access → is_held self.new access };
 
     /// Brings it to the device with all that is needed to find it again, and has later reads come from the device.
     fn settle(&mut self) -> io::Result<()>
         ensures follows { follows self.old ↔ follows self.new }
         ensures size { follows self.old → octet_count self.new ≡ octet_count self.old }
-        ensures held { is_held self.old → is_held self.new }
+        ensures held { (access : Access) → is_held self.old access → is_held self.new access }
         ensures settled { follows self.old → OnOk result ((i : ℕ) → ¬ (model self.new).unsynced i) }
         ensures lingers { follows self.old → Lingers (model self.old) (model self.new) };
 

@@ -5,7 +5,8 @@ ghost use Rattle.disk_files.specs.Nothing.{no_octets};
 
 use crate::error::Part;
 use crate::failure::{Call, Failure, Failures, Reason};
-use crate::file::{FileFacts, OctetFile};
+use crate::file::{Access, FileFacts, OctetFile};
+use crate::system::synced;
 use std::alloc::AllocError;
 use std::fs::File;
 use std::io;
@@ -16,15 +17,17 @@ use std::sync::Arc;
 pub struct NotedFile {
     file: File,
     part: Part,
+    access: Access,
     failures: Option<Arc<Failures>>,
 }
 
 impl NotedFile {
-    /// A file of which nothing is kept yet.
-    pub(crate) fn new(file: File, part: Part) -> NotedFile {
+    /// A file that was opened to be held so, of which nothing is kept yet.
+    pub(crate) fn new(file: File, part: Part, access: Access) -> NotedFile {
         NotedFile {
             file,
             part,
+            access,
             failures: None,
         }
     }
@@ -57,14 +60,14 @@ impl OctetFile for NotedFile {
 
     ghost octet_count = { λ _. 0 };
 
-    ghost is_held = { λ _. Unit {0} };
+    ghost is_held = { λ _ _. Unit {0} };
 
     fn facts(&self) -> io::Result<FileFacts> {
         self.file.facts()
     }
 
-    fn hold(&mut self) -> io::Result<bool> {
-        self.file.hold()
+    fn hold(&mut self, access: Access) -> io::Result<bool> {
+        self.file.hold(access)
     }
 
     fn resize(&mut self, size: u64) -> io::Result<()> {
@@ -72,7 +75,7 @@ impl OctetFile for NotedFile {
     }
 
     fn settle(&mut self) -> io::Result<()> {
-        self.file.settle()
+        synced(self.access, self.file.settle())
     }
 
     fn read_some(&mut self, at: u64, into: &mut [u8]) -> io::Result<usize> {
@@ -84,13 +87,14 @@ impl OctetFile for NotedFile {
     }
 
     fn sync(&mut self) -> io::Result<()> {
-        self.file.sync()
+        synced(self.access, self.file.sync())
     }
 
     fn twin(&self) -> io::Result<NotedFile> {
         Ok(NotedFile {
             file: self.file.twin()?,
             part: self.part,
+            access: self.access,
             failures: share(&self.failures)?,
         })
     }

@@ -8,8 +8,8 @@ ghost use Rattle.disk_files.specs.Nothing.{no_octets};
 ghost use Rattle.disk_files.specs.Refusals.{IsOfSize};
 
 use crate::error::{FileError, Part};
-use crate::failure::Failures;
-use crate::file::OctetFile;
+use crate::failure::{Call, Failures, Reason};
+use crate::file::{Access, OctetFile};
 use crate::folder;
 use crate::noting::NotedFile;
 use crate::opening::{open, prepare};
@@ -24,22 +24,24 @@ use std::sync::Arc;
 /// An erasable disk over a file.
 ///
 /// After a write or a sync that failed each call fails, until the disk is opened again or renewed: what the system gives then may
-/// never have reached the device.
+/// never have reached the device. One whose file is shared is only read: a write fails, and writes nothing.
 #[derive(Drop)]
 pub struct FileErase<F = NotedFile> {
     file: F,
     size: u64,
     faults: u64,
     is_broken: bool,
+    access: Access,
 }
 
 impl<F: OctetFile> FileErase<F> {
-    ghost use Rattle.disk_files.specs.Pages.{IsFresh, faults_of, file_of, is_broken, size_of};
+    ghost use Rattle.disk_files.specs.Pages.{IsFresh, access_of, faults_of, file_of, is_broken, size_of};
 
-    /// A disk over this file, which has this size.
-    fn over(file: F, size: u64) -> Self
+    /// A disk over this file, which has this size and is held so.
+    fn over(file: F, size: u64, access: Access) -> Self
         ensures file { file_of result ≡ file }
         ensures size { size_of result ≡ size }
+        ensures access { access_of result ≡ access }
         ensures fresh { IsFresh result }
     {
         FileErase {
@@ -47,6 +49,7 @@ impl<F: OctetFile> FileErase<F> {
             size,
             faults: 0,
             is_broken: false,
+            access,
         }
     }
 
@@ -56,8 +59,9 @@ impl<F: OctetFile> FileErase<F> {
     where
         F: Drop,
         ensures size { IfOk result (λ disk. size_of disk ≡ size) }
+        ensures access { IfOk result (λ disk. access_of disk ≡ Access.Alone) }
         ensures fresh { IfOk result IsFresh }
-        ensures held { F.follows file → IfOk result (λ disk. F.is_held (file_of disk)) }
+        ensures held { F.follows file → IfOk result (λ disk. F.is_held (file_of disk) Access.Alone) }
         ensures whole { F.follows file → IfOk result (λ disk. F.octet_count (file_of disk) ≡ size) }
         ensures settled { F.follows file → IfOk result (λ disk. (i : ℕ) → ¬ (F.model (file_of disk)).unsynced i) }
         ensures empty { F.follows file → IsOk result → F.octet_count file ≡ 0 }
@@ -68,43 +72,45 @@ impl<F: OctetFile> FileErase<F> {
             return Err(FileError::Size(Part::Pages));
         }
         prepare(&mut file, size, Part::Pages)?;
-        Ok(FileErase::over(file, size))
+        Ok(FileErase::over(file, size, Access::Alone))
     }
 
-    /// The disk that a file at hand holds. It is locked, and brought to the device.
-    pub fn open_on(mut file: F) -> Result<Self, FileError>
+    /// The disk that a file at hand holds. It is locked so, and brought to the device.
+    pub fn open_on(mut file: F, access: Access) -> Result<Self, FileError>
     where
         F: Drop,
         ensures size { F.follows file → IfOk result (λ disk. size_of disk ≡ F.octet_count file) }
         ensures whole { F.follows file → IfOk result (λ disk. F.octet_count (file_of disk) ≡ F.octet_count file) }
         ensures pages { IfOk result (λ disk. ArePages (size_of disk)) }
+        ensures access { IfOk result (λ disk. access_of disk ≡ access) }
         ensures fresh { IfOk result IsFresh }
-        ensures held { F.follows file → IfOk result (λ disk. F.is_held (file_of disk)) }
+        ensures held { F.follows file → IfOk result (λ disk. F.is_held (file_of disk) access) }
         ensures settled { F.follows file → IfOk result (λ disk. (i : ℕ) → ¬ (F.model (file_of disk)).unsynced i) }
         ensures lingers { F.follows file → IfOk result (λ disk. Lingers (F.model file) (F.model (file_of disk))) }
         ensures right_size { F.follows file → ArePages (F.octet_count file) → IfErr result (λ e. ¬ IsOfSize e) }
     {
-        let size = open(&mut file, Part::Pages)?;
+        let size = open(&mut file, access, Part::Pages)?;
         if !are_pages(size) {
             return Err(FileError::Size(Part::Pages));
         }
-        Ok(FileErase::over(file, size))
+        Ok(FileErase::over(file, size, access))
     }
 
     /// Makes the disk usable again after a write or a sync that failed, as opening its file does: what a read gives from then
     /// on stands on the device. Its file stays open and locked. Where it fails the disk is broken.
     pub fn renew(&mut self) -> Result<(), Fault>
         ensures size { size_of self.new ≡ size_of self.old }
+        ensures access { access_of self.new ≡ access_of self.old }
         ensures counts { Counts (faults_of self.old) (faults_of self.new) result }
         ensures whole { OnOk result (is_broken self.new ≡ false) }
         ensures broken { OnErr result (is_broken self.new ≡ true) }
         ensures follows { F.follows (file_of self.old) ↔ F.follows (file_of self.new) }
-        ensures held { F.follows (file_of self.old) → OnOk result (F.is_held (file_of self.new)) }
+        ensures held { F.follows (file_of self.old) → OnOk result (F.is_held (file_of self.new) (access_of self.old)) }
         ensures settled { F.follows (file_of self.old) → OnOk result ((i : ℕ) → ¬ (F.model (file_of self.new)).unsynced i) }
         ensures lingers { F.follows (file_of self.old) → OnOk result (Lingers (F.model (file_of self.old)) (F.model (file_of self.new))) }
         ensures cut { F.follows (file_of self.old) → F.octet_count (file_of self.old) < size_of self.old → IsErr result }
     {
-        match open(&mut self.file, Part::Pages) {
+        match open(&mut self.file, self.access, Part::Pages) {
             Ok(size) if size >= self.size => {
                 self.is_broken = false;
                 Ok(())
@@ -131,7 +137,7 @@ impl<F: OctetFile> FileErase<F> {
 }
 
 impl FileErase {
-    ghost use Rattle.disk_files.specs.Pages.{IsFresh, faults_of, is_broken, size_of};
+    ghost use Rattle.disk_files.specs.Pages.{IsFresh, access_of, faults_of, is_broken, size_of};
 
     /// Makes `pages.rha` in a folder, of so many octets: a positive multiple of 16,384, below 2^63. It costs no room on the
     /// device before it is written to.
@@ -144,6 +150,7 @@ impl FileErase {
         size: u64,
     ) -> Result<Self, FileError>
         ensures size { IfOk result (λ disk. size_of disk ≡ size) }
+        ensures access { IfOk result (λ disk. access_of disk ≡ Access.Alone) }
         ensures fresh { IfOk result IsFresh }
         ensures refused { ¬ ArePages size → result ≡ Err (FileError.Size Part.Pages) }
         ensures right_size { ArePages size → IfErr result (λ e. ¬ IsOfSize e) }
@@ -152,28 +159,32 @@ impl FileErase {
             return Err(FileError::Size(Part::Pages));
         }
         let file = folder::create(alloc, files, folder, size, Part::Pages)?;
-        Ok(FileErase::over(NotedFile::new(file, Part::Pages), size))
+        Ok(FileErase::over(file, size, Access::Alone))
     }
 
-    /// Opens `pages.rha` of a folder. No one else may hold it, and no one else can while it is open.
+    /// Opens `pages.rha` of a folder. Alone: no one else may hold it, and no one else can while it is open. Shared: others that share
+    /// it may, and leave to read it is enough.
     pub fn open<R: Files<File = File>>(
         alloc: Global,
         files: &R,
         folder: &str,
+        access: Access,
     ) -> Result<Self, FileError>
         ensures pages { IfOk result (λ disk. ArePages (size_of disk)) }
+        ensures access { IfOk result (λ disk. access_of disk ≡ access) }
         ensures fresh { IfOk result IsFresh }
     {
-        let (file, size) = folder::open(alloc, files, folder, Part::Pages)?;
+        let (file, size) = folder::open(alloc, files, folder, access, Part::Pages)?;
         if !are_pages(size) {
             return Err(FileError::Size(Part::Pages));
         }
-        Ok(FileErase::over(NotedFile::new(file, Part::Pages), size))
+        Ok(FileErase::over(file, size, access))
     }
 
     /// From now on why its file fails is kept there.
     pub fn note_in(&mut self, failures: &Arc<Failures>) -> Result<(), AllocError>
         ensures size { size_of self.new ≡ size_of self.old }
+        ensures access { access_of self.new ≡ access_of self.old }
         ensures faults { faults_of self.new ≡ faults_of self.old }
         ensures state { is_broken self.new ≡ is_broken self.old }
         ensures fresh { IsFresh self.old → IsFresh self.new }
@@ -193,7 +204,7 @@ impl FileErase {
 }
 
 impl<F: OctetFile> EraseDisk for FileErase<F> {
-    ghost use Rattle.disk_files.specs.Pages.{faults_of, file_of, is_broken, size_of};
+    ghost use Rattle.disk_files.specs.Pages.{access_of, faults_of, file_of, is_broken, size_of};
 
     ghost octet_count = { λ disk. disk.size };
 
@@ -217,6 +228,7 @@ impl<F: OctetFile> EraseDisk for FileErase<F> {
     fn read(&mut self, at: u64, into: &mut [u8]) -> Result<(), Fault>
         requires { at + length into.old ≤ size_of self.old }
         ensures size { size_of self.new ≡ size_of self.old }
+        ensures access { access_of self.new ≡ access_of self.old }
         ensures counts { Counts (faults_of self.old) (faults_of self.new) result }
         ensures stopped { is_broken self.old ≡ true → IsErr result × (file_of self.new ≡ file_of self.old) }
         ensures state { is_broken self.new ≡ is_broken self.old }
@@ -235,12 +247,14 @@ impl<F: OctetFile> EraseDisk for FileErase<F> {
     }
 
     /// Beside the trait's clauses: where it fails the disk is broken, and fails from then on. What it writes to a file that
-    /// follows its model, and that it writes nothing to one that was cut.
+    /// follows its model, and that it writes nothing to one that was cut, or to one that is shared, which is noted.
     fn write_at(&mut self, at: u64, from: &[u8]) -> Result<(), Fault>
         requires { at + length from.now ≤ size_of self.old }
         ensures size { size_of self.new ≡ size_of self.old }
+        ensures access { access_of self.new ≡ access_of self.old }
         ensures counts { Counts (faults_of self.old) (faults_of self.new) result }
         ensures stopped { is_broken self.old ≡ true → IsErr result × (file_of self.new ≡ file_of self.old) }
+        ensures shared { access_of self.old ≡ Access.Shared → IsErr result × (file_of self.new ≡ file_of self.old) }
         ensures whole { OnOk result (is_broken self.new ≡ false) }
         ensures broken { OnErr result (is_broken self.new ≡ true) }
         ensures follows { F.follows (file_of self.old) ↔ F.follows (file_of self.new) }
@@ -250,6 +264,10 @@ impl<F: OctetFile> EraseDisk for FileErase<F> {
     {
         if self.is_broken {
             return Err(self.fault());
+        }
+        if self.access.is_shared() {
+            self.file.note(Call::Write, Reason::Shared);
+            return Err(self.break_down());
         }
         match write_whole(&mut self.file, self.size, at, from) {
             Ok(()) => Ok(()),
@@ -261,6 +279,7 @@ impl<F: OctetFile> EraseDisk for FileErase<F> {
     /// follows its model, and that it fails where it was cut.
     fn sync(&mut self) -> Result<(), Fault>
         ensures size { size_of self.new ≡ size_of self.old }
+        ensures access { access_of self.new ≡ access_of self.old }
         ensures counts { Counts (faults_of self.old) (faults_of self.new) result }
         ensures stopped { is_broken self.old ≡ true → IsErr result × (file_of self.new ≡ file_of self.old) }
         ensures whole { OnOk result (is_broken self.new ≡ false) }

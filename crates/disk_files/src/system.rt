@@ -3,7 +3,7 @@
 ghost use Rattle.disk_models.specs.Erase.{DiskState};
 ghost use Rattle.disk_files.specs.Nothing.{no_octets};
 
-use crate::file::{FileFacts, FileIdentity, OctetFile};
+use crate::file::{Access, FileFacts, FileIdentity, OctetFile};
 use libc::types::rlimit;
 use std::fs::{File, Metadata, TryLockError};
 use std::io;
@@ -40,6 +40,15 @@ fn too_large() -> io::Error {
     io::Error::from_raw_os_error(libc::EFBIG)
 }
 
+/// What a sync of a file that is held so comes to. A file system that is never written to, as that of a disc or an image, may know no
+/// sync: what is only read there stands on the device.
+pub(crate) fn synced(access: Access, done: io::Result<()>) -> io::Result<()> {
+    match done {
+        Err(why) if access.is_shared() && why.raw_os_error() == Some(libc::EINVAL) => Ok(()),
+        _ => done,
+    }
+}
+
 /// Which file this is said of.
 pub(crate) fn identity(metadata: &Metadata) -> FileIdentity {
     FileIdentity {
@@ -56,7 +65,7 @@ impl OctetFile for File {
 
     ghost octet_count = { λ _. 0 };
 
-    ghost is_held = { λ _. Unit {0} };
+    ghost is_held = { λ _ _. Unit {0} };
 
     fn facts(&self) -> io::Result<FileFacts> {
         let metadata = self.metadata()?;
@@ -67,8 +76,12 @@ impl OctetFile for File {
         })
     }
 
-    fn hold(&mut self) -> io::Result<bool> {
-        match self.try_lock() {
+    fn hold(&mut self, access: Access) -> io::Result<bool> {
+        let held = match access {
+            Access::Alone => self.try_lock(),
+            Access::Shared => self.try_lock_shared(),
+        };
+        match held {
             Ok(()) => Ok(true),
             Err(TryLockError::WouldBlock) => Ok(false),
             Err(TryLockError::Error(error)) => Err(error),
