@@ -73,6 +73,10 @@ words_rule = record (new_rule (codes "WORD")) {
 abbrev pub of_folder : List ℕ → App
 of_folder name = with_rule (new_app name) (word_rule (codes "DIR"))
 
+-- a command of this name, of the archive of a folder, for which it may wait
+abbrev pub of_archive : List ℕ → App
+of_archive name = with_rule (of_folder name) (number_or_rule (codes "wait") 0 1000000 (codes "0"))
+
 -- create DIR [--collectors N] [--ring P]
 abbrev pub creation_of_rings : App
 creation_of_rings = with_rule (with_rule (of_folder (codes "create")) (number_or_rule (codes "collectors") 1 16 (codes "1"))) (number_or_rule (codes "ring") 9 65535 (codes "4096"))
@@ -81,29 +85,29 @@ creation_of_rings = with_rule (with_rule (of_folder (codes "create")) (number_or
 abbrev pub creation : App
 creation = with_rule (with_rule creation_of_rings (number_or_rule (codes "pages") 1 1000000000 (codes "10000000"))) (number_or_rule (codes "blocks") 1 1000000000 (codes "100000000"))
 
--- load DIR --collector C [--batch N]
+-- load DIR [--wait SECONDS] --collector C [--batch N]
 abbrev pub loading_of_batches : App
-loading_of_batches = with_rule (with_rule (of_folder (codes "load")) (number_rule (codes "collector") 0 15)) (number_or_rule (codes "batch") 1 1000 (codes "1000"))
+loading_of_batches = with_rule (with_rule (of_archive (codes "load")) (number_rule (codes "collector") 0 15)) (number_or_rule (codes "batch") 1 1000 (codes "1000"))
 
 -- load DIR --collector C [--batch N] [--mark M] [--resume] FILE
 abbrev pub loading : App
 loading = with_rule (with_rule (with_rule loading_of_batches mark_rule) resume_rule) (word_rule (codes "FILE"))
 
--- ask DIR WORD..
+-- ask DIR [--wait SECONDS] WORD..
 abbrev pub question : App
-question = with_rule (of_folder (codes "ask")) words_rule
+question = with_rule (of_archive (codes "ask")) words_rule
 
--- serve DIR --listen ADDRESS:PORT --workers N
+-- serve DIR [--wait SECONDS] --listen ADDRESS:PORT --workers N
 abbrev pub serving : App
-serving = with_rule (with_rule (of_folder (codes "serve")) listen_rule) (number_rule (codes "workers") 1 16)
+serving = with_rule (with_rule (of_archive (codes "serve")) listen_rule) (number_rule (codes "workers") 1 16)
 
--- check DIR
+-- check DIR [--wait SECONDS]
 abbrev pub checking : App
-checking = of_folder (codes "check")
+checking = of_archive (codes "check")
 
--- info DIR [--json]
+-- info DIR [--wait SECONDS] [--json]
 abbrev pub examining : App
-examining = with_rule (of_folder (codes "info")) json_rule
+examining = with_rule (of_archive (codes "info")) json_rule
 
 -- the program without its commands, of which one has to be there
 abbrev pub bare_program : App
@@ -158,6 +162,7 @@ pub record IsLoading (rows : List Row) (l : Loading) : Type 0 where
   pub folder : l.folder.now ≡ word_in (codes "DIR") rows
   pub collector : IsNumber 0 15 (first_of (codes "collector") rows) l.collector
   pub batch : IsNumber 1 1000 (first_of (codes "batch") rows) l.batch
+  pub wait : IsNumber 0 1000000 (first_of (codes "wait") rows) l.wait
   pub mark : IsMarkIf (first_of (codes "mark") rows) l.mark
   pub resume : IsThere (one_of (codes "resume") rows) l.resume
   pub file : l.file.now ≡ word_in (codes "FILE") rows
@@ -165,21 +170,25 @@ pub record IsLoading (rows : List Row) (l : Loading) : Type 0 where
 -- what is read of the arguments of `ask`
 pub record IsQuestion (rows : List Row) (q : Question) : Type 0 where
   pub folder : q.folder.now ≡ word_in (codes "DIR") rows
+  pub wait : IsNumber 0 1000000 (first_of (codes "wait") rows) q.wait
   pub line : string_bytes q.line ≡ spaced (unwrap_or (all_of (codes "WORD") rows) [])
 
 -- what is read of the arguments of `serve`
 pub record IsServing (rows : List Row) (s : Serving) : Type 0 where
   pub folder : s.folder.now ≡ word_in (codes "DIR") rows
+  pub wait : IsNumber 0 1000000 (first_of (codes "wait") rows) s.wait
   pub listen : IsListenText (word_in (codes "listen") rows) s.listen
   pub workers : IsNumber 1 16 (first_of (codes "workers") rows) s.workers
 
 -- what is read of the arguments of `check`
-abbrev pub IsChecking : List Row → Checking → Type 0
-IsChecking rows c = c.folder.now ≡ word_in (codes "DIR") rows
+pub record IsChecking (rows : List Row) (c : Checking) : Type 0 where
+  pub folder : c.folder.now ≡ word_in (codes "DIR") rows
+  pub wait : IsNumber 0 1000000 (first_of (codes "wait") rows) c.wait
 
 -- what is read of the arguments of `info`
 pub record IsExamining (rows : List Row) (e : Examining) : Type 0 where
   pub folder : e.folder.now ≡ word_in (codes "DIR") rows
+  pub wait : IsNumber 0 1000000 (first_of (codes "wait") rows) e.wait
   pub json : IsThere (one_of (codes "json") rows) e.json
 
 -- the words are accepted: they are those of the command of this name with these arguments

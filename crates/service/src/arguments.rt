@@ -4,7 +4,7 @@ ghost use Rattle.std.specs.Prelude.{◌≡◌, IfOk, false, codes};
 ghost use Rattle.clap.specs.Simple.{app_of};
 ghost use Rattle.clap.specs.Walk.{rule_of};
 ghost use Rattle.clap.specs.declared.builder.command.Command.TheViews.{out-Command};
-ghost use Rattle.service.specs.CommandLines.{mark_rule, resume_rule, listen_rule, words_rule, word_rule, number_rule, number_or_rule, of_folder, creation_of_rings, creation, loading_of_batches, loading, question, serving, checking, examining, json_rule, bare_program, program};
+ghost use Rattle.service.specs.CommandLines.{mark_rule, resume_rule, listen_rule, words_rule, word_rule, number_rule, number_or_rule, of_folder, of_archive, creation_of_rings, creation, loading_of_batches, loading, question, serving, checking, examining, json_rule, bare_program, program};
 
 use crate::help;
 use clap::builder::ValueParser;
@@ -28,6 +28,9 @@ pub(crate) const MAX_SIZE: u64 = 1_000_000_000;
 
 /// The most admissions that a batch of a feed may be told to have, and those that it has where nothing is told.
 pub(crate) const MAX_BATCH: u64 = 1000;
+
+/// The most seconds that a command may be told to wait for an archive.
+pub(crate) const MAX_WAIT: u64 = 1_000_000;
 
 /// The most workers of a server.
 pub(crate) const MAX_WORKERS: u64 = 16;
@@ -151,6 +154,22 @@ fn of_folder<'a>(
         .arg(word(alloc, "DIR", "The folder of the archive"))
 }
 
+/// `NAME DIR [--wait SECONDS]`, of an archive that is there
+fn of_archive<'a>(
+    alloc: Global,
+    name: &'a str,
+    about: &'a str,
+    help: &'a str,
+) -> Result<Command<'a>, AllocError>
+    ensures app { IfOk result (λ c. app_of c ≡ of_archive name.entry.now) }
+    ensures own { IfOk result (λ c. (out-Command c).has_globals ≡ false) }
+{
+    let wait = "How many seconds to wait for the archive while it is in use, 0 to 1000000";
+    of_folder(alloc, name, about, help)?.arg(number_or(
+        alloc, "wait", "SECONDS", wait, 0, MAX_WAIT, "0",
+    ))
+}
+
 /// `create DIR [--collectors N] [--ring P]`
 fn creation_of_rings<'a>(alloc: Global) -> Result<Command<'a>, AllocError>
     ensures app { IfOk result (λ c. app_of c ≡ creation_of_rings) }
@@ -176,7 +195,7 @@ fn creation<'a>(alloc: Global) -> Result<Command<'a>, AllocError>
         .arg(number_or(alloc, "blocks", "N", blocks, 1, MAX_SIZE, "100000000"))
 }
 
-/// `load DIR --collector C [--batch N]`
+/// `load DIR [--wait SECONDS] --collector C [--batch N]`
 fn loading_of_batches<'a>(alloc: Global) -> Result<Command<'a>, AllocError>
     ensures app { IfOk result (λ c. app_of c ≡ loading_of_batches) }
     ensures own { IfOk result (λ c. (out-Command c).has_globals ≡ false) }
@@ -184,7 +203,7 @@ fn loading_of_batches<'a>(alloc: Global) -> Result<Command<'a>, AllocError>
     let about = "Loads a file of MRT records as a collector's";
     let collector = "The collector's number, 0 to 15";
     let batch = "The most records of a batch, 1 to 1000";
-    of_folder(alloc, "load", about, help::LOAD)?
+    of_archive(alloc, "load", about, help::LOAD)?
         .arg(number(alloc, "collector", "C", collector, 0, LAST_COLLECTOR))?
         .arg(number_or(alloc, "batch", "N", batch, 1, MAX_BATCH, "1000"))
 }
@@ -200,33 +219,33 @@ fn loading<'a>(alloc: Global) -> Result<Command<'a>, AllocError>
         .arg(word(alloc, "FILE", "The MRT file to load"))
 }
 
-/// `ask DIR WORD..`
+/// `ask DIR [--wait SECONDS] WORD..`
 fn question<'a>(alloc: Global) -> Result<Command<'a>, AllocError>
     ensures app { IfOk result (λ c. app_of c ≡ question) }
     ensures own { IfOk result (λ c. (out-Command c).has_globals ≡ false) }
 {
-    of_folder(alloc, "ask", "Answers a request line", help::ASK)?.arg(words(alloc))
+    of_archive(alloc, "ask", "Answers a request line", help::ASK)?.arg(words(alloc))
 }
 
-/// `serve DIR --listen ADDRESS:PORT --workers N`
+/// `serve DIR [--wait SECONDS] --listen ADDRESS:PORT --workers N`
 fn serving<'a>(alloc: Global) -> Result<Command<'a>, AllocError>
     ensures app { IfOk result (λ c. app_of c ≡ serving) }
     ensures own { IfOk result (λ c. (out-Command c).has_globals ≡ false) }
 {
     let about = "Serves an archive on a socket, until a client asks it to stop";
     let workers = "How many connections are served at once, 1 to 16";
-    of_folder(alloc, "serve", about, help::SERVE)?
+    of_archive(alloc, "serve", about, help::SERVE)?
         .arg(listen(alloc))?
         .arg(number(alloc, "workers", "N", workers, 1, MAX_WORKERS))
 }
 
-/// `check DIR`
+/// `check DIR [--wait SECONDS]`
 fn checking<'a>(alloc: Global) -> Result<Command<'a>, AllocError>
     ensures app { IfOk result (λ c. app_of c ≡ checking) }
     ensures own { IfOk result (λ c. (out-Command c).has_globals ≡ false) }
 {
     let about = "Reads through an archive, and tells the first damage";
-    of_folder(alloc, "check", about, help::CHECK)
+    of_archive(alloc, "check", about, help::CHECK)
 }
 
 fn json<'a>(alloc: Global) -> Arg<'a>
@@ -239,13 +258,13 @@ fn json<'a>(alloc: Global) -> Arg<'a>
         .action(ArgAction::SetTrue)
 }
 
-/// `info DIR [--json]`
+/// `info DIR [--wait SECONDS] [--json]`
 fn examining<'a>(alloc: Global) -> Result<Command<'a>, AllocError>
     ensures app { IfOk result (λ c. app_of c ≡ examining) }
     ensures own { IfOk result (λ c. (out-Command c).has_globals ≡ false) }
 {
     let about = "Shows how far an archive has come, and how much room it has left";
-    of_folder(alloc, "info", about, help::INFO)?.arg(json(alloc))
+    of_archive(alloc, "info", about, help::INFO)?.arg(json(alloc))
 }
 
 /// The program, without its commands.

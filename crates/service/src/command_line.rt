@@ -13,7 +13,8 @@ ghost use Rattle.service.specs.Listening.{IsNoListenText};
 ghost use Rattle.service.specs.inner.Naming.{AsksFor, IsCommand, NamesNoListen, NamesNoMark};
 
 use crate::arguments::{
-    LAST_COLLECTOR, MAX_BATCH, MAX_COLLECTORS, MAX_RING, MAX_SIZE, MAX_WORKERS, MIN_RING, program,
+    LAST_COLLECTOR, MAX_BATCH, MAX_COLLECTORS, MAX_RING, MAX_SIZE, MAX_WAIT, MAX_WORKERS, MIN_RING,
+    program,
 };
 use crate::invocation::{
     Checking, CommandError, Creation, Examining, Invocation, Loading, Question, Serving,
@@ -104,6 +105,7 @@ fn loading_of<'a>(matches: &ArgMatches<'a>) -> Result<Loading<'a>, BadText>
         folder: word_of(matches, "DIR"),
         collector: number_of(matches, "collector", 0, LAST_COLLECTOR) as u8,
         batch: number_of(matches, "batch", 1, MAX_BATCH) as usize,
+        wait: number_of(matches, "wait", 0, MAX_WAIT),
         mark,
         resume: is_there(matches, "resume"),
         file: word_of(matches, "FILE"),
@@ -118,7 +120,8 @@ fn question_of<'a>(alloc: Global, matches: &ArgMatches<'a>) -> Result<Question<'
     // No clause of clap's says that there is a WORD, either.
     let words = matches.get_strs("WORD").unwrap_or(&[]);
     let line = line_of(alloc, words)?;
-    Ok(Question { folder, line })
+    let wait = number_of(matches, "wait", 0, MAX_WAIT);
+    Ok(Question { wait, folder, line })
 }
 
 /// What the arguments of `serve` say.
@@ -131,6 +134,7 @@ fn serving_of<'a>(matches: &ArgMatches<'a>) -> Result<Serving<'a>, BadText>
         folder: word_of(matches, "DIR"),
         listen,
         workers: number_of(matches, "workers", 1, MAX_WORKERS) as u8,
+        wait: number_of(matches, "wait", 0, MAX_WAIT),
     })
 }
 
@@ -140,6 +144,7 @@ fn checking_of<'a>(matches: &ArgMatches<'a>) -> Checking<'a>
 {
     Checking {
         folder: word_of(matches, "DIR"),
+        wait: number_of(matches, "wait", 0, MAX_WAIT),
     }
 }
 
@@ -150,6 +155,7 @@ fn examining_of<'a>(matches: &ArgMatches<'a>) -> Examining<'a>
     Examining {
         folder: word_of(matches, "DIR"),
         json: is_there(matches, "json"),
+        wait: number_of(matches, "wait", 0, MAX_WAIT),
     }
 }
 
@@ -213,6 +219,8 @@ fn usage(error: clap::Error) -> CommandError
 /// - `rha serve DIR --listen ADDRESS:PORT --workers N`
 /// - `rha check DIR`
 /// - `rha info DIR [--json]`
+///
+/// Each but `create` takes `--wait SECONDS` too, 0 to 1000000; in `ask` it stands before the first WORD. Without it 0 counts.
 ///
 /// `clap` reads the words, and each number within its limits; an option that isn't there has its default: 1 collector, a ring of 4096
 /// pages, 10000000 pages, 100000000 blocks, batches of 1000. Then M is read as a mark, ADDRESS as an IPv4 address and PORT as a number

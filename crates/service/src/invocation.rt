@@ -27,6 +27,8 @@ pub struct Creation<'a> {
 /// What `load` is given.
 #[derive(Debug, Drop)]
 pub struct Loading<'a> {
+    /// How many seconds the archive is waited for while it is in use, 0 to 1000000.
+    pub wait: u64,
     /// The folder of the archive.
     pub folder: &'a str,
     /// Whose feed the file is, 0 to 15.
@@ -44,6 +46,8 @@ pub struct Loading<'a> {
 /// What `ask` is given.
 #[derive(Debug, Drop)]
 pub struct Question<'a> {
+    /// How many seconds the archive is waited for while it is in use, 0 to 1000000.
+    pub wait: u64,
     /// The folder of the archive.
     pub folder: &'a str,
     /// The request line to answer.
@@ -53,6 +57,8 @@ pub struct Question<'a> {
 /// What `serve` is given.
 #[derive(Debug, Drop)]
 pub struct Serving<'a> {
+    /// How many seconds the archive is waited for while it is in use, 0 to 1000000.
+    pub wait: u64,
     /// The folder of the archive.
     pub folder: &'a str,
     /// Where connections are taken. At port 0 the system chooses a free one.
@@ -64,6 +70,8 @@ pub struct Serving<'a> {
 /// What `check` is given.
 #[derive(Debug, Drop)]
 pub struct Checking<'a> {
+    /// How many seconds the archive is waited for while it is in use, 0 to 1000000.
+    pub wait: u64,
     /// The folder of the archive.
     pub folder: &'a str,
 }
@@ -71,6 +79,8 @@ pub struct Checking<'a> {
 /// What `info` is given.
 #[derive(Debug, Drop)]
 pub struct Examining<'a> {
+    /// How many seconds the archive is waited for while it is in use, 0 to 1000000.
+    pub wait: u64,
     /// The folder of the archive.
     pub folder: &'a str,
     /// Whether what is printed is JSON.

@@ -17,6 +17,7 @@ returns-clause-found c = record {
   folder = c.word_of.ensures.word;
   collector = c.number_of.ensures.number;
   batch = c.number_of-2.ensures.number;
+  wait = c.number_of-3.ensures.number;
   mark = subst (λ (t : Option (List ℕ)). IsMarkIf t c.in_ok-mark.mark) (c.get_str.ensures ∙ first_value-rows (found_of c.args.matches.now) (codes "mark")) c.in_ok-mark.ensures.found;
   resume = c.is_there.ensures.there;
   file = c.word_of-2.ensures.word;

@@ -11,4 +11,5 @@ returns-clause-found c = record {
   folder = c.word_of-2.ensures.word;
   listen = subst (λ (t : List ℕ). IsListenText t c.in_ok-listen.listen) c.word_of.ensures.word c.in_ok-listen.ensures.found;
   workers = c.number_of.ensures.number;
+  wait = c.number_of-2.ensures.number;
 }
