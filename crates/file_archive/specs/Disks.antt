@@ -2,11 +2,12 @@
 use Rattle.std.specs.Prelude.{◌≡◌}
 use Rattle.disk_files.specs.declared.blocks.FileOnce.{FileOnce}
 use Rattle.disk_files.specs.declared.pages.FileErase.{FileErase}
+use Rattle.disk_files.specs.declared.file.Access.{Access}
 use Rattle.disk_files.specs.declared.noting.NotedFile.{NotedFile}
 use Rattle.disk_files.specs.declared.pen.FilePen.{FilePen}
 use Rattle.disk_files.specs.Blocks.{count_of, identity_of}
-use Rattle.disk_files.specs.Pages.{IsFresh, size_of}
-use Rattle.disk_files.specs.Pens.{IsFreshPen, pen_identity}
+use Rattle.disk_files.specs.Pages.{IsFresh, access_of, size_of}
+use Rattle.disk_files.specs.Pens.{IsFreshPen, pen_access, pen_identity}
 use Rattle.disk_files.specs.Sizes.{AreBlocks, ArePages}
 use Rattle.file_archive.specs.declared.disks.FileDisks.{FileDisks}
 
@@ -29,3 +30,8 @@ pub record AreDisks (disks : FileDisks) : Type 0 where
   pub own : pen_identity (pen_in disks) ≡ identity_of (once_in disks)
   pub fresh : IsFresh (erase_in disks)
   pub fresh_pen : IsFreshPen (pen_in disks)
+
+-- the files of both are held so
+pub record AreHeld (access : Access) (disks : FileDisks) : Type 0 where
+  pub pages : access_of (erase_in disks) ≡ access
+  pub blocks : pen_access (pen_in disks) ≡ access

@@ -1,14 +1,14 @@
 //! Both disks over the files of a folder.
 
 ghost use Rattle.std.specs.Prelude.{◌≡◌, ◌+◌, ◌*◌, ◌≤◌, ◌^◌, ◌↔◌, IfOk, IfErr, IsErr, Err};
-ghost use Rattle.disk_files.specs.Pages.{IsFresh, size_of};
-ghost use Rattle.disk_files.specs.Pens.{IsFreshPen, pen_identity};
+ghost use Rattle.disk_files.specs.Pages.{IsFresh, access_of, size_of};
+ghost use Rattle.disk_files.specs.Pens.{IsFreshPen, KeepsIdentity, pen_access, pen_identity};
 ghost use Rattle.disk_files.specs.Refusals.{IsOfSize};
 ghost use Rattle.disk_files.specs.Sizes.{AreBlocks, ArePages};
 
 use crate::faults::OpenFault;
 use crate::slots::check_slots;
-use disk_files::{Failures, FileErase, FileError, FileOnce, FilePen, Part};
+use disk_files::{Access, Failures, FileErase, FileError, FileOnce, FilePen, Part};
 use std::alloc::{AllocError, Global};
 use std::fs::File;
 use std::rt::Files;
@@ -23,7 +23,8 @@ pub(crate) const JOURNAL_PAGES: u64 = 265;
 /// Fewer pages than these are octets that a file can have.
 const TOO_MANY_PAGES: u64 = 1 << 49;
 
-/// Both disks over the files of a folder, which no one else can open while these are there.
+/// Both disks over the files of a folder. While these are there no one else can open them; where they are shared, others that share them
+/// can.
 #[derive(Drop)]
 pub struct FileDisks {
     pub(crate) erase: FileErase,
@@ -47,7 +48,7 @@ pub(crate) fn disk_size(pages: u64) -> Result<u64, FileError>
 
 impl FileDisks {
     ghost use Rattle.disk_files.specs.Blocks.{count_of, identity_of};
-    ghost use Rattle.file_archive.specs.Disks.{AreDisks, erase_in, once_in};
+    ghost use Rattle.file_archive.specs.Disks.{AreDisks, AreHeld, erase_in, once_in};
 
     /// Makes the files of both disks in a folder: so many octets to be written over, and so many blocks. Where it is refused
     /// it leaves nothing in the folder that it made.
@@ -61,6 +62,7 @@ impl FileDisks {
         ensures size { IfOk result (λ disks. size_of (erase_in disks) ≡ size) }
         ensures blocks { IfOk result (λ disks. count_of (once_in disks) ≡ blocks) }
         ensures fresh { IfOk result AreDisks }
+        ensures held { IfOk result (AreHeld Access.Alone) }
         ensures few { AreBlocks blocks → ArePages size → IfErr result (λ why. ¬ IsOfSize why) }
         ensures refused { ¬ AreBlocks blocks → IsErr result }
     {
@@ -87,7 +89,8 @@ impl FileDisks {
         }
     }
 
-    /// Opens the files of both disks of a folder: `pages.rha` first, by whose lock the archive is held.
+    /// Opens the files of both disks of a folder: `pages.rha` first, by whose lock the archive is held. Where they are shared nothing can
+    /// be written to them, and leave to read them is enough.
     ///
     /// # Errors
     ///
@@ -96,11 +99,13 @@ impl FileDisks {
         alloc: Global,
         files: &R,
         folder: &str,
+        access: Access,
     ) -> Result<FileDisks, FileError>
         ensures fresh { IfOk result AreDisks }
+        ensures held { IfOk result (AreHeld access) }
     {
-        let mut erase = FileErase::open(alloc, files, folder)?;
-        let (once, mut pen) = FileOnce::open(alloc, files, folder)?;
+        let mut erase = FileErase::open(alloc, files, folder, access)?;
+        let (once, mut pen) = FileOnce::open(alloc, files, folder, access)?;
         let failures = note_both(alloc, folder, &mut erase, &mut pen);
         match (Arc::new(alloc, once), failures) {
             (Ok(once), Ok(failures)) => Ok(FileDisks {
@@ -139,8 +144,9 @@ fn note_both(
     pen: &mut FilePen,
 ) -> Result<Arc<Failures>, AllocError>
     ensures size { size_of erase.new ≡ size_of erase.old }
+    ensures access { access_of erase.new ≡ access_of erase.old }
     ensures fresh { IsFresh erase.old → IsFresh erase.new }
-    ensures identity { pen_identity pen.new ≡ pen_identity pen.old }
+    ensures identity { KeepsIdentity pen.old pen.new }
     ensures fresh_pen { IsFreshPen pen.old → IsFreshPen pen.new }
 {
     let failures = Arc::new(alloc, Failures::new(alloc, folder)?)?;

@@ -1,11 +1,12 @@
 //! Why no archive is created, or opened, in a folder.
 
-ghost use Rattle.std.specs.Prelude.{◌≡◌};
+ghost use Rattle.std.specs.Prelude.{◌≡◌, ◌↔◌, IsTrue};
+ghost use Rattle.file_archive.specs.Faults.{NeedsAlone};
 ghost use Rattle.file_archive.specs.declared.faults.CreateFault.TheVariants as create_faults;
 ghost use Rattle.file_archive.specs.declared.faults.OpenFault.TheVariants as open_faults;
 
 use disk_archive::{CreateError, OpenError};
-use disk_files::{Failure, Failures, FileError};
+use disk_files::{Failure, Failures, FileError, Reason};
 use std::io;
 use thiserror::Error;
 
@@ -70,6 +71,18 @@ impl OpenFault {
         match (error, failures.first()) {
             (OpenError::Fault, Some(failure)) => OpenFault::Failed(failure),
             _ => OpenFault::Archive(error),
+        }
+    }
+}
+
+impl OpenFault {
+    /// Whether something has to be written before an archive can be used whose files are shared: held alone, they may be.
+    pub fn needs_alone(&self) -> bool
+        ensures { IsTrue result ↔ NeedsAlone self.now }
+    {
+        match self {
+            OpenFault::Failed(failure) => matches!(failure.reason, Reason::Shared),
+            OpenFault::File(_) | OpenFault::Archive(_) => false,
         }
     }
 }

@@ -6,6 +6,7 @@ use crate::disks::FileDisks;
 use crate::faults::OpenFault;
 use crate::files::FileArchive;
 use disk_archive::Archive;
+use disk_files::Access;
 use std::alloc::Global;
 use std::fs::File;
 use std::rt::Files;
@@ -16,12 +17,13 @@ impl FileArchive {
     ghost use Rattle.file_archive.specs.Disks.{once_in};
     ghost use Rattle.file_archive.specs.FileArchives.{FollowModels, limit_for, limit_of, site_in};
 
-    /// The archive on both disks, as a crash may have left them: what was begun is ended.
+    /// The archive on both disks, as a crash may have left them: what was begun is ended. On disks whose files are shared, one on which
+    /// nothing was begun is opened.
     ///
     /// # Errors
     ///
     /// `Archive`: why both disks hold no archive, or one that can't be read, or a growth of memory that was refused. `Failed`: a device
-    /// failed.
+    /// failed, or what was begun isn't ended since files are shared, as [`OpenFault::needs_alone`] says.
     pub fn on(alloc: Global, disks: FileDisks) -> Result<FileArchive, OpenFault>
         ensures limit { IfOk result (λ archive. limit_of archive ≡ limit_for (site_in archive).settings) }
         ensures blocks { IfOk result (λ archive. (site_in archive).blocks ≡ count_of (once_in disks)) }
@@ -53,7 +55,7 @@ impl FileArchive {
         ensures limit { IfOk result (λ archive. limit_of archive ≡ limit_for (site_in archive).settings) }
         ensures noted { IfOk result (λ archive. FollowModels archive → IsNoted (site_in archive)) }
     {
-        let disks = FileDisks::open(alloc, files, folder)?;
+        let disks = FileDisks::open(alloc, files, folder, Access::Alone)?;
         FileArchive::on(alloc, disks)
     }
 }
