@@ -45,7 +45,7 @@ fn names(text: &str, device: u64, inode: u64) -> bool {
         && third.parse::<u64>() == Ok(inode)
 }
 
-/// The process that has locked the file, by a line `N: FLOCK ADVISORY WRITE PROCESS MAJOR:MINOR:INODE 0 EOF`.
+/// The process that has locked the file, by a line `N: FLOCK ADVISORY WRITE PROCESS MAJOR:MINOR:INODE 0 EOF`, or one with `READ`.
 fn process_in(line: &str, device: u64, inode: u64) -> Option<u32> {
     let mut words = line.split_whitespace();
     let kind = words.nth(1)?;
@@ -57,7 +57,7 @@ fn process_in(line: &str, device: u64, inode: u64) -> Option<u32> {
     process.parse().ok()
 }
 
-/// The process that has locked the file of this device and inode, by the lines of `/proc/locks`; none where they name none.
+/// The first process that has locked the file of this device and inode, by the lines of `/proc/locks`; none where they name none.
 pub fn holder_of(locks: &str, device: u64, inode: u64) -> Option<u32> {
     for line in locks.lines() {
         if let Some(process) = process_in(line, device, inode) {

@@ -5,7 +5,7 @@ ghost use Rattle.std.specs.Prelude.{◌≤◌};
 ghost use Rattle.archive_pages.specs.Places.{AreSettings};
 ghost use Rattle.rha.specs.inner.Made.{settings_for};
 
-use crate::opening::{open, open_for_check};
+use crate::opening::{First, open_to_read};
 use crate::refusals::{tell_unanswered, tell_unmade};
 use advice::{LimitAdvice, advise, advise_question};
 use archive_pages::Settings;
@@ -67,7 +67,7 @@ pub(crate) fn create<E: Write>(rt: &HostRuntime, asked: &Creation<'_>, err: &mut
 /// Answers a request line by the archive of a folder.
 pub(crate) fn ask<E: Write>(rt: &HostRuntime, asked: &Question<'_>, err: &mut Output<E>) -> u8 {
     let alloc = rt.alloc();
-    let Some(mut archive) = open(rt, asked.folder, err) else {
+    let Some(mut archive) = open_to_read(rt, asked.folder, asked.wait, First::Nothing, err) else {
         return 1;
     };
     let Ok(buffer) = BufWriter::new(alloc, rt.stdout()) else {
@@ -85,7 +85,7 @@ pub(crate) fn ask<E: Write>(rt: &HostRuntime, asked: &Question<'_>, err: &mut Ou
 /// Checks the archive of a folder.
 pub(crate) fn check<E: Write>(rt: &HostRuntime, asked: &Checking<'_>, err: &mut Output<E>) -> u8 {
     let alloc = rt.alloc();
-    let Some(mut archive) = open_for_check(rt, asked.folder, err) else {
+    let Some(mut archive) = open_to_read(rt, asked.folder, asked.wait, First::Slots, err) else {
         return 1;
     };
     let Ok(buffer) = BufWriter::new(alloc, rt.stdout()) else {

@@ -1,6 +1,6 @@
 //! The command `info`: how far an archive has come, and how much room it has left.
 
-use crate::opening::open;
+use crate::opening::{First, open_to_read};
 use archive_calls::RouteArchive;
 use archive_facts::{Facts, HEAD_PLACE, OPEN_GATE, SIZES_LEN, SLOTS, Sizes, gate_place};
 use archive_head::Head;
@@ -84,7 +84,7 @@ fn show<E: Write>(rt: &HostRuntime, facts: &Facts, json: bool, err: &mut Output<
 }
 
 /// Shows how far the archive of a folder has come, and how much room it has left. Its slots are counted before it is opened, which
-/// closes them; what its file says is read while the archive is held open.
+/// closes them; what its file says is read while the archive is held.
 pub(crate) fn info<E: Write>(rt: &HostRuntime, asked: &Examining<'_>, err: &mut Output<E>) -> u8 {
     let alloc = rt.alloc();
     let Ok(path) = format!(in alloc; "{}/pages.rha", asked.folder) else {
@@ -92,7 +92,7 @@ pub(crate) fn info<E: Write>(rt: &HostRuntime, asked: &Examining<'_>, err: &mut 
     };
     let file = File::open(rt, path.as_str());
     let slots = file.as_ref().ok().and_then(|it| open_slots(it).ok());
-    let Some(archive) = open(rt, asked.folder, err) else {
+    let Some(archive) = open_to_read(rt, asked.folder, asked.wait, First::Nothing, err) else {
         return 1;
     };
     let file = match file {

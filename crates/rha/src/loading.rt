@@ -44,7 +44,7 @@ impl Source {
 /// Loads a file into the archive of a folder. The folder's files are opened before it, and what is in them is read after it.
 pub(crate) fn load<E: Write>(rt: &HostRuntime, asked: &Loading<'_>, err: &mut Output<E>) -> u8 {
     let alloc = rt.alloc();
-    let Some(disks) = open_disks(rt, asked.folder, err) else {
+    let Some(disks) = open_disks(rt, asked.folder, asked.wait, err) else {
         return 1;
     };
     let file = match Source::open(rt, asked.file) {

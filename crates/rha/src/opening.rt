@@ -1,71 +1,140 @@
-//! The archive of a folder is opened for a command.
+//! The archive of a folder is opened for a command. Where it is in use, the command may wait for it.
 
 use crate::holder::advise_holder;
 use crate::refusals::tell_unopened;
-use disk_files::FileError;
+use advice::advise;
+use disk_files::{Access, FileError};
 use file_archive::{FileArchive, FileDisks, OpenFault};
 use service::Output;
 use std::io::Write;
+use std::thread;
+use std::time::Duration;
 
-/// Prints why the archive of a folder isn't opened, and which process has it where it is in use.
-fn tell_closed<E: Write>(rt: &HostRuntime, folder: &str, fault: OpenFault, err: &mut Output<E>) {
-    tell_unopened(rt, folder, fault, err);
-    if let OpenFault::File(FileError::InUse(_)) = fault {
-        advise_holder(rt, folder, err);
+/// How many times in a second it is tried whether an archive is still in use.
+const TRIES: u64 = 10;
+
+/// How many milliseconds pass between two tries.
+const REST: u64 = 100;
+
+/// What helps where an archive that can be read has to be written to first.
+const UNENDED: &str =
+    "a command that was cut off left this archive, and what it began has to be written to its files before they can be read: \
+     run the command once as a user who may write to them";
+
+/// What `attempt` opens: while the archive is in use it is tried again, until so many seconds are over.
+fn within<T: Drop, F: Fn() -> Result<T, OpenFault>>(
+    rt: &HostRuntime,
+    seconds: u64,
+    attempt: F,
+) -> Result<T, OpenFault>
+    requires { F.IsAlwaysCallable attempt }
+{
+    for _ in 0..seconds.saturating_mul(TRIES) {
+        match attempt() {
+            Err(OpenFault::File(FileError::InUse(_))) => {
+                thread::sleep(rt, Duration::from_millis(REST));
+            }
+            opened => return opened,
+        }
+    }
+    attempt()
+}
+
+/// What was opened. Where nothing was, why is printed, and which process has the archive where it is in use; the exit status is 1.
+fn tell_closed<T, E: Write>(
+    rt: &HostRuntime,
+    folder: &str,
+    opened: Result<T, OpenFault>,
+    err: &mut Output<E>,
+) -> Option<T> {
+    match opened {
+        Ok(opened) => Some(opened),
+        Err(fault) => {
+            tell_unopened(rt, folder, fault, err);
+            if let OpenFault::File(FileError::InUse(_)) = fault {
+                advise_holder(rt, folder, err);
+            }
+            None
+        }
     }
 }
 
-/// The disks of a folder's archive. Where they aren't opened, why is printed, and the exit status is 1.
+/// The disks of a folder's archive, which no one else has, within so many seconds. Where they aren't opened, why is printed, and the exit
+/// status is 1.
 pub(crate) fn open_disks<E: Write>(
     rt: &HostRuntime,
     folder: &str,
+    wait: u64,
     err: &mut Output<E>,
 ) -> Option<FileDisks> {
-    match FileDisks::open(rt.alloc(), rt, folder) {
-        Ok(disks) => Some(disks),
-        Err(why) => {
-            tell_closed(rt, folder, OpenFault::File(why), err);
-            None
-        }
-    }
+    let opened = within(
+        rt,
+        wait,
+        || match FileDisks::open(rt.alloc(), rt, folder, Access::Alone) {
+            Ok(disks) => Ok(disks),
+            Err(why) => Err(OpenFault::File(why)),
+        },
+    );
+    tell_closed(rt, folder, opened, err)
 }
 
-/// The archive of a folder. Where it isn't opened, why is told, and the exit status is 1.
+/// The archive of a folder, which no one else has, within so many seconds. Where it isn't opened, why is printed, and the exit status is 1.
 pub(crate) fn open<E: Write>(
     rt: &HostRuntime,
     folder: &str,
+    wait: u64,
     err: &mut Output<E>,
 ) -> Option<FileArchive> {
-    let alloc = rt.alloc();
-    match FileArchive::open(alloc, rt, folder) {
-        Ok(archive) => Some(archive),
-        Err(fault) => {
-            tell_closed(rt, folder, fault, err);
-            None
-        }
-    }
+    let opened = within(rt, wait, || FileArchive::open(rt.alloc(), rt, folder));
+    tell_closed(rt, folder, opened, err)
 }
 
-// The archive of a folder, whose journal's slots are checked before it is opened.
-fn check_and_open(rt: &HostRuntime, folder: &str) -> Result<FileArchive, OpenFault> {
+/// What is looked at before an archive is opened.
+#[derive(Clone, Copy, PartialEq)]
+pub(crate) enum First {
+    Nothing,
+    /// The journal's slots, for a check: an opening ends what the journal began.
+    Slots,
+}
+
+/// The archive of a folder, whose files are held so.
+fn open_as(
+    rt: &HostRuntime,
+    folder: &str,
+    access: Access,
+    first: First,
+) -> Result<FileArchive, OpenFault> {
     let alloc = rt.alloc();
-    let mut disks = FileDisks::open(alloc, rt, folder)?;
-    disks.check_slots()?;
+    let mut disks = FileDisks::open(alloc, rt, folder, access)?;
+    if first == First::Slots {
+        disks.check_slots()?;
+    }
     FileArchive::on(alloc, disks)
 }
 
-/// The archive of a folder, for a check of it: an opening ends what the journal began, so the journal's slots are checked first. Where it
-/// isn't opened, why is printed, and the exit status is 1.
-pub(crate) fn open_for_check<E: Write>(
+/// The archive of a folder, for a command that only reads it. Others may read it meanwhile; where something has to be written first, which a
+/// command that was cut off left, no one else may.
+fn open_shared(rt: &HostRuntime, folder: &str, first: First) -> Result<FileArchive, OpenFault> {
+    match open_as(rt, folder, Access::Shared, first) {
+        Err(fault) if fault.needs_alone() => open_as(rt, folder, Access::Alone, first),
+        opened => opened,
+    }
+}
+
+/// The archive of a folder, for a command that only reads it, within so many seconds. Where it isn't opened, why is printed, and the exit
+/// status is 1.
+pub(crate) fn open_to_read<E: Write>(
     rt: &HostRuntime,
     folder: &str,
+    wait: u64,
+    first: First,
     err: &mut Output<E>,
 ) -> Option<FileArchive> {
-    match check_and_open(rt, folder) {
-        Ok(archive) => Some(archive),
-        Err(fault) => {
-            tell_closed(rt, folder, fault, err);
-            None
-        }
+    let opened = within(rt, wait, || open_shared(rt, folder, first));
+    let is_refused = matches!(&opened, Err(OpenFault::File(FileError::Failed(_))));
+    let archive = tell_closed(rt, folder, opened, err);
+    if is_refused && FileDisks::open(rt.alloc(), rt, folder, Access::Shared).is_ok() {
+        advise(rt.alloc(), &UNENDED, err);
     }
+    archive
 }

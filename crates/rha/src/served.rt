@@ -94,7 +94,7 @@ pub(crate) fn serve<
     H: Threads + Wait + Clock + Net<Listener = TcpListener, Stream = TcpStream> + Sync,
     E: Write,
 >(rt: &HostRuntime, host: &H, asked: &Serving<'_>, err: &mut Output<E>) -> u8 {
-    let Some(archive) = open(rt, asked.folder, err) else {
+    let Some(archive) = open(rt, asked.folder, asked.wait, err) else {
         return 1;
     };
     let Ok(failures) = archive.failures().clone() else {
