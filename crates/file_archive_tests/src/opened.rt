@@ -5,7 +5,7 @@ use crate::folders::{create, inside, is_created, new_name, remove};
 use crate::session::{AMSTERDAM, Command, run};
 use archive_calls::{RouteArchive, Trouble};
 use disk_archive::OpenError;
-use disk_files::{FileErase, FileError, FileOnce, Part};
+use disk_files::{Access, FileErase, FileError, FileOnce, Part};
 use file_archive::{FileArchive, FileDisks, OpenFault};
 use service::Status;
 use std::fs;
@@ -154,7 +154,7 @@ fn open_slot(rt: &HostRuntime, folder: &str, number: u8) -> Option<bool> {
 
 /// Whether a check of the journal's slots ends so.
 fn slots_are(rt: &HostRuntime, folder: &str, wanted: Result<(), OpenFault>) -> bool {
-    match FileDisks::open(rt.alloc(), rt, folder) {
+    match FileDisks::open(rt.alloc(), rt, folder, Access::Alone) {
         Ok(mut disks) => disks.check_slots() == wanted,
         Err(_) => false,
     }
@@ -170,5 +170,73 @@ fn an_open_slot_with_another_number_is_found(rt: HostRuntime) {
     be(&rt, open_slot(&rt, &folder, 2) == Some(true), "a number");
     let wrong = Err(OpenFault::Archive(OpenError::BadSlot(2)));
     be(&rt, slots_are(&rt, &folder, wrong), "another number");
+    be(&rt, remove(&rt, &folder), "the folder goes");
+}
+
+/// How an opening of an archive ends whose files are held so.
+#[derive(Clone, Copy, PartialEq)]
+enum End {
+    Opened,
+    InUse,
+    NeedsAlone,
+    Other,
+}
+
+/// How it ends. Whoever opens it lets it go again.
+fn end_of(rt: &HostRuntime, folder: &str, access: Access) -> End {
+    let opened = match FileDisks::open(rt.alloc(), rt, folder, access) {
+        Ok(disks) => FileArchive::on(rt.alloc(), disks),
+        Err(why) => Err(OpenFault::File(why)),
+    };
+    match opened {
+        Ok(_) => End::Opened,
+        Err(OpenFault::File(FileError::InUse(Part::Pages))) => End::InUse,
+        Err(fault) if fault.needs_alone() => End::NeedsAlone,
+        Err(_) => End::Other,
+    }
+}
+
+/// How openings end of an archive with an open slot, one after another.
+const RECOVERED: [(Access, End); 4] = [
+    (Access::Shared, End::NeedsAlone),
+    (Access::Shared, End::NeedsAlone),
+    (Access::Alone, End::Opened),
+    (Access::Shared, End::Opened),
+];
+
+/// How openings end while the archive is held so.
+const BESIDE: [(Access, Access, End); 3] = [
+    (Access::Shared, Access::Shared, End::Opened),
+    (Access::Shared, Access::Alone, End::InUse),
+    (Access::Alone, Access::Shared, End::InUse),
+];
+
+/// How an opening ends while disks hold the files so.
+fn end_beside(rt: &HostRuntime, folder: &str, held: Access, access: Access) -> End {
+    match FileDisks::open(rt.alloc(), rt, folder, held) {
+        Ok(_disks) => end_of(rt, folder, access),
+        Err(_) => End::Other,
+    }
+}
+
+#[test]
+fn an_archive_is_shared_where_nothing_has_to_be_written(rt: HostRuntime) {
+    let folder = new_name(&rt, "shared").expect(&rt, "a name");
+    be(&rt, is_created(&rt, &folder, 20, 7), "an archive");
+    for (held, access, end) in BESIDE {
+        be(
+            &rt,
+            end_beside(&rt, &folder, held, access) == end,
+            "beside another",
+        );
+    }
+    be(&rt, open_slot(&rt, &folder, 1) == Some(true), "a slot");
+    for (access, end) in RECOVERED {
+        be(
+            &rt,
+            end_of(&rt, &folder, access) == end,
+            "one after another",
+        );
+    }
     be(&rt, remove(&rt, &folder), "the folder goes");
 }

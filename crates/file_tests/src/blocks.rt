@@ -5,7 +5,7 @@ use crate::be;
 use crate::folders::{
     PAGE, are_all, cut, folder, has, holds, remove, size_of, write_beside, write_four,
 };
-use disk_files::{FileError, FileOnce, FilePen, FileSeen, NotedFile, Part};
+use disk_files::{Access, FileError, FileOnce, FilePen, FileSeen, NotedFile, Part};
 use disk_models::{Block, OnceDisk};
 
 /// The files of a disk.
@@ -135,7 +135,7 @@ fn created(rt: &HostRuntime, folder: &str, count: u64) -> Option<Bench> {
 
 /// The disk of a folder.
 fn opened(rt: &HostRuntime, folder: &str) -> Option<Bench> {
-    let (disk, pen) = FileOnce::open(rt.alloc(), rt, folder).ok()?;
+    let (disk, pen) = FileOnce::open(rt.alloc(), rt, folder, Access::Alone).ok()?;
     Some(Bench {
         disk,
         pen,
@@ -146,7 +146,7 @@ fn opened(rt: &HostRuntime, folder: &str) -> Option<Bench> {
 
 /// Why the disk of a folder isn't opened, if it isn't.
 fn not_opened(rt: &HostRuntime, folder: &str) -> Option<FileError> {
-    FileOnce::open(rt.alloc(), rt, folder).err()
+    FileOnce::open(rt.alloc(), rt, folder, Access::Alone).err()
 }
 
 /// Why a disk of so many blocks isn't created, if it isn't.

@@ -3,7 +3,7 @@
 use crate::be;
 use crate::folders::{PAGE, folder, remove};
 use buffer_pool::Pool;
-use disk_files::{FileErase, FileOnce};
+use disk_files::{Access, FileErase, FileOnce};
 use disk_memory::{MemErase, MemOnce};
 use disk_models::{Block, EraseDisk, OnceDisk, Page};
 use once_store::{Shelf, ShelfReader, seal};
@@ -117,7 +117,7 @@ fn are_alike(
 
 /// A session over a file and over memory, which opens both disks again. The disk in memory; none where the file's wasn't like it.
 fn session(rt: &HostRuntime, folder: &str, memory: MemErase, number: u64) -> Option<MemErase> {
-    let file = FileErase::open(rt.alloc(), rt, folder).ok()?;
+    let file = FileErase::open(rt.alloc(), rt, folder, Access::Alone).ok()?;
     let mut over_file = begun(rt.alloc(), file, number == 0)?;
     let mut over_memory = begun(rt.alloc(), memory, number == 0)?;
     let alike = are_alike(rt.alloc(), &mut over_file, &mut over_memory, number);
@@ -199,7 +199,7 @@ fn shelf<O: OnceDisk + Drop>(alloc: Global, disk: O, pen: O::Pen) -> Option<Shel
 
 /// A shelf on the disk of a folder.
 fn file_shelf(rt: &HostRuntime, folder: &str) -> Option<Shelf<FileOnce>> {
-    let (disk, pen) = FileOnce::open(rt.alloc(), rt, folder).ok()?;
+    let (disk, pen) = FileOnce::open(rt.alloc(), rt, folder, Access::Alone).ok()?;
     shelf(rt.alloc(), disk, pen)
 }
 

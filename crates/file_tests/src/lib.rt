@@ -15,6 +15,8 @@ mod pages;
 #[cfg(test)]
 mod scripted;
 #[cfg(test)]
+mod shared;
+#[cfg(test)]
 mod slow;
 
 #[cfg(test)]

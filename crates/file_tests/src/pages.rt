@@ -6,7 +6,7 @@ use crate::folders::{
     PAGE, are_all, beside, cut, folder, has, holds, inside, link, octet_of, remove, remove_file,
     size_of, write_four,
 };
-use disk_files::{Call, Failure, Failures, FileErase, FileError, Part, Reason};
+use disk_files::{Access, Call, Failure, Failures, FileErase, FileError, Part, Reason};
 use disk_models::EraseDisk;
 use std::os::fd::AsRawFd;
 use std::sync::Arc;
@@ -80,12 +80,12 @@ fn is_created(rt: &HostRuntime, folder: &str, pages: u64) -> bool {
 
 /// The disk of a folder.
 fn opened(rt: &HostRuntime, folder: &str) -> Option<FileErase> {
-    FileErase::open(rt.alloc(), rt, folder).ok()
+    FileErase::open(rt.alloc(), rt, folder, Access::Alone).ok()
 }
 
 /// Why the disk of a folder isn't opened, if it isn't.
 fn not_opened(rt: &HostRuntime, folder: &str) -> Option<FileError> {
-    FileErase::open(rt.alloc(), rt, folder).err()
+    FileErase::open(rt.alloc(), rt, folder, Access::Alone).err()
 }
 
 /// Why a disk of so many octets isn't created, if it isn't.
@@ -359,7 +359,7 @@ fn is_pipe_irregular(rt: &HostRuntime, folder: &str) -> Option<bool> {
 
 /// The same of a file that is at hand.
 fn not_opened_on_device(rt: &HostRuntime) -> Option<FileError> {
-    FileErase::open_on(beside(rt, "/dev", "null")?).err()
+    FileErase::open_on(beside(rt, "/dev", "null")?, Access::Alone).err()
 }
 
 #[test]

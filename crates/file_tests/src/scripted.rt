@@ -3,7 +3,7 @@
 use crate::be;
 use crate::folders::{PAGE, are_all};
 use crate::slow::{SlowFile, Wrong};
-use disk_files::{Call, Failure, FileErase, FileError, FileOnce, FilePen, Part, Reason};
+use disk_files::{Access, Call, Failure, FileErase, FileError, FileOnce, FilePen, Part, Reason};
 use disk_models::{Block, EraseDisk, Fault, OnceDisk};
 use std::alloc::Global;
 use std::io::ErrorKind;
@@ -125,7 +125,7 @@ fn not_created(alloc: Global, wrong: Wrong) -> Option<FileError> {
 
 /// Why none is opened.
 fn not_opened(alloc: Global, wrong: Wrong) -> Option<FileError> {
-    FileErase::open_on(SlowFile::new(alloc, 99, wrong)).err()
+    FileErase::open_on(SlowFile::new(alloc, 99, wrong), Access::Alone).err()
 }
 
 /// What a file does wrong, and why it is refused.

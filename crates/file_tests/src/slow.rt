@@ -2,7 +2,7 @@
 
 ghost use Rattle.std.specs.Prelude.{◌≤◌};
 
-use disk_files::{FileFacts, FileIdentity, OctetFile};
+use disk_files::{Access, FileFacts, FileIdentity, OctetFile};
 use std::alloc::Global;
 use std::io;
 
@@ -71,7 +71,7 @@ impl OctetFile for SlowFile {
 
     ghost octet_count = { λ _. 0 };
 
-    ghost is_held = { λ _. Unit {0} };
+    ghost is_held = { λ _ _. Unit {0} };
 
     fn facts(&self) -> io::Result<FileFacts> {
         Ok(FileFacts {
@@ -84,7 +84,7 @@ impl OctetFile for SlowFile {
         })
     }
 
-    fn hold(&mut self) -> io::Result<bool> {
+    fn hold(&mut self, _access: Access) -> io::Result<bool> {
         Ok(self.wrong != Wrong::IsHeld)
     }
 
