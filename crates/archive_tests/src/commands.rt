@@ -8,7 +8,7 @@ use std::alloc::Global;
 
 /// Words, with lines between them, and what they ask for: the folder a, and each further thing that they say, or what takes its
 /// place where they don't.
-const ACCEPTED: [(&str, &str); 29] = [
+const ACCEPTED: [(&str, &str); 36] = [
     // What isn't chosen.
     ("rha|create|a", "create a 1 4096 10000000 100000000"),
     (
@@ -95,6 +95,20 @@ const ACCEPTED: [(&str, &str); 29] = [
     ("rha|check|--|a", "check a"),
     ("rha|info|a", "info a lines"),
     ("rha|info|--json|a", "info a json"),
+    // What an archive is waited for stands last, where it is.
+    (
+        "rha|load|a|--collector=0|--wait|1000000|a.mrt",
+        "load a 0 1000 none whole a.mrt wait 1000000",
+    ),
+    ("rha|ask|a|--wait=60|watermark", "ask a watermark wait 60"),
+    ("rha|ask|--wait|1|a|watermark", "ask a watermark wait 1"),
+    ("rha|ask|a|watermark|--wait=60", "ask a watermark --wait=60"),
+    (
+        "rha|serve|a|--wait=7|--listen|127.0.0.1:0|--workers|1",
+        "serve a 127.0.0.1:0 1 wait 7",
+    ),
+    ("rha|check|a|--wait=0", "check a"),
+    ("rha|info|a|--json|--wait|7", "info a json wait 7"),
     // After two dashes alone no word is an option.
     ("rha|check|--|--help", "check --help"),
 ];
@@ -163,6 +177,14 @@ impl Line {
         }
     }
 
+    /// Adds how many seconds an archive is waited for, if it is.
+    fn waits(&mut self, seconds: u64) {
+        if seconds > 0 {
+            self.word("wait");
+            self.number(seconds);
+        }
+    }
+
     fn creation(&mut self, made: &Creation<'_>) {
         self.word(made.folder);
         self.number(u64::from(made.collectors));
@@ -181,11 +203,13 @@ impl Line {
         }
         self.word(if asked.resume { "resumed" } else { "whole" });
         self.word(asked.file);
+        self.waits(asked.wait);
     }
 
     fn question(&mut self, asked: &Question<'_>) {
         self.word(asked.folder);
         self.word(asked.line.as_str());
+        self.waits(asked.wait);
     }
 
     fn serving(&mut self, asked: &Serving<'_>) {
@@ -196,15 +220,18 @@ impl Line {
             Err(_) => self.is_whole = false,
         }
         self.number(u64::from(asked.workers));
+        self.waits(asked.wait);
     }
 
     fn checking(&mut self, asked: &Checking<'_>) {
         self.word(asked.folder);
+        self.waits(asked.wait);
     }
 
     fn examining(&mut self, asked: &Examining<'_>) {
         self.word(asked.folder);
         self.word(if asked.json { "json" } else { "lines" });
+        self.waits(asked.wait);
     }
 }
 

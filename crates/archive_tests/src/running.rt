@@ -17,6 +17,7 @@ use std::net::{Ipv4Addr, SocketAddrV4};
 /// How records are loaded: in batches of two, with a mark that is above their times.
 fn loading() -> Loading<'static> {
     Loading {
+        wait: 0,
         folder: "a",
         collector: 0,
         batch: 2,
@@ -57,6 +58,7 @@ fn ask_to<W: Write + Drop>(
     err: &mut Vec<u8>,
 ) -> Option<u8> {
     let asked = Question {
+        wait: 0,
         folder: "a",
         line: String::from_str(alloc, line).ok()?,
     };

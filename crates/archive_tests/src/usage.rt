@@ -83,11 +83,12 @@ Arguments:
   <FILE>  The MRT file to load
 
 Options:
-      --collector <C>  The collector's number, 0 to 15
-      --batch <N>      The most records of a batch, 1 to 1000 [default: 1000]
-      --mark <M>       The collector's mark once the file is loaded
-      --resume         Goes on behind the records that were offered before
-  -h, --help           Print help
+      --wait <SECONDS>  How many seconds to wait for the archive while it is in use, 0 to 1000000 [default: 0]
+      --collector <C>   The collector's number, 0 to 15
+      --batch <N>       The most records of a batch, 1 to 1000 [default: 1000]
+      --mark <M>        The collector's mark once the file is loaded
+      --resume          Goes on behind the records that were offered before
+  -h, --help            Print help
 
 M is seconds since 1970, 0 to 4294967296, or a timestamp as 2024-01-01T00:00:00Z. It is set where FILE was
 read to its end: what the collector gives later isn't of earlier moments. FILE may be a pipe; - is standard input.
@@ -111,14 +112,15 @@ inside a record, or something else was refused or couldn't be written (told on s
 
 const ASK_HELP: &str = "Answers a request line
 
-Usage: rha ask <DIR> <WORD>...
+Usage: rha ask [OPTIONS] <DIR> <WORD>...
 
 Arguments:
   <DIR>      The folder of the archive
   <WORD>...  The words of a request line
 
 Options:
-  -h, --help  Print help
+      --wait <SECONDS>  How many seconds to wait for the archive while it is in use, 0 to 1000000 [default: 0]
+  -h, --help            Print help
 
 The words are one request line:
   at T route PEER PREFIX           the peer's route for the prefix
@@ -144,12 +146,13 @@ accepted.
 
 const SERVE_HELP: &str = "Serves an archive on a socket, until a client asks it to stop
 
-Usage: rha serve --listen <ADDRESS:PORT> --workers <N> <DIR>
+Usage: rha serve [OPTIONS] --listen <ADDRESS:PORT> --workers <N> <DIR>
 
 Arguments:
   <DIR>  The folder of the archive
 
 Options:
+      --wait <SECONDS>         How many seconds to wait for the archive while it is in use, 0 to 1000000 [default: 0]
       --listen <ADDRESS:PORT>  The IPv4 address to listen on, and the port, 0 to 65535
       --workers <N>            How many connections are served at once, 1 to 16
   -h, --help                   Print help
@@ -177,13 +180,14 @@ line isn't accepted.
 
 const CHECK_HELP: &str = "Reads through an archive, and tells the first damage
 
-Usage: rha check <DIR>
+Usage: rha check [OPTIONS] <DIR>
 
 Arguments:
   <DIR>  The folder of the archive
 
 Options:
-  -h, --help  Print help
+      --wait <SECONDS>  How many seconds to wait for the archive while it is in use, 0 to 1000000 [default: 0]
+  -h, --help            Print help
 
 Reads all that waits, and every page and block that answers come from, and counts the changes in these. Before
 that it looks at the journal's open slots. Nothing that is answered later is changed.
@@ -205,8 +209,9 @@ Arguments:
   <DIR>  The folder of the archive
 
 Options:
-      --json  Prints one object of JSON, for programs
-  -h, --help  Print help
+      --wait <SECONDS>  How many seconds to wait for the archive while it is in use, 0 to 1000000 [default: 0]
+      --json            Prints one object of JSON, for programs
+  -h, --help            Print help
 
 Prints lines for a person: the settled watermark, the time of the last change that is applied, how many pages and
 blocks are used of how many, how many slots of the journal were open before this command, and of each collector
@@ -231,6 +236,12 @@ const ASK_END: &str = "\n\nUsage: rha ask <DIR> <WORD>...\n\nFor more informatio
 
 const SERVE_END: &str =
     "\n\nUsage: rha serve --listen <ADDRESS:PORT> --workers <N> <DIR>\n\nFor more information, try '--help'.\n";
+
+const SERVE_OPTIONS_END: &str =
+    "\n\nUsage: rha serve [OPTIONS] --listen <ADDRESS:PORT> --workers <N> <DIR>\n\nFor more information, try '--help'.\n";
+
+const CHECK_OPTIONS_END: &str =
+    "\n\nUsage: rha check [OPTIONS] <DIR>\n\nFor more information, try '--help'.\n";
 
 const CHECK_END: &str = "\n\nUsage: rha check <DIR>\n\nFor more information, try '--help'.\n";
 
@@ -366,7 +377,7 @@ const WRONG: [Shown; 15] = [
         kind: ErrorKind::UnknownArgument,
         code: 2,
         text: "error: unexpected argument '127.0.0.1:0' found",
-        end: SERVE_END,
+        end: SERVE_OPTIONS_END,
     },
     Shown {
         words: "rha|check",
@@ -380,7 +391,7 @@ const WRONG: [Shown; 15] = [
         kind: ErrorKind::UnknownArgument,
         code: 2,
         text: "error: unexpected argument 'b' found",
-        end: CHECK_END,
+        end: CHECK_OPTIONS_END,
     },
     Shown {
         words: "rha|check|a|--collector=0",
@@ -413,7 +424,7 @@ const WRONG: [Shown; 15] = [
 ];
 
 /// An option whose number is beyond its limits, or is none, behind words that want it, and what is told of it.
-const BEYOND: [(&str, &str); 16] = [
+const BEYOND: [(&str, &str); 18] = [
     (
         "rha|create|a|--collectors=0",
         "'0' for '--collectors <N>': 0 is not in 1..=16",
@@ -477,6 +488,14 @@ const BEYOND: [(&str, &str); 16] = [
     (
         "rha|serve|a|--workers=17",
         "'17' for '--workers <N>': 17 is not in 1..=16",
+    ),
+    (
+        "rha|ask|a|--wait=1000001|watermark",
+        "'1000001' for '--wait <SECONDS>': 1000001 is not in 0..=1000000",
+    ),
+    (
+        "rha|check|a|--wait=1.5",
+        "'1.5' for '--wait <SECONDS>': invalid digit found in string",
     ),
 ];
 
