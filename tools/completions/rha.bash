@@ -17,7 +17,7 @@ _rha() {
   read -ra words <<<"$line"
   [ "${line: -1}" = " " ] || unset "words[-1]"
   case ${words[-1]} in
-    --collectors | --ring | --pages | --blocks | --collector | --batch | --mark | --listen | --workers)
+    --collectors | --ring | --pages | --blocks | --collector | --batch | --mark | --listen | --workers | --wait)
       compopt +o default
       return
       ;;
@@ -25,10 +25,10 @@ _rha() {
   case ${words[1]}/$word in
     /*) offered="create load ask serve check info --help --version" ;;
     create/-*) offered="--collectors --ring --pages --blocks --help" ;;
-    load/-*) offered="--collector --batch --mark --resume --help" ;;
-    serve/-*) offered="--listen --workers --help" ;;
-    ask/-* | check/-*) offered="--help" ;;
-    info/-*) offered="--json --help" ;;
+    load/-*) offered="--wait --collector --batch --mark --resume --help" ;;
+    serve/-*) offered="--wait --listen --workers --help" ;;
+    ask/-* | check/-*) offered="--wait --help" ;;
+    info/-*) offered="--wait --json --help" ;;
     ask/*) [ ${#words[@]} -lt 3 ] || offered=$(_rha_request "${words[@]:3}") ;;
   esac
   mapfile -t COMPREPLY < <(compgen -W "$offered" -- "$word")

@@ -38,6 +38,10 @@ complete -c rha -n '__rha_is create' -x -l pages -d 'Pages of the archive, with 
 complete -c rha -n '__rha_is create' -x -l blocks -d 'Write-once blocks of the archive'
 complete -c rha -n '__rha_is create' -a '(__fish_complete_directories)'
 
+for command in load ask serve check info
+    complete -c rha -n "__rha_is $command" -x -l wait -d 'Seconds to wait while the archive is in use, 0 to 1000000'
+end
+
 complete -c rha -n '__rha_is load' -x -l collector -d 'The collector, 0 to 15'
 complete -c rha -n '__rha_is load' -x -l batch -d 'The most records of a batch, 1 to 1000'
 complete -c rha -n '__rha_is load' -x -l mark -d "The collector's mark once the file is loaded"
