@@ -1,7 +1,8 @@
 //! What is said of files that hold no archive.
 
-ghost use Rattle.std.specs.Prelude.{◌≡◌, ◌≢◌, ◌+◌, ◌<◌, ◌≤◌, None, Some};
+ghost use Rattle.std.specs.Prelude.{ℕ, ◌≡◌, ◌≢◌, ◌+◌, ◌<◌, ◌≤◌, None, Some};
 ghost use Rattle.archive_facts.specs.declared.identity.Sizes.{Sizes};
+ghost use Rattle.archive_facts.specs.declared.slots.TheConstants.{JOURNAL_PAGES};
 
 use archive_facts::{JOURNAL_PAGES, Sizes};
 use std::fmt;
@@ -33,11 +34,11 @@ pub enum NoArchive {
 impl NoArchive {
     /// Why files that are so large, whose first page says that the archive was made so large, hold none.
     pub fn of(found: Found, made: Option<Sizes>) -> NoArchive
-        ensures short { found.pages < 265 → result ≡ NoArchive.Short }
-        ensures unnamed { 265 ≤ found.pages → made ≡ None → result ≡ NoArchive.Unnamed }
-        ensures pages { (m : Sizes) → 265 ≤ found.pages → made ≡ Some m → found.pages < 265 + m.pages → (homes : ℕ) → found.pages ≡ 265 + homes → result ≡ NoArchive.Pages homes m.pages }
-        ensures blocks { (m : Sizes) → made ≡ Some m → 265 + m.pages ≤ found.pages → found.blocks ≢ m.blocks → result ≡ NoArchive.Blocks found.blocks m.blocks }
-        ensures misnamed { (m : Sizes) → made ≡ Some m → 265 + m.pages ≤ found.pages → found.blocks ≡ m.blocks → result ≡ NoArchive.Misnamed }
+        ensures short { found.pages < JOURNAL_PAGES → result ≡ NoArchive.Short }
+        ensures unnamed { JOURNAL_PAGES ≤ found.pages → made ≡ None → result ≡ NoArchive.Unnamed }
+        ensures pages { (m : Sizes) → JOURNAL_PAGES ≤ found.pages → made ≡ Some m → found.pages < JOURNAL_PAGES + m.pages → (homes : ℕ) → found.pages ≡ JOURNAL_PAGES + homes → result ≡ NoArchive.Pages homes m.pages }
+        ensures blocks { (m : Sizes) → made ≡ Some m → JOURNAL_PAGES + m.pages ≤ found.pages → found.blocks ≢ m.blocks → result ≡ NoArchive.Blocks found.blocks m.blocks }
+        ensures misnamed { (m : Sizes) → made ≡ Some m → JOURNAL_PAGES + m.pages ≤ found.pages → found.blocks ≡ m.blocks → result ≡ NoArchive.Misnamed }
     {
         let Some(homes) = found.pages.checked_sub(JOURNAL_PAGES) else {
             return NoArchive::Short;
