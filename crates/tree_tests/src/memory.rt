@@ -13,6 +13,7 @@ use route_model::Key;
 use std::alloc::Global;
 use std::num::NonZeroUsize;
 use std::sync::Arc;
+use tsb_check::InUse;
 use version_model::{Bounds, Stamp};
 
 /// A transaction over home pages of which those from one on were never used, on a disk of which these calls fail, with a pool that
@@ -102,3 +103,11 @@ pub(crate) fn lies_in(bounds: &Bounds, key: Key, stamp: Stamp) -> bool
     };
     bounds.low <= key && key < high && bounds.start <= stamp && stamp < end
 }
+
+/// All pages and blocks are in use.
+pub(crate) const IN_USE: InUse = InUse {
+    recorded_on: 7,
+    pages: u64::MAX,
+    blocks: u64::MAX,
+    burnt: u64::MAX,
+};

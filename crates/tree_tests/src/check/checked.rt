@@ -1,6 +1,7 @@
 //! What the check tells of a tree that stands, and of others.
 
-use super::older::{IN_USE, checked, lay_column, lay_leaf, lay_zeros, older};
+use super::older::{checked, lay_column, lay_leaf, lay_zeros, older};
+use crate::memory::IN_USE;
 use crate::octets::{COLUMN, LEAF};
 use crate::{be, be_at};
 use tsb_check::InUse;

@@ -77,14 +77,6 @@ pub(super) fn older(alloc: Global) -> Option<Tree> {
     Some(tree)
 }
 
-/// All pages and blocks are in use.
-pub(super) const IN_USE: InUse = InUse {
-    recorded_on: 7,
-    pages: u64::MAX,
-    blocks: u64::MAX,
-    burnt: u64::MAX,
-};
-
 /// What the check finds of the tree with this root: how many versions it has. These pages and blocks are in use.
 pub(super) fn checked(
     tree: &mut Tree,

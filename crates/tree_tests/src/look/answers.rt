@@ -414,6 +414,11 @@ fn are_all(tree: &mut Tree, key: u8, versions: Versions) -> bool {
     }
 }
 
+/// Whether a key of [`ALL`] has all its versions.
+pub(super) fn has_all(tree: &mut Tree, key: u8) -> bool {
+    ALL.iter().any(|(each, versions)| *each == key && are_all(tree, key, versions))
+}
+
 #[test]
 fn all_versions_of_a_key_are_told(rt: HostRuntime) {
     let mut tree = whole_tree(rt.alloc()).expect(&rt, "a tree");

@@ -1,12 +1,14 @@
-//! Pages and blocks that someone damaged: each look answers, or names the one that isn't what it is to be.
+//! Pages and blocks that someone damaged: each look answers, or names one that isn't what its place asks. Looks read headers and what they
+//! need of the entries; what they pass over a check finds.
 
 use super::answers::{
     Comes, EARLY, In, LATE, Next, Part, Since, Versions, all_of, are_versions, at_of, found_at,
-    is_part, next_at, part_at,
+    has_all, is_part, next_at, part_at,
 };
 use super::spelling::At;
 use super::tree::{
-    Tree, Turned, block_octets, lay_key_node, mend, octets_of, spoil, spoil_block, whole_tree,
+    Tree, Turned, block_octets, checked, lay_key_node, mend, octets_of, spoil, spoil_block,
+    whole_tree,
 };
 use crate::memory::key_of;
 use crate::{be, be_at};
@@ -89,37 +91,6 @@ const WAYS: [(u64, u8, At); 11] = [
     (11, 16, (40, 0)),
 ];
 
-/// Octets behind all entries, and at the end, where zeros stand.
-const BEHIND: [usize; 3] = [16_351, 16_352, 16_383];
-
-/// Whether all looks at a key and a stamp call the page bad of which this octet is turned.
-fn is_bad(tree: &mut Tree, n: u64, octet: usize, key: u8, at: At) -> Option<bool> {
-    let bad = NodeError::BadNode(n);
-    spoil(tree, n, octet)?;
-    Some(is_told(tree, key, at, &Err(bad)) && all_of(tree, key)?.err() == Some(bad))
-}
-
-/// Whether they do of each octet of a header, which leaves none free: kind, unit, level, count and size, keys and stamps; and of octets
-/// after the entries. The page is mended then.
-fn is_header_kept(tree: &mut Tree, n: u64, key: u8, at: At) -> Option<bool> {
-    for octet in (0..120usize).chain(BEHIND) {
-        if !is_bad(tree, n, octet, key, at)? {
-            return Some(false);
-        }
-    }
-    mend(tree, n)?;
-    Some(next_at(tree, key, at)?.is_ok())
-}
-
-#[test]
-fn a_page_with_a_damaged_header_is_bad(rt: HostRuntime) {
-    let mut tree = whole_tree(rt.alloc()).expect(&rt, "a tree");
-    for (n, key, at) in &WAYS {
-        let is_kept = is_header_kept(&mut tree, *n, *key, *at) == Some(true);
-        be_at(&rt, is_kept, "a page", *n);
-    }
-}
-
 /// Why the looks at a key and a stamp are refused, none where they answer: all of them do, or none.
 fn refusal_at(tree: &mut Tree, key: u8, at: At) -> Option<Option<NodeError>> {
     let refusal = next_at(tree, key, at)?.err();
@@ -172,8 +143,8 @@ fn is_whole_or_named(tree: &mut Tree, key: u8, at: At, whole: &Whole) -> Option<
     }
 }
 
-/// Pages that lead on, what looks tell by way of them, in the order of WAYS.
-const LEADING: [Whole; 8] = [
+/// What looks tell by way of each page, in the order of WAYS: eight pages that lead on, and three current leaves.
+const WHOLE: [Whole; 11] = [
     Whole {
         place: None,
         comes: Comes::To(3, (150, 0), Some(170)),
@@ -230,10 +201,129 @@ const LEADING: [Whole; 8] = [
         versions: &[((30, 0), Some(3))],
         end: None,
     },
+    Whole {
+        place: None,
+        comes: Comes::To(3, (150, 0), Some(170)),
+        has: None,
+        versions: &[],
+        end: None,
+    },
+    Whole {
+        place: None,
+        comes: Comes::To(8, (10, 0), Some(1)),
+        has: Some(((10, 0), Some(1))),
+        versions: &[((10, 0), Some(1)), ((50, 0), None)],
+        end: None,
+    },
+    Whole {
+        place: None,
+        comes: Comes::To(200, (40, 0), Some(4)),
+        has: None,
+        versions: &[],
+        end: None,
+    },
 ];
 
-/// Whether, with each octet of the entries of a page turned, looks tell what they told before, or name what is damaged. The page is
-/// mended then.
+/// How many versions the tree has.
+const VERSIONS: u64 = 12;
+
+#[test]
+fn a_check_counts_the_versions_of_the_tree(rt: HostRuntime) {
+    let mut tree = whole_tree(rt.alloc()).expect(&rt, "a tree");
+    be(
+        &rt,
+        checked(&mut tree) == Some(Ok(VERSIONS)),
+        "the versions",
+    );
+}
+
+/// Octets after all entries, and at the end, where zeros stand.
+const AFTER_ENTRIES: [usize; 3] = [16_351, 16_352, 16_383];
+
+/// The first of the pages that are current leaves.
+const FIRST_LEAF: u64 = 9;
+
+/// What looks do where an octet of a header is turned.
+#[derive(Clone, Copy)]
+enum Reading {
+    /// They call the page bad, or the block damaged.
+    Refused,
+    /// They answer as they did.
+    PassedOver,
+    /// The count of the entries: what COUNTS and BLOCK_COUNTS say.
+    Count,
+}
+
+/// What looks do with an octet of the header of a page: they look at the kind, the unit, the level, the keys, and at the start of a leaf.
+fn in_page(n: u64, octet: usize) -> Reading {
+    match octet {
+        0..=3 | 8..=87 => Reading::Refused,
+        4..=5 => Reading::Count,
+        88..=103 => {
+            if n >= FIRST_LEAF {
+                Reading::Refused
+            } else {
+                Reading::PassedOver
+            }
+        }
+        _ => Reading::PassedOver,
+    }
+}
+
+/// Whether all looks at a key and a stamp call a page bad.
+fn is_bad(tree: &mut Tree, n: u64, key: u8, at: At) -> Option<bool> {
+    let bad = NodeError::BadNode(n);
+    Some(is_told(tree, key, at, &Err(bad)) && all_of(tree, key)?.err() == Some(bad))
+}
+
+/// Whether looks at a key and a stamp do what they have to where an octet of a page is turned, and a check calls the page bad.
+fn is_header_read(
+    tree: &mut Tree,
+    n: u64,
+    octet: usize,
+    key: u8,
+    at: At,
+    whole: &Whole,
+) -> Option<bool> {
+    spoil(tree, n, octet)?;
+    let is_looked_at = match in_page(n, octet) {
+        Reading::Refused => is_bad(tree, n, key, at)?,
+        Reading::PassedOver => is_whole(tree, key, at, whole)? && has_all(tree, key),
+        Reading::Count => true,
+    };
+    Some(is_looked_at && checked(tree) == Some(Err(NodeError::BadNode(n))))
+}
+
+/// Whether that is so of each octet of a header, and of octets after the entries. The page is mended then.
+fn is_page_read(tree: &mut Tree, n: u64, key: u8, at: At, whole: &Whole) -> Option<bool> {
+    for octet in (0..120usize).chain(AFTER_ENTRIES) {
+        if !is_header_read(tree, n, octet, key, at, whole)? {
+            return Some(false);
+        }
+    }
+    mend(tree, n)?;
+    is_whole(tree, key, at, whole)
+}
+
+#[test]
+fn a_page_with_a_damaged_header_is_bad_or_answers_as_before(rt: HostRuntime) {
+    let mut tree = whole_tree(rt.alloc()).expect(&rt, "a tree");
+    for ((n, key, at), whole) in WAYS.iter().zip(WHOLE.iter()) {
+        let is_read = is_page_read(&mut tree, *n, *key, *at, whole) == Some(true);
+        be_at(&rt, is_read, "a page", *n);
+    }
+}
+
+/// Whether a check names a page or a block as damaged.
+fn is_found(tree: &mut Tree) -> bool {
+    matches!(
+        checked(tree),
+        Some(Err(NodeError::BadNode(_) | NodeError::Damaged(_)))
+    )
+}
+
+/// Whether, with each octet of the entries of a page turned, looks tell what they told before, or name what is damaged, and a check
+/// names something. The page is mended then.
 fn are_octets_read(tree: &mut Tree, n: u64, key: u8, at: At, whole: &Whole) -> Option<bool> {
     if !is_whole(tree, key, at, whole)? {
         return Some(false);
@@ -241,7 +331,7 @@ fn are_octets_read(tree: &mut Tree, n: u64, key: u8, at: At, whole: &Whole) -> O
     let end = octets_of(tree.alloc, n)?.len();
     for octet in 120..end {
         spoil(tree, n, octet)?;
-        if !is_whole_or_named(tree, key, at, whole)? {
+        if !is_whole_or_named(tree, key, at, whole)? || !is_found(tree) {
             return Some(false);
         }
     }
@@ -252,7 +342,7 @@ fn are_octets_read(tree: &mut Tree, n: u64, key: u8, at: At, whole: &Whole) -> O
 #[test]
 fn each_octet_of_the_entries_of_a_page_that_leads_on_is_read_or_told(rt: HostRuntime) {
     let mut tree = whole_tree(rt.alloc()).expect(&rt, "a tree");
-    for ((n, key, at), whole) in WAYS.iter().zip(LEADING.iter()) {
+    for ((n, key, at), whole) in WAYS[..8].iter().zip(WHOLE.iter()) {
         let are_read = are_octets_read(&mut tree, *n, *key, *at, whole) == Some(true);
         be_at(&rt, are_read, "a page", *n);
     }
@@ -309,6 +399,63 @@ fn are_told_of_pages(tree: &mut Tree, wanted: &[Told]) -> bool {
     true
 }
 
+/// The two octets of the count of a page's entries. Where more are counted, looks read zeros, as that page 0 is a child.
+const COUNTS: [Told; 22] = [
+    (1, 4, 0, (300, 0), Err(NodeError::BadNode(0))),
+    (1, 5, 0, (300, 0), NOW_170),
+    (2, 4, 7, (300, 0), Err(NodeError::BadNode(0))),
+    (2, 5, 7, (300, 0), Err(NodeError::BadNode(2))),
+    (3, 4, 15, (30, 0), Err(NodeError::BadNode(0))),
+    (3, 5, 15, (30, 0), Err(NodeError::BadNode(3))),
+    (4, 4, 8, (30, 0), Err(NodeError::BadNode(0))),
+    (4, 5, 8, (30, 0), Err(NodeError::BadNode(0))),
+    (5, 4, 200, (40, 0), Err(NodeError::BadNode(0))),
+    (5, 5, 200, (40, 0), Err(NodeError::BadNode(5))),
+    (6, 4, 0, (100, 0), Err(NodeError::BadNode(0))),
+    // Of two entries the second one, block 3, is read as the current leaf.
+    (6, 5, 0, (100, 0), Err(NodeError::BadNode(3))),
+    (7, 4, 14, (20, 0), Err(NodeError::BadNode(0))),
+    (7, 5, 14, (20, 0), Err(NodeError::BadNode(7))),
+    (8, 4, 15, (30, 0), Err(NodeError::BadNode(0))),
+    (8, 5, 15, (30, 0), Err(NodeError::BadNode(8))),
+    (9, 4, 0, (200, 5), NOW_170),
+    (9, 5, 0, (200, 5), NOW_170),
+    (
+        10,
+        4,
+        8,
+        (10, 0),
+        Ok((None, Comes::To(8, (10, 0), Some(1)))),
+    ),
+    (
+        10,
+        5,
+        8,
+        (10, 0),
+        Ok((None, Comes::To(8, (10, 0), Some(1)))),
+    ),
+    (
+        11,
+        4,
+        16,
+        (40, 0),
+        Ok((None, Comes::To(200, (40, 0), Some(4)))),
+    ),
+    (
+        11,
+        5,
+        16,
+        (40, 0),
+        Ok((None, Comes::To(200, (40, 0), Some(4)))),
+    ),
+];
+
+#[test]
+fn a_damaged_count_leads_to_what_is_bad_or_answers(rt: HostRuntime) {
+    let mut tree = whole_tree(rt.alloc()).expect(&rt, "a tree");
+    be(&rt, are_told_of_pages(&mut tree, &COUNTS), "counts");
+}
+
 const CHILDREN: [Told; 23] = [
     // The lowest key of the first child, and its page.
     (1, 120, 0, (300, 0), Err(NodeError::BadNode(1))),
@@ -322,10 +469,10 @@ const CHILDREN: [Told; 23] = [
         (30, 0),
         Ok((None, Comes::To(15, (30, 0), Some(3)))),
     ),
-    (2, 159, 7, (300, 0), Err(NodeError::BadNode(2))),
+    (2, 159, 7, (300, 0), Err(NodeError::BadNode(4))),
     (2, 167, 7, (300, 0), Err(NodeError::BadNode(5))),
-    (2, 168, 7, (300, 0), Err(NodeError::BadNode(2))),
-    (3, 159, 15, (30, 0), Err(NodeError::BadNode(3))),
+    (2, 168, 7, (300, 0), Ok((None, Comes::Past(8)))),
+    (3, 159, 15, (30, 0), Err(NodeError::BadNode(5))),
     (3, 167, 15, (30, 0), Err(NodeError::BadNode(4))),
     (4, 167, 0, (300, 0), Err(NodeError::BadNode(7))),
     (
@@ -352,7 +499,13 @@ const CHILDREN: [Told; 23] = [
     (4, 207, 8, (30, 0), Err(NodeError::BadNode(6))),
     (4, 207, 9, (30, 0), Err(NodeError::BadNode(7))),
     (4, 215, 8, (30, 0), Err(NodeError::BadNode(6))),
-    (4, 216, 8, (30, 0), Err(NodeError::BadNode(4))),
+    (
+        4,
+        216,
+        8,
+        (30, 0),
+        Ok((None, Comes::To(8, (10, 0), Some(1)))),
+    ),
 ];
 
 #[test]
@@ -366,11 +519,16 @@ const EARLY_160: Next = Ok((EARLY, Comes::To(3, (1, 0), Some(160))));
 
 const NOW_170: Next = Ok((None, Comes::To(3, (150, 0), Some(170))));
 
+/// Of times 100 and 199, in the column of the past.
+const LATE_160: Next = Ok((LATE, Comes::To(3, (1, 0), Some(160))));
+
+const LATE_171: Next = Ok((LATE, Comes::To(6, (199, 0), Some(171))));
+
 const COLUMNS: [Told; 29] = [
     // The first part: its start, its kind and its number.
-    (6, 127, 0, (300, 0), Err(NodeError::BadNode(6))),
-    (6, 135, 0, (300, 0), Err(NodeError::BadNode(6))),
-    (6, 136, 0, (300, 0), Err(NodeError::BadNode(6))),
+    (6, 127, 0, (300, 0), NOW_170),
+    (6, 135, 0, (300, 0), NOW_170),
+    (6, 136, 0, (300, 0), NOW_170),
     (6, 137, 0, (1, 0), Err(NodeError::Damaged(FAR))),
     (6, 144, 0, (1, 0), Err(NodeError::Damaged(1))),
     (6, 144, 0, (300, 0), NOW_170),
@@ -380,7 +538,7 @@ const COLUMNS: [Told; 29] = [
     (6, 152, 0, (101, 0), Err(NodeError::Damaged(3))),
     (6, 160, 0, (100, 0), Err(NodeError::Damaged(0))),
     (6, 160, 0, (100, 1), Err(NodeError::Damaged(3))),
-    (6, 161, 0, (1, 0), Err(NodeError::BadNode(6))),
+    (6, 161, 0, (1, 0), EARLY_160),
     (6, 169, 0, (100, 0), Err(NodeError::Damaged(2))),
     (6, 169, 0, (1, 0), EARLY_160),
     // The current leaf: where it starts the second part ends.
@@ -389,16 +547,28 @@ const COLUMNS: [Told; 29] = [
     (6, 177, 0, (201, 5), Err(NodeError::BadNode(9))),
     (6, 185, 0, (150, 0), Err(NodeError::Damaged(3))),
     (6, 185, 0, (200, 4), Err(NodeError::BadNode(9))),
-    (6, 186, 0, (1, 0), Err(NodeError::BadNode(6))),
+    (6, 186, 0, (1, 0), EARLY_160),
     (6, 194, 0, (1, 0), EARLY_160),
     (6, 194, 0, (300, 0), Err(NodeError::BadNode(8))),
-    (6, 195, 0, (300, 0), Err(NodeError::BadNode(6))),
+    (6, 195, 0, (300, 0), NOW_170),
     // Columns without a past.
-    (7, 127, 14, (20, 0), Err(NodeError::BadNode(7))),
-    (7, 136, 14, (20, 0), Err(NodeError::BadNode(7))),
+    (7, 127, 14, (20, 0), Err(NodeError::BadNode(10))),
+    (
+        7,
+        136,
+        14,
+        (20, 0),
+        Ok((None, Comes::To(14, (20, 0), Some(2)))),
+    ),
     (7, 137, 14, (20, 0), Err(NodeError::BadNode(FAR + 10))),
     (7, 144, 14, (20, 0), Err(NodeError::BadNode(11))),
-    (7, 145, 14, (20, 0), Err(NodeError::BadNode(7))),
+    (
+        7,
+        145,
+        14,
+        (20, 0),
+        Ok((None, Comes::To(14, (20, 0), Some(2)))),
+    ),
     (8, 144, 15, (30, 0), Err(NodeError::BadNode(10))),
 ];
 
@@ -411,31 +581,31 @@ fn a_damaged_column_is_bad_or_leads_to_what_is(rt: HostRuntime) {
 /// The same of current leaves, where nothing is told of the past.
 const LEAVES: [(u64, usize, u8, At, Result<Comes, NodeError>); 25] = [
     // The first version: its key, its stamp, its tag, its length and its value.
-    (9, 120, 0, (200, 5), Err(NodeError::BadNode(9))),
+    (9, 120, 0, (200, 5), Ok(Comes::To(6, (199, 0), Some(171)))),
     (9, 159, 0, (200, 5), Ok(Comes::To(2, (150, 0), Some(170)))),
     (9, 167, 0, (200, 5), Ok(Comes::To(3, (151, 0), Some(170)))),
     (9, 175, 0, (200, 5), Ok(Comes::To(3, (150, 1), Some(170)))),
-    (9, 176, 0, (200, 5), Err(NodeError::BadNode(9))),
-    (9, 177, 0, (200, 5), Err(NodeError::BadNode(9))),
-    (9, 178, 0, (200, 5), Err(NodeError::BadNode(9))),
+    (9, 176, 0, (200, 5), Ok(Comes::To(6, (199, 0), Some(171)))),
+    (9, 177, 0, (200, 5), Ok(Comes::To(3, (150, 0), Some(170)))),
+    (9, 178, 0, (200, 5), Ok(Comes::To(3, (150, 0), None))),
     (9, 179, 0, (200, 5), Ok(Comes::To(3, (150, 0), Some(171)))),
     // The second one, and the third, whose stamp passes the one asked for, or falls.
     (9, 219, 6, (300, 0), Ok(Comes::To(7, (199, 0), Some(171)))),
     (9, 227, 6, (300, 0), Ok(Comes::To(6, (198, 0), Some(171)))),
     (9, 287, 4, (300, 0), Ok(Comes::To(6, (199, 0), Some(171)))),
-    (9, 286, 4, (300, 0), Err(NodeError::BadNode(9))),
+    (9, 286, 4, (300, 0), Ok(Comes::To(5, (44, 0), Some(187)))),
     // The end of key 3: it comes later, becomes a value of no octets, or has octets.
     (9, 347, 0, (400, 0), Ok(Comes::To(3, (150, 0), Some(170)))),
     (9, 356, 0, (400, 0), Ok(Comes::To(3, (400, 0), None))),
-    (9, 358, 0, (400, 0), Err(NodeError::BadNode(9))),
-    (9, 359, 0, (400, 0), Err(NodeError::BadNode(9))),
+    (9, 358, 0, (400, 0), Ok(Comes::To(5, (300, 0), Some(187)))),
+    (9, 359, 0, (400, 0), Ok(Comes::To(5, (300, 0), Some(187)))),
     // Other leaves.
     (10, 159, 8, (10, 0), Ok(Comes::To(9, (10, 0), Some(1)))),
     (10, 167, 8, (10, 0), Ok(Comes::Past(15))),
-    (10, 219, 14, (20, 0), Err(NodeError::BadNode(10))),
+    (10, 219, 14, (20, 0), Ok(Comes::Past(15))),
     (10, 279, 8, (50, 0), Ok(Comes::To(8, (10, 0), Some(1)))),
-    (10, 299, 8, (50, 0), Err(NodeError::BadNode(10))),
-    (11, 159, 15, (30, 0), Err(NodeError::BadNode(11))),
+    (10, 299, 8, (50, 0), Ok(Comes::To(14, (20, 0), Some(2)))),
+    (11, 159, 15, (30, 0), Ok(Comes::End)),
     (11, 167, 15, (30, 0), Ok(Comes::End)),
     (11, 219, 16, (40, 0), Ok(Comes::To(201, (40, 0), Some(4)))),
     (11, 239, 16, (40, 0), Ok(Comes::To(200, (40, 0), Some(5)))),
@@ -519,43 +689,86 @@ const BLOCK_WAYS: [(u64, u8, At, Comes, In); 4] = [
     (3, 0, (200, 4), Comes::To(3, (150, 0), Some(170)), LATE),
 ];
 
-/// Whether looks tell what they have to where an octet of the header of a block is turned: a block may have more keys than its place; no
-/// other octet of a header is free.
-fn is_header_read(tree: &mut Tree, n: u64, octet: usize, key: u8, at: At, whole: Next) -> bool {
-    let answer = match octet {
-        48..=87 => whole,
+/// What looks do with an octet of the header of a block: they look at the kind, the unit, the level, the low key and the stamps. A block may
+/// have more keys than its place.
+fn in_block(octet: usize) -> Reading {
+    match octet {
+        0..=3 | 8..=47 | 88..=119 => Reading::Refused,
+        4..=5 => Reading::Count,
+        _ => Reading::PassedOver,
+    }
+}
+
+/// What a check returns where an octet of the header of a block is turned: it counts the versions of a block that has more keys.
+fn checked_block(n: u64, octet: usize) -> Result<u64, NodeError> {
+    match octet {
+        48..=87 => Ok(VERSIONS),
         _ => Err(NodeError::Damaged(n)),
+    }
+}
+
+/// Whether looks do what they have to where an octet of a block is turned, and answer then as before or call the block damaged; and a check
+/// returns what it has to.
+fn is_block_header_read(
+    tree: &mut Tree,
+    n: u64,
+    octet: usize,
+    key: u8,
+    at: At,
+    whole: Next,
+) -> bool {
+    let answer = match in_block(octet) {
+        Reading::PassedOver => whole,
+        Reading::Refused => Err(NodeError::Damaged(n)),
+        Reading::Count => return true,
     };
-    is_told_of_block(tree, turned_of(n, octet), key, at, &answer)
+    let is_looked_at = is_told_of_block(tree, turned_of(n, octet), key, at, &answer)
         && match all_of(tree, key) {
             Some(all) => all.err() == answer.err(),
             None => false,
-        }
+        };
+    is_looked_at && checked(tree) == Some(checked_block(n, octet))
 }
 
-/// The same of each octet of the header, and of one after the entries.
+/// Whether that is so of each octet of the header, and of one after the entries.
 fn is_block_read(tree: &mut Tree, n: u64, key: u8, at: At, whole: Next) -> bool {
-    for octet in 0..120usize {
-        if !is_header_read(tree, n, octet, key, at, whole) {
+    for octet in (0..120usize).chain([16_351]) {
+        if !is_block_header_read(tree, n, octet, key, at, whole) {
             return false;
         }
     }
-    is_told_of_block(
-        tree,
-        turned_of(n, 16_351),
-        key,
-        at,
-        &Err(NodeError::Damaged(n)),
-    )
+    true
 }
 
 #[test]
-fn a_block_with_a_damaged_header_is_damaged(rt: HostRuntime) {
+fn a_block_with_a_damaged_header_is_damaged_or_answers_as_before(rt: HostRuntime) {
     let mut tree = whole_tree(rt.alloc()).expect(&rt, "a tree");
     for (n, key, at, comes, place) in &BLOCK_WAYS {
         let is_read = is_block_read(&mut tree, *n, *key, *at, Ok((*place, *comes)));
         be_at(&rt, is_read, "a block", *n);
     }
+}
+
+/// The two octets of the count of a block's entries. Where more are counted, a leaf has zeros as versions.
+const BLOCK_COUNTS: [Told; 8] = [
+    (0, 4, 0, (1, 0), EARLY_160),
+    (0, 5, 0, (1, 0), EARLY_160),
+    (1, 4, 0, (100, 0), LATE_160),
+    (1, 5, 0, (100, 0), LATE_160),
+    (2, 4, 4, (199, 0), LATE_171),
+    (2, 5, 4, (199, 0), LATE_171),
+    (3, 4, 0, (200, 4), Err(NodeError::Damaged(3))),
+    (3, 5, 0, (200, 4), Err(NodeError::Damaged(3))),
+];
+
+#[test]
+fn a_damaged_count_of_a_block_answers_or_is_damaged(rt: HostRuntime) {
+    let mut tree = whole_tree(rt.alloc()).expect(&rt, "a tree");
+    be(
+        &rt,
+        are_told_of_blocks(&mut tree, &BLOCK_COUNTS),
+        "counts of blocks",
+    );
 }
 
 /// Whether looks answer, or name just the block of which an octet of the entries is turned.
@@ -584,7 +797,7 @@ fn is_past_column_read(tree: &mut Tree) -> Option<bool> {
     let end = block_octets(tree.alloc, 3)?.len();
     for octet in 120..end {
         spoil_block(tree, turned_of(3, octet))?;
-        if !is_whole_or_named(tree, 0, (200, 4), &LAST)? {
+        if !is_whole_or_named(tree, 0, (200, 4), &LAST)? || !is_found(tree) {
             return Some(false);
         }
     }
@@ -637,7 +850,7 @@ fn a_block_without_its_digest_is_damaged(rt: HostRuntime) {
 }
 
 const PAST_LEAVES: [Told; 20] = [
-    (0, 120, 0, (1, 0), Err(NodeError::Damaged(0))),
+    (0, 120, 0, (1, 0), Ok((EARLY, Comes::Past(8)))),
     (
         0,
         159,
@@ -653,8 +866,8 @@ const PAST_LEAVES: [Told; 20] = [
         Ok((EARLY, Comes::To(3, (0, 0), Some(160)))),
     ),
     (0, 175, 0, (1, 0), Ok((EARLY, Comes::Past(8)))),
-    (0, 176, 0, (1, 0), Err(NodeError::Damaged(0))),
-    (0, 178, 0, (1, 0), Err(NodeError::Damaged(0))),
+    (0, 176, 0, (1, 0), Ok((EARLY, Comes::Past(8)))),
+    (0, 178, 0, (1, 0), Ok((EARLY, Comes::To(3, (1, 0), None)))),
     (
         0,
         179,
@@ -671,7 +884,7 @@ const PAST_LEAVES: [Told; 20] = [
         Ok((EARLY, Comes::To(5, (50, 0), Some(161)))),
     ),
     (0, 296, 4, (99, 0), Ok((EARLY, Comes::To(5, (99, 0), None)))),
-    (0, 299, 4, (99, 0), Err(NodeError::Damaged(0))),
+    (0, 299, 4, (99, 0), Ok((EARLY, Comes::Past(8)))),
     (
         1,
         167,
@@ -700,8 +913,14 @@ const PAST_LEAVES: [Told; 20] = [
         (150, 0),
         Ok((LATE, Comes::To(3, (1, 0), Some(160)))),
     ),
-    (1, 236, 0, (150, 0), Err(NodeError::Damaged(1))),
-    (1, 240, 0, (150, 0), Err(NodeError::Damaged(1))),
+    (1, 236, 0, (150, 0), Ok((LATE, Comes::Past(8)))),
+    (
+        1,
+        240,
+        0,
+        (150, 0),
+        Ok((LATE, Comes::To(3, (150, 0), Some(170)))),
+    ),
     (
         2,
         219,
@@ -763,7 +982,13 @@ const PAST_COLUMNS: [Told; 14] = [
         (100, 0),
         Ok((LATE, Comes::To(3, (1, 0), Some(160)))),
     ),
-    (3, 170, 0, (100, 0), Err(NodeError::Damaged(3))),
+    (
+        3,
+        170,
+        0,
+        (100, 0),
+        Ok((LATE, Comes::To(3, (1, 0), Some(160)))),
+    ),
 ];
 
 #[test]
@@ -774,4 +999,76 @@ fn a_damaged_column_of_the_past_is_named_or_leads_to_what_is(rt: HostRuntime) {
         are_told_of_blocks(&mut tree, &PAST_COLUMNS),
         "a column of the past",
     );
+}
+
+/// Pages, and an octet of each that no look of these tables refuses, or that leads them to another page: the page isn't a node then.
+const UNREFUSED: [(u64, usize); 23] = [
+    (2, 159),
+    (2, 168),
+    (3, 159),
+    (4, 216),
+    (6, 127),
+    (6, 135),
+    (6, 136),
+    (6, 161),
+    (6, 186),
+    (6, 195),
+    (7, 127),
+    (7, 136),
+    (7, 145),
+    (9, 120),
+    (9, 176),
+    (9, 177),
+    (9, 178),
+    (9, 286),
+    (9, 358),
+    (9, 359),
+    (10, 219),
+    (10, 299),
+    (11, 159),
+];
+
+/// The same of blocks.
+const UNREFUSED_BLOCKS: [(u64, usize); 7] = [
+    (0, 120),
+    (0, 176),
+    (0, 178),
+    (0, 299),
+    (1, 236),
+    (1, 240),
+    (3, 170),
+];
+
+/// Whether a check calls a page bad of which an octet is turned. It is mended then.
+fn is_page_found(tree: &mut Tree, n: u64, octet: usize) -> bool {
+    spoil(tree, n, octet).is_some()
+        && checked(tree) == Some(Err(NodeError::BadNode(n)))
+        && mend(tree, n).is_some()
+}
+
+/// Whether a check calls a block damaged of which an octet is turned.
+fn is_block_found(tree: &mut Tree, n: u64, octet: usize) -> bool {
+    spoil_block(tree, turned_of(n, octet)).is_some()
+        && checked(tree) == Some(Err(NodeError::Damaged(n)))
+}
+
+#[test]
+fn a_check_finds_what_looks_pass_over(rt: HostRuntime) {
+    let mut tree = whole_tree(rt.alloc()).expect(&rt, "a tree");
+    for (i, (n, octet)) in UNREFUSED.iter().enumerate() {
+        be_at(
+            &rt,
+            is_page_found(&mut tree, *n, *octet),
+            "a page",
+            i as u64,
+        );
+    }
+    for (i, (n, octet)) in UNREFUSED_BLOCKS.iter().enumerate() {
+        be_at(
+            &rt,
+            is_block_found(&mut tree, *n, *octet),
+            "a block",
+            i as u64,
+        );
+    }
 }

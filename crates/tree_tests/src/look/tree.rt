@@ -5,13 +5,14 @@
 //! has 4 from 40 on.
 
 use super::spelling::{Child, Entries, Node, spelled};
-use crate::memory::{begun, set_page, shelf_of};
+use crate::memory::{IN_USE, begun, set_page, shelf_of};
 use disk_memory::{MemErase, MemOnce, MemSeen};
 use disk_models::{Block, Page};
 use once_store::{Shelf, ShelfReader, seal};
 use page_tx::Tx;
 use std::alloc::Global;
-use tsb_walk::PagePlace;
+use tsb_check::check;
+use tsb_walk::{NodeError, PagePlace};
 
 /// How many home pages there are.
 const HOMES: u64 = 12;
@@ -287,4 +288,16 @@ pub(super) fn spoil_block(tree: &mut Tree, turned: Turned) -> Option<()> {
     tree.seen = shelf.seen().ok()?;
     tree.reader = shelf.reader(tree.alloc, 4).ok()?;
     Some(())
+}
+
+/// What a check of the tree finds.
+pub(super) fn checked(tree: &mut Tree) -> Option<Result<u64, NodeError>> {
+    Some(check(
+        &mut tree.tx,
+        &mut tree.reader,
+        &mut tree.seen,
+        tree.alloc,
+        &IN_USE,
+        &root(),
+    ))
 }

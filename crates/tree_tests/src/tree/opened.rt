@@ -1,10 +1,11 @@
 //! A tree is opened by its root, and looked into.
 
 use super::{Tree, disks_of, key_of, number_of, takes, tree_on};
-use crate::memory::begun;
+use crate::memory::{begun, set_page};
 use crate::{be, be_at};
 use disk_memory::MemErase;
-use page_tx::Tx;
+use disk_models::Page;
+use page_tx::{Pages, Tx};
 use route_history::Versions;
 use std::alloc::Global;
 use tsb_tree::{TreeError, TreePlace, create, open};
@@ -133,5 +134,50 @@ fn a_page_that_is_no_root_is_not_opened(rt: HostRuntime) {
     for n in [1, 2, HOMES] {
         let refused = open(&mut tx, n, Stamp::new(0, 0)).err();
         be_at(&rt, refused == Some(TreeError::BadNode(n)), "no root", n);
+    }
+}
+
+/// Octets of a root that is a column, and whether the tree is still opened where one is turned: its kind, its unit, its level, one that is 0 in
+/// all pages, and its keys are looked at; the size of its entries, its stamps, its entries and the end of the page aren't.
+const ROOT_OCTETS: [(usize, bool); 13] = [
+    (0, false),
+    (1, false),
+    (2, false),
+    (3, false),
+    (8, false),
+    (47, false),
+    (48, false),
+    (87, false),
+    (7, true),
+    (95, true),
+    (119, true),
+    (144, true),
+    (16_383, true),
+];
+
+/// The root's page, with an octet turned.
+fn root_with(tx: &mut Tx<MemErase>, alloc: Global, octet: usize) -> Option<Page> {
+    let mut page = Page::new(alloc).ok()?;
+    page.put(0, tx.page(0)?.octets());
+    *page.octets_mut().get_mut(octet)? ^= 1;
+    Some(page)
+}
+
+/// Whether a tree of no version, an octet of whose root is turned, is opened at level 1, or its root is called bad.
+fn is_opened_or_bad(alloc: Global, octet: usize, is_opened: bool) -> Option<bool> {
+    let mut tx = created(alloc)?;
+    let page = root_with(&mut tx, alloc, octet)?;
+    set_page(&mut tx, 0, page)?;
+    Some(match open(&mut tx, 0, Stamp::new(0, 0)) {
+        Ok(place) => is_opened && place.level == 1,
+        Err(error) => !is_opened && error == TreeError::BadNode(0),
+    })
+}
+
+#[test]
+fn a_tree_is_opened_by_the_header_of_its_root(rt: HostRuntime) {
+    for (octet, is_opened) in &ROOT_OCTETS {
+        let is_right = is_opened_or_bad(rt.alloc(), *octet, *is_opened);
+        be_at(&rt, is_right == Some(true), "an octet", *octet as u64);
     }
 }
