@@ -6,3 +6,4 @@ pub mod Kept
 pub mod Laid
 pub mod Updates
 pub mod api
+pub mod ByType

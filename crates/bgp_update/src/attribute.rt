@@ -1,7 +1,6 @@
 //! Path attributes, as they stand in octets.
 
-ghost use Rattle.std.specs.Prelude.{◌≡◌, ◌==◌, ◌<◌, ◌≤◌, ◌-◌, length, slice_index, IfSome, IfNone};
-ghost use Rattle.std.specs.List.{list_any};
+ghost use Rattle.std.specs.Prelude.{◌≡◌, ◌<◌, ◌≤◌, ◌-◌, length, slice_index, IfSome, IfNone};
 ghost use Rattle.route_model.specs.Octets.{number_at};
 ghost use Rattle.route_model.specs.Reading.{Exactly, AtFront};
 ghost use Rattle.bgp_update.specs.AttributeFields.{header_size, IsAttributeField, AreListed, value_of};
@@ -89,12 +88,8 @@ fn attribute_at(bytes: &[u8]) -> Option<(PathAttribute<'_>, usize)>
     Some((attribute, header + len))
 }
 
-/// Whether an attribute of this type is among these.
-fn has_kind(attributes: &[PathAttribute<'_>], kind: u8) -> bool
-    ensures { result ≡ list_any (λ a. a.kind == kind) attributes.now }
-{
-    attributes.iter().any(|a| a.kind == kind)
-}
+/// How many types there are.
+pub(crate) const KINDS: usize = 256;
 
 /// How many attributes room is made for at once: few messages have more.
 const USUAL: usize = 16;
@@ -107,14 +102,17 @@ pub(crate) fn attribute_list(
     ensures { Exactly (λ v. v.items) (AreListed bytes.now) result }
 {
     let mut attributes = Vec::with_capacity(alloc, USUAL.min(bytes.len() / 3))?;
+    let mut seen = [false; KINDS];
     let mut rest = bytes;
     while !rest.is_empty() {
         let Some((attribute, size)) = attribute_at(rest) else {
             return Err(ReadFault::Malformed);
         };
-        if has_kind(&attributes, attribute.kind) {
+        let kind = attribute.kind as usize;
+        if seen[kind] {
             return Err(ReadFault::Malformed);
         }
+        seen[kind] = true;
         attributes.push(attribute)?;
         rest = rest.split_at(size).1;
     }
