@@ -443,7 +443,16 @@ fn sizes_that_do_not_belong_together_are_refused(rt: HostRuntime) {
     let blocks = Some(Some(FileError::Size(Part::Blocks)));
     be(
         &rt,
-        not_opened_cut(&rt, &folder, 3, 2 * PAGE) == blocks,
+        not_opened_cut(&rt, &folder, 3, 3 * PAGE - 1) == blocks,
+        "a part of a block",
+    );
+    let apart = FileError::Apart {
+        blocks: 2,
+        marked: 3,
+    };
+    be(
+        &rt,
+        not_opened_cut(&rt, &folder, 3, 2 * PAGE) == Some(Some(apart)),
         "too few blocks",
     );
     let map = Some(Some(FileError::Size(Part::Map)));
