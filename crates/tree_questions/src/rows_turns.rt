@@ -49,7 +49,7 @@ fn tell(alloc: Global, cursor: &mut RowsCursor) -> RowsTurn
 /// leads into the past, the errand goes on there without the pages.
 ///
 /// Each turn passes a key, but for one that leaves an errand, which passes it when it is finished. Pages are only read, and called damaged
-/// where they aren't what the tree asks of them, or name a block from `burnt` on, the first that was never burnt. After each outcome the cursor has gathered what the range has that its walk has passed;
+/// only where they aren't what the tree asks of them, or name a block from `burnt` on, the first that was never burnt. After each outcome the cursor has gathered what the range has that its walk has passed;
 /// once the answer is told, it is at the start of its question again. It takes memory for rows, and for what the cache of pages keeps.
 pub fn rows_turn<P: Pages>(
     pages: &mut P,

@@ -66,9 +66,9 @@ fn take_look<P: Pages, O: OnceDisk + Drop>(
 /// Answers a question of a moment over the tree whose root is at this place: the first 256 rows above the spot after which they are
 /// asked for, and whether more follow.
 ///
-/// Each look passes a key, so it ends. Pages are only read, and blocks by the reader alone. A page or a block is called damaged that
-/// isn't what the tree asks of it; so is the page of a column that names a block from `burnt` on, the first that was never burnt. It takes
-/// memory for the rows, and for what the cache of pages and the reader keep.
+/// Each look passes a key, so it ends. Pages are only read, and blocks by the reader alone. A page or a block is called damaged only
+/// where it isn't what the tree asks of it, or is the page of a column that names a block from `burnt` on, the first that was never
+/// burnt. It takes memory for the rows, and for what the cache of pages and the reader keep.
 pub fn rows<P: Pages, O: OnceDisk + Drop>(
     pages: &mut P,
     reader: &mut ShelfReader<O>,

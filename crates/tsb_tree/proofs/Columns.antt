@@ -69,9 +69,9 @@ pub past_not : (octets : List ℕ) (place : PagePlace) (key stamp : ℕ) (spot :
 past_not octets place key stamp spot past parts start current next e there col =
     let is : IsSpotOf place parts start current key stamp (InPast past) = subst (IsSpotOf place parts start current key stamp) e there in
     elim col.are_parts [
-  | inl none ↦ no_at_nil is.0.place past.part (subst (λ (ps : List Part). slice_get ps is.0.place ≡ Some past.part) none is.0.at)
-  | inr are ↦ (let inside = are.inside _ _ is.0 in let before = is.1.end in absurd (omega (arith, inside.1, before, col.before)))
-]
+      | inl none ↦ no_at_nil is.0.place past.part (subst (λ (ps : List Part). slice_get ps is.0.place ≡ Some past.part) none is.0.at)
+      | inr are ↦ (let inside = are.inside _ _ is.0 in let before = is.1.end in absurd (omega (arith, inside.1, before, col.before)))
+    ]
 
 -- what was read of a column and its leaf fits a page
 pub whole_read : (w : Whole) (said : ColumnInPage) (image : List ℕ) → IsColumn said → w.parts.items ≡ said.parts → w.start ≡ said.current.start → IsLeafPage (leaf_in_page w) image → IsWhole w
