@@ -225,13 +225,13 @@ fn sides_of_a_leaf_by_hand(rt: HostRuntime) {
 }
 
 /// Whether these bounds are those of all keys below 9 from the first stamp on, with this end.
-fn are_bounds(bounds: &Option<Bounds>, end: Option<Stamp>) -> bool {
+fn are_bounds(bounds: &Option<Bounds>, end: &Option<Stamp>) -> bool {
     match bounds {
         Some(bounds) => {
             bounds.low == key_of(0)
                 && bounds.high == Some(key_of(9))
                 && bounds.start == Stamp::new(0, 0)
-                && bounds.end == end
+                && bounds.end == *end
         }
         None => false,
     }
@@ -240,12 +240,12 @@ fn are_bounds(bounds: &Option<Bounds>, end: Option<Stamp>) -> bool {
 #[test]
 fn leaves_by_hand_are_told_by_their_bounds(rt: HostRuntime) {
     let leaf = page_of(rt.alloc(), &LEAF).expect(&rt, "a leaf");
-    be(&rt, are_bounds(&read_leaf(&leaf), None), "a leaf");
+    be(&rt, are_bounds(&read_leaf(&leaf), &None), "a leaf");
     let block = block_of(rt.alloc(), &LEAF_BLOCK).expect(&rt, "a block");
     let end = Some(Stamp::new(300, 0));
     be(
         &rt,
-        are_bounds(&read_leaf_block(&block), end),
+        are_bounds(&read_leaf_block(&block), &end),
         "a leaf block",
     );
 }
@@ -292,7 +292,7 @@ fn are_read(page: &Page, kind: Head, end: Option<u64>) -> bool {
     for head in [Head::Leaf, Head::Column, Head::KeyNode] {
         let bounds = head_of(head, page);
         let is_right = if head == kind {
-            are_bounds(&bounds, end)
+            are_bounds(&bounds, &end)
         } else {
             bounds.is_none()
         };
@@ -326,7 +326,7 @@ fn are_turned(page: &mut Page, kind: Head, end: Option<u64>) -> bool {
         page.put(*octet, &[was ^ 1]);
         let bounds = head_of(kind, page);
         page.put(*octet, &[was]);
-        if are_bounds(&bounds, end) != *is_read {
+        if are_bounds(&bounds, &end) != *is_read {
             return false;
         }
     }
