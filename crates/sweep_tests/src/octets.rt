@@ -257,9 +257,9 @@ const RISEN: [Area; 8] = [
 /// The column of 648 parts.
 const PARTED: [Area; 1] = [Area {
     page: 284,
-    step: 7,
-    changed: 2936,
-    opened: 2936,
+    step: 77,
+    changed: 267,
+    opened: 267,
 }];
 
 #[test]
