@@ -21,7 +21,7 @@ const UNENDED: &str =
     "a command that was cut off left this archive, and what it began has to be written to its files before they can be read: \
      run the command once as a user who may write to them";
 
-/// What `attempt` opens: while the archive is in use it is tried again, until so many seconds are over.
+/// What `attempt` opens: while the archive is in use it is tried again, until `seconds` are over.
 fn within<T: Drop, F: Fn() -> Result<T, OpenFault>>(
     rt: &HostRuntime,
     seconds: u64,
@@ -59,7 +59,7 @@ fn tell_closed<T, E: Write>(
     }
 }
 
-/// The disks of a folder's archive, which no one else has, within so many seconds. Where they aren't opened, why is printed, and the exit
+/// The disks of a folder's archive, which no one else has, within `seconds`. Where they aren't opened, why is printed, and the exit
 /// status is 1.
 pub(crate) fn open_disks<E: Write>(
     rt: &HostRuntime,
@@ -78,7 +78,7 @@ pub(crate) fn open_disks<E: Write>(
     tell_closed(rt, folder, opened, err)
 }
 
-/// The archive of a folder, which no one else has, within so many seconds. Where it isn't opened, why is printed, and the exit status is 1.
+/// The archive of a folder, which no one else has, within `seconds`. Where it isn't opened, why is printed, and the exit status is 1.
 pub(crate) fn open<E: Write>(
     rt: &HostRuntime,
     folder: &str,
@@ -121,7 +121,7 @@ fn open_shared(rt: &HostRuntime, folder: &str, first: First) -> Result<FileArchi
     }
 }
 
-/// The archive of a folder, for a command that only reads it, within so many seconds. Where it isn't opened, why is printed, and the exit
+/// The archive of a folder, for a command that only reads it, within `seconds`. Where it isn't opened, why is printed, and the exit
 /// status is 1.
 pub(crate) fn open_to_read<E: Write>(
     rt: &HostRuntime,

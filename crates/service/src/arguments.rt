@@ -29,7 +29,7 @@ pub(crate) const MAX_SIZE: u64 = 1_000_000_000;
 /// The most admissions that a batch of a feed may be told to have, and those that it has where nothing is told.
 pub(crate) const MAX_BATCH: u64 = 1000;
 
-/// The most seconds that a command may be told to wait for an archive.
+/// The most seconds that a command may be asked to wait for an archive.
 pub(crate) const MAX_WAIT: u64 = 1_000_000;
 
 /// The most workers of a server.

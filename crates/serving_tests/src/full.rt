@@ -1,4 +1,4 @@
-//! What clients do with a server of an archive that is used up, and what they are told: the refusal, and what can still be asked.
+//! What clients do with a server of an archive that is used up, and what it answers: the refusal, and what can still be asked.
 
 use crate::made::{Counted, Made, PLAIN};
 use crate::records::{BEFORE_257, EARLIER, LATER, UPDATE};
@@ -42,7 +42,7 @@ pub(crate) const MANY_APPLIED: Made = Made {
 /// Asks which routes to 10.0.0.0/8 stand at 1704067199.
 const EARLIER_QUESTION: &str = "at 1704067199 prefix 10.0.0.0/8\n";
 
-/// Asks for what stands behind the watermark, for it, and how many records were admitted.
+/// Asks for what stands at the watermark, for the watermark, and how many records were admitted.
 const BEHIND: &str = "at 1704067200 prefix 10.0.0.0/8\nwatermark\ndurable 0\n";
 
 /// Two blocks are burnt for 606 of 701 versions of a prefix. What is below the watermark is answered, a record is kept that comes later,

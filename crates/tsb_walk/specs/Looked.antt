@@ -72,7 +72,7 @@ abbrev pub DescendsBelow : ℕ → Descended → Type 0
 DescendsBelow number (descended.Here found) = Unit {0}
 DescendsBelow number (descended.InBlock place) = place.part.block < number
 
--- where a look for versions tells of a place in the past, it has the key and the stamp
+-- where a look for versions comes to a place in the past, it has the key and the stamp
 abbrev pub PartsAt : ℕ → ℕ → Parted → Type 0
 PartsAt key stamp (parted.Here part) = Unit {0}
 PartsAt key stamp (parted.InBlock place) = IsPoint (range_of place.bounds) key stamp
