@@ -6,8 +6,8 @@ use crate::{be, be_at};
 use disk_models::Page;
 use std::alloc::Global;
 use tsb_node::{
-    PartAt, ReadFault, Spot, child_for, column_head, copy_side, entries_in, key_node_head,
-    leaf_head, part, part_for, read_header, read_leaf, read_leaf_block, spot_for,
+    PartAt, ReadFault, Spot, child_for, copy_side, entries_in, part, part_for, read_header,
+    read_leaf, read_leaf_block, spot_for,
 };
 use version_model::{Bounds, Entry, PartKind, Stamp};
 
@@ -248,99 +248,6 @@ fn leaves_by_hand_are_told_by_their_bounds(rt: HostRuntime) {
         are_bounds(&read_leaf_block(&block), &end),
         "a leaf block",
     );
-}
-
-/// Readers of headers.
-#[derive(Clone, Copy, PartialEq)]
-enum Head {
-    Leaf,
-    Column,
-    KeyNode,
-}
-
-/// The bounds of a key node of level 2 that a page may be.
-fn key_node_bounds(page: &Page) -> Option<Bounds> {
-    let head = key_node_head(page.octets()).ok()?;
-    if head.level == 2 {
-        Some(head.bounds)
-    } else {
-        None
-    }
-}
-
-/// The bounds that a reader of headers returns of a page, of a key node that of level 2.
-fn head_of(head: Head, page: &Page) -> Option<Bounds> {
-    match head {
-        Head::Leaf => leaf_head(page.octets()).ok(),
-        Head::Column => column_head(page.octets()).ok(),
-        Head::KeyNode => key_node_bounds(page),
-    }
-}
-
-/// Nodes, by their octets, their kind, and the time at which they end.
-const NODES: [(&[(usize, &[u8])], Head, Option<u64>); 5] = [
-    (&LEAF, Head::Leaf, None),
-    (&LEAF_BLOCK, Head::Leaf, Some(300)),
-    (&COLUMN, Head::Column, None),
-    (&COLUMN_BLOCK, Head::Column, Some(300)),
-    (&KEY_NODE, Head::KeyNode, None),
-];
-
-/// Whether each reader of headers returns the bounds of a node of its kind, and refuses one of another.
-fn are_read(page: &Page, kind: Head, end: Option<u64>) -> bool {
-    let end = end.map(|end| Stamp::new(end, 0));
-    for head in [Head::Leaf, Head::Column, Head::KeyNode] {
-        let bounds = head_of(head, page);
-        let is_right = if head == kind {
-            are_bounds(&bounds, &end)
-        } else {
-            bounds.is_none()
-        };
-        if !is_right {
-            return false;
-        }
-    }
-    true
-}
-
-/// Octets of a header, and whether a reader goes on where one is turned: the kind, the unit, the level, and one that is 0 in all; the size
-/// of the entries, an octet of them, and one after them.
-const TURNED: [(usize, bool); 8] = [
-    (0, false),
-    (1, false),
-    (2, false),
-    (3, false),
-    (6, true),
-    (7, true),
-    (130, true),
-    (16_351, true),
-];
-
-/// Whether a reader goes on just where it is to, with each of those octets turned.
-fn are_turned(page: &mut Page, kind: Head, end: Option<u64>) -> bool {
-    let end = end.map(|end| Stamp::new(end, 0));
-    for (octet, is_read) in &TURNED {
-        let Some(was) = page.octets().get(*octet).copied() else {
-            return false;
-        };
-        page.put(*octet, &[was ^ 1]);
-        let bounds = head_of(kind, page);
-        page.put(*octet, &[was]);
-        if are_bounds(&bounds, &end) != *is_read {
-            return false;
-        }
-    }
-    true
-}
-
-#[test]
-fn headers_by_hand_are_read_alone(rt: HostRuntime) {
-    for (n, (fields, kind, end)) in NODES.iter().enumerate() {
-        let mut page = page_of(rt.alloc(), *fields).expect(&rt, "a node");
-        be_at(&rt, are_read(&page, *kind, *end), "a header", n as u64);
-        let are_turned = are_turned(&mut page, *kind, *end);
-        be_at(&rt, are_turned, "a turned octet", n as u64);
-    }
 }
 
 /// Counts of children that no key node has, and of parts that no column has: none, or more than there is room for.
