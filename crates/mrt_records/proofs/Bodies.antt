@@ -27,7 +27,7 @@ use Rattle.route_model.proofs.api.PrefixFields.{prefixes_free}
 
 -- ---- peer tables
 
--- the peers of a table stand behind its count
+-- the peers of a table follow its count
 pub table_peers : (bytes rest : List ℕ) (at : ℕ) (ws : List Neighbor) → at ≡ 6 + number_at 2 4 bytes → rest ≡ drop (at + 2) bytes → IsPeerTable bytes ws → Sequence IsPeerField rest ws
 table_peers bytes rest at ws at_is rest_is q =
     subst (λ (t : List ℕ). Sequence IsPeerField t ws) (ap (λ (n : ℕ). drop n bytes) (omega (arith, at_is)) ∙ sym rest_is) q.fields
@@ -45,7 +45,7 @@ table_none bytes rest at count peers ws at_is rest_is count_is p other q =
 pub rib_parts : (family : Family) (bytes behind : List ℕ) (p : IpPrefix) (es : List Entry) → behind ≡ drop 4 bytes → (q : IsRib family bytes p es) → behind ≡ q.field ++ q.rest
 rib_parts family bytes behind p es behind_is q = behind_is ∙ ap (λ (t : List ℕ). drop 4 t) q.parts ∙ drop_at q.number (q.field ++ q.rest) 4 q.four
 
--- the prefix of a record stands behind four octets
+-- the prefix of a record follows its first four octets
 pub rib_begins : (family : Family) (bytes behind : List ℕ) (p : IpPrefix) (es : List Entry) → behind ≡ drop 4 bytes → IsRib family bytes p es → BeginsWith (IsPrefixField family) behind
 rib_begins family bytes behind p es behind_is q = record {
   field = q.field;
@@ -55,7 +55,7 @@ rib_begins family bytes behind p es behind_is q = record {
   parts = rib_parts family bytes behind p es behind_is q;
 }
 
--- what stands behind the prefix is told by the prefix that was read
+-- what follows the prefix is determined by the prefix that was read
 pub rib_rest : (family : Family) (bytes behind : List ℕ) (size : ℕ) (found p : IpPrefix) (es : List Entry) → behind ≡ drop 4 bytes → IsPrefixField family (take size behind) found
     → (q : IsRib family bytes p es) → q.rest ≡ drop size behind
 rib_rest family bytes behind size found p es behind_is f q =

@@ -1,4 +1,4 @@
--- A record is told as one item.
+-- A record is reported as one item only.
 use Rattle.std.proofs.Common.{◌≡◌, ℕ, inl, inr, ◌+◌, ◌*◌, ◌==◌, Bool, List, ◌++◌, take, drop, refl, sym, ap, subst, ◌∙◌, arith}
 use Rattle.std.specs.Prelude.{if◌then◌else◌}
 use Rattle.std.proofs.lemmas.List.{append_cancel_left}
@@ -108,7 +108,7 @@ reads_one form t bytes (Rib time prefix entries) (Rib time' prefix' entries') p 
     let times : time ≡ time' = p.2 ∙ sym q.2 in
     cc (same.0, same.1, times)
 
--- ---- a record is told as one item
+-- ---- a record is reported as one item only
 
 told_one : (k s t : ℕ) (b : List ℕ) (f g : Form) (v w : Reading) → IsListedType k s f → IsListedType k s g → HasReading f t b v → HasReading g t b w → v ≡ w
 told_one k s t b f g v w lf lg p q =

@@ -1,4 +1,4 @@
--- Each record is told as an item: whether octets have a reading can be decided.
+-- Each record is reported as an item: whether octets have a reading can be decided.
 use Rattle.std.proofs.Common.{◌≡◌, ℕ, zero, suc, inl, inr, ◌+◌, ◌-◌, ◌*◌, ◌/◌, ◌<◌, ◌≤◌, List, [], ◌∷◌, ◌++◌, length, take, drop, get_or, replicate, refl, sym, ap, subst, ◌∙◌, arith}
 use Rattle.std.specs.Prelude.{◌⊎◌}
 use Rattle.std.proofs.lemmas.Bool.{cases_lt}
@@ -316,7 +316,7 @@ prefix_some of bytes =
 abbrev RibOf : Family → List ℕ → Type 0
 RibOf of bytes = ((r : IpPrefix × List Entry) × IsRib of bytes r.0 r.1) ⊎ ((r : IpPrefix × List Entry) → IsRib of bytes r.0 r.1 → ⊥)
 
--- the rest behind a prefix is one
+-- the rest after a prefix is one
 rest_one : (of : Family) (bytes : List ℕ) (b : BeginsWith (IsPrefixField of) (drop 4 bytes)) (r : IpPrefix × List Entry) → (q : IsRib of bytes r.0 r.1) → q.rest ≡ b.more
 rest_one of bytes b r q =
     let whole : b.field ++ b.more ≡ q.field ++ q.rest = sym b.parts ∙ rib_parts of bytes (drop 4 bytes) r.0 r.1 refl q in

@@ -1,4 +1,4 @@
--- What a record is told as.
+-- What a record is reported as.
 use Rattle.std.specs.Prelude.{◌≡◌, ℕ, ◌⊎◌, List}
 use Rattle.mrt_records.specs.Records.{timestamp, kind, subtype, body}
 use Rattle.mrt_records.specs.Values.{Reading, Message, StateChange, PeerTable, Rib, Told, Read, Skipped, Malformed}
@@ -41,7 +41,7 @@ Body bytes (Malformed k s) =
     (k ≡ kind bytes) × (s ≡ subtype bytes) × (form : Form) × IsListedType (kind bytes) (subtype bytes) form
     × ((reading : Reading) → HasReading form (timestamp bytes) (body bytes) reading → ⊥)
 
--- what is told is a reading of the form
+-- what is reported is a reading of the form
 abbrev pub IsTold : Form → ℕ → List ℕ → Told → Type 0
 IsTold form t bytes (Read reading) = HasReading form t bytes reading
 IsTold form t bytes (Skipped k s) = ⊥

@@ -18,7 +18,7 @@ abbrev pub Goes : Bool → List ℕ → List ℕ → List Item → List Item →
 Goes false bytes held old new = GainsFrames bytes held old new × (Over held → ⊥)
 Goes true bytes held old new = EndsOver bytes held old new
 
--- the octets are those held before and the piece; what is held, and the list of items, are told as they were and as they are
+-- the octets are those held before, then the piece; what is held, and the list of items, are given as they were before and as they are after
 abbrev pub Fed : Result (Unit {0}) FrameError → List ℕ → List ℕ → List ℕ → List Item → List Item → Type 0
 Fed (Ok done) bytes was held old new = GainsFrames bytes held old new × (Over held → ⊥)
 Fed (Err errors.TooLong) bytes was held old new = EndsOver bytes held old new
@@ -36,8 +36,7 @@ MayEnd (Err errors.OutOfMemory) held = ⊥
 abbrev pub stream : List (Vec ℕ Global) → List ℕ
 stream pieces = flat_map (λ piece. piece.items) pieces
 
--- How a stream in pieces ends, and the items that it gave. Where memory was wanting for a piece, these are the items of
--- the pieces before it.
+-- How a stream in pieces ends, and the items that it gave. Where a piece ran out of memory, these are the items of the pieces before it.
 abbrev pub IsStream : Result (Unit {0}) FrameError → List (Vec ℕ Global) → List Item → List Item → Type 0
 IsStream (Ok done) pieces old new = GainsFrames (stream pieces) [] old new
 IsStream (Err errors.TooLong) pieces old new = (rest : List ℕ) × GainsFrames (stream pieces) rest old new × Over rest

@@ -29,7 +29,7 @@ pub record IsNeighbor (family : Family) (width : AsWidth) (field : List ℕ) (pe
 abbrev pub IsPeerField : List ℕ → Neighbor → Type 0
 IsPeerField field peer = IsNeighbor (family_of_type (slice_index field 0)) (width_of_type (slice_index field 0)) field peer
 
--- an identifier, a name, a count, and exactly so many peers
+-- an identifier, a name, a count, and exactly that number of peers
 pub record IsPeerTable (bytes : List ℕ) (peers : List Neighbor) : Type 0 where
   pub name : 8 + number_at 2 4 bytes ≤ length bytes
   pub count : length peers ≡ number_at 2 (6 + number_at 2 4 bytes) bytes

@@ -20,7 +20,7 @@ subtype bytes = number_at 2 6 bytes
 abbrev pub body_length : List ℕ → ℕ
 body_length bytes = number_at 4 8 bytes
 
--- the octets behind the header, and behind the microseconds that type 17 has there (section 3)
+-- the octets after the header, and after the microseconds that follow it in type 17 (section 3)
 abbrev pub body : List ℕ → List ℕ
 body bytes = if kind bytes == 17 then drop 16 bytes else drop 12 bytes
 

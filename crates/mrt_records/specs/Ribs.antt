@@ -7,7 +7,7 @@ use Rattle.route_model.specs.declared.wire.Family.{Family}
 use Rattle.route_model.specs.PrefixFields.{IsPrefixField}
 use Rattle.mrt_records.specs.Entries.{Entry, IsEntryField}
 
--- a number, a prefix of the family, a count, and exactly so many entries
+-- a number, a prefix of the family, a count, and exactly that number of entries
 pub record IsRib (family : Family) (bytes : List ℕ) (prefix : IpPrefix) (entries : List Entry) : Type 0 where
   pub number : List ℕ
   pub field : List ℕ

@@ -21,7 +21,7 @@ abbrev pub IsAddressOf : Family → List ℕ → Address → Type 0
 IsAddressOf families.Ipv4 bytes address = address ≡ V4 bytes
 IsAddressOf families.Ipv6 bytes address = address ≡ V6 bytes
 
--- the peer that the body names, and the octets behind the two addresses
+-- the peer that the body names, and the octets after the two addresses
 pub record IsSession (width : AsWidth) (bytes : List ℕ) (peer : Neighbor) (rest : List ℕ) : Type 0 where
   pub family : Family
   pub code : number_at 2 (2 * width_of width + 2) bytes ≡ family_code family

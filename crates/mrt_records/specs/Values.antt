@@ -14,13 +14,13 @@ pub data Reading : Type 0 where
   PeerTable : (peers : List Neighbor) → Reading
   Rib : (time : ℕ) (prefix : IpPrefix) (entries : List Entry) → Reading
 
--- what a record is told as
+-- what a record is reported as
 pub data Told : Type 0 where
   Read : (reading : Reading) → Told
   Skipped : (kind subtype : ℕ) → Told
   Malformed : (kind subtype : ℕ) → Told
 
--- what an item tells
+-- what an item reports
 abbrev pub told : Item → Told
 told (items.Message time peer width octets) = Read (Message time peer width octets.items)
 told (items.StateChange time peer state) = Read (StateChange time peer state)

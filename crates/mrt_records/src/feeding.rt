@@ -1,4 +1,4 @@
-//! A piece of a stream behind the octets that are held.
+//! A piece of a stream, after the octets that are held.
 
 ghost use Rattle.std.specs.Prelude.{◌≡◌, ◌+◌, ◌<◌, ◌≤◌, ℕ, List, [], ◌∷◌, ◌++◌, length, take, drop, IfOk, OnErr, OnOk};
 ghost use Rattle.mrt_records.specs.Records.{IsRecord, Over, BeginsWithRecord};
@@ -24,7 +24,7 @@ fn push_item(alloc: Global, bytes: &[u8], out: &mut Vec<Item>) -> Result<(), All
     Ok(())
 }
 
-/// Adds the items of the whole records at the front, and answers the rest.
+/// Adds the items of the whole records at the front, and returns the rest.
 fn push_items<'a>(
     alloc: Global,
     bytes: &'a [u8],
@@ -48,8 +48,7 @@ fn push_items<'a>(
     Ok(rest)
 }
 
-/// Moves octets from the piece to the held ones until there are so many, or the piece is used up.
-/// Answers how many it moved.
+/// Moves octets from the piece to the held ones until `want` are held, or the piece is used up. Returns how many it moved.
 fn top_up(held: &mut Vec<u8>, piece: &[u8], want: usize) -> Result<usize, AllocError>
     ensures ok { IfOk result (λ n. IsToppedUp held.old.items held.new.items piece.now want n) }
     ensures err { OnErr result (held.new.items ≡ held.old.items) }
@@ -146,8 +145,7 @@ fn feed_whole(
     }
 }
 
-/// Takes a piece behind the held octets: adds the items of the whole records, and holds the rest.
-/// Answers whether that is above the limit.
+/// Takes a piece that follows the held octets: adds the items of the whole records, and holds the rest. Returns whether that is above the limit.
 pub(crate) fn feed_held(
     alloc: Global,
     held: &mut Vec<u8>,

@@ -67,7 +67,7 @@ impl Framer {
     /// Takes the next piece of the stream, and adds the items of the records that are whole now, in their order.
     ///
     /// `TooLong`: the same, but what is left begins with a header whose Length is above 131,072; from then on
-    /// each call answers so. `OutOfMemory`: nothing has changed, and the piece may be fed again.
+    /// each call returns that. `OutOfMemory`: nothing has changed, and the piece may be fed again.
     pub fn feed(&mut self, piece: &[u8], out: &mut Vec<Item>) -> Result<(), FrameError>
         ensures fed { Fed result (self.old ++ piece.now) self.old self.new out.old.items out.new.items }
         ensures ended { Over self.old → result ≡ Err TooLong }
@@ -98,8 +98,8 @@ impl Framer {
     }
 }
 
-/// The items of a stream that comes in these pieces, and whether it may end there. After `OutOfMemory` these are
-/// the items of the pieces before the one for which memory was wanting.
+/// The items of a stream that comes in these pieces, and whether it may end there. After `OutOfMemory` these are the items of the pieces before the one that
+/// ran out of memory.
 pub fn read_stream(alloc: Global, pieces: &[Vec<u8>], out: &mut Vec<Item>) -> Result<(), FrameError>
     // The items of all whole records are added, in whatever pieces the stream came.
     ensures stream { IsStream result pieces.now out.old.items out.new.items }

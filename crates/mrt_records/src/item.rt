@@ -1,11 +1,11 @@
-//! What records are told as.
+//! What records are reported as.
 
 use crate::entries::RibEntries;
 use crate::neighbor::Neighbor;
 use route_model::wire::AsWidth;
 use route_model::{Moment, Prefix};
 
-/// What a record of a stream is told as. It owns what it holds.
+/// What a record of a stream is reported as. It owns what it holds.
 #[derive(Debug, Drop)]
 pub enum Item {
     /// A BGP message as a collector received it (RFC 6396 sections 4.4.2 and 4.4.3).
@@ -18,13 +18,13 @@ pub enum Item {
         octets: Vec<u8>,
     },
     /// A session came to a new state (RFC 6396 sections 4.4.1 and 4.4.4): 1 Idle, 2 Connect, 3 Active,
-    /// 4 OpenSent, 5 OpenConfirm, 6 Established; other numbers are told as they are.
+    /// 4 OpenSent, 5 OpenConfirm, 6 Established; other numbers are reported as they are.
     StateChange {
         time: Moment,
         peer: Neighbor,
         state: u16,
     },
-    /// The peers that the RIB records behind it name by their places, from 0 (RFC 6396 section 4.3.1).
+    /// The peers that the RIB records after it name by their places, from 0 (RFC 6396 section 4.3.1).
     PeerTable(Vec<Neighbor>),
     /// The routes of a prefix, one for each entry (RFC 6396 section 4.3.2).
     Rib {

@@ -10,7 +10,7 @@ pub fn frames_law()
     ensures one { (bytes : List ℕ) (rs ss : List (List ℕ)) (x y : List ℕ) → Frames bytes rs x → Frames bytes ss y → (rs ≡ ss) × (x ≡ y) }
 {}
 
-/// Each record is told as an item, and as no other.
+/// Each record is reported as an item, and as no other.
 pub fn body_law()
     ensures some { (bytes : List ℕ) → (told : Told) × Body bytes told }
     ensures one { (bytes : List ℕ) (a b : Told) → Body bytes a → Body bytes b → a ≡ b }

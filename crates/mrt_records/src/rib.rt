@@ -56,7 +56,7 @@ fn places_of(alloc: Global, bytes: &[u8], count: usize) -> Result<Vec<Place>, Re
     Ok(places)
 }
 
-/// The entries that stand in all of the octets, so many as the record says.
+/// The entries that fill all of the octets, exactly `count` of them as the record says.
 fn read_entries(alloc: Global, bytes: &[u8], count: usize) -> Result<RibEntries, ReadFault>
     requires { length bytes.now ≤ 131072 }
     ensures { Exactly (λ e. e) (λ e. Sequence IsEntryField bytes.now e × (length e ≡ count)) result }

@@ -35,7 +35,7 @@ pub(crate) fn address_at(family: Family, bytes: &[u8], place: usize) -> Address
     }
 }
 
-/// The peer that a body names, and the octets behind the two addresses.
+/// The peer that a body names, and the octets after the two addresses.
 fn session_of(width: AsWidth, bytes: &[u8]) -> Option<(Neighbor, &[u8])>
     ensures found { IfSome result (λ s. IsSession width bytes.now s.0 s.1.now) }
     ensures none { IfNone result ((peer : Neighbor) (rest : List ℕ) → IsSession width bytes.now peer rest → ⊥) }

@@ -49,7 +49,7 @@ fronts (suc n) k (suc m) l (p ∷ ps) le =
     let f = fronts n k m l ps (elim le [ inl lt ↦ inl (omega arith) | inr e ↦ inr (omega arith, e.1) ]) in
     record { more = f.more; is = ap (λ c. p.item.changes ++ c) f.is ∙ sym (append_assoc p.item.changes (changes_of (front n k ps)) f.more) }
 
--- later nothing is taken back, and what is more comes behind
+-- later nothing is taken back, and what is added comes after it
 pub applied_grows : (h g : History) → IsHistory h → Begins h g → (more : List Change) × (changes_of (applied g) ≡ changes_of (applied h) ++ more)
 applied_grows h g is b =
     let f = fronts h.whole h.some g.whole g.some (all_of g) b.place in

@@ -1,4 +1,4 @@
--- What is told of a peer's prefix, admission by admission.
+-- The events of a peer's prefix, admission by admission.
 use Rattle.std.proofs.Common.{◌≡◌, ℕ, ◌+◌, ◌<◌, ◌≤◌, List, [], ◌∷◌, ◌++◌, length, take, get_or, Bool, true, false, ◌&&◌, cond, leb, refl, sym, ap, ◌∙◌, append_assoc, append-nil, map, inl, inr}
 use Rattle.std.specs.List.{filter}
 use Rattle.std.proofs.lemmas.Bool.{cases_Bool, false≢true}

@@ -1,4 +1,4 @@
--- The events of a history question: what a peer told of a prefix, over admissions in one order.
+-- The events of a history question: what a peer reported for a prefix, over admissions in one order.
 use Rattle.std.specs.Prelude.{ℕ, List, [], ◌∷◌, ◌++◌, ◌≡◌, Bool, filter, map, take, drop, length, nat_lt, nat_le}
 use Rattle.route_model.specs.declared.peer.Peer.{Peer}
 use Rattle.route_model.specs.Prefix.{IpPrefix}

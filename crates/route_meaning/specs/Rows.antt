@@ -68,7 +68,7 @@ pub record AreRows (ps : List (Placed Admitted)) (moment : ℕ) (select : Select
   pub only : AllByRecursion (IsRow ps moment select low high) rows
   pub each : (row : Row) → IsRow ps moment select low high row → Contains rows row
 
--- an answer has at most so many rows
+-- the maximum number of rows in an answer
 abbrev pub most_rows : ℕ
 most_rows = 256
 

@@ -2,7 +2,7 @@
 
 use route_model::{Address, Change, Moment, Peer, Prefix, SharedRoute};
 
-/// Which rows are wanted.
+/// Which rows to return.
 #[derive(Clone, Copy, Debug, PartialEq, Eq)]
 pub enum Select {
     /// The route of one peer for one prefix.
@@ -43,8 +43,8 @@ pub struct RowsRange {
     pub high: Option<Spot>,
 }
 
-/// A question of what a peer told of a prefix from one moment to another, both included, without
-/// the first `skip` events.
+/// A question of what a peer reported for a prefix from one moment to another, both included,
+/// without the first `skip` events.
 #[derive(Clone, Copy, Debug, PartialEq, Eq)]
 pub struct EventsQuestion {
     pub from: Moment,
@@ -54,7 +54,7 @@ pub struct EventsQuestion {
     pub skip: u64,
 }
 
-/// An answer has at most so many rows, or events.
+/// The maximum number of rows, or of events, in an answer.
 pub const MAX_ROWS: usize = 256;
 
 /// A row of an answer: the route that holds for the prefix of the peer.
@@ -65,7 +65,7 @@ pub struct Row {
     pub route: SharedRoute,
 }
 
-/// A change that a peer told, and when, in seconds since 1970-01-01T00:00:00Z.
+/// A change that a peer reported, and when, in seconds since 1970-01-01T00:00:00Z.
 #[derive(Debug, Drop)]
 pub struct Event {
     pub time: Moment,

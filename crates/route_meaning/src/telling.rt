@@ -21,7 +21,7 @@ fn concerns(peer: &Peer, prefix: &Prefix, change: &Change) -> bool
     }
 }
 
-// Adds what the admission tells of the prefix of the peer.
+// Adds the admission's events for the prefix of the peer.
 fn add_told(
     told: &mut Vec<Event>,
     admission: &Admission,
@@ -49,7 +49,7 @@ fn is_in_span(placed: &PlacedAdmission, question: &EventsQuestion) -> bool
     question.from <= placed.time() && placed.counts_at(question.to)
 }
 
-// All that was told of the prefix of the peer in the span.
+// All events for the prefix of the peer in the span.
 fn all_told(
     alloc: Global,
     list: &[PlacedAdmission],

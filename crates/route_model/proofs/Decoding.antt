@@ -46,7 +46,7 @@ place_within : (rows : List (List ℕ)) (x : List ℕ) → place_of rows x ≤ l
 place_within [] x = omega arith
 place_within (y ∷ rows) x = elim (bool_cases (bytes_eq y x)) [ inl p ↦ rw p (omega arith) | inr p ↦ rw p (omega (arith, place_within rows x)) ]
 
--- ---- one spelling, one value
+-- ---- one encoding, one value
 
 pub whole_route : (r : Route) → IsRoute r → whole (route_at (route_octets r)) ≡ Some r
 whole_route r is =

@@ -35,7 +35,7 @@ peer_only p is =
     let f : peer_at (peer_octets p) ≡ Some (p, []) = subst (λ (t : List ℕ). peer_at t ≡ Some (p, [])) (append-nil (peer_octets p)) e in
     rw f refl
 
--- what was read of a spelling is the value
+-- what was read from an encoding is the value
 pub read_one : {A : Type 0} (read : Option (A × List ℕ)) (x p : A) (rest : List ℕ) → read ≡ Some (x, rest) → read ≡ Some (p, []) → x ≡ p
 read_one read x p rest e f = ap (λ (y : _ × List ℕ). y.0) (some_is (x, rest) (p, []) (sym e ∙ f))
 

@@ -1,4 +1,4 @@
--- Prefixes: the octets of a spelling, filled with zeros and cleared, are the prefix's own.
+-- Prefixes: the octets of an encoding, filled with zeros and cleared, are the prefix's own.
 use Rattle.std.proofs.Common.{◌≡◌, ℕ, zero, suc, ◌+◌, ◌-◌, ◌*◌, ◌/◌, ◌%◌, ◌<◌, ◌≤◌, ◌^◌, ltb, false, List, [], ◌∷◌, ◌++◌, length, take, replicate, Some, refl, sym, ap, ◌∙◌, arith}
 use Rattle.std.proofs.lemmas.Bool.{le-ltb}
 use Rattle.std.proofs.lemmas.List.{length-take, append-nil}

@@ -101,7 +101,7 @@ bits_again (Some m) (Some p) false (Some a) = record { med_is = refl; pref_is = 
 bits_again (Some m) (Some p) true None = record { med_is = refl; pref_is = refl; atomic_is = refl; aggregator_is = refl }
 bits_again (Some m) (Some p) true (Some a) = record { med_is = refl; pref_is = refl; atomic_is = refl; aggregator_is = refl }
 
--- the parts of a route's spelling, each before the next
+-- the parts of a route's encoding, each before the next
 parts : (first : ℕ) (path hop : List ℕ) (octet : ℕ) (med pref agg others rest : List ℕ) → (first ∷ path ++ hop ++ octet ∷ med ++ pref ++ agg ++ others) ++ rest ≡ first ∷ (path ++ (hop ++ (octet ∷ (med ++ (pref ++ (agg ++ (others ++ rest)))))))
 parts first path hop octet med pref agg others rest = simp append_assoc
 

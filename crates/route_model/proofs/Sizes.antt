@@ -47,7 +47,7 @@ peers_of cs = map peer_octets (map peer_of cs)
 abbrev pub routes_of : List Change → List (List ℕ)
 routes_of cs = map route_octets (flat_map announced cs)
 
--- one step back: the row isn't there, and was not behind
+-- one step back: the row isn't at this place, and isn't after it
 pub peer_not_there : (cs : List Change) (n : ℕ) (c : Change) (row : List ℕ) → 1 ≤ n → n ≤ length cs → c ≡ get_or cs (n - 1) c → bytes_eq (peer_octets (peer_of c)) row ≡ false → has_row (peers_of (drop n cs)) row ≡ false → has_row (peers_of (drop (n - 1) cs)) row ≡ false
 peer_not_there cs n c row some le is absent behind =
     let again : n - 1 + 1 ≡ n = omega arith in
@@ -158,7 +158,7 @@ pub route_rows-same : (cs : List Change) (c : Change) → announced c ≡ [] →
 route_rows-same cs c a =
     rw (map-first_uses route_octets (flat_map announced (cs ++ c ∷ [])), map-first_uses route_octets (flat_map announced cs), announced-push cs c, a, append-nil (flat_map announced cs)) refl
 
--- ---- changes behind any tables
+-- ---- changes after any tables
 
 change-size : (p r q s : List (List ℕ)) (c : Change) → length (change_octets p r c) ≡ length (change_octets q s c)
 change-size p r q s (Announce a x t) = omega (arith, length-append (front_octets x) (to_be_bytes w16 (place_of r (route_octets t))), length-append (front_octets x) (to_be_bytes w16 (place_of s (route_octets t))))

@@ -165,7 +165,7 @@ admission_only prefix_again a is =
     let e : admission_at (admission_octets a) ≡ Some (a, []) = subst (λ (t : List ℕ). admission_at t ≡ Some (a, [])) (append-nil (admission_octets a)) (admission_again prefix_again a [] is) in
     rw e refl
 
--- what was read is compared with its spelling
+-- what was read is compared with its encoding
 pub compared : (r : Result (Option Admitted) AllocError) (x a : Admitted) (octets : List ℕ) → IfOk r (λ o. IfSome o (λ b. b ≡ x)) → IfOk r (λ o. IfNone o (SpellsAdmission x octets → ⊥)) → x ≡ a → SpellsAdmission a octets → IfOk r (λ o. o ≡ Some a)
 compared (Err e) x a octets same none xa is = tt
 compared (Ok (Some b)) x a octets same none xa is = ap (λ (y : Admitted). Some y) (same ∙ xa)
@@ -175,7 +175,7 @@ pub none_some : {A : Type 0} (read : Option A) (x : A) → read ≡ None → rea
 none_some None x n e = absurd cc
 none_some (Some y) x n e = absurd cc
 
--- how many octets a spelling has, table by table
+-- the length in octets of an encoding, table by table
 pub length-admission : (a : Admitted) → length (admission_octets a) ≡ 14 + length (flat_map (λ row. row) (peer_rows a.changes)) + length (flat_map sized (route_rows a.changes)) + length (flat_map (change_octets (peer_rows a.changes) (route_rows a.changes)) a.changes)
 unfolding admission_octets
 length-admission a =

@@ -1,4 +1,4 @@
--- Changes and admissions, and an admission's one spelling.
+-- Changes and admissions, and an admission's unique encoding.
 use Rattle.std.specs.Prelude.{ℕ, ◌<◌, ◌≤◌, ◌^◌, List, [], ◌∷◌, ◌++◌, length, map, Any}
 use Rattle.std.specs.List.{flat_map, AllByRecursion}
 use Rattle.std.specs.Int.{w16, w64, to_be_bytes}
@@ -42,7 +42,7 @@ change_octets peers routes (Announce p x r) = 1 ∷ to_be_bytes w16 (place_of pe
 change_octets peers routes (Withdraw p x) = 2 ∷ to_be_bytes w16 (place_of peers (peer_octets p)) ++ prefix_octets x
 change_octets peers routes (Down p) = 3 ∷ to_be_bytes w16 (place_of peers (peer_octets p))
 
--- an octet string behind its length
+-- an octet string after its length
 abbrev pub sized : List ℕ → List ℕ
 sized o = to_be_bytes w16 (length o) ++ o
 
@@ -50,11 +50,11 @@ sized o = to_be_bytes w16 (length o) ++ o
 abbrev pub counted : {A : Type 0} → (A → List ℕ) → List A → List ℕ
 counted spell xs = to_be_bytes w16 (length xs) ++ flat_map spell xs
 
--- the spellings of the peers of the table
+-- the encodings of the peers of the table
 abbrev pub peer_rows : List Change → List (List ℕ)
 peer_rows changes = map peer_octets (peer_table changes)
 
--- the spellings of the routes of the table
+-- the encodings of the routes of the table
 abbrev pub route_rows : List Change → List (List ℕ)
 route_rows changes = map route_octets (route_table changes)
 
@@ -72,7 +72,7 @@ IsLarge (Announce p x r) = 3072 < length (route_octets r)
 IsLarge (Withdraw p x) = ⊥
 IsLarge (Down p) = ⊥
 
--- no route is too large, and the spelling of all has more than 131,072 octets
+-- no route is too large, and the encoding of the whole has more than 131,072 octets
 pub record IsTooLarge (a : Admitted) : Type 0 where
   pub routes : Any IsLarge a.changes → ⊥
   pub large : 131072 < length (admission_octets a)
@@ -89,6 +89,6 @@ pub record IsAdmission (a : Admitted) : Type 0 where
   pub changes : AllByRecursion IsChange a.changes
   pub small : length (admission_octets a) ≤ 131072
 
--- the octets are the one spelling of the admission
+-- the octets are the unique encoding of the admission
 abbrev pub SpellsAdmission : Admitted → List ℕ → Type 0
 SpellsAdmission = Spells IsAdmission admission_octets

@@ -3,7 +3,7 @@ use Rattle.std.specs.Prelude.{◌≡◌, ℕ, ◌+◌, ◌*◌, ◌/◌, ◌%◌
 use Rattle.std.proofs.Common.{ap, ◌∙◌, arith}
 use Rattle.route_model.specs.declared.key.Key.TheInside.{Inside}
 
--- one more word behind a number
+-- a number with one more word after it
 abbrev pub followed_by : ℕ → ℕ → ℕ
 followed_by n word = n * 2 ^ 64 + word
 

@@ -1,4 +1,4 @@
--- Octets: numbers among them, and the one spelling of a value.
+-- Octets: numbers among them, and the unique encoding of a value.
 use Rattle.std.specs.Prelude.{◌≡◌, ℕ, ◌<◌, List, drop, slice_index}
 use Rattle.byteorder.specs.Endian.{big_number}
 
@@ -10,7 +10,7 @@ AreOctets octets = (i : ℕ) → slice_index octets i < 256
 abbrev pub number_at : ℕ → ℕ → List ℕ → ℕ
 number_at size place octets = big_number size (drop place octets)
 
--- the octets are the one spelling of a value of its type
+-- the octets are the unique encoding of a value of its type
 pub record Spells {A : Type 0} (IsValue : A → Type 0) (spelling : A → List ℕ) (value : A) (octets : List ℕ) : Type 0 where
   pub valid : IsValue value
   pub spelled : octets ≡ spelling value

@@ -34,6 +34,6 @@ front_octets p = take ((p.length + 7) / 8) (octets p.address)
 abbrev pub prefix_octets : IpPrefix → List ℕ
 prefix_octets p = family p.address ∷ p.length ∷ front_octets p
 
--- the octets are the one spelling of the prefix
+-- the octets are the unique encoding of the prefix
 abbrev pub SpellsPrefix : IpPrefix → List ℕ → Type 0
 SpellsPrefix = Spells IsPrefix prefix_octets

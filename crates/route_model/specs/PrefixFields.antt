@@ -1,4 +1,4 @@
--- Prefixes as RIB records and UPDATEs spell them (RFC 4271 section 4.3): a length in bits, and the fewest octets that hold it.
+-- Prefixes as RIB records and UPDATEs encode them (RFC 4271 section 4.3): a length in bits, and the fewest octets that hold it.
 use Rattle.std.specs.Prelude.{◌≡◌, ℕ, ◌+◌, ◌-◌, ◌*◌, ◌/◌, ◌<◌, ◌≤◌, List, ◌++◌, length, drop, replicate, slice_index}
 use Rattle.route_model.specs.Address.{octets, family}
 use Rattle.route_model.specs.Prefix.{IpPrefix, cleared}

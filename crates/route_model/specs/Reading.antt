@@ -1,4 +1,4 @@
--- What a reader answers, against a relation that says what octets read as.
+-- What a reader returns, against a relation that says what octets read as.
 use Rattle.std.specs.Prelude.{◌≡◌, ℕ, ◌≤◌, ◌<◌, List, ◌++◌, length, take, Option, Some, None, Result, Ok, Err}
 use Rattle.route_model.specs.declared.octets.ReadFault.{ReadFault}
 use Rattle.route_model.specs.declared.octets.ReadFault.TheVariants as faults
@@ -31,7 +31,7 @@ abbrev pub NoFront : {V : Type 0} → (List ℕ → V → Type 0) → List ℕ �
 NoFront Field bytes faults.Malformed = BeginsWith Field bytes → ⊥
 NoFront Field bytes faults.OutOfMemory = Unit {0}
 
--- the same for a reader that may want memory
+-- the same for a reader that may run out of memory
 abbrev pub AtFrontOr : {X V : Type 0} → (X → V) → (List ℕ → V → Type 0) → List ℕ → Result (X × ℕ) ReadFault → Type 0
 AtFrontOr view Field bytes (Ok found) = (found.1 ≤ length bytes) × (0 < found.1) × Field (take found.1 bytes) (view found.0)
 AtFrontOr view Field bytes (Err e) = NoFront Field bytes e

@@ -1,4 +1,4 @@
--- Each value's one spelling in octets.
+-- Each value's unique encoding in octets.
 use Rattle.std.specs.Prelude.{◌≡◌, ℕ, ◌+◌, ◌*◌, ◌<◌, ◌^◌, Bool, true, ◌&&◌, nat_lt, List, [], ◌∷◌, ◌++◌, length, Option, Some, None, is_some, if◌then◌else◌, IfSome, IsTrue}
 use Rattle.std.specs.List.{flat_map, AllByRecursion}
 use Rattle.std.specs.Int.{w16, w32, to_be_bytes}
@@ -27,7 +27,7 @@ pub record IsPeer (p : Peer) : Type 0 where
 abbrev pub peer_octets : Peer → List ℕ
 peer_octets p = p.collector ∷ family p.address ∷ wide p.address ++ to_be_bytes w32 p.as_number
 
--- the octets are the one spelling of the peer
+-- the octets are the unique encoding of the peer
 abbrev pub SpellsPeer : Peer → List ℕ → Type 0
 SpellsPeer = Spells IsPeer peer_octets
 
@@ -134,6 +134,6 @@ pub record IsRoute (r : Route) : Type 0 where
   pub attributes : AllByRecursion IsAttribute r.others
   pub ascending : IsTrue (is_ascending r.others)
 
--- the octets are the one spelling of the route
+-- the octets are the unique encoding of the route
 abbrev pub SpellsRoute : Route → List ℕ → Type 0
 SpellsRoute = Spells IsRoute route_octets

@@ -1,4 +1,4 @@
--- Tables of what a list uses: each value once, in the order of first use. Values are told apart by their spelling.
+-- Tables of what a list uses: each value once, in the order of first use. Two values are the same where their encodings are.
 use Rattle.std.specs.Prelude.{ℕ, ◌+◌, Bool, false, ◌||◌, not, List, [], ◌∷◌, ◌++◌, filter, if◌then◌else◌}
 use Rattle.std.specs.Str.{bytes_eq}
 

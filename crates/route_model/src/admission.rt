@@ -15,19 +15,19 @@ use std::alloc::{AllocError, Global};
 use std::marker::Model;
 use thiserror::Error;
 
-/// The most octets that the spelling of a route of an admission has.
+/// The maximum length in octets of the encoding of a route in an admission.
 pub const MAX_ROUTE_LEN: usize = 3_072;
 
-/// The most octets that an admission's spelling has.
+/// The maximum length in octets of an admission's encoding.
 pub const MAX_ADMISSION_LEN: usize = 131_072;
 
 /// Why changes aren't an admission.
 #[derive(Clone, Copy, Debug, PartialEq, Eq, Error)]
 pub enum AdmissionError {
-    /// A route's spelling has more than [`MAX_ROUTE_LEN`] octets.
+    /// The encoding of a route has more than [`MAX_ROUTE_LEN`] octets.
     #[error("a route is larger than 3072 octets")]
     RouteTooLarge,
-    /// The spelling of all has more than [`MAX_ADMISSION_LEN`] octets.
+    /// The encoding of the whole has more than [`MAX_ADMISSION_LEN`] octets.
     #[error("an admission is larger than 131072 octets")]
     AdmissionTooLarge,
 }
@@ -57,8 +57,9 @@ impl Admission {
     ghost use Rattle.std.specs.Prelude.{◌≡◌, ◌<◌, ◌≤◌, ◌↔◌, IfOk, IfSome, Some, Any, length};
     ghost use Rattle.route_model.specs.Admission.{Admitted, IsAdmission, IsLarge, IsTooLarge, admission_octets, SpellsAdmission};
 
-    /// These changes at this time. A route of more than [`MAX_ROUTE_LEN`] octets is told before an
-    /// admission of more than [`MAX_ADMISSION_LEN`]. No memory is needed, so nothing else is refused.
+    /// An admission of these changes at this time. A route of more than [`MAX_ROUTE_LEN`] octets is
+    /// reported before an admission of more than [`MAX_ADMISSION_LEN`]. No memory is needed, so
+    /// nothing else is refused.
     pub fn new(time: Moment, changes: Vec<Change>) -> Result<Admission, AdmissionError>
         ensures admission { IfOk result (λ a. a ≡ record { time = time; changes = changes.items }) }
         ensures valid { IfOk result IsAdmission }
@@ -105,7 +106,7 @@ impl Admission {
         })
     }
 
-    /// How many octets the spelling has, at most [`MAX_ADMISSION_LEN`]. It is known beforehand.
+    /// The length of the encoding in octets, at most [`MAX_ADMISSION_LEN`]. It is known beforehand.
     pub fn encoded_len(&self) -> usize
         ensures len { result ≡ length (admission_octets self.now) }
         ensures few { result ≤ 131072 }
@@ -113,7 +114,7 @@ impl Admission {
         self.encoded_len
     }
 
-    /// The one spelling of the admission.
+    /// The unique encoding of the admission.
     pub fn encode(&self, alloc: Global) -> Result<Vec<u8>, AllocError>
         ensures spelling { IfOk result (λ v. SpellsAdmission self.now v.items) }
     {
@@ -122,7 +123,7 @@ impl Admission {
         Ok(spelling)
     }
 
-    /// The admission that these octets spell, or none.
+    /// The admission that these octets encode, or none.
     pub fn decode(alloc: Global, octets: &[u8]) -> Result<Option<Admission>, AllocError>
         ensures found { IfOk result (λ o. IfSome o (λ a. SpellsAdmission a octets.now)) }
         ensures only { (a : Admitted) → SpellsAdmission a octets.now → IfOk result (λ o. o ≡ Some a) }
@@ -135,7 +136,7 @@ impl Admission {
     }
 }
 
-/// The admission, where the octets are its spelling.
+/// The admission, where the octets are its encoding.
 fn spelled_so(
     alloc: Global,
     time: u64,

@@ -1,5 +1,5 @@
-//! How many octets the spelling of an admission has: by tables of the rows so far, in one pass, or without memory, by a look back at
-//! the changes before each, which is as quick for a few.
+//! The length in octets of an admission's encoding: by tables of the rows so far, in one pass, or without memory, by a look back at the changes before each,
+//! which is as quick for a few.
 
 ghost use Rattle.std.specs.Prelude.{◌≡◌, ◌+◌, ◌∷◌, ◌++◌, ◌<◌, ◌≤◌, ℕ, List, [], IfOk, OnOk, IfSome, IfNone, length, map, if◌then◌else◌};
 ghost use Rattle.std.specs.List.{flat_map, AllByRecursion};
@@ -25,7 +25,7 @@ const ROUTE_ROW_HEAD: usize = 2;
 /// How many changes are measured without tables.
 const FEW_CHANGES: usize = 64;
 
-/// Whether the peers have one spelling: they are compared themselves, which costs less.
+/// Whether the peers have the same encoding: they are compared themselves, which costs less.
 fn are_same(one: &Peer, other: &Peer) -> bool
     ensures { result ≡ bytes_eq (peer_octets one.now) (peer_octets other.now) }
 {
@@ -49,7 +49,7 @@ fn has_peer(before: &[Change], peer: &Peer) -> bool
     false
 }
 
-/// Whether the change announces the route of this spelling.
+/// Whether the change announces the route with this encoding.
 fn announces(c: &Change, row: &[u8]) -> bool
     ensures { result ≡ has_row (map route_octets (announced c.now)) row.now }
 {
@@ -60,7 +60,7 @@ fn announces(c: &Change, row: &[u8]) -> bool
     }
 }
 
-/// Whether a change before announces the route of this spelling, looking from the end on.
+/// Whether a change before announces the route with this encoding, looking from the end on.
 fn has_route(before: &[Change], row: &[u8]) -> bool
     ensures { result ≡ has_row (map route_octets (flat_map announced before.now)) row.now }
 {
@@ -100,7 +100,7 @@ fn route_row_len(before: &[Change], route: &SharedRoute) -> usize
     }
 }
 
-/// How many octets a change has behind the tables.
+/// How many octets a change takes after the tables.
 fn change_len(c: &Change) -> usize
     ensures len { (peers routes : List (List ℕ)) → result ≡ length (change_octets peers routes c.now) }
     ensures few { result ≤ 24 }
@@ -126,8 +126,8 @@ fn added_len(before: &[Change], c: &Change) -> usize
     }
 }
 
-/// How many octets the spelling of an admission with these changes has, or none where they are more
-/// than [`MAX_ADMISSION_LEN`]: without memory, by a look back for each change.
+/// The length in octets of the encoding of an admission with these changes, or none where it is
+/// more than [`MAX_ADMISSION_LEN`]: without memory, by a look back for each change.
 fn measure_back(changes: &[Change]) -> Option<usize>
     requires { AllByRecursion IsChange changes.now }
     ensures len { IfSome result (λ n. (time : ℕ) → n ≡ length (admission_octets (record { time = time; changes = changes.now }))) }
@@ -212,8 +212,8 @@ fn measure_by_tables(alloc: Global, changes: &[Change]) -> Result<Option<usize>,
     Ok(Some(len))
 }
 
-/// How many octets the spelling of an admission with these changes has, or none where they are more
-/// than [`MAX_ADMISSION_LEN`]. Tables are made where there is memory for them.
+/// The length in octets of the encoding of an admission with these changes, or none where it is
+/// more than [`MAX_ADMISSION_LEN`]. Tables are made where there is memory for them.
 pub(crate) fn measure(alloc: Global, changes: &[Change]) -> Option<usize>
     requires { AllByRecursion IsChange changes.now }
     ensures len { IfSome result (λ n. (time : ℕ) → n ≡ length (admission_octets (record { time = time; changes = changes.now }))) }

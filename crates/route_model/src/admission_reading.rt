@@ -1,4 +1,5 @@
-//! What octets read as an admission. It reads more than spellings: what it reads is spelled again.
+//! What octets read as an admission. It accepts more than valid encodings: what it reads is encoded
+//! again and compared.
 //!
 //! Room is made for as many items as are counted, but for no more than the octets left can hold.
 

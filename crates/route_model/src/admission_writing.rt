@@ -1,4 +1,4 @@
-//! The spelling of an admission.
+//! The encoding of an admission.
 
 ghost use Rattle.std.specs.Prelude.{◌≡◌, ◌++◌, ◌∷◌, IfOk, OnOk, map};
 ghost use Rattle.std.specs.List.{flat_map};
@@ -89,7 +89,7 @@ fn put_peers(out: &mut Vec<u8>, rows: &PeerRows) -> Result<(), AllocError>
     Ok(())
 }
 
-/// Writes the table of routes: how many rows, and each behind its length.
+/// Writes the table of routes: how many rows, and each after its length.
 fn put_routes(out: &mut Vec<u8>, rows: &RouteRows<'_>) -> Result<(), AllocError>
     ensures { OnOk result (out.new.items ≡ out.old.items ++ counted sized (map (λ row. row.now) rows.now.keys)) }
 {
@@ -112,7 +112,7 @@ fn put_changes(
     Ok(())
 }
 
-/// The one spelling of an admission, in a vector that was made for so many octets.
+/// The unique encoding of an admission, in a vector with capacity for this many octets.
 pub(crate) fn spell(
     alloc: Global,
     capacity: usize,

@@ -29,7 +29,7 @@ use std::marker::Model;
 ///
 /// Its octets: those of the peer (22), the kind (0 for the session, else the family of the prefix, 4
 /// or 6), the address of the prefix (16, an IPv4 address followed by zeros), its length (1); all
-/// zeros behind the kind 0.
+/// zeros after the kind 0.
 #[derive(Clone, Copy, Debug, Hash)]
 pub struct Key {
     first: u64,
@@ -177,7 +177,7 @@ impl Key {
         Key::from_octets(&octets)
     }
 
-    /// The key behind this one, or none where this is the last of all.
+    /// The key after this one, or none where this is the last of all.
     pub fn next(self) -> Option<Key>
         ensures next { IfSome result (λ next. next ≡ suc self) }
         ensures last { (result ≡ None) ↔ (suc self ≡ 2 ^ 320) }

@@ -1,4 +1,4 @@
-//! Laws of spellings and of orders.
+//! Laws of encodings and of orders.
 
 ghost use Rattle.std.specs.Prelude.{◌≡◌, ℕ, List};
 ghost use Rattle.route_model.specs.declared.peer.Peer.{Peer};
@@ -12,7 +12,7 @@ ghost use Rattle.route_model.specs.Prefix.{IpPrefix, SpellsPrefix};
 ghost use Rattle.route_model.specs.Spelling.{SpellsPeer, SpellsRoute};
 ghost use Rattle.route_model.specs.Admission.{Admitted, SpellsAdmission};
 
-/// Octets spell at most one value of each type.
+/// Octets encode at most one value of each type.
 pub fn spellings_are_one()
     ensures peers { (p q : Peer) (octets : List ℕ) → SpellsPeer p octets → SpellsPeer q octets → p ≡ q }
     ensures prefixes { (x y : IpPrefix) (octets : List ℕ) → SpellsPrefix x octets → SpellsPrefix y octets → x ≡ y }

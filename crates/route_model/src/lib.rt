@@ -1,5 +1,5 @@
-//! The values of the archive: peers, prefixes, routes, admissions, their one spelling in octets,
-//! and their keys.
+//! The values of the archive: peers, prefixes, routes, admissions, their unique encodings in
+//! octets, and their keys.
 #![tactic(auto)]
 
 mod address;

@@ -1,4 +1,4 @@
-//! How many octets spellings have, and that what is measured is a value of its type.
+//! The lengths of encodings in octets, and that what is measured is a value of its type.
 
 ghost use Rattle.std.specs.Prelude.{◌≡◌, ◌+◌, ◌*◌, ◌<◌, ◌≤◌, ◌^◌, IsTrue, IfSome, length};
 ghost use Rattle.std.specs.List.{flat_map, AllByRecursion};
@@ -126,7 +126,7 @@ fn attributes_len(attributes: &Attributes) -> usize
     2 + each_attribute_len(attributes.as_slice())
 }
 
-/// How many octets the spelling of a route has.
+/// The length in octets of a route's encoding.
 #[tactic(auto, unfolding(crate::specs::Spelling::route_octets))]
 pub(crate) fn route_len(r: &Route) -> usize
     ensures len { result ≡ length (route_octets r.now) }

@@ -1,4 +1,4 @@
-//! Numbers among octets, in network order, and what a reader of octets answers.
+//! Numbers among octets, in network order, and what a reader of octets returns.
 //!
 //! The words that say what octets read as (a sequence of fields, a field at the front, exactly the
 //! reading) are in `specs/Octets`, `specs/Sequence` and `specs/Reading`, their laws in

@@ -20,10 +20,10 @@ pub struct Peer {
 impl Peer {
     ghost use Rattle.route_model.specs.declared.peer.Peer.{Peer};
 
-    /// How many octets the spelling of a peer has.
+    /// The length in octets of a peer's encoding.
     pub const ENCODED_LEN: usize = 22;
 
-    /// How many octets the spelling of the peer has: [`Peer::ENCODED_LEN`].
+    /// The length in octets of the peer's encoding: [`Peer::ENCODED_LEN`].
     pub fn encoded_len(&self) -> usize
         ensures len { result ≡ length (peer_octets self.now) }
         ensures valid { IsPeer self.now }
@@ -31,8 +31,8 @@ impl Peer {
         peer_len(self)
     }
 
-    /// The one spelling of the peer: collector, family, address (an IPv4 address followed by twelve
-    /// zeros), AS number.
+    /// The unique encoding of the peer: collector, family, address (an IPv4 address followed by
+    /// twelve zeros), AS number.
     pub fn encode(&self) -> [u8; 22]
         ensures spelling { SpellsPeer self.now result }
     {
@@ -45,7 +45,7 @@ impl Peer {
         octets
     }
 
-    /// The peer that these octets spell, or none.
+    /// The peer that these octets encode, or none.
     pub fn decode(octets: &[u8]) -> Option<Peer>
         ensures found { IfSome result (λ p. SpellsPeer p octets.now) }
         ensures only { (p : Peer) → SpellsPeer p octets.now → result ≡ Some p }
@@ -61,7 +61,7 @@ impl Peer {
     }
 }
 
-/// How many octets the spelling of a peer has.
+/// The length in octets of a peer's encoding.
 pub(crate) fn peer_len(p: &Peer) -> usize
     ensures len { result ≡ length (peer_octets p.now) }
     ensures valid { IsPeer p.now }

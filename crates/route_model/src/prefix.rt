@@ -81,7 +81,7 @@ impl Prefix {
         octets.split_at(count).0
     }
 
-    /// How many octets the spelling of the prefix has: 2 to 18.
+    /// The length in octets of the prefix's encoding: 2 to 18.
     pub fn encoded_len(&self) -> usize
         ensures len { result ≡ bytes_len (prefix_octets self.now) }
         ensures few { result ≤ 18 }
@@ -89,7 +89,7 @@ impl Prefix {
         2 + self.front().len()
     }
 
-    /// The one spelling of the prefix: family, length in bits, and the fewest octets that hold them.
+    /// The unique encoding of the prefix: family, length in bits, and the fewest octets that hold them.
     pub fn encode(&self, alloc: Global) -> Result<Vec<u8>, AllocError>
         ensures spelling { IfOk result (λ v. SpellsPrefix self.now v.items) }
     {
@@ -99,7 +99,7 @@ impl Prefix {
         Ok(out)
     }
 
-    /// The prefix that these octets spell, or none.
+    /// The prefix that these octets encode, or none.
     pub fn decode(octets: &[u8]) -> Option<Prefix>
         ensures found { IfSome result (λ p. SpellsPrefix p octets.now) }
         ensures only { (p : IpPrefix) → SpellsPrefix p octets.now → result ≡ Some p }
@@ -130,7 +130,7 @@ impl Prefix {
     }
 }
 
-/// Writes the spelling of a prefix.
+/// Writes the encoding of a prefix.
 pub(crate) fn put_prefix(out: &mut Vec<u8>, p: &Prefix) -> Result<(), AllocError>
     ensures { OnOk result (out.new.items ≡ out.old.items ++ prefix_octets p.now) }
 {

@@ -60,7 +60,7 @@ pub struct Route {
 impl Route {
     ghost use Rattle.route_model.specs.declared.route.Route.{Route};
 
-    /// How many octets the spelling of the route has.
+    /// The length in octets of the route's encoding.
     pub fn encoded_len(&self) -> usize
         ensures len { result ≡ length (route_octets self.now) }
         ensures valid { IsRoute self.now }
@@ -68,7 +68,7 @@ impl Route {
         route_len(self)
     }
 
-    /// The one spelling of the route.
+    /// The unique encoding of the route.
     pub fn encode(&self, alloc: Global) -> Result<Vec<u8>, AllocError>
         ensures spelling { IfOk result (λ v. SpellsRoute self.now v.items) }
     {
@@ -78,7 +78,7 @@ impl Route {
         Ok(out)
     }
 
-    /// The route that these octets spell, or none. The octets may be of any number: the limit of
+    /// The route that these octets encode, or none. The octets may be of any number: the limit of
     /// 3,072 is an admission's.
     pub fn decode(alloc: Global, octets: &[u8]) -> Result<Option<Route>, AllocError>
         ensures found { IfOk result (λ o. IfSome o (λ r. SpellsRoute r octets.now)) }

@@ -8,14 +8,14 @@ use std::alloc::{AllocError, Global};
 use std::marker::Model;
 use std::sync::Arc;
 
-/// A route with its spelling.
+/// A route with its encoding.
 #[derive(Debug, Drop)]
 struct Spelled {
     route: Route,
     octets: Vec<u8>,
 }
 
-/// A route that is kept once, with its spelling, however many changes announce it.
+/// A route that is kept once, with its encoding, however many changes announce it.
 #[derive(Debug, Drop)]
 pub struct SharedRoute {
     shared: Arc<Spelled>,
@@ -60,7 +60,7 @@ impl SharedRoute {
         &shared.route
     }
 
-    /// The one spelling of the route, which is kept with it.
+    /// The unique encoding of the route, which is kept with it.
     pub fn spelling(&self) -> &[u8]
         ensures spelling { SpellsRoute self.now result.now }
     {

@@ -1,4 +1,4 @@
-//! The tables of an admission: the spellings of its peers and of its routes, each once, in the order
+//! The tables of an admission: the encodings of its peers and of its routes, each once, in the order
 //! of first use.
 
 ghost use Rattle.std.specs.Prelude.{◌≡◌, IfOk, OnOk, map, not};
@@ -9,10 +9,10 @@ use crate::change::Change;
 use indexmap::IndexSet;
 use std::alloc::{AllocError, Global};
 
-/// The rows of the table of peers: their spellings.
+/// The rows of the table of peers: their encodings.
 pub(crate) type PeerRows = IndexSet<[u8; 22]>;
 
-/// The rows of the table of routes: their spellings, where the routes keep them.
+/// The rows of the table of routes: their encodings, stored in the routes.
 pub(crate) type RouteRows<'a> = IndexSet<&'a [u8]>;
 
 /// Up to how many rows are compared one after another: for a few that is quicker than a hash.
@@ -44,7 +44,7 @@ fn scan_routes(rows: &[&[u8]], row: &[u8]) -> usize
     place
 }
 
-/// Where a peer's spelling stands, or the length.
+/// The place of a peer's encoding among the rows, or the number of rows where it isn't there.
 pub(crate) fn peer_place(rows: &PeerRows, row: [u8; 22]) -> usize
     ensures { result ≡ place_of rows.now.keys row }
 {
@@ -54,7 +54,7 @@ pub(crate) fn peer_place(rows: &PeerRows, row: [u8; 22]) -> usize
     rows.get_index_of(&row).unwrap_or(rows.len())
 }
 
-/// Where a route's spelling stands, or the length.
+/// The place of a route's encoding among the rows, or the number of rows where it isn't there.
 pub(crate) fn route_place(rows: &RouteRows<'_>, row: &[u8]) -> usize
     ensures { result ≡ place_of (map (λ r. r.now) rows.now.keys) row.now }
 {
@@ -64,7 +64,7 @@ pub(crate) fn route_place(rows: &RouteRows<'_>, row: &[u8]) -> usize
     rows.get_index_of(&row).unwrap_or(rows.len())
 }
 
-/// Enters a peer's spelling where it doesn't stand yet, and tells whether it didn't.
+/// Enters a peer's encoding where it isn't there yet. Returns whether it was entered.
 pub(crate) fn enter_peer(rows: &mut PeerRows, row: [u8; 22]) -> Result<bool, AllocError>
     ensures entered { OnOk result (rows.new.keys ≡ enter rows.old.keys row) }
     ensures new { IfOk result (λ new. new ≡ not (has_row rows.old.keys row)) }
@@ -75,7 +75,7 @@ pub(crate) fn enter_peer(rows: &mut PeerRows, row: [u8; 22]) -> Result<bool, All
     Ok(rows.insert(row)?)
 }
 
-/// Enters a route's spelling where it doesn't stand yet, and tells whether it didn't.
+/// Enters a route's encoding where it isn't there yet. Returns whether it was entered.
 pub(crate) fn enter_route<'a>(
     rows: &mut RouteRows<'a>,
     octets: &'a [u8],

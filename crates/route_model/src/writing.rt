@@ -153,7 +153,7 @@ fn octet_of(origin: Origin) -> u8
     }
 }
 
-/// Writes the spelling of a route.
+/// Writes the encoding of a route.
 #[tactic(auto, unfolding(crate::specs::Spelling::route_octets))]
 pub(crate) fn put_route(out: &mut Vec<u8>, r: &Route) -> Result<(), AllocError>
     ensures { OnOk result (out.new.items ≡ out.old.items ++ route_octets r.now) }

@@ -54,7 +54,7 @@ set_first : (ns : List ℕ) (path : List Segment) → IsNormalPath path → IsNo
 set_first ns [] h = tt
 set_first ns (t ∷ path) h = (tt, h)
 
--- where both fit in one sequence, what was behind the second may stand behind it
+-- where both fit in one sequence, what followed the second may follow the merged one
 merged_first : (ns ms : List ℕ) (path : List Segment) → 0 < length ns → length (ns ++ ms) ≤ 255 → IsNormalPath (segments.Sequence ms ∷ path) → IsNormalPath (segments.Sequence (ns ++ ms) ∷ path)
 merged_first ns ms [] some few h = tt
 merged_first ns ms (segments.Set ks ∷ path) some few h = h

@@ -20,7 +20,7 @@ before_set : (s : Segment) (ns : List ℕ) → MayPrecede s (segments.Set ns)
 before_set (segments.Set numbers) ns = tt
 before_set (segments.Sequence numbers) ns = tt
 
--- a sequence with what follows it, behind what a sequence may follow
+-- a sequence with what follows it, after what a sequence may follow
 normal_sequence : (path : List Segment) (ns : List ℕ) (tail : List Segment) → IsNormalPath (path ++ segments.Sequence [] ∷ []) → IsNormalPath (segments.Sequence ns ∷ tail) → IsNormalPath (path ++ segments.Sequence ns ∷ tail)
 normal_sequence [] ns tail h k = k
 normal_sequence (s ∷ []) ns tail h k = (before_sequence s [] ns h.0, k)

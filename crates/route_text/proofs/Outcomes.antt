@@ -28,7 +28,7 @@ module _ {A B : Type 0} (view : A → B) (r : Result A TextError) (v : B) where
       reads_at (Ok x) y is memory = absurd (let bad : ⊥ = cc in bad)
       reads_at (Err x) y is memory = cc
 
--- what was passed on for want of memory says nothing of the text
+-- an error passed on because memory ran out says nothing about the text
 pub passed_memory : {A : Type 0} (r : Result A TextError) (e : TextError) → IsErrAnd r (λ x. x ≡ e) → e ≡ faults.OutOfMemory → IsErrOf r faults.BadText → ⊥
 passed_memory (Ok x) e passed memory bad = passed
 passed_memory (Err y) e passed memory bad = cc

@@ -20,7 +20,7 @@ use Rattle.route_text.proofs.Fields.{Lacks-address_text, take_octets, drop_octet
 use Rattle.route_text.proofs.Numbers.{Lacks-decimal}
 use Rattle.route_text.proofs.PathTexts.{Lacks-step_text, steps_valid, path_text-steps}
 
--- ---- what is behind each bar
+-- ---- what follows each bar
 
 abbrev pub behind_aggregate : Route → List ℕ
 behind_aggregate r = aggregator_text r.aggregator ++ 124 ∷ attributes_text r.others

@@ -4,7 +4,7 @@ use Rattle.std.specs.List.{join_with_byte, AllByRecursion}
 use Rattle.route_text.specs.Octets.{Lacks}
 use Rattle.route_text.proofs.Cuts.{first_cut, Lacks-at, Lacks-same}
 
--- of all values these are read; the rest of the text writes the next one and those behind it
+-- of all values these are read; the rest of the text writes the next one and those after it
 pub record Left {X : Type 0} (c : ℕ) (f : X → List ℕ) (Is : X → Type 0) (all done : List X) (rest : List ℕ) : Type 0 where
   pub next : X
   pub more : List X
@@ -18,7 +18,7 @@ pub left_begin : {X : Type 0} (c : ℕ) (f : X → List ℕ) (Is : X → Type 0)
 left_begin c f Is [] text some valid e = absurd (let bad : ⊥ = omega arith in bad)
 left_begin c f Is (x ∷ xs) text some valid e = record { next = x; more = xs; here = valid.0; later = valid.1; split = refl; text = e }
 
--- a word before the octet is the next value's, and what is behind the octet is left
+-- a word before the octet is the next value's, and what follows the octet is left
 pub left_word : {X : Type 0} (c : ℕ) (f : X → List ℕ) (Is : X → Type 0) (lacks : (x : X) → Is x → Lacks c (f x)) (all done : List X) (rest word after : List ℕ) (h : Left c f Is all done rest) → rest ≡ word ++ c ∷ after → Lacks c word → (word ≡ f h.next) × Left c f Is all (done ++ h.next ∷ []) after
 left_word {X} c f Is lacks all done rest word after h cut free = at h.more h.later h.split h.text
   where

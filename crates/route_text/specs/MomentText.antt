@@ -3,7 +3,7 @@ use Rattle.std.specs.Prelude.{◌≡◌, ℕ, ◌*◌, ◌≤◌, ◌⊎◌, Lis
 use Rattle.jiff.specs.Words.{parse_timestamp}
 use Rattle.route_text.specs.Octets.{Lacks}
 
--- the text is a timestamp without a space, and its instant is so many whole seconds after 1970-01-01T00:00:00Z
+-- the text is a timestamp without a space, and its instant is exactly `seconds` whole seconds after 1970-01-01T00:00:00Z
 pub record IsTimestamp (text : List ℕ) (seconds : ℕ) : Type 0 where
   pub no_space : Lacks 32 text
   pub instant : parse_timestamp text ≡ Ok (pos (seconds * 1000000000))

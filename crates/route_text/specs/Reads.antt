@@ -1,4 +1,4 @@
--- What a reader that takes memory answers.
+-- What a reader that allocates memory returns.
 use Rattle.std.specs.Prelude.{◌≡◌, Result, Ok, Err}
 use Rattle.route_text.specs.declared.fault.TextError.{TextError}
 use Rattle.route_text.specs.declared.fault.TextError.TheVariants as faults

@@ -10,9 +10,9 @@ use route_model::Address;
 use std::alloc::AllocError;
 use std::net::{Ipv4Addr, Ipv6Addr};
 
-/// Writes an address at the end of `out`: four decimal numbers, or groups in lower case
-/// hexadecimal with the first longest run of zero groups as `::`. After an error nothing is said of
-/// `out`.
+/// Writes an address at the end of `out`: four decimal numbers, or groups in lower case hexadecimal
+/// with the first longest run of zero groups as `::`. After an error the content of `out` is
+/// unspecified.
 pub fn write_address(out: &mut String, address: &Address) -> Result<(), AllocError>
     ensures text { OnOk result (string_bytes out.new ≡ string_bytes out.old ++ address_text address.now) }
 {

@@ -3,7 +3,7 @@
 ghost use Rattle.std.specs.Prelude.{◌≡◌, ◌<◌, ◌++◌, ◌∷◌, IfSome, IfNone};
 ghost use Rattle.route_text.specs.Octets.{Lacks};
 
-/// What stands before the first `mark`, and behind it.
+/// The text before the first `mark`, and the text after it.
 pub(crate) fn cut_at_first(text: &str, mark: char) -> Option<(&str, &str)>
     requires { mark < 128 }
     ensures parts { IfSome result (λ x. text.now ≡ x.0.now ++ mark ∷ x.1.now) }
@@ -13,7 +13,7 @@ pub(crate) fn cut_at_first(text: &str, mark: char) -> Option<(&str, &str)>
     text.split_once(mark)
 }
 
-/// What stands before the last `mark`, and behind it.
+/// The text before the last `mark`, and the text after it.
 pub(crate) fn cut_at_last(text: &str, mark: char) -> Option<(&str, &str)>
     requires { mark < 128 }
     ensures parts { IfSome result (λ x. text.now ≡ x.0.now ++ mark ∷ x.1.now) }

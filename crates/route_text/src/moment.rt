@@ -9,14 +9,16 @@ use jiff::Timestamp;
 use route_model::{Mark, Moment};
 use std::alloc::AllocError;
 
-/// Writes the seconds of a moment at the end of `out`. After an error nothing is said of `out`.
+/// Writes the seconds of a moment at the end of `out`. After an error the content of `out` is
+/// unspecified.
 pub fn write_moment(out: &mut String, moment: Moment) -> Result<(), AllocError>
     ensures digits { OnOk result (string_bytes out.new ≡ string_bytes out.old ++ decimal moment) }
 {
     write_number(out, moment.seconds())
 }
 
-/// Writes the seconds of a mark at the end of `out`. After an error nothing is said of `out`.
+/// Writes the seconds of a mark at the end of `out`. After an error the content of `out` is
+/// unspecified.
 pub fn write_mark(out: &mut String, mark: Mark) -> Result<(), AllocError>
     ensures digits { OnOk result (string_bytes out.new ≡ string_bytes out.old ++ decimal mark) }
 {

@@ -6,7 +6,7 @@ use crate::fault::BadText;
 use std::alloc::AllocError;
 
 /// Writes the decimal digits of a number at the end of `out`, with no sign and no leading zero.
-/// After an error nothing is said of `out`.
+/// After an error the content of `out` is unspecified.
 pub fn write_number(out: &mut String, number: u64) -> Result<(), AllocError>
     ensures digits { OnOk result (string_bytes out.new ≡ string_bytes out.old ++ decimal number) }
 {

@@ -21,7 +21,7 @@ const MOST_NUMBERS: usize = 255;
 pub(crate) struct PathBuilder {
     alloc: Global,
     closed: Vec<Segment>,
-    /// The numbers behind the closed segments, at most [`MOST_NUMBERS`].
+    /// The numbers after the closed segments, at most [`MOST_NUMBERS`].
     run: Vec<u32>,
 }
 
@@ -37,7 +37,7 @@ impl PathBuilder {
         }
     }
 
-    /// Puts a step behind the path.
+    /// Appends a step to the path.
     pub(crate) fn push(&mut self, step: Step) -> Result<(), AllocError>
         requires built { IsBuilt self.old.closed.items self.old.run.items }
         requires valid { IsStep step }
@@ -73,7 +73,7 @@ impl PathBuilder {
         Ok(())
     }
 
-    /// Makes a sequence of the numbers behind the closed segments, if there are any.
+    /// Makes a sequence of the numbers after the closed segments, if there are any.
     fn close(&mut self) -> Result<(), AllocError>
         requires room { length self.old.run.items ≤ 255 }
         ensures closed { OnOk result (self.new.closed.items ≡ self.old.closed.items ++ run self.old.run.items) }

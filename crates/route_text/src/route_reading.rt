@@ -37,7 +37,7 @@ pub fn read_route(alloc: Global, text: &str) -> Result<Route, TextError>
     Ok(route)
 }
 
-/// The route of a text. It may take other spellings of an address too.
+/// The route of a text. It may also accept other forms of an address.
 fn read_fields(alloc: Global, text: &str) -> Result<Route, TextError>
     ensures valid { IfOk result IsRoute }
     ensures normal { IfOk result (λ r. IsNormalPath r.path) }

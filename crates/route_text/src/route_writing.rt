@@ -12,7 +12,7 @@ use std::alloc::AllocError;
 
 /// Writes the eight fields of a route at the end of `out`, with `|` between them: path, origin,
 /// next hop, MED, LOCAL_PREF, `AG` or `NAG` for ATOMIC_AGGREGATE, aggregator and the other
-/// attributes (RFC 4271 section 5.1). After an error nothing is said of `out`.
+/// attributes (RFC 4271 section 5.1). After an error the content of `out` is unspecified.
 pub fn write_route(out: &mut String, route: &Route) -> Result<(), AllocError>
     ensures text { OnOk result (string_bytes out.new ≡ string_bytes out.old ++ route_text route.now) }
 {

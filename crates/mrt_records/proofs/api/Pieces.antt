@@ -53,7 +53,7 @@ reached_on pieces left piece held rest old mid new p f = record {
   gained = subst (λ (t : List ℕ). GainsFrames t rest old new) (sym (stream-push p.before piece)) (frames_then (stream p.before) held piece.items rest old mid new p.gained f);
 }
 
--- more octets behind what is above the limit add nothing
+-- more octets after those above the limit add nothing
 frames_over : (bytes rest more : List ℕ) (old new : List Item) → GainsFrames bytes rest old new → (BeginsWithRecord (rest ++ more) → ⊥) → GainsFrames (bytes ++ more) (rest ++ more) old new
 frames_over bytes rest more old new p stop = (p.0, record { whole = ap (λ (t : List ℕ). t ++ more) p.1.whole ∙ append_assoc (joined p.0) rest more; each = p.1.each; ended = stop }, p.2)
 

@@ -29,7 +29,7 @@ whole_front n bytes high len limit =
     let size = length-take n bytes in
     record { header = omega (arith, size); limit = omega (arith, same); whole = omega (arith, size, same) }
 
--- the front that is a record tells its length
+-- the front that is a record determines its length
 front_length : (bytes : List ℕ) (b : BeginsWithRecord bytes) → (body_length bytes ≡ body_length b.0) × (12 + body_length bytes ≤ length bytes) × (body_length bytes ≤ 131072)
 front_length bytes b =
     let same : body_length bytes ≡ body_length b.0 = ap (λ (t : List ℕ). number_at 4 8 t) b.3 ∙ number_at-append 4 8 b.0 b.1 (omega (arith, b.2.header)) in
@@ -89,7 +89,7 @@ pub all-append : {A : Type 0} (P : A → Type 0) (xs ys : List A) → AllByRecur
 all-append P [] ys p q = q
 all-append P (x ∷ xs) ys p q = (p.0, all-append P xs ys p.1 q)
 
--- how far a list of items has come in octets: the records behind it, what they gave, and what is left
+-- how far a list of items has come in octets: the records already read, what they gave, and what is left
 pub record Progress (bytes rest : List ℕ) (old new : List Item) : Type 0 where
   pub records : List (List ℕ)
   pub each : AllByRecursion IsRecord records
@@ -186,7 +186,7 @@ filled_whole old mid new piece first second no_record t long limit u =
       ];
     }
 
--- ---- the whole records of a piece behind what is held
+-- ---- the whole records of a piece after what is held
 
 -- a record, and then the records of what follows it
 pub frames_cons : (first bytes rest : List ℕ) (old mid new : List Item) → IsRecord first → Gains old mid (first ∷ []) → GainsFrames bytes rest mid new → GainsFrames (first ++ bytes) rest old new
@@ -237,6 +237,6 @@ filled_beyond old held piece n items f over =
     let above = over-append held (drop n piece) over in
     (drop n piece, subst (λ (t : List ℕ). GainsFrames t (held ++ drop n piece) items items) (filled_parts old held piece n f) (frames_none (held ++ drop n piece) items (over_begins_none (held ++ drop n piece) above)), over)
 
--- more octets behind what is above the limit add nothing
+-- more octets after those above the limit add nothing
 pub over_stays : (was piece : List ℕ) (old : List Item) → Over was → EndsOver (was ++ piece) was old old
 over_stays was piece old over = (piece, frames_none (was ++ piece) old (over_begins_none (was ++ piece) (over-append was piece over)), over)

@@ -132,7 +132,7 @@ length_of_drop zero (x ∷ xs) p qs e = omega arith
 length_of_drop (suc n) [] p qs e = cc
 length_of_drop (suc n) (x ∷ xs) p qs e = let ih = length_of_drop n xs p qs e in omega (arith, ih)
 
--- a front that is told by whole admissions
+-- a front that consists of whole admissions
 front_none : (n some : ℕ) (ps qs : List (Placed Admitted)) → some ≡ 0 → take n qs ≡ take n ps → front n some qs ≡ front n some ps
 front_none n zero ps qs e t = ap (λ l. l ++ []) t
 front_none n (suc k) ps qs e t = cc

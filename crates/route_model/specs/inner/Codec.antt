@@ -1,4 +1,4 @@
--- Reading from left to right: a value and the octets after it, or none. It may read more than spellings.
+-- Reading from left to right: a value and the octets after it, or none. It may accept more than valid encodings.
 use Rattle.std.specs.Prelude.{◌≡◌, ℕ, zero, suc, Bool, true, false, ◌&&◌, List, [], ◌∷◌, ◌++◌, length, take, drop, replicate, Option, Some, None, Result, Ok, Err, nat_lt, ◌==◌, if◌then◌else◌, bit_and}
 use Rattle.std.specs.Int.{Width, w16, w32, w64, byte_len, from_be_bytes}
 use Rattle.std.specs.Str.{bytes_eq}

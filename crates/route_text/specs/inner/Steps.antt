@@ -28,12 +28,12 @@ segment_steps (segments.Sequence numbers) = map Number numbers
 abbrev pub steps : List Segment → List Step
 steps path = flat_map segment_steps path
 
--- the numbers behind the last segment, as a sequence
+-- the numbers after the last segment, as a sequence
 abbrev pub run : List ℕ → List Segment
 run [] = []
 run (n ∷ numbers) = segments.Sequence (n ∷ numbers) ∷ []
 
--- closed segments, behind which a further sequence may stand, and at most 255 numbers that aren't in a segment yet
+-- closed segments, after which a further sequence may follow, and at most 255 numbers that aren't in a segment yet
 pub record IsBuilt (closed : List Segment) (open_ : List ℕ) : Type 0 where
   pub normal : IsNormalPath (closed ++ segments.Sequence [] ∷ [])
   pub valid : AllByRecursion IsSegment closed

@@ -1,4 +1,4 @@
--- Reading an admission: it may read more than spellings.
+-- Reading an admission: it may accept more than valid encodings.
 use Rattle.std.specs.Prelude.{ℕ, ◌+◌, ◌*◌, ◌/◌, ◌-◌, List, ◌++◌, length, replicate, Option, Some, None, nat_lt, ◌==◌, if◌then◌else◌, slice_get}
 use Rattle.std.specs.Int.{w16, w64}
 use Rattle.route_model.specs.declared.address.Address.{Address}
