@@ -44,7 +44,7 @@ rest_of bytes f r p = rw (size_of bytes f r p, behind_of bytes f r p) (drop-appe
 pub counted_one : (bytes f g r s : List ℕ) → IsCounted bytes f r → IsCounted bytes g s → (f ≡ g) × (r ≡ s)
 counted_one bytes f g r s p q = (sym (field_of bytes f r p) ∙ field_of bytes g s q, sym (rest_of bytes f r p) ∙ rest_of bytes g s q)
 
--- the second counted field stands behind the first
+-- the second counted field follows the first
 pub second_of : (width : AsWidth) (bytes w m : List ℕ) (u : Changes) → IsCounted bytes w m → (up : IsUpdate width bytes u) → IsCounted m up.attribute_field up.announced_field
 second_of width bytes w m u p up =
     subst (λ (t : List ℕ). IsCounted t up.attribute_field up.announced_field) (counted_one bytes up.withdrawn_field w up.more m up.first p).1 up.second

@@ -1,4 +1,4 @@
--- Path attributes as messages spell them (RFC 4271 section 4.3), and what stands in a list of them.
+-- Path attributes as messages encode them (RFC 4271 section 4.3), and what a list of them contains.
 use Rattle.std.specs.Prelude.{◌≡◌, ℕ, ◌+◌, ◌-◌, ◌==◌, if◌then◌else◌, false, bit_and, List, [], ◌∷◌, length, drop, slice_index, Option, Some, None}
 use Rattle.std.specs.List.{list_any}
 use Rattle.route_model.specs.Octets.{number_at}

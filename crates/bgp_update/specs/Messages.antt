@@ -1,4 +1,4 @@
--- BGP messages (RFC 4271 section 4), and what a reader of them answers.
+-- BGP messages (RFC 4271 section 4), and what a reader of them returns.
 use Rattle.std.specs.Prelude.{◌≡◌, ◌≢◌, ℕ, ◌<◌, ◌≤◌, ◌==◌, ◌⊎◌, true, List, [], ◌∷◌, ◌++◌, length, take, drop, slice_index, Option, Some, None, Result, Ok, Err}
 use Rattle.std.specs.List.{list_all}
 use Rattle.route_model.specs.Octets.{number_at}
@@ -21,7 +21,7 @@ use Rattle.bgp_update.specs.declared.message.Message.TheVariants as messages
 use Rattle.bgp_update.specs.declared.fault.MessageFault.{MessageFault}
 use Rattle.bgp_update.specs.declared.fault.MessageFault.TheVariants as faults
 
--- ---- what is told, with lists for what a value owns
+-- ---- what is reported, with lists for what a value owns
 
 -- a route, and the prefixes that share it
 pub record Announced : Type 0 where
@@ -75,7 +75,7 @@ pub record IsHeader (bytes : List ℕ) (kind : ℕ) : Type 0 where
   pub size : number_at 2 16 bytes ≡ length bytes
   pub is_kind : kind ≡ slice_index bytes 18
 
--- two octets that tell how many octets the field has, the field, and the rest
+-- two octets with the number of octets in the field, the field, and the rest
 pub record IsCounted (bytes field rest : List ℕ) : Type 0 where
   pub size : List ℕ
   pub two : length size ≡ 2
@@ -102,7 +102,7 @@ pub record IsUpdateOf (width : AsWidth) (withdrawn_field attribute_field announc
   pub by_next_hop : IsAnnounced announced (route_of attributes (four_hop attributes.next_hop)) u.announced
   pub by_reach : IsAnnounced reached (route_of attributes (hop_of reach)) u.reachable
 
--- the octets behind the header of an UPDATE (section 4.3): two counted fields, and NLRI to the end
+-- the octets after the header of an UPDATE (section 4.3): two counted fields, and NLRI to the end
 pub record IsUpdate (width : AsWidth) (bytes : List ℕ) (u : Changes) : Type 0 where
   pub withdrawn_field : List ℕ
   pub more : List ℕ
@@ -118,7 +118,7 @@ IsMessage width bytes (Update changes) = IsHeader bytes 2 × IsUpdate width (dro
 IsMessage width bytes Notification = IsHeader bytes 3
 IsMessage width bytes (Other kind) = IsHeader bytes kind × (kind ≢ 2) × (kind ≢ 3) × (kind ≡ 4 → length bytes ≡ 19)
 
--- ---- what the reader answers
+-- ---- what the reader returns
 
 -- a route of more octets than an admission may hold
 abbrev pub IsLarge : Option Announced → Type 0
@@ -131,7 +131,7 @@ HasLarge (Update changes) = IsLarge changes.announced ⊎ IsLarge changes.reacha
 HasLarge Notification = ⊥
 HasLarge (Other kind) = ⊥
 
--- a message whose routes all fit; or why there is none. Only an UPDATE wants memory
+-- a message whose routes all fit; or why there is none. Only an UPDATE needs memory
 abbrev pub AnswersMessage : AsWidth → List ℕ → Result Message MessageFault → Type 0
 AnswersMessage width bytes (Ok message) = IsMessage width bytes (told message) × (HasLarge (told message) → ⊥)
 AnswersMessage width bytes (Err faults.Malformed) = (m : Told) → IsMessage width bytes m → ⊥

@@ -43,7 +43,7 @@ pub record IsBehind (family : Family) (behind : List ℕ) (hop : NextHop) (nlri 
   pub is_hop : IsHop octets hop
   pub may_lead : MayLead family octets
 
--- AFI 2, SAFI 1, and what is behind them (RFC 4760 section 3)
+-- AFI 2, SAFI 1, and what follows them (RFC 4760 section 3)
 pub record IsReachOf (value : List ℕ) (reach : Reach) : Type 0 where
   pub room : 3 ≤ length value
   pub family : family_at value ≡ Some reach.family

@@ -1,4 +1,4 @@
--- AS paths as messages spell them (RFC 4271 section 4.3, AS_PATH; RFC 6793 section 3, AS4_PATH).
+-- AS paths as messages encode them (RFC 4271 section 4.3, AS_PATH; RFC 6793 section 3, AS4_PATH).
 use Rattle.std.specs.Prelude.{◌≡◌, ℕ, ◌+◌, ◌*◌, ◌<◌, Bool, nat_lt, List, length, filter, slice_index}
 use Rattle.route_model.specs.Octets.{number_at}
 use Rattle.route_model.specs.Sequence.{Sequence}
@@ -15,7 +15,7 @@ abbrev pub numbers : Segment → List ℕ
 numbers (segments.Set ns) = ns
 numbers (segments.Sequence ns) = ns
 
--- a type, a count, and so many AS numbers of the width
+-- a type, a count, and that number of AS numbers of the width
 pub record IsSegmentField (width : ℕ) (field : List ℕ) (s : Segment) : Type 0 where
   pub size : length field ≡ 2 + width * length (numbers s)
   pub kind : code s ≡ slice_index field 0

@@ -110,10 +110,10 @@ fn reading_of<'a>(
     })
 }
 
-/// What the list of path attributes in all of the octets reads as, at the width of AS numbers that the session
-/// had (RFC 4271 section 4.3, RFC 6793). Malformed where an attribute runs past the octets, a type stands twice,
-/// or the value of a type that is read is none of that type; the values of AS4_PATH and AS4_AGGREGATOR never are a
-/// fault, and those of MP_REACH_NLRI and MP_UNREACH_NLRI aren't looked at. `OutOfMemory` where a growth was refused.
+/// What the list of path attributes in all of the octets reads as, at the width of AS numbers that the session used
+/// (RFC 4271 section 4.3, RFC 6793). Malformed where an attribute runs past the octets, a type occurs twice, or the
+/// value of a type that is read is none of that type; the values of AS4_PATH and AS4_AGGREGATOR never are a fault, and
+/// those of MP_REACH_NLRI and MP_UNREACH_NLRI aren't looked at. `OutOfMemory` where a growth was refused.
 pub fn read_attributes(
     alloc: Global,
     bytes: &[u8],

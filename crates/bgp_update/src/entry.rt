@@ -96,10 +96,10 @@ fn made(alloc: Global, attributes: PathAttributes<'_>, next_hop: Option<NextHop>
     })
 }
 
-/// The route of a RIB entry whose attributes read so, in a record of this family (RFC 6396 section 4.3.4). A
-/// missing ORIGIN counts as INCOMPLETE, a missing AS_PATH as empty; MP_UNREACH_NLRI isn't looked at. Malformed
-/// where MP_REACH_NLRI has no reading, or no attribute gives a next hop; `RouteTooLarge` where the spelling of
-/// the route has more than 3,072 octets. Nothing is allocated.
+/// The route of a RIB entry whose attributes read so, in a record of this family (RFC 6396 section 4.3.4). A missing
+/// ORIGIN counts as INCOMPLETE, a missing AS_PATH as empty; MP_UNREACH_NLRI isn't looked at. Malformed where
+/// MP_REACH_NLRI has no reading, or no attribute gives a next hop; `RouteTooLarge` where the encoding of the route has
+/// more than 3,072 octets. Nothing is allocated.
 pub fn entry_route(
     alloc: Global,
     attributes: PathAttributes<'_>,

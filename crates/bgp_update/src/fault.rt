@@ -6,13 +6,13 @@ ghost use Rattle.bgp_update.specs.Faults.{message_fault};
 use route_model::octets::ReadFault;
 use thiserror::Error;
 
-/// Why a message or the attributes of a RIB entry aren't told.
+/// Why a message or the attributes of a RIB entry are refused.
 #[derive(Clone, Copy, Debug, Error, PartialEq, Eq)]
 pub enum MessageFault {
     /// They have no reading.
     #[error("the message is malformed")]
     Malformed,
-    /// A route that they announce has a spelling of more than 3,072 octets.
+    /// A route that they announce has an encoding of more than 3,072 octets.
     #[error("a route has more than 3072 octets")]
     RouteTooLarge,
     /// A growth of memory was refused.

@@ -30,7 +30,7 @@ pub(crate) fn count_of(path: &[Segment]) -> usize
     sum
 }
 
-/// How many whole segments the leading part that counts so many has, and how many numbers of the next.
+/// The leading part of weight `wanted`: how many whole segments it has, and how many numbers of the next one.
 fn place_of(path: &[Segment], wanted: usize) -> (usize, usize)
     ensures within { result.0 ≤ length path.now }
     ensures leading { leading path.now wanted ≡ take result.0 path.now ++ leading (drop result.0 path.now) result.1 }
@@ -47,7 +47,7 @@ fn place_of(path: &[Segment], wanted: usize) -> (usize, usize)
     (path.len(), left)
 }
 
-/// The first so many numbers of a segment.
+/// The first `wanted` numbers of a segment.
 fn first_of(alloc: Global, s: &Segment, wanted: usize) -> Result<Segment, AllocError>
     requires { (0 < wanted) × (wanted < weight s.now) }
     ensures { IfOk result (λ x. x ≡ first_numbers wanted s.now) }
@@ -61,7 +61,7 @@ fn first_of(alloc: Global, s: &Segment, wanted: usize) -> Result<Segment, AllocE
     }
 }
 
-/// Cuts a path to its leading part that counts so many.
+/// Cuts a path to its leading part of weight `wanted`.
 fn cut(alloc: Global, path: &mut Vec<Segment>, wanted: usize) -> Result<(), AllocError>
     ensures { OnOk result (path.new.items ≡ leading path.old.items wanted) }
 {

@@ -34,7 +34,7 @@ fn all_ones(bytes: &[u8]) -> bool
     bytes.iter().all(|b| *b == 255)
 }
 
-/// The type that the header tells, or none where it is no header of these octets.
+/// The type in the header, or none where it is no header of these octets.
 fn kind_of(bytes: &[u8]) -> Option<u8>
     ensures found { IfSome result (λ kind. IsHeader bytes.now kind) }
     ensures none { IfNone result ((kind : ℕ) → IsHeader bytes.now kind → ⊥) }
@@ -92,9 +92,9 @@ fn has_large(message: &Message) -> bool
     }
 }
 
-/// The message that all of the octets are, at the width of AS numbers that the session had (RFC 4271 section 4,
-/// RFC 4760, RFC 6793). `Malformed` where they are none; `RouteTooLarge` where they are one that announces a route
-/// whose spelling has more than 3,072 octets; `OutOfMemory` where a growth was refused, which only an UPDATE wants.
+/// The message that all of the octets are, at the width of AS numbers that the session used (RFC 4271 section 4, RFC
+/// 4760, RFC 6793). `Malformed` where they are none; `RouteTooLarge` where they are one that announces a route whose
+/// encoding has more than 3,072 octets; `OutOfMemory` where a growth was refused, which only an UPDATE needs.
 pub fn read_message(alloc: Global, bytes: &[u8], width: AsWidth) -> Result<Message, MessageFault>
     ensures message { AnswersMessage width bytes.now result }
 {

@@ -39,7 +39,7 @@ pub(crate) fn family_in(value: &[u8]) -> Option<Family>
     }
 }
 
-/// The next hop and the prefixes behind AFI and SAFI.
+/// The next hop and the prefixes after AFI and SAFI.
 fn hop_and_prefixes(family: Family, behind: &[u8]) -> Option<(NextHop, &[u8])>
     ensures found { IfSome result (λ r. IsBehind family behind.now r.0 r.1.now) }
     ensures none { IfNone result ((hop : NextHop) (nlri : List ℕ) → IsBehind family behind.now hop nlri → ⊥) }
@@ -57,7 +57,7 @@ fn hop_and_prefixes(family: Family, behind: &[u8]) -> Option<(NextHop, &[u8])>
     Some((hop, more.split_at(1).1))
 }
 
-/// What the value of MP_REACH_NLRI tells: nothing where its family isn't read. None where it is malformed.
+/// What the value of MP_REACH_NLRI says: nothing where its family isn't read. None where it is malformed.
 pub(crate) fn reach_in<'a>(value: &ValueOctets<'a>) -> Option<Option<Reach<'a>>>
     ensures { OrNone (IsReach value.now) result }
 {
@@ -78,7 +78,7 @@ pub(crate) fn reach_in<'a>(value: &ValueOctets<'a>) -> Option<Option<Reach<'a>>>
     }))
 }
 
-/// What MP_REACH_NLRI tells, where it stands. None where it is malformed.
+/// What MP_REACH_NLRI says, where it is present. None where it is malformed.
 pub(crate) fn reach_of<'a>(value: &Option<ValueOctets<'a>>) -> Option<Option<Reach<'a>>>
     ensures { OrNone (IsReached value.now) result }
 {

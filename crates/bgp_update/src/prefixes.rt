@@ -15,7 +15,7 @@ use route_model::octets::ReadFault;
 use route_model::wire::{Family, prefix_at};
 use std::alloc::Global;
 
-/// How many prefixes stand one after another, as far as the octets hold them: room is made for so many.
+/// The number of prefixes one after another, as far as the octets hold them: room is made for that many.
 fn count_of(bytes: &[u8]) -> usize
     ensures { result ≤ length bytes.now }
 {

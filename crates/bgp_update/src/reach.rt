@@ -1,4 +1,4 @@
-//! What MP_REACH_NLRI tells (RFC 4760 section 3).
+//! What MP_REACH_NLRI says (RFC 4760 section 3).
 
 use crate::attribute::ValueOctets;
 use route_model::NextHop;

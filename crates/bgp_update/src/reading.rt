@@ -20,7 +20,7 @@ pub struct PathAttributes<'a> {
     pub atomic_aggregate: bool,
     /// AGGREGATOR, or the AS4_AGGREGATOR that replaces it.
     pub aggregator: Option<Aggregator>,
-    /// The value of MP_REACH_NLRI, which messages and RIB entries spell in two ways.
+    /// The value of MP_REACH_NLRI, which messages and RIB entries encode in two ways.
     pub reach: Option<ValueOctets<'a>>,
     /// The value of MP_UNREACH_NLRI.
     pub unreach: Option<ValueOctets<'a>>,

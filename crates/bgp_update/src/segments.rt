@@ -26,7 +26,7 @@ pub(crate) struct Part {
     pub(crate) numbers: Vec<u32>,
 }
 
-/// So many AS numbers that stand one after another behind the two octets of a segment's header.
+/// `count` AS numbers, one after another, after the two octets of a segment's header.
 fn numbers_of(
     alloc: Global,
     bytes: &[u8],
@@ -82,7 +82,7 @@ fn push_segment(path: &mut Vec<Segment>, part: Part) -> Result<(), AllocError>
     Ok(())
 }
 
-/// How many segments stand one after another, as far as the octets hold them: room is made for so many.
+/// The number of segments one after another, as far as the octets hold them: room is made for that many.
 fn count_of(bytes: &[u8], width: AsWidth) -> usize
     ensures { 2 * result ≤ length bytes.now }
 {

@@ -13,7 +13,7 @@ use route_model::octets::{ReadFault, u16_at};
 use route_model::wire::{AsWidth, Family};
 use std::alloc::Global;
 
-/// The field that two octets count, and the octets behind it.
+/// The field that two octets count, and the octets after it.
 fn counted_at(bytes: &[u8]) -> Option<(&[u8], &[u8])>
     ensures found { IfSome result (λ r. IsCounted bytes.now r.0.now r.1.now) }
     ensures none { IfNone result ((field rest : List ℕ) → IsCounted bytes.now field rest → ⊥) }
@@ -61,7 +61,7 @@ fn read_parts(
     })
 }
 
-/// What the octets behind the header of an UPDATE withdraw and announce.
+/// What the octets after the header of an UPDATE withdraw and announce.
 pub(crate) fn read_update(alloc: Global, bytes: &[u8], width: AsWidth) -> Result<Update, ReadFault>
     ensures { Exactly changes_told (IsUpdate width bytes.now) result }
 {

@@ -94,7 +94,7 @@ pub(crate) fn atomic_in(list: &[PathAttribute<'_>]) -> Result<bool, ReadFault>
     Ok(true)
 }
 
-/// The AGGREGATOR that these octets are: their number tells the width of its AS number.
+/// The AGGREGATOR that these octets are: their number determines the width of its AS number.
 fn aggregator_of(octets: &[u8]) -> Option<Aggregator>
     ensures found { IfSome result (λ a. IsAggregator octets.now a) }
     ensures none { IfNone result ((a : Aggregator) → IsAggregator octets.now a → ⊥) }

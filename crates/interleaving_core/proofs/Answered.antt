@@ -41,7 +41,7 @@ use Rattle.interleaving_core.proofs.Sound.{IsSound, step_fine, created_sound}
 abbrev vec : {X : Type 0} (xs : List X) → length xs < 2 ^ 63 → Vec X
 vec xs few = record { ptr = null_ptr; len = length xs; cap = length xs; alloc = record { memory = record { seal = tt } }; items = xs; ok = (refl, omega arith); small = few }
 
--- what is told of the step, and the world that it leads to
+-- the reply of the step, and the world that it leads to
 abbrev Answered : (Reply → World → Type 0) → Type 0
 Answered Says = (reply : Reply) × (v : World) × Says reply v
 

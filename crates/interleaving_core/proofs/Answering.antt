@@ -1,4 +1,4 @@
--- An answer that is right is told by one turn to its end.
+-- An answer that is right is given by one turn to its end.
 use Rattle.std.proofs.Common.{◌≡◌, ◌<◌, ℕ, List, Some, false, inl, inr, refl, sym, subst}
 use Rattle.std.specs.List.{slice_get, slice_set}
 use Rattle.route_model.specs.Admission.{Admitted}

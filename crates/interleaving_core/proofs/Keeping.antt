@@ -57,7 +57,7 @@ earlier (i ∷ is) (k ∷ js) (suc c) j z at = earlier is js c j z.1 at
 
 -- ---- what the steps gave
 
--- the collector's intake after a step that offered some, added these, and told these times and marks behind the earlier ones
+-- the collector's intake after a step that offered some, added these, and gave these times and marks after the earlier ones
 record After (h : History) (c : ℕ) (i : Intake) (added : List Admitted) (earlier told : List ℕ) (offered : List Admitted) : Type 0 where
   intake : Intake
   here : slice_get h.intakes c ≡ Some intake
@@ -65,7 +65,7 @@ record After (h : History) (c : ℕ) (i : Intake) (added : List Admitted) (earli
   mark_is : intake.mark ≡ greatest 0 (earlier ++ told)
   offered_is : intake.offered ≡ i.offered + length offered
 
--- the mark of the intake is the greatest of what was told
+-- the mark of the intake is the greatest of the times and marks given
 abbrev IsTold : Intake → List ℕ → Type 0
 IsTold i earlier = i.mark ≡ greatest 0 earlier
 
@@ -134,7 +134,7 @@ mark_after_is w d c mark i earlier is back at = elim (cases_Bool (d == c)) [
   })
 ]
 
--- what the step says was added and told
+-- what the step says was added and given
 abbrev AfterStep : World → ℕ → Intake → List ℕ → Step → Reply → Type 0
 AfterStep v c i earlier step reply = After v.history c i (taken_by c earlier step reply) earlier (told_by c step reply) (offered_by c step reply)
 
@@ -143,7 +143,7 @@ after_admit : (w v : World) (d c : ℕ) (batch : List Admitted) (i : Intake) (ea
 after_admit w v d c batch i earlier told is a at =
     subst (λ (x : World). After x.history c i (cond (d == c) (timely admitted_time 0 earlier batch) []) earlier (cond (d == c) (map admitted_time batch) []) (cond (d == c) batch [])) (sym a.after) (batch_after w d c batch i earlier is at)
 
--- a step that is told that all is down
+-- a step whose reply is that all is down
 down_after : (w v : World) (c : ℕ) (i : Intake) (earlier : List ℕ) (step : Step) (reply : Reply) → IsTold i earlier → reply ≡ NeedsRecovery → v ≡ w
     → taken_by c earlier step NeedsRecovery ≡ [] → told_by c step NeedsRecovery ≡ [] → offered_by c step NeedsRecovery ≡ [] → slice_get w.history.intakes c ≡ Some i → AfterStep v c i earlier step reply
 down_after w v c i earlier step reply is e same none untold unoffered at =
@@ -252,7 +252,7 @@ step_kept n w m h steps replies (Admit c batch) (Taken told) valid run d b =
 step_kept n w m h steps replies (Admit c batch) _ valid run d b = tt
 step_kept n w m h steps replies _ reply valid run d b = tt
 
--- each batch that was taken stands behind what was given before it
+-- each batch that was taken follows what was given before it
 pub each_kept : (n : ℕ) (v : World) (steps : List Step) (replies : List Reply) (k : ℕ) (step : Step) (reply : Reply) → AllByRecursion IsStep steps → Runs (created n) steps replies v → slice_get steps k ≡ Some step → slice_get replies k ≡ Some reply
     → IsKept v.history (take k steps) (take k replies) step reply
 each_kept n v steps replies k step reply valid run at told =

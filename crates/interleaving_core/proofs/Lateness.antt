@@ -1,4 +1,4 @@
--- What is below a collector's mark is below some time or mark that was told of it, and the other way round.
+-- What is below a collector's mark is below some time or mark that was given for it, and the other way round.
 use Rattle.std.proofs.Common.{◌≡◌, ℕ, ◌+◌, List, [], ◌∷◌, ◌++◌, ltb, max, refl, sym, ap, ◌∙◌, arith, append-nil, append_assoc}
 use Rattle.sequencer.specs.Late.{greatest, is_late, timely, lates}
 use Rattle.sequencer.proofs.api.Sieving.{is_late-greatest}
@@ -11,7 +11,7 @@ pub greatest-append : (mark : ℕ) (xs ys : List ℕ) → greatest mark (xs ++ y
 greatest-append mark [] ys = refl
 greatest-append mark (x ∷ xs) ys = ap (max x) (greatest-append mark xs ys) ∙ sym (greatest-max x (greatest mark xs) ys)
 
--- late by a mark and these times is late by all that was told
+-- late by a mark and these times is late by all that was given
 late_is : (told ts : List ℕ) (t : ℕ) → is_late (greatest 0 told) ts t ≡ is_late 0 (told ++ ts) t
 late_is told ts t = is_late-greatest (greatest 0 told) ts t ∙ (ap (ltb t) (sym (greatest-append 0 told ts)) ∙ sym (is_late-greatest 0 (told ++ ts) t))
 

@@ -10,7 +10,7 @@ use Rattle.route_meaning.proofs.api.Sorting.{all_weaker, rises_by_time}
 use Rattle.route_meaning.proofs.api.Settling.{rises_drop}
 use Rattle.interleaving_core.specs.Steps.{moved, Applies, AppliesMore, NothingToApply}
 
--- from a place on stands the admission there, and those behind it
+-- the list from a place on is the admission at this place, and those after it
 pub waits : (n : ℕ) (ps : List (Placed Admitted)) (p : Placed Admitted) → n < length ps → p ≡ get_or ps n p → drop n ps ≡ p ∷ drop (suc n) ps
 waits n [] p lt e = absurd (omega arith)
 waits zero (q ∷ ps) p lt e = ap (λ (x : Placed Admitted). x ∷ ps) (sym e)
@@ -23,7 +23,7 @@ module _ (h : History) (next : Placed Admitted) (later : List (Placed Admitted))
   pub applies_whole : IsBelowMarks h (time_of next) → length next.item.changes ≤ suc h.some → Applies h (moved h (suc h.whole) 0)
   applies_whole below le = record { next = next; later = later; here = here; below = below; part = λ l. absurd (omega arith); whole = λ l. refl }
 
-  -- where the first that waits isn't below every mark, nothing may be applied: those behind it are no earlier
+  -- where the first that waits isn't below every mark, nothing may be applied: those after it are no earlier
   pub nothing : (IsBelowMarks h (time_of next) → ⊥) → NothingToApply h
   nothing never =
       let all_rise : IsRising time_of (waiting h) = rises_drop time_of h.whole (all_of h) (rises_by_time time_of (all_placed 0 (map (λ (i : Intake). i.admitted) h.intakes))) in
@@ -42,7 +42,7 @@ past_all (suc n) (p ∷ ps) le = past_all n ps (omega arith)
 pub none_waits : (h : History) → length (all_of h) ≤ h.whole → NothingToApply h
 none_waits h le = subst (AllByRecursion (λ p. IsBelowMarks h (time_of p) → ⊥)) (sym (past_all h.whole (all_of h) le)) tt
 
--- just so many changes are applied
+-- exactly this many changes are applied
 abbrev pub AppliesAll : ℕ → History → History → Type 0
 AppliesAll zero h g = g ≡ h
 AppliesAll (suc n) h g = (m : History) × Applies h m × AppliesAll n m g

@@ -98,7 +98,7 @@ length_set [] i y = refl
 length_set (x ∷ xs) zero y = refl
 length_set (x ∷ xs) (suc i) y = ap suc (length_set xs i y)
 
--- after one question is set, each number has the question that it had, or asks the same
+-- after one question is set, each number has the same question as before, or one that asks the same
 set_asks : (xs : List Question) (i j : ℕ) (x y q : Question) → slice_get xs i ≡ Some x → asked y ≡ asked x → slice_get xs j ≡ Some q → (r : Question) × (slice_get (slice_set xs i y) j ≡ Some r) × (asked r ≡ asked q)
 set_asks [] i j x y q here same at = absurd (none-some q at)
 set_asks (z ∷ xs) zero zero x y q here same at = (y, refl, same ∙ ap asked (sym (same_Some z x here)) ∙ ap asked (same_Some z q at))

@@ -1,4 +1,4 @@
--- What each step does to the world, and what it answers; and runs of steps.
+-- What each step does to the world, and what it replies; and runs of steps.
 use Rattle.std.specs.Prelude.{ℕ, List, [], ◌∷◌, ◌++◌, ◌+◌, ◌≡◌, ◌<◌, ◌≤◌, ◌⊎◌, true, false, Some, length, slice_get, slice_set}
 use Rattle.std.specs.List.{AllByRecursion}
 use Rattle.route_model.specs.Admission.{Admitted, IsAdmission}
@@ -19,11 +19,11 @@ use Rattle.interleaving_core.specs.declared.question.Question.TheVariants.{OfRow
 use Rattle.interleaving_core.specs.World.{World, asked, started, with_history, with_questions, crashed}
 use Rattle.interleaving_core.specs.Turns.{TakesTurn}
 
--- all is up, and this; or all is down, which is told, and nothing is done
+-- all is up, and this; or all is down, which is the reply, and nothing is done
 abbrev pub WhenUp : World → Reply → World → Type 0 → Type 0
 WhenUp w reply v Up = ((w.down ≡ false) × Up) ⊎ ((w.down ≡ true) × (reply ≡ NeedsRecovery) × (v ≡ w))
 
--- what is told of a batch that the collector c gives after this intake
+-- the reply to a batch that the collector c gives after this intake
 pub record IsReply (i : Intake) (c : ℕ) (batch : List Admitted) (told : BatchReply) : Type 0 where
   pub collector : told.receipt.collector ≡ c
   pub from : told.receipt.from ≡ length i.admitted
@@ -51,7 +51,7 @@ DoesMark w c mark NoCollector v = (IsCollector w.history c → ⊥) × (v ≡ w)
 DoesMark w c mark MarkBack v = IsMarkAbove w.history c mark × (v ≡ w)
 DoesMark w c mark _ v = ⊥
 
--- the next change is applied, and up to so many more
+-- the next change is applied, and up to `more` after it
 pub record AppliesSome (w : World) (more : ℕ) (v : World) : Type 0 where
   pub first : History
   pub last : History
@@ -59,7 +59,7 @@ pub record AppliesSome (w : World) (more : ℕ) (v : World) : Type 0 where
   pub others : AppliesMore more first last
   pub after : v ≡ with_history w last
 
--- nothing was applied, or, where all is up, fewer changes than so many behind the next one
+-- nothing was applied, or, where all is up, the next change and up to some number below `more` after it
 abbrev pub AppliesLess : World → ℕ → World → Type 0
 AppliesLess w more v = (v ≡ w) ⊎ ((w.down ≡ false) × (fewer : ℕ) × (fewer < more) × AppliesSome w fewer v)
 
@@ -89,7 +89,7 @@ pub record Turns (w : World) (i : ℕ) (reach : Reach) (reply : Reply) (v : Worl
   pub turn : TakesTurn (applied w.history) reach question reply new
   pub after : v ≡ with_questions w (slice_set w.questions i new)
 
--- the question of this number is in progress, and its last moment isn't below the settled watermark, which is told
+-- the question of this number is in progress, and its last moment isn't below the settled watermark, which is reported
 pub record IsAboveWatermark (w : World) (i told : ℕ) : Type 0 where
   pub question : Question
   pub here : slice_get w.questions i ≡ Some question
@@ -105,8 +105,8 @@ DoesTurn w i reach (AboveWatermark told) v = IsAboveWatermark w i told × (v ≡
 DoesTurn w i reach NoQuestion v = ((question : Question) → slice_get w.questions i ≡ Some question → IsInProgress question → ⊥) × (v ≡ w)
 DoesTurn w i reach _ v = ⊥
 
--- From w the step answers so and leads to v. A crash ends all questions, whose numbers stay taken; until a recover each other step
--- but a begin and a crash is told that all is down.
+-- From w the step gives this reply and leads to v. A crash ends all questions, whose numbers stay taken; until a recover each other step but a begin and a
+-- crash replies that all is down.
 abbrev pub Does : World → Step → Reply → World → Type 0
 Does w (Admit c batch) r v = WhenUp w r v (DoesAdmit w c batch.items r v)
 Does w (Mark c mark) r v = WhenUp w r v (DoesMark w c mark r v)
@@ -117,7 +117,7 @@ Does w (Turn i reach) r v = WhenUp w r v (DoesTurn w i reach r v)
 Does w Crash r v = (r ≡ Crashed) × (v ≡ crashed w)
 Does w Recover r v = (r ≡ Recovered) × (v ≡ record { history = w.history; questions = w.questions; down = false })
 
--- from w the steps, one after another, answer so and lead to v
+-- from w the steps, one after another, give these replies and lead to v
 abbrev pub Runs : World → List Step → List Reply → World → Type 0
 Runs w [] [] v = v ≡ w
 Runs w [] (r ∷ rs) v = ⊥

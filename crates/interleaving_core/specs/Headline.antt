@@ -27,13 +27,13 @@ IsAnswered ps (Rows q) (EventsTold a) = ⊥
 IsAnswered ps (Events q) (RowsTold a) = ⊥
 IsAnswered ps (Events q) (EventsTold a) = IsEventsAnswer ps q a.events.items a.more
 
--- the times and the mark that the step told of the collector c, late records too
+-- the times and the mark that the step gave for the collector c, those of late records too
 abbrev pub told_by : ℕ → Step → Reply → List ℕ
 told_by c (Admit d batch) (Taken told) = if d == c then map admitted_time batch.items else []
 told_by c (Mark d mark) Marked = if d == c then mark ∷ [] else []
 told_by c step reply = []
 
--- all the times and marks that the steps told of the collector c
+-- all the times and marks that the steps gave for the collector c
 abbrev pub told_of : ℕ → List Step → List Reply → List ℕ
 told_of c [] replies = []
 told_of c (step ∷ steps) [] = []
@@ -44,8 +44,8 @@ abbrev pub taken_by : ℕ → List ℕ → Step → Reply → List Admitted
 taken_by c earlier (Admit d batch) (Taken told) = if d == c then timely admitted_time 0 earlier batch.items else []
 taken_by c earlier step reply = []
 
--- All that the steps offered for the collector c that was taken and wasn't late, in the order of offering: each record below none of the times
--- and marks that were told of the collector before it, these earlier ones among them.
+-- All that the steps offered for the collector c that was taken and wasn't late, in the order of offering: each record below none of the times and marks that
+-- were given for the collector before it, these earlier ones among them.
 abbrev pub taken_of : ℕ → List ℕ → List Step → List Reply → List Admitted
 taken_of c earlier [] replies = []
 taken_of c earlier (step ∷ steps) [] = []
@@ -62,9 +62,8 @@ offered_of c [] replies = []
 offered_of c (step ∷ steps) [] = []
 offered_of c (step ∷ steps) (reply ∷ replies) = offered_by c step reply ++ offered_of c steps replies
 
--- The receipt names the collector. The list of the collector has at the receipt's numbers just the records of the batch that weren't late
--- behind these earlier times and marks, and before them these others. The late ones are told, and how many were offered in all, so many of
--- them before.
+-- The receipt names the collector. At the receipt's numbers the list of the collector has exactly the records of the batch that weren't late after these
+-- earlier times and marks, and before them these others. The reply reports the late ones, and how many were offered in all, `count` of them before.
 pub record Stands (h : History) (earlier : List ℕ) (before : List Admitted) (count : ℕ) (c : ℕ) (batch : List Admitted) (told : BatchReply) : Type 0 where
   pub intake : Intake
   pub here : slice_get h.intakes c ≡ Some intake
@@ -76,13 +75,13 @@ pub record Stands (h : History) (earlier : List ℕ) (before : List Admitted) (c
   pub offered : told.offered ≡ count + length batch
   pub late : told.late.items ≡ lates admitted_time 0 earlier 0 batch
 
--- where the step gave a batch that was taken, it stands: behind what these earlier steps gave for the collector, and told of it
+-- where the step gave a batch that was taken, it stands: after what these earlier steps gave for the collector, times and marks included
 abbrev pub IsKept : History → List Step → List Reply → Step → Reply → Type 0
 IsKept h steps replies (Admit c batch) (Taken told) = Stands h (told_of c steps replies) (taken_of c [] steps replies) (length (offered_of c steps replies)) c batch.items told
 IsKept h steps replies step reply = Unit {0}
 
--- What the collector c has is what the steps gave: its list is all that they offered for it that wasn't late, in the order of offering; its
--- mark is the greatest of the times and marks that they told of it; and its count is that of all that they offered for it.
+-- What the collector c has is what the steps gave: its list is all that they offered for it that wasn't late, in the order of offering; its mark is the
+-- greatest of the times and marks that they gave for it; and its count is that of all that they offered for it.
 pub record IsGiven (i : Intake) (c : ℕ) (steps : List Step) (replies : List Reply) : Type 0 where
   pub admitted : i.admitted ≡ taken_of c [] steps replies
   pub mark : i.mark ≡ greatest 0 (told_of c steps replies)

@@ -7,7 +7,7 @@ use Rattle.route_meaning.specs.Merged.{Placed}
 use Rattle.route_meaning.specs.History.{Intake, History, waiting, IsBelowMarks}
 use Rattle.route_meaning.specs.Holds.{admitted_time, time_of}
 
--- so many collectors, of which none gave anything
+-- the history of this many collectors, none of which has given anything
 abbrev pub empty : ℕ → History
 empty collectors = record { intakes = replicate collectors (record { admitted = []; mark = 0; offered = 0 }); whole = 0; some = 0 }
 
@@ -43,7 +43,7 @@ with_batch batch i = record { admitted = i.admitted ++ timely admitted_time i.ma
 abbrev pub given : History → ℕ → List Admitted → History
 given h c batch = record { intakes = changed c (with_batch batch) h.intakes; whole = h.whole; some = h.some }
 
--- so many admissions and changes are applied, and all else is the same
+-- the numbers of admissions and changes applied are set, and all else is the same
 abbrev pub moved : History → ℕ → ℕ → History
 moved h whole some = record { intakes = h.intakes; whole = whole; some = some }
 

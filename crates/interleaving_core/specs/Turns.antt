@@ -64,7 +64,7 @@ EventsTurn g reach all _ new = ⊥
 abbrev pub AreLeft : List (Placed Admitted) → RowsSoFar → List Row → Type 0
 AreLeft applied g left = AreRows applied g.question.moment g.question.select g.low None left
 
--- over what is applied the question takes a turn, is told this, and becomes that: a question that has ended is none
+-- over what is applied the question takes a turn, gets this reply, and becomes that; a question that has ended takes no turn
 abbrev pub TakesTurn : List (Placed Admitted) → Reach → Question → Reply → Question → Type 0
 TakesTurn applied reach (OfRows g) reply new = (left : List Row) × AreLeft applied g left × RowsTurn g reach (g.rows ++ added_rows g.low reach left) reply new
 TakesTurn applied reach (OfEvents g) reply new = EventsTurn g reach (g.events ++ added_events reach (drop (length g.events) (events applied g.question))) reply new

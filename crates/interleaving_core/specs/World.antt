@@ -29,7 +29,7 @@ pub record World : Type 0 where
   pub questions : List Question
   pub down : Bool
 
--- so many collectors gave nothing, and nothing was asked
+-- this many collectors gave nothing, and nothing was asked
 abbrev pub created : ℕ → World
 created collectors = record { history = empty collectors; questions = []; down = false }
 

@@ -62,7 +62,7 @@ impl Given {
         }
     }
 
-    /// Sets the mark, where it isn't above it; tells whether it did.
+    /// Sets the mark, where the present one isn't above it. Returns whether it did.
     pub(crate) fn raise(&mut self, mark: Mark) -> bool
         ensures raised { result ≡ true → (self.old.mark ≤ mark) × (self.new ≡ with_mark mark self.old) }
         ensures back { result ≡ false → (mark < self.old.mark) × (self.new ≡ self.old) }

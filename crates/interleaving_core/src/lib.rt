@@ -1,4 +1,4 @@
-//! The archive as a pure machine: what each step does to a history, what it answers, and what is true of every run of steps.
+//! The archive as a pure machine: what each step does to a history, what it replies, and what is true of every run of steps.
 #![tactic(auto)]
 
 mod applying;

@@ -44,7 +44,7 @@ impl Model for Machine {
 }
 
 impl Machine {
-    /// So many collectors gave nothing, and nothing was asked.
+    /// A machine with this many collectors, which gave nothing, and nothing was asked.
     pub fn created(alloc: Global, collectors: u8) -> Result<Machine, AllocError>
         ensures created { IfOk result (λ m. m ≡ created collectors) }
     {
@@ -105,7 +105,7 @@ impl Machine {
         Reply::Marked
     }
 
-    /// Applies the next change, where its admission is below every mark; tells whether it did.
+    /// Applies the next change, where its admission is below every mark. Returns whether it did.
     fn apply_one(&mut self) -> Result<bool, AllocError>
         ensures applied { IfOk result (λ did. did ≡ true → (g : History) × Applies self.old.history g × (self.new ≡ with_history self.old g)) }
         ensures idle { IfOk result (λ did. did ≡ false → NothingToApply self.old.history × (self.new ≡ self.old)) }
@@ -128,7 +128,7 @@ impl Machine {
         Ok(true)
     }
 
-    /// Applies up to so many changes more; fewer where memory is wanting.
+    /// Applies up to `more` changes more; fewer where memory runs out.
     fn apply_more(&mut self, more: u64) -> Result<(), AllocError>
         ensures all { OnOk result ((g : History) × AppliesMore more self.old.history g × (self.new ≡ with_history self.old g)) }
         ensures less { OnErr result ((fewer : ℕ) × (fewer < more) × (g : History) × AppliesMore fewer self.old.history g × (self.new ≡ with_history self.old g)) }
@@ -141,7 +141,7 @@ impl Machine {
         Ok(())
     }
 
-    /// The next change is applied, and up to so many more. Where memory is wanting, none may be applied, or fewer.
+    /// The next change is applied, and up to `more` after it. Where memory runs out, none may be applied, or fewer.
     pub fn apply(&mut self, more: u64) -> Result<Reply, AllocError>
         ensures does { IfOk result (λ reply. Does self.old (Apply more) reply self.new) }
         ensures less { OnErr result (AppliesLess self.old more self.new) }

@@ -3,7 +3,7 @@
 use route_meaning::{EventsAnswer, EventsQuestion, RowsAnswer, RowsQuestion};
 use route_model::Moment;
 
-/// A question: of one moment, or of what was told from one moment to another.
+/// A question: of one moment, or of what was reported from one moment to another.
 #[derive(Clone, Copy, Debug, PartialEq, Eq)]
 pub enum Query {
     Rows(RowsQuestion),

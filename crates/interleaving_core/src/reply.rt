@@ -1,4 +1,4 @@
-//! What steps answer.
+//! What steps reply.
 
 use crate::query::Answer;
 use route_model::Mark;
@@ -31,7 +31,7 @@ pub struct Resume {
     pub mark: Mark,
 }
 
-/// What a step answers.
+/// What a step replies.
 #[derive(Debug, Drop)]
 pub enum Reply {
     /// The batch is taken.

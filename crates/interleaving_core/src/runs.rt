@@ -13,7 +13,7 @@ use crate::step::Step;
 use route_model::Admission;
 use std::alloc::{AllocError, Global};
 
-/// What a run left: the machine behind its last step, and what each step answered.
+/// What a run left: the machine after its last step, and what each step replied.
 #[derive(Drop)]
 pub struct Ran {
     pub machine: Machine,
@@ -63,7 +63,7 @@ fn make(machine: &mut Machine, step: &Step) -> Result<Reply, AllocError>
     }
 }
 
-/// Makes the steps, one after another. Where memory is wanting, or a count of offered records is full, there is no run.
+/// Makes the steps, one after another. Where memory runs out, or a count of offered records is full, there is no run.
 pub fn run(alloc: Global, machine: Machine, steps: &[Step]) -> Result<Ran, AllocError>
     ensures runs { IfOk result (λ ran. Runs machine steps.now ran.replies.items ran.machine) }
     ensures headline { (collectors : ℕ) → machine ≡ created collectors → IfOk result (λ ran. Headline collectors steps.now ran.replies.items ran.machine) }

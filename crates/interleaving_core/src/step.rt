@@ -9,7 +9,7 @@ use route_model::{Admission, Mark};
 pub enum Reach {
     /// Over the rows up to this spot, itself included; it goes over no events.
     UpTo(Spot),
-    /// Over so many events more; it goes over no rows.
+    /// Over this many events more; it goes over no rows.
     Further(u64),
     /// Over all that is left.
     End,
@@ -22,7 +22,7 @@ pub enum Step {
     Admit(u8, Vec<Admission>),
     /// The collector of this number gives a mark.
     Mark(u8, Mark),
-    /// The next change is applied, and up to so many more.
+    /// The next change is applied, and up to this many more.
     Apply(u64),
     Flush,
     Begin(Query),

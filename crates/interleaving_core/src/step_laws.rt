@@ -26,7 +26,7 @@ pub fn steps_go_on()
     ensures applied { (h g : History) → Applies h g → Begins h g }
 {}
 
-/// An answer of a settled moment that is right over what is applied is told by one turn, to its end, of the question as it was begun. So a question that
+/// An answer of a settled moment that is right over what is applied is given by one turn, to its end, of the question as it was begun. So a question that
 /// is answered so is one of a run, with whatever steps were made since it began, and what is true of every run is true of it.
 pub fn answers_are_turns()
     ensures turn { (w : World) (i : ℕ) (query : Query) (answer : Answer) → w.down ≡ false → slice_get w.questions i ≡ Some (started query) → last_moment query < settled w.history → IsAnswered (applied w.history) query answer → Does w (Turn i End) (Done answer) (with_questions w (slice_set w.questions i (Ended query))) }

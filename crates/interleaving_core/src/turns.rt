@@ -20,7 +20,7 @@ use route_meaning::{
 use route_model::Key;
 use std::alloc::{AllocError, Global};
 
-/// What a turn answers, and what becomes of its question.
+/// What a turn replies, and what becomes of its question.
 #[derive(Debug, Drop)]
 pub(crate) struct Turned {
     pub(crate) reply: Reply,
@@ -51,7 +51,7 @@ fn is_end(reach: &Reach) -> bool
     matches!(reach, Reach::End)
 }
 
-/// The spot that a question has come to behind a turn.
+/// The spot that a question has come to after a turn.
 fn come_to(low: Option<Spot>, reach: &Reach) -> Option<Spot>
     ensures { result ≡ come_to low reach.now }
 {

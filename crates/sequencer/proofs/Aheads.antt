@@ -1,4 +1,4 @@
--- Lanes behind some first times.
+-- Lanes without some first times.
 use Rattle.std.proofs.Common.{◌≡◌, ℕ, ◌+◌, ◌<◌, ◌≤◌, List, [], ◌∷◌, length, take, drop, replicate, refl, sym, ap, ◌∙◌, subst, arith, Some, zero, suc}
 use Rattle.std.specs.List.{AllByRecursion, slice_get, slice_set}
 use Rattle.route_meaning.specs.Merged.{IsRising}
@@ -9,7 +9,7 @@ use Rattle.sequencer.specs.First.{IsNext}
 use Rattle.sequencer.proofs.api.Setting.{one_there, times_set, marks_same}
 use Rattle.sequencer.proofs.Releasing.{lane_in, releases}
 
--- ---- times behind others
+-- ---- times after others
 
 pub drop_get : {X : Type 0} (n : ℕ) (xs : List X) → slice_get (drop n xs) 0 ≡ slice_get xs n
 drop_get zero xs = refl
@@ -39,7 +39,7 @@ drop_rising zero ts r = r
 drop_rising (suc n) [] r = tt
 drop_rising (suc n) (t ∷ ts) r = drop_rising n ts r.1
 
--- ---- lanes behind others
+-- ---- lanes without their first times
 
 pub behind_length : (ns : List ℕ) (lanes : List Waiting) → length (behind ns lanes) ≡ length lanes
 behind_length [] lanes = refl
@@ -120,7 +120,7 @@ next_in ns lanes c next = let lt = lane_in (behind ns lanes) c next.time next.fi
 
 -- ---- all that is passed over is taken
 
--- the lanes, of which those of the first i numbers are behind so many times
+-- the lanes, where those of the first i numbers have lost that many first times
 pub record AreTaken (ns : List ℕ) (old : List Waiting) (i : ℕ) (new : List Waiting) : Type 0 where
   pub marks : marks new ≡ marks old
   pub times : waiting_times new ≡ waiting_times (behind (take i ns) old)

@@ -1,4 +1,4 @@
--- What a run of calls releases, and what still waits behind it, is what its collectors gave, in one order.
+-- What a run of calls releases, and what still waits after it, is what its collectors gave, in one order.
 use Rattle.std.proofs.Common.{◌≡◌, ℕ, ◌+◌, ◌<◌, ◌≤◌, List, [], ◌∷◌, ◌++◌, length, map, refl, sym, ap, ◌∙◌, subst, arith, inl, inr, Some, zero, suc, append-nil, append_assoc, zero-add}
 use Rattle.std.specs.List.{AllByRecursion, slice_get, slice_set}
 use Rattle.std.proofs.lemmas.Bool.{cases_eq, eq-eqb, ne_eqb}
@@ -13,7 +13,7 @@ use Rattle.sequencer.proofs.api.Rising.{greatest-above, timely_above, rises_appe
 
 -- ---- one call, of one collector
 
--- what a collector gives by a call rises from its mark on, up to its mark behind the call
+-- what a collector gives by a call rises from its mark on, up to its mark after the call
 record Gives (c mark : ℕ) (call : Call) : Type 0 where
   up : mark ≤ mark_after c mark call
   rising : IsRising (λ t. t) (taken_in c mark call)
@@ -287,7 +287,7 @@ taken_released k c time calls [] ts = refl
 taken_released k c time calls (m ∷ ms) [] = refl
 taken_released k c time calls (m ∷ ms) (t ∷ ts) = ap (λ (l : List (List ℕ)). (t ++ taken_of k m calls) ∷ l) (taken_released (suc k) c time calls ms ts)
 
--- ---- the heads behind a release
+-- ---- the heads after a release
 
 part_there : (k n i : ℕ) (ps : List (Placed ℕ)) → i < n → slice_get (parts k n ps) i ≡ Some (part (k + i) ps)
 part_there k zero i ps lt = absurd (omega arith)

@@ -1,4 +1,4 @@
--- The late ones of a batch tell which of its items are timely.
+-- The late ones of a batch determine which of its items are timely.
 use Rattle.std.proofs.Common.{◌≡◌, ℕ, ◌+◌, ◌<◌, ◌≤◌, List, [], ◌∷◌, ◌++◌, length, drop, get_or, map, Some, refl, sym, ap, ◌∙◌, arith, inl, inr, append_assoc, append-nil, zero, suc}
 use Rattle.std.specs.List.{AllByRecursion, slice_get}
 use Rattle.std.proofs.lemmas.Bool.{cases_Bool}
@@ -6,7 +6,7 @@ use Rattle.route_meaning.proofs.api.Sorting.{all_weaker}
 use Rattle.sequencer.specs.declared.late.Late.{Late}
 use Rattle.sequencer.specs.Late.{greatest, is_late, timely, lates}
 
--- behind the first of a batch, of which so many are late, stand the other late ones, and what is kept grows to all that is timely
+-- after the first i of a batch, of which `passed` are late, follow the other late ones, and what is kept grows to all that is timely
 pub record IsPassed {X : Type 0} (time : X → ℕ) (mark : ℕ) (late : List Late) (batch : List X) (i passed : ℕ) (kept : List X) : Type 0 where
   pub earlier : List ℕ
   pub told : drop passed late ≡ lates time mark earlier i (drop i batch)
@@ -60,7 +60,7 @@ not_here n late (one ∷ others) i e all at =
     let same : one.index ≡ i = (let f : Some one.index ≡ Some i = sym there.0 ∙ at in cc) in
     omega (arith, le, same)
 
--- the item and those behind it, unfolded
+-- the item and those after it, unfolded
 module _ {X : Type 0} (time : X → ℕ) (mark : ℕ) (late : List Late) (batch : List X) (i passed : ℕ) (kept : List X) (p : IsPassed time mark late batch i passed kept) (x : X) (lt : i < length batch) (at : x ≡ get_or batch i x) where
   told_now : drop passed late ≡ lates time mark p.earlier i (x ∷ drop (i + 1) batch)
   told_now = p.told ∙ ap (lates time mark p.earlier i) (here i batch x lt at)
@@ -68,7 +68,7 @@ module _ {X : Type 0} (time : X → ℕ) (mark : ℕ) (late : List Late) (batch 
   grows_now : kept ++ timely time mark p.earlier (x ∷ drop (i + 1) batch) ≡ timely time mark [] batch
   grows_now = ap (λ l. kept ++ timely time mark p.earlier l) (sym (here i batch x lt at)) ∙ p.grows
 
-  -- an item that is told is late
+  -- an item that is listed as late is late
   pub passed_late : slice_get (map (λ (one : Late). one.index) late) passed ≡ Some i → IsPassed time mark late batch (i + 1) (passed + 1) kept
   passed_late told =
       let next = p.earlier ++ time x ∷ [] in

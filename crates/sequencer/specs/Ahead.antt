@@ -1,12 +1,12 @@
--- What waits behind some first times of each collector.
+-- What waits after some first times of each collector.
 use Rattle.std.specs.Prelude.{ℕ, List, [], ◌∷◌, drop}
 use Rattle.sequencer.specs.Lanes.{Waiting}
 
--- what waits of a collector behind so many times
+-- what waits of a collector after its first n times
 abbrev pub later : ℕ → Waiting → Waiting
 later n w = record { mark = w.mark; times = drop n w.times; room = w.room }
 
--- what waits of the collectors 0, 1 and so on, each behind so many of its times; of one for which no number is told, all
+-- what waits of the collectors 0, 1 and so on, each after the given number of its times; of one for which no number is given, all
 abbrev pub behind : List ℕ → List Waiting → List Waiting
 behind [] lanes = lanes
 behind (n ∷ ns) [] = []

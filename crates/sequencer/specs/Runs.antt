@@ -33,7 +33,7 @@ abbrev pub Runs : List Call → List Waiting → List Waiting → Type 0
 Runs [] old new = new ≡ old
 Runs (call ∷ calls) old new = (between : List Waiting) × Does old call between × Runs calls between new
 
--- the mark of the collector c behind a call, where it was mark
+-- the mark of the collector c after a call, given its mark before
 abbrev pub mark_after : ℕ → ℕ → Call → ℕ
 mark_after c mark (Sieve d times) = mark
 mark_after c mark (TakeIn d times) = if d == c then greatest mark times else mark

@@ -18,7 +18,7 @@ pub record MayTakeIn (lanes : List Waiting) (c : ℕ) (s : Sieved) : Type 0 wher
   pub sieved : IsSieved lane.mark times s
   pub room : length s.timely.items ≤ lane.room
 
--- the times that aren't late wait behind those of the collector, its mark is raised, and nothing else changed
+-- the times that aren't late wait after those of the collector, its mark is raised, and nothing else changed
 pub record TakesIn (old : List Waiting) (c : ℕ) (s : Sieved) (new : List Waiting) : Type 0 where
   pub lane : Waiting
   pub here : slice_get old c ≡ Some lane

@@ -19,7 +19,7 @@ pub fn times_of(alloc: Global, batch: &[Admission]) -> Result<Vec<Moment>, Alloc
     Ok(times)
 }
 
-/// Whether the next of the late ones, behind so many, stands at this place.
+/// Whether the next of the late ones, after the first `passed`, is at this place.
 fn is_told(late: &[Late], passed: usize, index: usize) -> bool
     ensures told { IsTrue result ↔ (slice_get (map (λ one. one.index) late.now) passed ≡ Some index) }
     ensures inside { IsTrue result → passed < length late.now }
@@ -28,7 +28,8 @@ fn is_told(late: &[Late], passed: usize, index: usize) -> bool
 }
 
 /// The admissions of a batch that aren't among its late ones, in its order. Their routes are shared. Which are late was
-/// decided when their times were sieved: `late` is what that told; of another list nothing is said.
+/// decided when their times were sieved: `late` is the list from that sieving; for another list the result is
+/// unspecified.
 pub fn timely_of(
     alloc: Global,
     batch: &[Admission],

@@ -60,7 +60,7 @@ impl Lane {
         }
     }
 
-    /// The first time that waits behind so many others.
+    /// The first time that waits after the first `passed` ones.
     pub(crate) fn behind(&self, passed: usize) -> Option<Moment>
         ensures { result ≡ slice_get self.now.times passed }
     {
@@ -83,7 +83,7 @@ impl Lane {
         let _ = self.times.pop_front();
     }
 
-    /// Takes so many of the first times that wait, or all where fewer do.
+    /// Takes the first `passed` times that wait, or all where fewer do.
     pub(crate) fn pop_passed(&mut self, passed: usize)
         ensures mark { self.new.mark ≡ self.old.mark }
         ensures times { self.new.times ≡ drop passed self.old.times }
@@ -101,7 +101,7 @@ impl Lane {
         self.mark = mark;
     }
 
-    /// Makes room for so many more times.
+    /// Makes room for `additional` more times.
     pub(crate) fn reserve(&mut self, additional: usize) -> Result<(), AllocError>
         ensures mark { self.new.mark ≡ self.old.mark }
         ensures times { self.new.times ≡ self.old.times }

@@ -14,7 +14,7 @@ pub struct Late {
     pub mark: Mark,
 }
 
-/// A batch of times, sieved: those that aren't late, in their order; the late ones; and the mark behind them.
+/// A batch of times, sieved: those that aren't late, in their order; the late ones; and the mark after them.
 #[derive(Debug, Drop)]
 pub struct Sieved {
     pub timely: Vec<Moment>,
@@ -22,8 +22,8 @@ pub struct Sieved {
     pub mark: Mark,
 }
 
-/// Parts the times that are late from those that aren't. A time is late that is below the mark or below some
-/// earlier time of the batch; the mark told with it is the greatest of these.
+/// Parts the times that are late from those that aren't. A time is late that is below the mark or below some earlier
+/// time of the batch; the mark reported with it is the greatest of these.
 pub fn sieve(alloc: Global, mark: Mark, times: &[Moment]) -> Result<Sieved, AllocError>
     ensures timely { IfOk result (λ s. s.timely.items ≡ timely (λ t. t) mark [] times.now) }
     ensures late { IfOk result (λ s. s.late.items ≡ lates (λ t. t) mark [] 0 times.now) }

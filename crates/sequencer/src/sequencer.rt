@@ -41,7 +41,7 @@ impl Model for Sequencer {
 }
 
 impl Sequencer {
-    /// So many collectors, of which none gave anything: each mark is 0.
+    /// A sequencer for this many collectors, none of which has given anything: each mark is 0.
     pub fn new(alloc: Global, collectors: u8) -> Result<Sequencer, AllocError>
         ensures marks { IfOk result (λ s. marks s ≡ replicate collectors 0) }
         ensures times { IfOk result (λ s. waiting_times s ≡ replicate collectors []) }
@@ -96,7 +96,7 @@ impl Sequencer {
         lane.set_mark(sieved.mark);
     }
 
-    /// Raises the mark of a collector, or answers that it isn't lower than the present one.
+    /// Raises the mark of a collector, or returns [`MarkBack`] where the present mark is above the given one.
     pub fn raise(&mut self, collector: usize, mark: Mark) -> Result<(), MarkBack>
         requires { collector < length self.old }
         ensures raised { OnOk result (Raises self.old collector mark self.new) }
@@ -126,7 +126,7 @@ impl Sequencer {
         Some(first.number)
     }
 
-    /// Takes the first time of the collector that [`Sequencer::next`] tells.
+    /// Takes the first time of the collector that [`Sequencer::next`] returns.
     pub fn take(&mut self, collector: usize)
         requires next { IsNext self.old collector }
         ensures released { Releases self.old collector self.new }
@@ -134,8 +134,8 @@ impl Sequencer {
         self.lanes[collector].pop();
     }
 
-    /// Takes the first time of all that waits, where it is below every mark, and tells its collector. Of equal
-    /// times that of the lowest collector goes first.
+    /// Takes the first time of all that waits, where it is below every mark, and returns its collector. Of equal times
+    /// that of the lowest collector goes first.
     pub fn release(&mut self) -> Option<usize>
         ensures some { IfSome result (λ c. Releases self.old c self.new) }
         ensures none { IfNone result (NoneOpen self.old) }
@@ -176,7 +176,7 @@ impl Sequencer {
         Some(first.number)
     }
 
-    /// Passes over one more time of the collector that [`Sequencer::next_behind`] tells.
+    /// Passes over one more time of the collector that [`Sequencer::next_behind`] returns.
     pub fn pass(&self, ahead: &mut Ahead, collector: usize)
         requires count { length ahead.old ≡ length self.now }
         requires next { IsNext (behind ahead.old self.now) collector }

@@ -20,7 +20,7 @@ use Rattle.bgp_update.specs.NextHops.{IsHop, family_at, IsBehind, IsReachOf, IsR
 some_one : {A : Type 0} (x y : A) → Some x ≡ Some y → x ≡ y
 some_one x y e = cc
 
--- a value whose octets behind AFI and SAFI are no next hop and prefixes
+-- a value whose octets after AFI and SAFI are no next hop and prefixes
 pub no_reach : (value behind : List ℕ) (family : Family) → Some family ≡ family_at value → behind ≡ drop 3 value
     → ((hop : NextHop) (nlri : List ℕ) → IsBehind family behind hop nlri → ⊥) → (r : Option Reach) → IsReach value r → ⊥
 no_reach value behind family e b none None q = let both : Some family ≡ None = e ∙ q.1 in absurd cc
@@ -30,7 +30,7 @@ no_reach value behind family e b none (Some reach) q =
     (subst (λ (t : List ℕ). IsBehind family t reach.next_hop reach.nlri) (sym b)
     (subst (λ (f : Family). IsBehind f (drop 3 value) reach.next_hop reach.nlri) same q.behind))
 
--- reading the prefixes behind AFI and SAFI is reading MP_UNREACH_NLRI
+-- reading the prefixes after AFI and SAFI is reading MP_UNREACH_NLRI
 pub unreached_exactly : {X : Type 0} (view : X → List IpPrefix) (value behind : List ℕ) (family : Family) (result : Result X ReadFault) → 3 ≤ length value
     → Some family ≡ family_at value → behind ≡ drop 3 value → Exactly view (Sequence (IsPrefixField family) behind) result → Exactly view (AreUnreached (Some value)) result
 unreached_exactly view value behind family (Ok x) room e b reads =

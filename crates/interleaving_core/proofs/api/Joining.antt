@@ -76,7 +76,7 @@ none_lost time m e i (x ∷ xs) = either (is_late m e (time x)) x _ _ _ _ (none_
     either true x y us vs n h = omega (arith, h)
     either false x y us vs n h = omega (arith, h)
 
--- so many of two batches are late as of each
+-- as many of two batches together are late as of the first and then of the second
 pub lates_both : {X : Type 0} (time : X → ℕ) (m : ℕ) (xs ys : List X)
     → length (lates time m [] 0 (xs ++ ys)) ≡ length (lates time m [] 0 xs) + length (lates time (greatest m (map time xs)) [] 0 ys)
 lates_both time m xs ys =

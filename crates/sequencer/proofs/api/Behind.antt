@@ -1,4 +1,4 @@
--- What is next behind some first times.
+-- What is next after some first times.
 use Rattle.std.proofs.Common.{ℕ, ◌<◌, List, length}
 use Rattle.sequencer.specs.Lanes.{Waiting}
 use Rattle.sequencer.specs.Ahead.{behind}

@@ -79,7 +79,7 @@ timely_above m ts = subst (AllByRecursion (λ t. m ≤ t)) (sym (part_is m [] ts
 pub timely_rises : (m : ℕ) (ts : List ℕ) → IsRising (λ t. t) (timely (λ t. t) m [] ts)
 timely_rises m ts = subst (IsRising (λ t. t)) (sym (part_is m [] ts)) (part_rises m ts)
 
--- none of them is above the mark behind them
+-- none of them is above the mark after them
 pub timely_below : (m : ℕ) (ts : List ℕ) → AllByRecursion (λ t. t ≤ greatest m ts) (timely (λ t. t) m [] ts)
 timely_below m ts = subst (AllByRecursion (λ t. t ≤ greatest m ts)) (sym (part_is m [] ts)) (part_below m ts)
 

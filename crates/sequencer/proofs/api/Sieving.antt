@@ -1,4 +1,4 @@
--- A running mark tells what is late.
+-- A running mark determines what is late.
 use Rattle.std.proofs.Common.{◌≡◌, ℕ, ◌+◌, ◌<◌, ◌≤◌, List, [], ◌∷◌, ◌++◌, length, take, get_or, Bool, true, false, cond, ltb, refl, sym, ap, ◌∙◌, arith, max, append_assoc, append-nil, add-zero, map, subst, zero, suc}
 use Rattle.std.proofs.lemmas.Bool.{lt-ltb, le-ltb}
 use Rattle.std.proofs.lemmas.Bool.Decides.{nat_tests}
