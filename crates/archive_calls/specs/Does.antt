@@ -1,4 +1,4 @@
--- What a call on an archive does to the history that it carries, and what it tells.
+-- What a call on an archive does to the history that it carries, and what it returns.
 use Rattle.std.specs.Prelude.{◌≡◌, ◌<◌, ◌≤◌, ⊤, ℕ, List, length, sum_by, Some, slice_get, Result, Ok, Err}
 use Rattle.route_model.specs.Admission.{Admitted}
 use Rattle.route_meaning.specs.Merged.{Placed}
@@ -21,7 +21,7 @@ use Rattle.archive_calls.specs.declared.refusal.AskError.TheVariants as asks
 use Rattle.archive_calls.specs.declared.told.Step.{Step}
 use Rattle.archive_calls.specs.declared.told.Step.TheVariants.{Applied, Idle}
 
--- Why no batch is taken. How full a ring is, the archive alone tells.
+-- Why no batch is taken. Only the archive knows how full a ring is.
 abbrev pub IsRefusal : History → ℕ → List Admitted → AdmitError → Type 0
 IsRefusal h c batch admits.NoCollector = IsCollector h c → ⊥
 IsRefusal h c batch admits.BatchTooLarge = 262144 < batch_octets batch
@@ -29,7 +29,7 @@ IsRefusal h c batch admits.CounterFull = IsCounterFull h c (length batch)
 IsRefusal h c batch admits.IntakeFull = IsCollector h c
 IsRefusal h c batch (admits.Trouble trouble) = ⊤
 
--- a batch was taken, as the reply tells
+-- a batch was taken, as the reply reports
 pub record IsTaken (h : History) (c : ℕ) (batch : List Admitted) (reply : BatchReply) (g : History) : Type 0 where
   pub intake : Intake
   pub here : slice_get h.intakes c ≡ Some intake
@@ -61,7 +61,7 @@ DoesApply (Ok Applied) h g = AppliesSome h g
 DoesApply (Ok Idle) h g = NothingToApply h × (g ≡ h)
 DoesApply (Err trouble) h g = g ≡ h
 
--- the question's last moment is settled, and this is the answer over what is applied; or it isn't, and the watermark is told
+-- the question's last moment is settled, and this is the answer over what is applied; or it isn't, and the watermark is returned
 abbrev pub IsAnswerOf : History → Query → Result Answer AskError → Type 0
 IsAnswerOf h query (Ok answer) = (last_moment query < settled h) × IsAnswered (applied h) query answer
 IsAnswerOf h query (Err (asks.AboveWatermark watermark)) = (watermark ≡ settled h) × (settled h ≤ last_moment query)
@@ -75,8 +75,8 @@ changes_in ps = sum_by (λ p. length p.item.changes) ps
 abbrev pub applied_changes : History → ℕ
 applied_changes h = changes_in (applied h)
 
--- Why what is applied isn't counted: a device failed, the archive must be opened again, or memory was wanting; or a count has no room for so
--- many changes. Of an archive that carries a history no page and no block is called damaged.
+-- Why the applied changes aren't counted: a device failed, the archive must be opened again, or memory ran out; or the count can't hold this
+-- many changes. In an archive that carries a history no page and no block is reported as damaged.
 abbrev pub IsUnchecked : History → Trouble → Type 0
 IsUnchecked h troubles.Fault = ⊤
 IsUnchecked h troubles.NeedsRecovery = ⊤
@@ -88,7 +88,7 @@ IsUnchecked h troubles.TooHigh = ⊥
 IsUnchecked h troubles.CounterFull = 18446744073709551615 < applied_changes h
 IsUnchecked h troubles.OutOfMemory = ⊤
 
--- this is how many changes are applied; or it isn't told, for its reason
+-- this is how many changes are applied; or the number isn't returned, for its reason
 abbrev pub DoesCheck : Result ℕ Trouble → History → Type 0
 DoesCheck (Ok count) h = count ≡ applied_changes h
 DoesCheck (Err trouble) h = IsUnchecked h trouble

@@ -42,7 +42,8 @@ pub trait RouteArchive {
         ensures resume { (h : History) → carries self.now h → result ≡ slice_get (map resume_of h.intakes) collector };
 
     /// Admits the records of a collector, in their order, but for those that come late: whose time is below the collector's
-    /// mark or below an earlier time of the batch. Each of these is told. The mark is raised to the greatest of these times.
+    /// mark or below an earlier time of the batch. Each late record is reported. The mark is raised to the greatest of these
+    /// times.
     fn admit(&mut self, collector: u8, batch: &[Admission]) -> Result<BatchReply, AdmitError>
         ensures done { (h : History) → carries self.old h → (g : History) × carries self.new g × DoesAdmit collector batch.now result h g }
         ensures most { most self.new ≡ most self.old };
@@ -69,8 +70,8 @@ pub trait RouteArchive {
         ensures carries { (h : History) → carries self.old h → carries self.new h }
         ensures most { most self.new ≡ most self.old };
 
-    /// Reads all that the archive keeps of what is applied, and tells how many changes that is. The first page or block that
-    /// isn't what may stand there is told; of an archive that carries a history none is.
+    /// Reads all that the archive keeps of what is applied, and returns how many changes that is. The first page or block
+    /// whose content isn't valid at its place is reported; in an archive that carries a history none is.
     fn check(&mut self) -> Result<u64, Trouble>
         ensures done { (h : History) → carries self.old h → DoesCheck result h }
         ensures carries { (h : History) → carries self.old h → carries self.new h }

@@ -32,7 +32,7 @@ pub enum Trouble {
     /// The tree would need a seventh level of key nodes.
     #[error("the tree is too high")]
     TooHigh,
-    /// So many changes can't be counted.
+    /// This many changes can't be counted.
     #[error("the count of applied changes is full")]
     CounterFull,
     /// A growth of memory was refused.
@@ -40,7 +40,7 @@ pub enum Trouble {
     OutOfMemory,
 }
 
-/// Why a batch isn't taken. The first of these that holds is told, but for troubles.
+/// Why a batch isn't taken. The first of these that holds is reported, but for troubles.
 #[derive(Clone, Copy, Debug, PartialEq, Eq, Error)]
 pub enum AdmitError {
     /// The archive has no collector of this number.
@@ -49,7 +49,7 @@ pub enum AdmitError {
     /// The batch has more than [`crate::MAX_BATCH_LEN`] octets.
     #[error("the batch has more than 262144 octets")]
     BatchTooLarge,
-    /// So many records can't be counted.
+    /// This many records can't be counted.
     #[error("the count of offered records is full")]
     CounterFull,
     /// The collector's ring has too few free octets.

@@ -9,7 +9,7 @@ use Rattle.disk_files.specs.Marked.{IsMarked}
 use Rattle.disk_models.proofs.api.OctetLemmas.{octets-add, octets_agree}
 use Rattle.disk_models.proofs.api.Moments.{leaves_then, leaves_weaker, moves_then, stays_may_leave}
 
--- the front was read, and then the octets behind it
+-- the front was read, and then the octets after it
 pub part_read : (f : ℕ → ℕ) (at a n k : ℕ) (xs ys : List ℕ) → a ≤ length xs → n ≤ length ys → take a xs ≡ octets f at a → take n ys ≡ octets f (at + a) n
     → take (a + n) (put_mid a k xs ys) ≡ octets f at (a + n)
 part_read f at a n k xs ys fits few front more =
@@ -19,7 +19,7 @@ part_read f at a n k xs ys fits few front more =
     ∙ ap (λ (l : List ℕ). l ++ octets f (at + a) n) front
     ∙ sym (octets-add f at a n)
 
--- the front was written, and then the octets behind it
+-- the front was written, and then the octets after it
 pub part_written : (at a n m : ℕ) (s0 s1 : DiskState) (xs : List ℕ) → octets s0.octet at a ≡ take a xs → WritesWithin (at + a) m s0 s1 → octets s1.octet (at + a) n ≡ take n (drop a xs)
     → octets s1.octet at (a + n) ≡ take (a + n) xs
 part_written at a n m s0 s1 xs front within more =
@@ -33,7 +33,7 @@ pub none_read : (f : ℕ → ℕ) (at : ℕ) → octets f at 0 ≡ []
 unfolding octets
 none_read f at = refl
 
--- a sync behind a read
+-- a sync after a read
 pub stays_lingers : (s0 s1 s2 : DiskState) → Stays s0 s1 → Lingers s1 s2 → Lingers s0 s2
 stays_lingers s0 s1 s2 a b = record {
   one_of = stays_may_leave s0 s1 s2.octet a b.one_of;

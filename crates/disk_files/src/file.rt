@@ -89,14 +89,14 @@ pub trait OctetFile {
         ensures settled { follows self.old → OnOk result ((i : ℕ) → ¬ (model self.new).unsynced i) }
         ensures lingers { follows self.old → Lingers (model self.old) (model self.new) };
 
-    /// Reads octets from a place on. Answers how many there are in `into` then: none behind the file's end.
+    /// Reads octets from a place on. Returns how many of them are in `into` then: none after the file's end.
     fn read_some(&mut self, at: u64, into: &mut [u8]) -> io::Result<usize>
         ensures bound { IfOk result (λ n. n ≤ length into.old) }
         ensures follows { follows self.old ↔ follows self.new }
         ensures octets { follows self.old → IfOk result (λ n. take n into.new ≡ octets (model self.old).octet at n) }
         ensures stays { follows self.old → Stays (model self.old) (model self.new) };
 
-    /// Writes octets from a place on. Answers how many of them.
+    /// Writes octets from a place on. Returns how many of them.
     fn write_some(&mut self, at: u64, from: &[u8]) -> io::Result<usize>
         ensures bound { IfOk result (λ n. n ≤ length from.now) }
         ensures follows { follows self.old ↔ follows self.new }

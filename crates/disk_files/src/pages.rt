@@ -53,8 +53,9 @@ impl<F: OctetFile> FileErase<F> {
         }
     }
 
-    /// Makes a new file that is at hand a disk of so many octets: a positive multiple of 16,384, below 2^63. It is locked.
-    /// One that has octets is refused, and keeps them; else, where it is refused, what it then holds is left to the caller.
+    /// Makes a disk of `size` octets, a positive multiple of 16,384 below 2^63, in a new file that the caller gives. It is
+    /// locked. One that has octets is refused, and keeps them; where the call is refused otherwise, what it then holds is
+    /// left to the caller.
     pub fn create_on(mut file: F, size: u64) -> Result<Self, FileError>
     where
         F: Drop,
@@ -139,7 +140,7 @@ impl<F: OctetFile> FileErase<F> {
 impl FileErase {
     ghost use Rattle.disk_files.specs.Pages.{IsFresh, access_of, faults_of, is_broken, size_of};
 
-    /// Makes `pages.rha` in a folder, of so many octets: a positive multiple of 16,384, below 2^63. It costs no room on the
+    /// Makes `pages.rha` in a folder, of `size` octets: a positive multiple of 16,384, below 2^63. It takes no space on the
     /// device before it is written to.
     ///
     /// Where it is refused it leaves nothing in the folder that it made, and nothing else is touched.

@@ -35,7 +35,7 @@ fn size_limit() -> u64 {
     limit.rlim_cur
 }
 
-/// What the system answers beyond that limit where the signal is ignored.
+/// What the system returns beyond that limit where the signal is ignored.
 fn too_large() -> io::Error {
     io::Error::from_raw_os_error(libc::EFBIG)
 }
@@ -49,7 +49,7 @@ pub(crate) fn synced(access: Access, done: io::Result<()>) -> io::Result<()> {
     }
 }
 
-/// Which file this is said of.
+/// The file that the metadata describes.
 pub(crate) fn identity(metadata: &Metadata) -> FileIdentity {
     FileIdentity {
         device: metadata.dev(),

@@ -10,7 +10,7 @@ pub ok_or_err : {T E : Type 0} (r : Result T E) (P Q : Type 0) → OnOk r P → 
 ok_or_err (Ok x) P Q p q = inl p
 ok_or_err (Err e) P Q p q = inr q
 
--- what a `get` answers is the element there
+-- what a `get` returns is the element there
 pub got_is : {X : Type 0} (xs : List X) (i : ℕ) (r : Option (Bor X)) → IfSome r (λ x. x.now ≡ get_or xs i x.now) → MatchOption r (length xs ≤ i) (λ _. i < length xs) → option_copied r ≡ slice_get xs i
 got_is xs i None is bound = sym (slice_get_past xs i bound)
 got_is xs i (Some x) is bound = ap Some is ∙ sym (slice_get-get_or xs i x.now bound)

@@ -30,7 +30,7 @@ pub record IsAtCall (disk : MemErase) (next_read next_write next_sync : ℕ) : T
   pub write : disk.writes ≡ next_write
   pub sync : disk.syncs ≡ next_sync
 
--- the number behind this one; the last one of 64 bits stays
+-- the number after this one; the last one of 64 bits stays
 abbrev pub next_number : ℕ → ℕ
 next_number n = min (n + 1) 18446744073709551615
 
@@ -38,7 +38,7 @@ next_number n = min (n + 1) 18446744073709551615
 abbrev pub stop_of : MemErase → Option ℕ
 stop_of disk = disk.stop
 
--- a disk with this stop has come to it after so many writes and syncs
+-- a disk with this stop has come to it after this many writes and syncs
 abbrev pub stops_within : Option ℕ → ℕ → Bool
 stops_within None n = false
 stops_within (Some k) n = not (nat_lt n k)

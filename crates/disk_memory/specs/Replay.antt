@@ -62,7 +62,7 @@ state_of calls = record {
   left_since = λ t c. (k : ℕ) × (t ≤ k) × (k ≤ length calls) × IsLeftBy (take k calls) c;
 }
 
--- the old octets, where nothing else is said
+-- the old octets, where nothing else is given
 abbrev pub torn_or_old : Option Torn → Torn
 torn_or_old None = Old
 torn_or_old (Some torn) = torn

@@ -1,7 +1,7 @@
 -- A write as it is remembered, as plain data.
 use Rattle.std.specs.Prelude.{ℕ, List}
 
--- From a place on, so many octets were to be written, and these came to stand there.
+-- From `at` on, `length` octets were to be written, and the octets from there on became these.
 pub record Writing : Type 0 where
   pub at : ℕ
   pub length : ℕ

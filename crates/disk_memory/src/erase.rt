@@ -1,4 +1,4 @@
-//! The erasable disk in memory: all its writes and syncs, from which each content that it had can be read.
+//! The erasable disk in memory: all its writes and syncs, from which each of its past contents can be read.
 
 ghost use Rattle.std.specs.Prelude.{◌≡◌, ◌≤◌, ◌<◌, ◌+◌, ◌⊎◌, ◌↔◌, ◌++◌, ◌∷◌, ◌||◌, [], ℕ, List, length, min, true, take, drop, map, Option, None, Some, IfOk, OnOk, OnErr, IsErr, IsSome, option_copied, IsTrue};
 ghost use Rattle.std.specs.List.{list_any};
@@ -58,7 +58,7 @@ fn synced_count(calls: &[Call]) -> usize
     count
 }
 
-/// What a crash leaves of a call: of a write what is said, or else the old octets.
+/// What a crash leaves of a call: of a write what is given, or else the old octets.
 fn left(alloc: Global, call: &Call, torn: Option<&Torn>) -> Result<Call, AllocError>
     ensures { IfOk result (λ left. left ≡ torn_call (option_copied torn.entry) call.now) }
 {
@@ -105,7 +105,7 @@ impl MemErase {
     ghost use Rattle.disk_memory.specs.inner.Failing.{KeepsScript};
     ghost use Rattle.disk_memory.specs.Memory.{IsAtCall, KeepsPlan, begun_of, calls_of, faults_of, is_cut, is_stopped, script_of, size_of, stop_of, stops_within};
 
-    /// A disk of so many zeros, with no failure to come.
+    /// A disk of `size` zeros, with no failure to come.
     pub fn new(alloc: Global, size: u64) -> Self
         ensures size { size_of result ≡ size }
         ensures calls { calls_of result ≡ [] }
@@ -178,7 +178,7 @@ impl MemErase {
         self.writes.saturating_add(self.syncs)
     }
 
-    /// Whether it stops within so many writes and syncs.
+    /// Whether it stops within `count` writes and syncs.
     fn stops_within(&self, count: u64) -> bool
         ensures { result ≡ stops_within (stop_of self.now) count }
     {
@@ -233,7 +233,7 @@ impl MemErase {
         cut || has_sync(&self.script, number)
     }
 
-    /// Records a call that leaves something, or counts a failure for want of memory.
+    /// Records a call that leaves something, or counts a failure where memory runs out.
     fn record(&mut self, call: Call) -> Result<(), Fault>
         ensures ok { OnOk result (calls_of self.new ≡ calls_of self.old ++ call ∷ []) }
         ensures err { OnErr result (calls_of self.new ≡ calls_of self.old) }
@@ -342,7 +342,7 @@ impl EraseDisk for MemErase {
     }
 
     /// Beside the trait's clauses: which call is remembered, and that it fails where the script says. Nothing is
-    /// remembered for want of memory.
+    /// remembered where memory runs out.
     fn write_at(&mut self, at: u64, from: &[u8]) -> Result<(), Fault>
         requires { at + length from.now ≤ size_of self.old }
         ensures size { size_of self.new ≡ size_of self.old }

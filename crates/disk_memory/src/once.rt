@@ -28,7 +28,7 @@ impl MemOnce {
     ghost use Rattle.disk_memory.specs.Once.{blocks_of};
     ghost use Rattle.disk_memory.specs.Pen.{IsAtOnceCall, once_stop_of};
 
-    /// A disk of so many blank blocks, with its pen, with no failure to come.
+    /// A disk of `blocks` blank blocks, with its pen, with no failure to come.
     pub fn new(alloc: Global, blocks: u64) -> (Self, MemPen)
         ensures blocks { blocks_of result.0 ≡ blocks }
         ensures settled { settled_of result.1 ≡ [] }
@@ -149,7 +149,7 @@ impl OnceDisk for MemOnce {
     }
 
     /// Beside the trait's clauses: which burn is remembered, and that it fails where the script says. Nothing is burnt
-    /// for want of memory.
+    /// where memory runs out.
     fn burn(&self, pen: &mut MemPen, n: u64, block: &Block) -> Result<(), Fault>
         requires inside { n < blocks_of self.now }
         requires blank { (once_model pen.old).tried n ≡ false }

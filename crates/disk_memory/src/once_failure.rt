@@ -7,7 +7,7 @@ ghost use Rattle.std.specs.List.{list_any};
 use crate::torn::Torn;
 use std::alloc::{AllocError, Global};
 
-/// A call that fails, told by its kind and by its number among the calls of that kind, from 0.
+/// A call that fails, given by its kind and by its number among the calls of that kind, from 0.
 #[derive(Drop)]
 pub enum OnceFailure {
     /// A look whether a block is blank.

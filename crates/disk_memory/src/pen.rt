@@ -124,7 +124,7 @@ impl MemPen {
         self.burns.saturating_add(self.settles)
     }
 
-    /// Whether the disk stops within so many burns and settles.
+    /// Whether the disk stops within `count` burns and settles.
     fn stops_within(&self, count: u64) -> bool
         ensures { result ≡ stops_within (once_stop_of self.now) count }
     {
@@ -196,7 +196,7 @@ impl MemPen {
         stopped || has_look(&self.script, number)
     }
 
-    /// Remembers a burn, or counts a failure for want of memory.
+    /// Remembers a burn, or counts a failure where memory runs out.
     pub(crate) fn record(&mut self, burn: Burn) -> Result<(), Fault>
         ensures ok { OnOk result (waiting_of self.new ≡ waiting_of self.old ++ burn ∷ []) }
         ensures err { OnErr result (waiting_of self.new ≡ waiting_of self.old) }

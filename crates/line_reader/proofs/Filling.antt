@@ -7,7 +7,7 @@ use Rattle.std.proofs.lemmas.List.{nil_from_length}
 use Rattle.std.proofs.lemmas.Bool.Decides.{Decides-eqb}
 use Rattle.line_reader.specs.Lines.{HasNoEnd, HasLine}
 
--- the reader gave these octets, and the window has them behind its own
+-- the reader gave these octets, and the window has them after its own
 pub record Grown (was now : List ℕ) (left_was left : Option (List ℕ)) : Type 0 where
   pub gave : List ℕ
   pub consumed : Consumes left_was left gave

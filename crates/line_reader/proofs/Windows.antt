@@ -1,4 +1,4 @@
--- The octets of a window, after the first are taken away, and after more are read behind them.
+-- The octets of a window, after the first are taken away, and after more are appended to them.
 use Rattle.std.proofs.Common.{◌≡◌, ℕ, ◌+◌, ◌-◌, ◌≤◌, List, ◌++◌, length, take, drop, sym, ap, ◌∙◌, arith}
 use Rattle.std.proofs.Math.Seq.{paste, take-append-add}
 use Rattle.std.proofs.lemmas.List.{drop-take, length-drop, length-take-le, take-append-le}

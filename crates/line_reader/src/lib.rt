@@ -1,4 +1,4 @@
-//! Lines of a stream, in fixed memory, and the octets behind a line.
+//! Lines of a stream, in fixed memory, and the octets after a line.
 #![tactic(auto)]
 
 mod fault;

@@ -1,4 +1,4 @@
-//! Lines that are read one by one, and the octets behind a line.
+//! Lines that are read one by one, and the octets after a line.
 
 ghost use Rattle.std.specs.Prelude.{◌≡◌, ◌<◌, ◌≤◌, ℕ, List, [], ◌++◌, length, drop};
 ghost use Rattle.std.specs.Io.{ReadsAtMost};
@@ -19,14 +19,14 @@ use std::marker::Model;
 pub enum Found {
     /// A line, which can be looked at now.
     Line,
-    /// The end of the stream. What stands behind the last line feed is no line.
+    /// The end of the stream. What follows the last line feed is no line.
     End,
 }
 
 /// Reads the lines of a stream one by one. A line ends in a line feed, and a carriage return before that belongs to its end
 /// too. With its end it has at most 4,096 octets, and any octets but a line feed may stand in it.
 ///
-/// As a reader it gives the octets behind the last line that was read.
+/// As a reader it gives the octets after the last line that was read.
 #[derive(Drop)]
 pub struct LineReader<R: Read> {
     reader: R,
@@ -56,7 +56,7 @@ fn leave_line(window: &mut Window, end: &mut LineEnd)
     *end = LineEnd { text: 0, whole: 0 };
 }
 
-/// Reads on until a line stands at the front of the window, and tells where it ends; none at the end of the stream.
+/// Reads on until a line is at the front of the window. Returns where it ends; none at the end of the stream.
 fn fill_line<R: Read>(reader: &mut R, window: &mut Window) -> Result<Option<LineEnd>, LineError>
     ensures fills { (gave : List ℕ) × Consumes (R.remaining reader.old) (R.remaining reader.new) gave × (window.new ≡ window.old ++ gave) × Fills result window.new (R.remaining reader.new) }
     ensures ready { HasLine window.old → reader.new ≡ reader.old }
@@ -125,7 +125,7 @@ impl<R: Read> Read for LineReader<R> {
 
     ghost remaining = { λ l. prepend_known l.behind (R.remaining l.reader) };
 
-    /// Leaves the last line, and reads octets behind it: those that were read already first, without a read.
+    /// Leaves the last line, and reads octets after it: first those that were read already, without a read.
     fn read(&mut self, piece: &mut [u8]) -> io::Result<usize>
         ensures bound { ReadsAtMost result piece.new }
         ensures bytes { ReadConsumes (prepend_known self.old.behind (R.remaining self.old.reader)) (prepend_known self.new.behind (R.remaining self.new.reader)) result piece.new }

@@ -1,4 +1,4 @@
-//! Octets that were read and are not yet taken: at most so many as a line may have.
+//! Octets that were read and are not yet taken: at most as many as a line may have.
 
 ghost use Rattle.std.specs.Prelude.{◌≡◌, ◌≤◌, ◌<◌, ◌↔◌, ℕ, List, [], ◌++◌, min, drop, take, length, IsTrue, IfOk, OnErr};
 ghost use Rattle.std.specs.Io.{ReadsAtMost};
@@ -76,7 +76,8 @@ impl Window {
         self.len -= count;
     }
 
-    /// Reads some octets behind those that are there: how many, or 0 at the end, or where there is no room.
+    /// Reads some octets and appends them to those that are there. Returns how many, or 0 at the end, or where
+    /// there is no room.
     pub(crate) fn read_from<R: Read>(&mut self, reader: &mut R) -> io::Result<usize>
         ensures read { IfOk result (λ count. (more : List ℕ) × (length more ≡ count) × (self.new ≡ self.old ++ more) × Consumes (R.remaining reader.old) (R.remaining reader.new) more) }
         ensures end { IfOk result (λ count. count ≡ 0 → length self.old < 4096 → IsAtEnd (R.remaining reader.new)) }

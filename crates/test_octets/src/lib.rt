@@ -8,7 +8,7 @@ ghost use Rattle.test_octets.specs.Octets.{is_no_space};
 use hex::FromHexError;
 use std::alloc::Global;
 
-/// The octets that pairs of hexadecimal digits spell; spaces and line ends may stand anywhere.
+/// The octets that pairs of hexadecimal digits encode; spaces and line ends may occur anywhere.
 ///
 /// # Errors
 ///
