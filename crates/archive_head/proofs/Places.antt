@@ -1,4 +1,4 @@
--- What the places of a page say that spells a head: that head.
+-- Reading the places of a page that encodes a head gives that head.
 use Rattle.std.proofs.Common.{◌≡◌, ℕ, zero, suc, ◌+◌, ◌*◌, ◌-◌, ◌<◌, List, [], ◌∷◌, ◌++◌, length, replicate, flat_map, refl, sym, ap, subst, inl, inr, ◌∙◌, arith}
 use Rattle.std.specs.List.{AllByRecursion}
 use Rattle.std.proofs.lemmas.List.{length-append, append_assoc}
@@ -22,7 +22,7 @@ pub lanes_valid : (ls : List Lane) (l : Lane) → AllByRecursion IsLane ls → I
 lanes_valid [] l are is = (is, tt)
 lanes_valid (a ∷ ls) l are is = (are.0, lanes_valid ls l are.1 is)
 
--- so many collectors are read as are asked for
+-- as many collectors are read as are asked for
 pub length-lanes_from : (octets : List ℕ) (i n : ℕ) → length (lanes_from octets i n) ≡ n
 length-lanes_from octets i zero = refl
 length-lanes_from octets i (suc n) = ap suc (length-lanes_from octets (suc i) n)
@@ -54,7 +54,7 @@ lanes_read front rest (l ∷ ls) i are at =
     ∙ ap (λ (a : Lane). a ∷ lanes_from (front ++ (lane_octets l ++ tail)) (suc i) (length ls)) here
     ∙ ap (λ (ks : List Lane). l ∷ ks) later
 
--- a page that spells a head says it
+-- a page that encodes a head is read as that head
 pub head_read : (h : Contents) → IsHead h → contents_at (head_octets h) (length h.lanes) ≡ h
 head_read h is =
     let ns : List ℕ = h.applied ∷ h.last ∷ h.begun ∷ h.fresh ∷ h.block ∷ h.root ∷ 0 ∷ 0 ∷ [] in
@@ -75,7 +75,7 @@ lane_in octets i zero k lt are = absurd (omega arith)
 lane_in octets i (suc n) zero lt are = subst (λ (j : ℕ). IsLane (lane_at octets (64 + 64 * j))) (let e : i ≡ i + 0 = omega arith in e) are.0
 lane_in octets i (suc n) (suc k) lt are = subst (λ (j : ℕ). IsLane (lane_at octets (64 + 64 * j))) (let e : suc i + k ≡ i + suc k = omega arith in e) (lane_in octets (suc i) n k (omega (arith, lt)) are.1)
 
--- what is read of a page is a head that it spells
+-- what is read from a page is a head that it encodes
 pub one_read : (octets page : List ℕ) (count : ℕ) (head : Contents) → octets ≡ page → length head.lanes ≡ count → Spells IsHead head_octets head page → contents_at octets count ≡ head
 one_read octets page count head same n spells =
     ap (λ (o : List ℕ). contents_at o count) (same ∙ spells.spelled) ∙ ap (contents_at (head_octets head)) (sym n) ∙ head_read head spells.valid

@@ -31,7 +31,7 @@ length-head h few =
     let zeros : List ℕ = replicate (16320 - 64 * length h.lanes) 0 in
     omega (arith, few, length-append front (lanes ++ zeros), length-append lanes zeros, length-lanes h.lanes, length-replicate {A = ℕ} (16320 - 64 * length h.lanes) 0, length-numbers (h.applied ∷ h.last ∷ h.begun ∷ h.fresh ∷ h.block ∷ h.root ∷ 0 ∷ 0 ∷ []))
 
--- what stands behind a front is read from its end on
+-- what follows a front is read from the front's end on
 pub behind : (front rest : List ℕ) (place : ℕ) → number_at 8 (length front + place) (front ++ rest) ≡ number_at 8 place rest
 behind front rest place = ap (big_number 8) (drop-append-add front rest place)
 

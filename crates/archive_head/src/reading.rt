@@ -1,4 +1,4 @@
-//! The head is read: exactly the pages that spell one.
+//! Reading the head: exactly the pages that encode one are accepted.
 
 ghost use Rattle.std.specs.Prelude.{◌≡◌, ◌≤◌, ◌<◌, ◌+◌, ◌*◌, ℕ, length, IfOk, IfSome, IfNone, IsTrue, ◌↔◌};
 ghost use Rattle.std.specs.List.{AllByRecursion};
@@ -29,7 +29,7 @@ fn read_lane(octets: &[u8], place: usize) -> Option<Lane>
     })
 }
 
-// What is kept of so many collectors, or none where a mark is none.
+// What is kept of `count` collectors, or none where a mark is none.
 fn read_lanes(alloc: Global, octets: &[u8], count: usize) -> Result<Option<Vec<Lane>>, AllocError>
     requires few { count ≤ 16 }
     requires room { length octets.now ≡ 16384 }
@@ -74,7 +74,7 @@ fn read_places(alloc: Global, octets: &[u8], count: usize) -> Result<Option<Head
     }))
 }
 
-// Whether a page spells the head.
+// Whether a page is the encoding of the head.
 fn is_spelled(alloc: Global, head: &Head, page: &Page) -> Result<bool, AllocError>
     requires few { length head.now.lanes ≤ 16 }
     ensures spelled { IfOk result (λ is. IsTrue is ↔ (page.now ≡ head_octets head.now)) }
@@ -88,8 +88,8 @@ impl Head {
     ghost use Rattle.route_model.specs.Octets.{Spells};
     ghost use Rattle.archive_head.specs.Head.{Contents, IsHead, head_octets};
 
-    /// The head of so many collectors that the page spells, which is the only one, or none where it spells no such head. It
-    /// fails where memory is refused, and only then.
+    /// The head of this many collectors that the page encodes, which is the only one, or none where it encodes no such head.
+    /// It fails where memory is refused, and only then.
     pub fn read(alloc: Global, page: &Page, collectors: usize) -> Result<Option<Head>, AllocError>
         requires few { collectors ≤ 16 }
         ensures head { IfOk result (λ found. IfSome found (λ head. Spells IsHead head_octets head page.now)) }

@@ -1,4 +1,4 @@
-//! The head is written: the one page that spells it.
+//! Writing the head: the one page that encodes it.
 
 ghost use Rattle.std.specs.Prelude.{◌≡◌, ◌≤◌, ◌++◌, length, replicate, flat_map, OnOk, IfOk};
 ghost use Rattle.archive_head.specs.Head.{number, lane_octets};

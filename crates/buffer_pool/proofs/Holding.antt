@@ -95,7 +95,7 @@ set_other map n m page ne lt =
     ∙ ap (λ (p : List ℕ). Some p) (get_or-set_other map n m page [] ne)
     ∙ sym (slice_get-get_or map m [] lt)
 
--- what a look-up finds
+-- what a lookup finds
 found_shown : (read : LruCache ℕ (List ℕ)) (n : ℕ) (map : List (List ℕ)) → AreShown read map → (o : Option (List ℕ)) → lookup (nat_eq n) read.entries ≡ o → IfSome o (λ page. slice_get map n ≡ Some page)
 found_shown read n map shown None is = tt
 found_shown read n map shown (Some page) is =
@@ -124,7 +124,7 @@ dropped_shown n old new page map dropped shown m q there =
     let before = shown m q was.0 in
     set_other map n m page was.1 (get_lt map m q before) ∙ before
 
--- a page that was kept, or wasn't for want of memory
+-- a page that was kept, or wasn't because memory ran out
 pub kept_shown : {T E : Type 0} (r : Result T E) (old new : LruCache ℕ (List ℕ)) (n : ℕ) (page : List ℕ) (map : List (List ℕ)) → OnOk r (new ≡ lru_cache (put_entries nat_eq old n page) old.cap) → OnErr r (new ≡ old)
     → AreShown old map → slice_get map n ≡ Some page → AreShown new map
 kept_shown (Ok x) old new n page map put same shown is m q there = put_shown old n page map shown is m q (subst (λ (l : LruCache ℕ (List ℕ)). Contains l.entries (m, q)) put there)

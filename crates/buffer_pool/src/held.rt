@@ -22,7 +22,7 @@ fn take_in(pages: &mut BTreeMap<u64, Page>, n: u64, page: Page)
     pages.insert(n, page).ok();
 }
 
-// Drops a page. What the cache tells of its length says that no other one has the number.
+// Drops a page. The contract of the cache's `len` implies that no other one has the number.
 fn drop_page(pages: &mut LruCache<u64, Page>, n: u64)
     ensures dropped { IsDropped n pages.old pages.new }
     ensures capacity { pages.new.cap ≡ pages.old.cap }
@@ -31,7 +31,7 @@ fn drop_page(pages: &mut LruCache<u64, Page>, n: u64)
     pages.pop(&n);
 }
 
-// Keeps a page of the map. For want of memory the pages stay as they were.
+// Keeps a page of the map. Where memory runs out, the pages stay as they were.
 pub fn keep(pages: &mut LruCache<u64, Page>, n: u64, page: Page) -> Result<(), AllocError>
     ensures kept { OnOk result (IsSome (lookup (nat_eq n) pages.new.entries)) }
     ensures unchanged { OnErr result (pages.new ≡ pages.old) }
@@ -42,7 +42,7 @@ pub fn keep(pages: &mut LruCache<u64, Page>, n: u64, page: Page) -> Result<(), A
     Ok(())
 }
 
-// Makes a page the last one that was used, and tells whether it is there.
+// Makes a page the most recently used one. Returns whether it is there.
 pub fn promote(pages: &mut LruCache<u64, Page>, n: u64) -> bool
     ensures found { IsTrue result ↔ IsSome (lookup (nat_eq n) pages.old.entries) }
     ensures kept { IsTrue result → IsSome (lookup (nat_eq n) pages.new.entries) }

@@ -60,7 +60,7 @@ impl<D: EraseDisk + Drop> Pool<D> {
     ghost use Rattle.buffer_pool.specs.Pool.{IsResident, IsWaiting, Maps, WasOnlyRead, clean_pages, journal_of, most_clean, oldest_dirty};
     ghost use Rattle.std.specs.NonZero.{non_zero_usize_get};
 
-    /// The pool of a journal, with room for so many pages that are home. For want of memory the journal is handed back.
+    /// The pool of a journal, with room for `clean_capacity` pages that are home. Where memory runs out, the journal is handed back.
     pub fn new(
         alloc: Global,
         journal: Journal<D>,
@@ -209,7 +209,7 @@ impl<D: EraseDisk + Drop> Pool<D> {
         Ok(())
     }
 
-    /// Writes the page home that was dirty longest, and tells whether there was one.
+    /// Writes the page home that was dirty longest. Returns whether there was one.
     pub fn flush_one(&mut self) -> Result<bool, UseError>
         // Each crash leaves the same map, and it stays unless the journal must be opened again.
         ensures crash { D.honest (disk_of (journal_of self.old)) → (pages : List (List ℕ)) → Maps D.EraseDisk self.old pages

@@ -30,17 +30,17 @@ pen_after (Err refused) = refused.pen
 abbrev pub AllTried : OnceState → ℕ → ℕ → Type 0
 AllTried o from to = (i : ℕ) → from ≤ i → i < to → o.tried i ≡ true
 
--- each tried block of a disk of so many blocks has a number below n
+-- each tried block of a disk of `count` blocks has a number below n
 abbrev pub AreTriedBelow : OnceState → ℕ → ℕ → Type 0
 AreTriedBelow o count n = (i : ℕ) → i < count → o.tried i ≡ true → i < n
 
--- the number n isn't below from; each block between was tried; and where a disk of so many blocks has it, it is blank
+-- the number n isn't below from; each block between was tried; and where a disk of `count` blocks has it, it is blank
 pub record IsFirstBlank (o : OnceState) (count from n : ℕ) : Type 0 where
   pub forward : from ≤ n
   pub tried : AllTried o from n
   pub blank : n < count → o.tried n ≡ false
 
--- At most one block became tried or burnt, the last one below `to`, where `to` has moved behind it; all before it from
+-- At most one block became tried or burnt, the last one below `to`, where `to` has moved past it; all before it from
 -- `from` on were tried.
 pub record Spends (from to : ℕ) (old new : OnceState) : Type 0 where
   pub forward : from ≤ to
@@ -53,7 +53,7 @@ pub record HasPassed (from to : ℕ) (old new : OnceState) : Type 0 where
   pub same : new ≡ old
   pub tried : AllTried old from to
 
--- the number is that just behind the first blank block from another number on, on a disk of so many blocks
+-- the number is the one after the first blank block from another number on, on a disk of `count` blocks
 pub record IsBehindBlank (o : OnceState) (count from to : ℕ) : Type 0 where
   pub block : ℕ
   pub blank : IsFirstBlank o count from block

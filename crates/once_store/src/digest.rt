@@ -11,7 +11,7 @@ pub const BODY_SIZE: usize = 16_352;
 /// The octets of the digest.
 pub const DIGEST_SIZE: usize = 32;
 
-/// Puts the digest of a block's body behind it. What stood there is gone.
+/// Writes the digest of a block's body after the body, over what was there.
 pub fn seal(block: &mut Block)
     ensures sealed { block.new ≡ sealed block.old }
 {

@@ -1,5 +1,5 @@
-//! Blocks with digests on a write-once disk. Once the number of a block is told, its octets are settled there for good,
-//! and whoever reads it knows damage from data.
+//! Blocks with digests on a write-once disk. Once the number of a block is returned, its octets are settled there for
+//! good, and whoever reads it can distinguish damage from data.
 #![tactic(auto)]
 
 mod digest;

@@ -39,7 +39,7 @@ pub struct ShelfReader<O: OnceDisk + Drop> {
 impl<O: OnceDisk + Drop> ShelfReader<O> {
     ghost use Rattle.once_store.specs.Readers.{IsKept, KnowsKept, capacity_of, kept_blocks, kept_count, reader_disk, without};
 
-    /// A reader of a disk that keeps at most so many blocks. It has read none.
+    /// A reader of a disk that keeps at most `capacity` blocks. It has read none.
     pub(crate) fn new(
         alloc: Global,
         disk: Arc<O>,
@@ -116,7 +116,7 @@ impl<O: OnceDisk + Drop> ShelfReader<O> {
         self.kept.len()
     }
 
-    // Makes a block the one that was asked for last, and tells whether it is kept.
+    // Makes a block the one that was asked for last. Returns whether it is kept.
     fn touch(&mut self, n: u64) -> bool
         ensures kept { IsTrue result → (block : List ℕ) × IsKept self.new n block × IsWhole block }
         ensures found { (block : List ℕ) → IsKept self.old n block → result ≡ true }

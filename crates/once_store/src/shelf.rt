@@ -13,7 +13,7 @@ use std::alloc::{AllocError, Global};
 use std::num::NonZeroUsize;
 use std::sync::Arc;
 
-/// Blocks on a write-once disk, each of which is settled before its number is told.
+/// Blocks on a write-once disk, each of which is settled before its number is returned.
 #[derive(Drop)]
 pub struct Shelf<O: OnceDisk + Drop> {
     disk: Arc<O>,
@@ -69,7 +69,7 @@ impl<O: OnceDisk + Drop> Shelf<O> {
         }
     }
 
-    /// Burns a block at the first blank one from the next number on, settles it, and then tells its number.
+    /// Burns a block at the first blank one from the next number on, settles it, and then returns its number.
     ///
     /// A block that a failed call tried is spent: the next one gets a higher number. A call that failed and tried none has
     /// passed over tried blocks alone, or it has given up one blank block, whose burn left no trace.
@@ -87,8 +87,8 @@ impl<O: OnceDisk + Drop> Shelf<O> {
         ensures none_left { O.honest (disk_of self.old) (pen_of self.old) → AllTried (O.model (pen_of self.old)) (next_of self.old) (O.block_count (disk_of self.old)) → IsErr result }
         ensures same { O.honest (disk_of self.old) (pen_of self.old) → IsErrOf result AppendError.OnceFull → O.model (pen_of self.new) ≡ O.model (pen_of self.old) }
 
-        // A disk doesn't tell a burn that failed without a trace from a look that failed. So where a call gives up a block,
-        // that is said to be the first blank one, and not which call failed.
+        // A disk doesn't distinguish a burn that failed without a trace from a look that failed. So where a call gives up a
+        // block, the clause says that it is the first blank one, and not which call failed.
         ensures failed { O.honest (disk_of self.old) (pen_of self.old) → IsErrOf result AppendError.Fault → HasPassed (next_of self.old) (next_of self.new) (O.model (pen_of self.old)) (O.model (pen_of self.new)) ⊎ IsBehindBlank (O.model (pen_of self.old)) (O.block_count (disk_of self.old)) (next_of self.old) (next_of self.new) }
 
         // In every outcome: whatever a crash leaves of the disk then, it leaves all that was settled before.
@@ -128,7 +128,7 @@ impl<O: OnceDisk + Drop> Shelf<O> {
         self.disk.look(&mut self.pen)
     }
 
-    /// A reader of its disk that keeps at most so many blocks, 1 to 1,024.
+    /// A reader of its disk that keeps at most `capacity` blocks, 1 to 1,024.
     pub fn reader(&self, alloc: Global, capacity: usize) -> Result<ShelfReader<O>, AllocError>
         requires some { 0 < capacity }
         requires few { capacity ≤ 1024 }

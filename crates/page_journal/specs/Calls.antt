@@ -27,7 +27,7 @@ pub record IsIdle {D : Type 0} (device : Ghosts D) (journal : Journal D device) 
   pub unhomed : unhomed_pages journal ≡ []
   pub usable : needs_recovery journal ≡ false
 
--- A write or a sync failed: the journal must be opened again. Until then it tells the slots and pages of before.
+-- A write or a sync failed: the journal must be opened again. Until then it reports the same slots and pages as before.
 pub record IsDown {D : Type 0} (device : Ghosts D) (old new : Journal D device) : Type 0 where
   pub recovery : needs_recovery new ≡ true
   pub opened : opened_slots new ≡ opened_slots old

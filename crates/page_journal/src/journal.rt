@@ -19,8 +19,9 @@ use std::alloc::Global;
 
 /// Home pages on an erasable disk, some of which are replaced at once by a post, whatever a crash tears.
 ///
-/// Each post takes one of eight slots, and a checkpoint gives all back. After a write or a sync that failed each call
-/// but those that only tell something, or give the disk up, answers that it must be opened again, until it is.
+/// Each post takes one of eight slots, and a checkpoint gives all back. After a write or a sync failed, each call,
+/// except those that only report something or give the disk up, returns that the journal must be opened again, until it
+/// is.
 #[derive(Drop)]
 pub struct Journal<D: EraseDisk + Drop> {
     disk: D,
@@ -43,7 +44,7 @@ impl<D: EraseDisk + Drop> Journal<D> {
     ghost use Rattle.page_journal.specs.Calls.{IsDown, IsIdle, SameButDisk, SameJournal, TakesSlot};
     ghost use Rattle.page_journal.specs.Outcome.{disk_after, outcome};
 
-    /// Makes a disk a journal's with so many home pages, which keep what the disk holds.
+    /// Makes a journal with `homes` home pages on a disk. The pages keep what the disk holds.
     ///
     /// The note is of zeros. See [`Journal::create_with`].
     pub fn create(alloc: Global, disk: D, homes: u64) -> Result<Self, Refused<D, CreateError>>
@@ -60,7 +61,7 @@ impl<D: EraseDisk + Drop> Journal<D> {
         Journal::create_with(alloc, disk, homes, [0; 11], &[])
     }
 
-    /// Makes a disk a journal's with so many home pages. The first pages are written, and the others keep what the
+    /// Makes a journal with `homes` home pages on a disk. The first pages are written, and the others keep what the
     /// disk holds.
     ///
     /// The note is for the layers above. The first octet of the identity page is written last, and alone: a crash
@@ -80,7 +81,7 @@ impl<D: EraseDisk + Drop> Journal<D> {
         ensures idle { IfOk result (IsIdle D.EraseDisk) }
         ensures crash { D.honest disk → Leaves (D.model disk) (D.model (disk_after result)) (NoneOrJournal homes note (laid first.now (homes_from (D.model disk).octet 0 homes))) }
 
-        // The disk is refused exactly where it is too small, and isn't written then, nor for want of memory.
+        // The disk is refused for its size exactly where it is too small. It isn't written then, nor where memory runs out.
         ensures room { OnOk result (home_place homes ≤ D.octet_count disk) }
         ensures refused { IfErr (outcome result) (CreateRefusal homes (D.octet_count disk)) }
         ensures untouched { IfErr result (λ refused. refused.error ≢ CreateError.Fault → refused.disk ≡ disk) }
@@ -102,8 +103,8 @@ impl<D: EraseDisk + Drop> Journal<D> {
 
     /// Opens the journal of a disk, and recovers it: what open slots hold is written home, and they are closed.
     ///
-    /// All slots are looked at before anything is written. A disk that only this journal wrote is refused for want of
-    /// memory or by the device alone, whatever a crash left of it.
+    /// All slots are looked at before anything is written. A disk that only this journal wrote is refused only where
+    /// memory runs out or the device fails, whatever a crash left of it.
     pub fn open(alloc: Global, mut disk: D) -> Result<Self, Refused<D, OpenError>>
         // What a read gives before the call is what the journal keeps, and each crash leaves it too.
         ensures opened { D.honest disk → IfOk result (λ journal. (pages : List (List ℕ)) → Recovers (home_pages journal) (note_of journal) (D.model disk).octet pages

@@ -3,7 +3,7 @@ use crate::error::{CreateError, OpenError, PostError, UseError};
 use std::alloc::AllocError;
 use thiserror::Error;
 
-/// Why some call of a journal refuses, where one list of all reasons is wanted. Each call has its own.
+/// Why some call of a journal refuses, as one list of all reasons. Each call has its own.
 #[derive(Clone, Copy, Debug, PartialEq, Eq, Error)]
 pub enum JournalError {
     /// The device failed.
@@ -21,7 +21,7 @@ pub enum JournalError {
     /// The journal must be opened again.
     #[error("the journal must be opened again")]
     NeedsRecovery,
-    /// The disk is too small for so many home pages.
+    /// The disk is too small for this many home pages.
     #[error("the disk has too few pages")]
     PagesFull,
     /// This page of the disk is damaged.

@@ -1,7 +1,7 @@
 //! Where the parts of a journal stand on its disk, and how large they are. Places are octets from 0 on.
 //!
-//! The disk's first page tells what it holds. Then come eight slots, each of a page for its gate, one for its header and
-//! 31 for images, and behind them the home pages.
+//! The disk's first page says what it holds. It is followed by eight slots, each of a page for its gate (the commit flag),
+//! one for its header and 31 for images, and then by the home pages.
 
 /// The octets of a page of the disk.
 pub const PAGE: u64 = 16_384;

@@ -5,7 +5,7 @@ use Rattle.buffer_pool.specs.declared.error.FetchError.TheVariants as fetches
 use Rattle.page_tx.specs.declared.error.PageError.{PageError}
 use Rattle.page_tx.specs.declared.error.PageError.TheVariants.{Fault, NeedsRecovery, TooManyImages, PagesFull, OutOfMemory}
 
--- a refusal of the pool, told by the transaction
+-- a refusal of the pool, as the transaction reports it
 abbrev pub of_fetch : FetchError → PageError
 of_fetch fetches.Fault = Fault
 of_fetch fetches.NeedsRecovery = NeedsRecovery
@@ -19,7 +19,7 @@ FetchRefusal down OutOfMemory = down ≡ false
 FetchRefusal down TooManyImages = ⊥
 FetchRefusal down PagesFull = ⊥
 
--- the reasons for which no image is laid, where images of so many pages would then be held
+-- the reasons for which no image is laid, where images of `count` pages would then be held
 abbrev pub SetRefusal : ℕ → PageError → Type 0
 SetRefusal count TooManyImages = 31 < count
 SetRefusal count OutOfMemory = count ≤ 31
@@ -27,7 +27,7 @@ SetRefusal count PagesFull = ⊥
 SetRefusal count Fault = ⊥
 SetRefusal count NeedsRecovery = ⊥
 
--- the reasons for which several images aren't laid, with a first unused page that must be one of so many or the one after the last
+-- the reasons for which several images aren't laid, with a first unused page that must be one of the `homes` home pages or the one after the last
 abbrev pub LayRefusal : ℕ → ℕ → ℕ → PageError → Type 0
 LayRefusal homes unused count PagesFull = homes < unused
 LayRefusal homes unused count TooManyImages = (unused ≤ homes) × (31 < count)

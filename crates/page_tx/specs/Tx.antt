@@ -17,7 +17,7 @@ pool_of tx = tx.pool
 abbrev pub named_pages : {D : Type 0} {device : Ghosts D} → Tx D device → List ℕ
 named_pages tx = pages_of tx.images.items
 
--- the first page that was never used, as far as it was told
+-- the first page that was never used, as it was given to the transaction
 abbrev pub next_page : {D : Type 0} {device : Ghosts D} → Tx D device → ℕ
 next_page tx = tx.next
 

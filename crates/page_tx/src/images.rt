@@ -49,7 +49,7 @@ pub fn count_new(held: &[(u64, Page)], images: &[(u64, Page)]) -> usize
     count
 }
 
-// Makes room for so many images more.
+// Makes room for `more` images more.
 pub fn make_room(held: &mut Vec<(u64, Page)>, more: usize) -> Result<(), PageError>
     requires { length held.old.items ≤ 31 }
     ensures items { held.new.items ≡ held.old.items }

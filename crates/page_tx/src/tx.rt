@@ -41,7 +41,7 @@ impl<D: EraseDisk + Drop> Tx<D> {
     ghost use Rattle.page_tx.specs.Start.{Start};
     ghost use Rattle.page_tx.specs.Tx.{Shows, named_pages, next_page, pool_of};
 
-    /// A transaction without an image over a pool. The first page that was never used is told.
+    /// A transaction without an image over a pool. `next` is the first page that was never used.
     pub fn new(alloc: Global, pool: Pool<D>, next: u64) -> Tx<D>
         requires { next ≤ home_pages (journal_of pool) }
         ensures pool { pool_of result ≡ pool }
@@ -124,7 +124,7 @@ impl<D: EraseDisk + Drop> Tx<D> {
         self.pool.checkpoint()
     }
 
-    /// Writes the page home that was dirty longest, and tells whether there was one. The images stay as they are.
+    /// Writes the page home that was dirty longest. Returns whether there was one. The images stay as they are.
     pub fn flush_one(&mut self) -> Result<bool, UseError>
         ensures crash { (start : Start) (shown : List (List ℕ)) → Shows D.EraseDisk self.old start shown
             → Leaves (D.model (disk_of (journal_of (pool_of self.old)))) (D.model (disk_of (journal_of (pool_of self.new))))

@@ -1,4 +1,4 @@
--- What looks for the next key, and for the versions of a key, answer.
+-- What lookups of the next key, and of the versions of a key, return.
 use Rattle.std.specs.Prelude.{◌≡◌, ℕ, suc, ◌<◌, ◌≤◌, ◌&&◌, Bool, List, Option, Some, None, filter, nat_eq, nat_le, nat_lt}
 use Rattle.version_model.specs.Versions.{Version, Found, Answers}
 use Rattle.version_model.specs.Ranges.{key_end, end_or}
@@ -16,19 +16,20 @@ abbrev pub IsLeastLive : List Version → ℕ → ℕ → Option ℕ → Type 0
 IsLeastLive versions s from None = (key : ℕ) → from ≤ key → Answers versions key s None
 IsLeastLive versions s from (Some least) = (from ≤ least) × IsLive versions s least × NoneWithin versions s from least
 
--- what a look for the next key answers: a key and what it has; or a higher key up to which none has a value; or that none has
+-- what a lookup of the next key returns: a key and what it has; or a higher key up to which none has a value; or that none has
 pub data Reached : Type 0 where
   At : (key : ℕ) (found : Found) → Reached
   Past : (high : ℕ) → Reached
   End : Reached
 
--- from a key on, itself included, as of the stamp: the least key that has a value, with that value; or none below the higher key that is told; or none at all
+-- from a key on, itself included, as of the stamp: the least key that has a value, with that value; or none below the higher key that is returned; or none at
+-- all
 abbrev pub IsReached : List Version → ℕ → ℕ → Reached → Type 0
 IsReached versions s from (At key found) = (from ≤ key) × Answers versions key s (Some found) × NoneWithin versions s from key
 IsReached versions s from (Past high) = (from < high) × NoneWithin versions s from high
 IsReached versions s from End = NoneWithin versions s from key_end
 
--- the keys below this one are told of
+-- the keys below this one are covered by the result
 abbrev pub reached_to : Reached → ℕ
 reached_to (At key found) = suc key
 reached_to (Past high) = high
@@ -38,7 +39,7 @@ reached_to End = key_end
 abbrev pub is_of : ℕ → ℕ → ℕ → Version → Bool
 is_of key from to v = nat_eq v.key key && (nat_le from v.stamp && nat_lt v.stamp to)
 
--- just the versions of the key from a stamp on and before the greater one that is told, in their order; where none is told, all from that stamp on
+-- exactly the versions of the key from a stamp on and before the greater one that is returned, in their order; where none is returned, all from that stamp on
 pub record IsPart (all : List Version) (key from : ℕ) (versions : List Version) (told : Option ℕ) : Type 0 where
   pub above : from < end_or told
   pub are : versions ≡ filter (is_of key from (end_or told)) all

@@ -15,7 +15,7 @@ ghost use Rattle.version_model.specs.Inserts.{KeepsUnder, Splits, Writes};
 ghost use Rattle.version_model.specs.Sizes.{octets, octets_below, IsSplitPoint, IsSingle, AreSmall};
 ghost use Rattle.version_model.specs.Counts.{PartCounts, NodeCounts, count_in};
 
-/// A leaf answers as all versions do: a look-up at a point of its range, that no key has a value, the next key within its
+/// A leaf answers as all versions do: a lookup at a point of its range, that no key has a value, the next key within its
 /// keys, and the versions of a key up to a stamp within its stamps.
 pub fn leaves_answer_as_all_do()
     ensures look_up { (all leaf : List Version) (r : Range) (key s : ℕ) (answer : Option Found) → Shows all r leaf → IsPoint r key s
@@ -63,8 +63,8 @@ pub fn answers_stay()
         → IsPart all key from versions told → IsPart new key from versions told }
 {}
 
-/// The versions of a key from a stamp on up to one that is told, and those from there on, are together those from the first stamp
-/// on. So parts that follow one another from the first stamp to the end of all stamps are all versions of the key.
+/// The versions of a key from a stamp on up to a second one, and those from there on, are together those from the first stamp on.
+/// So parts that follow one another from the first stamp to the end of all stamps are all versions of the key.
 pub fn parts_follow_one_another()
     ensures joined { (all : List Version) (key from to end : ℕ) → IsRising all → from ≤ to → to ≤ end
         → filter (is_of key from to) all ++ filter (is_of key to end) all ≡ filter (is_of key from end) all }
@@ -115,7 +115,7 @@ pub fn nodes_stand_on()
 {}
 
 /// A key node takes a version as its child of the version's key does: where the child stays one, and where it becomes two and
-/// the new one is written behind it.
+/// the new one is written after it.
 pub fn key_nodes_take_as_their_children_do()
     ensures one { (s t : Store) (v : Version) (level page : ℕ) (keys : Keys) (children : List Child) (i : ℕ) (child : Child)
         → s.nodes page ≡ Some (KeyNode (suc level) keys children) → slice_get children i ≡ Some child → child.low ≤ v.key

@@ -1,5 +1,5 @@
 //! Versions of values by key and stamp, and what stands for them: leaves, the parts of a column, the nodes of a tree.
-//! None of it knows how a node is spelled in octets.
+//! None of it knows how a node is encoded in octets.
 #![tactic(auto)]
 
 mod bounds;

@@ -1,4 +1,4 @@
-//! Stamps: a time, and an order number that tells changes of one time apart.
+//! Stamps: a time, and an order number that distinguishes changes of one time.
 
 ghost use Rattle.std.specs.Prelude.{◌≡◌, ◌==◌, ℕ};
 ghost use Rattle.std.specs.Cmp.{partial_order_from_own_ties};

@@ -10,7 +10,7 @@ use Rattle.page_journal.specs.Calls.{SameJournal}
 pub same_none : {D : Type 0} (device : Ghosts D) (journal : Journal D device) (failed : Type 0) → ¬ failed → SameJournal device journal journal failed
 same_none device journal failed none = record { homes = refl; note = refl; serves = serves_none device (disk_of journal) failed none }
 
--- one call that told no failure, and then another
+-- one call that reported no failure, and then another
 pub same_then : {D : Type 0} (device : Ghosts D) (a b c : Journal D device) (first second : Type 0) → SameJournal device a b first → ¬ first → SameJournal device b c second → SameJournal device a c second
 same_then device a b c first second one none two = record {
   homes = two.homes ∙ one.homes;
@@ -18,6 +18,6 @@ same_then device a b c first second one none two = record {
   serves = serves_then device (disk_of a) (disk_of b) (disk_of c) first second one.serves none two.serves;
 }
 
--- the same failure, told otherwise
+-- the same failure, stated otherwise
 pub same_as : {D : Type 0} (device : Ghosts D) (a b : Journal D device) (first second : Type 0) → SameJournal device a b first → (first → second) → (second → first) → SameJournal device a b second
 same_as device a b first second one to from = record { homes = one.homes; note = one.note; serves = serves_as device (disk_of a) (disk_of b) first second one.serves to from }

@@ -48,7 +48,7 @@ pub record SharesAt (f : ℕ → ℕ) (slot : ℕ) : Type 0 where
   pub is_open : IsOpen f slot
   pub shares : SharesNumber f slot
 
--- the page told is the header of such a slot
+-- the page reported is the header of such a slot
 abbrev pub SharedIn : (ℕ → ℕ) → OpenError → Type 0
 SharedIn f (BadNode page) = (slot : ℕ) × (slot < 8) × (page ≡ 2 + 33 * slot) × SharesAt f slot
 SharedIn f Fault = Unit {0}
@@ -62,7 +62,7 @@ pub record HoldsPost (homes : ℕ) (f : ℕ → ℕ) (slot : ℕ) : Type 0 where
   pub inside : AreBelow homes (pages_of (images f slot))
   pub distinct : AreDistinct (pages_of (images f slot))
 
--- the page told is the header of one of these slots, which doesn't hold a post
+-- the page reported is the header of one of these slots, which doesn't hold a post
 abbrev pub BadIn : ℕ → (ℕ → ℕ) → List ℕ → OpenError → Type 0
 BadIn homes f slots (BadNode page) = (slot : ℕ) × IsListed slot slots × (page ≡ 2 + 33 * slot) × (¬ HoldsPost homes f slot)
 BadIn homes f slots Fault = Unit {0}
@@ -84,14 +84,14 @@ pub record IsHomeward (homes : ℕ) (r : Relocation) : Type 0 where
   pub low : r.from + 16384 ≤ slots_end
   pub inside : r.page < homes
 
--- want, or the page of a slot's header
+-- out of memory, a failure of the device, or the page of a slot's header
 abbrev pub HeaderRefusal : ℕ → OpenError → Type 0
 HeaderRefusal slot Fault = Unit {0}
 HeaderRefusal slot OutOfMemory = Unit {0}
 HeaderRefusal slot (BadNode page) = page ≡ 2 + 33 * slot
 HeaderRefusal slot NotAJournal = ⊥
 
--- want, or the page of some slot's header
+-- out of memory, a failure of the device, or the page of some slot's header
 abbrev pub IsDamage : OpenError → Type 0
 IsDamage Fault = Unit {0}
 IsDamage OutOfMemory = Unit {0}

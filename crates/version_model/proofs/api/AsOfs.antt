@@ -1,4 +1,4 @@
--- The version as of a stamp, and what a look-up answers by it.
+-- The version as of a stamp, and what a lookup returns by it.
 use Rattle.std.proofs.Common.{◌≡◌, ℕ, List, Option, Some, None, IsSome, slice_get, sym, ◌∙◌, ap, subst, arith, inl, inr, true, false}
 use Rattle.version_model.specs.Versions.{Version, Has, AsOf, found_at, found_version, Answers, IsRising}
 use Rattle.version_model.specs.Looks.{IsLive}

@@ -137,7 +137,7 @@ get-take (y ∷ xs) zero i x at = absurd (none-some x at)
 get-take (y ∷ xs) (suc n) zero x at = (omega arith, at)
 get-take (y ∷ xs) (suc n) (suc i) x at = (let h = get-take xs n i x at in (omega (arith, h.0), h.1))
 
--- the first n children have the keys that they had
+-- the first n children keep their keys
 abbrev pub front_child : (keys : Keys) (children : List Child) (n : ℕ) (mid : Child) → slice_get children n ≡ Some mid → (s : Keys) (c : Child) → IsChildOf (record { low = keys.low; high = mid.low }) (take n children) s c → IsChildOf keys children s c
 front_child keys children n mid at s c is =
     let old = get-take children n is.place c is.at in

@@ -1,4 +1,4 @@
--- What a leaf answers to looks is what all versions answer.
+-- What lookups return in a leaf is what they return over all versions.
 use Rattle.std.proofs.Common.{◌≡◌, Option, ℕ, zero, suc, ◌<◌, ◌≤◌, ◌⊎◌, inl, inr, List, [], ◌∷◌, filter, Some, None, slice_get, refl, sym, ◌∙◌, ap, arith, Bool, true, false, nat_le, nat_lt, nat_eq, ◌&&◌}
 use Rattle.std.proofs.lemmas.Bool.{and_parts, and_from, eqb-true, leb-true, ltb-true, eq-eqb, le-leb, lt-ltb, cases_Bool}
 use Rattle.std.proofs.lemmas.Option.{same_Some}
@@ -132,7 +132,7 @@ module _ (all : List Version) (r : Range) (leaf : List Version) (shows : Shows a
   pub none_shown : (s from to : ℕ) → r.low ≤ from → to ≤ r.high → r.start ≤ s → s < r.end → NoneWithin leaf s from to → NoneWithin all s from to
   none_shown s from to low high start end none = λ key above below. answers_shown all r leaf shows key s None (record { low = omega arith; high = omega arith }) start end (none key above below)
 
-  -- what a look for the next key answers in the leaf within the range's keys, all versions answer
+  -- what a lookup of the next key returns in the leaf within the range's keys, it returns over all versions
   pub next_shown : (s from : ℕ) (reached : Reached) → IsPoint r from s → reached_to reached ≤ r.high → IsReached leaf s from reached → IsReached all s from reached
   next_shown s from (At key found) point within h = (
     h.0,
@@ -151,7 +151,7 @@ until_shown all r leaf at upto shows = record {
   spanning = λ v k before h some. shows.spanning v (record { low = k.low; high = k.high }) before h some;
 }
 
--- the versions of a key in the leaf, from a stamp of its range on up to one that it tells, are those of the key
+-- the versions of a key in the leaf, from a stamp of its range on up to one that it returns, are those of the key
 pub told_shown : (all : List Version) (r : Range) (leaf : List Version) (shows : Shows all r leaf) (key from : ℕ) (told : Option ℕ) → IsPoint r key from → IsRising all → IsRising leaf
     → from < end_or told → end_or told ≤ r.end → IsPart all key from (filter (is_of key from (end_or told)) leaf) told
 told_shown all r leaf shows key from told point rising rising_leaf above within = record {

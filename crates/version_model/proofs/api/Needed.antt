@@ -32,7 +32,7 @@ module _ (x : Version) (xs : List Version) (key s : ℕ) where
     | inr later ↦ none v later same upto
   ])
 
-  -- the first version counts, and none behind it has a greater stamp
+  -- the first version counts, and none after it has a greater stamp
   first : x.key ≡ key → x.stamp ≤ s → ((w : Version) → Has xs w → w.key ≡ key → w.stamp ≤ s → w.stamp ≤ x.stamp) → AsOf (x ∷ xs) key s x
   first same upto greatest = record {
     has = Has-head x xs;
@@ -44,7 +44,7 @@ module _ (x : Version) (xs : List Version) (key s : ℕ) where
     ];
   }
 
-  -- the first version counts, and one behind it has a greater stamp
+  -- the first version counts, and one after it has a greater stamp
   second : (w : Version) → x.stamp ≤ w.stamp → AsOf xs key s w → AsOf (x ∷ xs) key s w
   second w greater h = record {
     has = Has-tail x xs w h.has;

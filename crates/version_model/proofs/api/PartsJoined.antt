@@ -73,7 +73,7 @@ part_on all versions more key from to told rising first next =
     let high : to ≤ end_or told = omega (arith, next.above) in
     record { above = omega (arith, first.above, next.above); are = one ∙ joined key from to (end_or told) low high all rising }
 
--- a part from the first stamp on that tells all has each version of the key
+-- a part from the first stamp on with no end has each version of the key
 pub part_whole : (all versions : List Version) (key : ℕ) → ((v : Version) → Has all v → v.stamp < stamp_end) → IsPart all key 0 versions None → versions ≡ filter (λ v. nat_eq v.key key) all
 part_whole all versions key fit part =
     part.are ∙ kept_alike (is_of key 0 stamp_end) (λ v. nat_eq v.key key) all (λ v h. elim (cases_Bool (nat_eq v.key key)) [

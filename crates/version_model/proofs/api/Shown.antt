@@ -62,7 +62,7 @@ module _ (all : List Version) (r : Range) (leaf : List Version) (shows : Shows a
   no_value key s k from e none v h None is = is
   no_value key s k from e none v h (Some value) is = none v (holds_in_leaf key s v k e (leaf_has key s v k from e h (ap is_some is)) h)
 
-  -- the look-up: the leaf's answer is the answer
+  -- the lookup: the leaf's answer is the answer
   pub answers_shown : (key s : ℕ) (answer : Option Found) → IsKeyOf r key → r.start ≤ s → s < r.end → Answers leaf key s answer → Answers all key s answer
   answers_shown key s (Some found) k from e holds = holds_in_all key s (found_version key found) k from e holds
   answers_shown key s None k from e none = λ v h. no_value key s k from e none v h v.value refl

@@ -20,7 +20,7 @@ pub drop_all : (vs : List Version) → drop (length vs) vs ≡ []
 drop_all [] = refl
 drop_all (x ∷ xs) = drop_all xs
 
--- the rest from a place on: the version there, and the rest behind it
+-- the rest from a place on: the version there, and the rest after it
 pub total-drop : (f : Version → ℕ) (vs : List Version) (i : ℕ) (v : Version) → slice_get vs i ≡ Some v → total f (drop i vs) ≡ f v + total f (drop (i + 1) vs)
 total-drop f vs i v at = ap (total f) (drop_at vs i v at)
 
