@@ -15,7 +15,7 @@ use Rattle.intake.proofs.Wrapping.{wrapped_is, wrapped_low}
 use Rattle.intake.proofs.Pieces.{overlaid, with_piece, piece_written}
 use Rattle.intake.proofs.Images.{laid_set, number_at, numbers_at, are_distinct, image_number, pages_of_set, length_pages_of}
 
--- the image of the page behind the used octets is there
+-- the image of the page that follows the used octets is there
 pub covered : (ring : Ring) (begun n len at k : ℕ) → Covers ring begun n len → 0 < len → at ≡ wrapped (size_of ring) (ring.first + ring.used) → k ≡ image_of ring.count begun (at / 16384) → k < n
 covered ring begun n len at k covers lt at_is k_is =
     let place = λ (m : ℕ). image_of ring.count begun (wrapped (size_of ring) m / 16384) in
@@ -23,7 +23,7 @@ covered ring begun n len at k covers lt at_is k_is =
     let is : place (ring.first + (ring.used + 0)) ≡ k = ap place same ∙ sym (k_is ∙ ap (λ m. image_of ring.count begun (m / 16384)) at_is) in
     subst (λ m. m < n) is (covers 0 lt)
 
--- behind some of the octets the others are covered as well
+-- after some of the octets the others are covered as well
 pub covers_later : (ring : Ring) (begun n len used done rest : ℕ) → used ≡ ring.used + done → done + rest ≤ len → Covers ring begun n len → Covers (record ring { used = used }) begun n rest
 covers_later ring begun n len used done rest is fits covers k lt =
     let same : ring.first + (ring.used + (done + k)) ≡ ring.first + (used + k) = omega arith in
@@ -92,7 +92,7 @@ piece_put ring begun k at len octets old new start lt from there at_is k_is few 
           (piece_written shown ring.low ring.count ring.first p o stood piece (omega (arith, long)) start below (ap length page ∙ whole image is) (omega arith) next (omega arith) stand),
     )
 
--- octets behind others
+-- octets after others
 pub writes_more : (ring : Ring) (used : ℕ) (octets more : List ℕ) (a b c : List Image) → used ≡ ring.used + length octets → Writes ring octets a b → Writes (record ring { used = used }) more b c → Writes ring (octets ++ more) a c
 writes_more ring used octets more a b c is one two pages stood inside stood_is stand =
     let l = length-append stood octets in

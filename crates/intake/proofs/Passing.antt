@@ -10,7 +10,7 @@ use Rattle.intake.specs.Standing.{page_of, StandsFirst, BreaksOn}
 use Rattle.intake.proofs.Entries.{valid_both}
 use Rattle.intake.proofs.Wrapping.{wrapped_is, wrapped_twice, reads_both, reads_later}
 
--- The ring's octets begin with so many admissions, and this is the ring without them.
+-- The ring's octets begin with `count` admissions, and `rest` is the ring without them.
 pub record Passed (pages : List (List ℕ)) (ring rest : Ring) (count : ℕ) : Type 0 where
   pub before : List Admitted
   pub counted : count ≡ length before

@@ -62,7 +62,7 @@ piece_here pages low p o k piece in_map le ends lt =
     let new : page_at (with_piece pages low p o piece) (low + at / 16384) ≡ overlaid o piece page = ap (λ n. page_at (with_piece pages low p o piece) (low + n)) d ∙ get_or-set_same pages (low + p) (overlaid o piece page) [] in_map in
     ap (λ (l : List ℕ). get_or l (at % 16384) 0) new ∙ (ap (λ n. get_or (overlaid o piece page) n 0) m ∙ over_here o piece page k le lt)
 
--- A piece within one page is written behind the octets that stand.
+-- A piece within one page is written after the octets that are there.
 pub piece_written : (pages : List (List ℕ)) (low count first p o : ℕ) (octets piece : List ℕ) → low + count ≤ length pages → first < 16384 * count → p < count → length (page_at pages (low + p)) ≡ 16384
     → o + length piece ≤ 16384 → 16384 * p + o ≡ wrapped (16384 * count) (first + length octets) → length octets + length piece ≤ 16384 * count
     → Reads (ring_octet pages low) (16384 * count) first octets → Reads (ring_octet (with_piece pages low p o piece) low) (16384 * count) first (octets ++ piece)

@@ -10,7 +10,7 @@ use Rattle.intake.specs.Ring.{entry, size_of, wrapped, ring_octet, StandsIn}
 use Rattle.intake.specs.Standing.{StandsFirst}
 use Rattle.intake.proofs.Entries.{entry_is, length-sized, take_front, drop_front}
 
--- so many values of a function, from that at 0 on
+-- the first n values of a function, from that at 0 on
 abbrev values : (ℕ → ℕ) → ℕ → List ℕ
 values f zero = []
 values f (suc n) = f zero ∷ values (λ k. f (suc k)) n

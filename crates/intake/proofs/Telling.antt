@@ -16,7 +16,7 @@ use Rattle.intake.proofs.Standing.{stands_front, front_stood}
 
 -- ---- an entry's octets
 
--- those behind its length
+-- those after its length
 abbrev body : Outline → List ℕ
 body o = to_be_bytes w64 o.time ++ o.more
 
@@ -284,7 +284,7 @@ breaks_none pages ring at times b u = elim (cases_lt (length times) (length b.ti
 regroup : (x y z w all : List ℕ) → all ≡ ((x ++ y) ++ z) ++ w → (more : List ℕ) × (all ≡ x ++ more)
 regroup x y z w all e = (y ++ (z ++ w), e ∙ (append_assoc (x ++ y) z w ∙ append_assoc x y (z ++ w)))
 
--- an admission's spelling begins with its time
+-- an admission's encoding begins with its time
 time_first : (a : Admitted) → (more : List ℕ) × (admission_octets a ≡ to_be_bytes w64 a.time ++ more)
 unfolding admission_octets
 time_first a = regroup (to_be_bytes w64 a.time) (counted (λ row. row) (peer_rows a.changes)) (counted row_octets (route_rows a.changes)) (counted (change_octets (peer_rows a.changes) (route_rows a.changes)) a.changes) (admission_octets a) refl

@@ -9,7 +9,7 @@ use Rattle.intake.specs.declared.ring.Ring.{Ring}
 use Rattle.intake.specs.Ring.{entry, entry_octets, octets_for, Holds}
 use Rattle.intake.proofs.Entries.{front_len, front_octets, length-sized}
 
--- what is spelled alike is one admission
+-- equal encodings are of one admission
 abbrev pub OneSpelled : Type 0
 OneSpelled = (a b : Admitted) (octets : List ℕ) → SpellsAdmission a octets → SpellsAdmission b octets → a ≡ b
 

@@ -1,4 +1,4 @@
--- Octets that stand wrapped: what is written behind them, and what stays when the first are dropped.
+-- Octets that are stored wrapped: what is written after them, and what stays when the first are dropped.
 use Rattle.std.proofs.Common.{◌≡◌, ◌⊎◌, ◌<◌, ◌≤◌, ◌↔◌, ℕ, ◌+◌, ◌-◌, ◌%◌, List, ◌++◌, length, get_or, cond, refl, sym, ◌∙◌, ap, inl, inr, arith, length-append}
 use Rattle.std.proofs.Math.Nat.{mod-eq_of_lt, add-mod_left}
 use Rattle.std.proofs.lemmas.Bool.{cases_lt, lt-ltb, le-ltb}
@@ -16,7 +16,7 @@ wrapped_is size at = elim (cases_lt at size) [
 abbrev IsNext : ℕ → ℕ → ℕ → ℕ → Type 0
 IsNext size first n at = at ≡ wrapped size (first + n)
 
--- a place that is read lies outside of what is written behind it
+-- a place that is read lies outside of what is written after the octets
 outside : (size first n at m k : ℕ) → first < size → n + m ≤ size → at + m ≤ size → IsNext size first n at → k < n → ((wrapped size (first + k) < at) ⊎ (at + m ≤ wrapped size (first + k))) × (wrapped size (first + k) < size)
 outside size first n at m k lt fits ends next below =
     elim (wrapped_is size (first + k)) [
@@ -44,7 +44,7 @@ inside size first n at m k lt fits ends next low high =
       ]
     ]
 
--- A piece is written behind the octets that stand, without wrapping, and all else of the ring stays.
+-- A piece is written after the octets that are there, without wrapping, and all else of the ring stays.
 pub reads_more : (f g : ℕ → ℕ) (size first at : ℕ) (octets piece : List ℕ) → first < size → length octets + length piece ≤ size → at + length piece ≤ size → at ≡ wrapped size (first + length octets)
     → ((i : ℕ) → i < at → g i ≡ f i) → ((i : ℕ) → at + length piece ≤ i → i < size → g i ≡ f i) → ((k : ℕ) → k < length piece → g (at + k) ≡ get_or piece k 0)
     → Reads f size first octets → Reads g size first (octets ++ piece)
@@ -102,7 +102,7 @@ reads_same f g size first octets lt few same reads k below = same (wrapped size 
     low : (size first k : ℕ) → first < size → k < size → wrapped size (first + k) < size
     low size first k lt few = elim (wrapped_is size (first + k)) [ inl w ↦ let w0 = w.0 in let w1 = w.1 in omega arith | inr w ↦ let w1 = w.1 in omega arith ]
 
--- the place behind n octets lies in the ring
+-- the place after n octets lies in the ring
 pub wrapped_low : (size first n : ℕ) → first < size → n ≤ size → wrapped size (first + n) < size
 wrapped_low size first n lt few = elim (wrapped_is size (first + n)) [ inl w ↦ let w0 = w.0 in let w1 = w.1 in omega arith | inr w ↦ let w1 = w.1 in omega arith ]
 
@@ -118,7 +118,7 @@ wrapped_mod size at lt =
           sym (ap (λ (n : ℕ). n % size) is ∙ (add-mod_left size (wrapped size at) ∙ mod-eq_of_lt low))
     ]
 
--- octets stand exactly where each has the place that the remainder tells
+-- octets are in the ring exactly where each is at the place given by the remainder
 pub reads_mod : (f : ℕ → ℕ) (size first : ℕ) (octets : List ℕ) → first < size → length octets ≤ size → Reads f size first octets ↔ ((k : ℕ) → k < length octets → f ((first + k) % size) ≡ get_or octets k 0)
 reads_mod f size first octets lt few = (
   λ reads k below. ap f (sym (wrapped_mod size (first + k) (omega arith))) ∙ reads k below,

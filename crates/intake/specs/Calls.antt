@@ -19,7 +19,7 @@ pub record OnlyReads {P : Type 0} (pages : Ghosts P) (old new : P) (failed : Typ
   pub down : pages.down new ≡ pages.down old
   pub device : KeepsDevice (pages.honest old) (pages.honest new) (pages.faults old) (pages.faults new) failed
 
--- on how many pages so many octets lie at the most, wherever they begin
+-- the maximum number of pages that this many octets lie on, wherever they begin
 abbrev pub most_pages : ℕ → ℕ
 most_pages octets = (octets + 32766) / 16384
 
@@ -31,13 +31,13 @@ PageRefusal down OutOfMemory = ⊤
 PageRefusal down TooManyImages = ⊥
 PageRefusal down PagesFull = ⊥
 
--- the reasons for which what waits isn't read, besides the damage that the clauses tell
+-- the reasons for which what waits isn't read, besides the damage that the clauses state
 abbrev pub ReadRefusal : Bool → ReadError → Type 0
 ReadRefusal down (reads.BadNode page) = ⊤
 ReadRefusal down (reads.Pages refusal) = PageRefusal down refusal
 
--- The reasons for which a batch isn't put into a ring, besides want of room in it: of so many pages this one would be
--- the first that was never used, and images of at most so many would be held.
+-- The reasons for which a batch isn't put into a ring, besides too little room in it: the map has `homes` pages,
+-- `unused` is the first that was never used, and images of at most `count` pages would be held.
 abbrev pub AppendRefusal : Bool → ℕ → ℕ → ℕ → IntakeError → Type 0
 AppendRefusal down homes unused count intakes.IntakeFull = ⊤
 AppendRefusal down homes unused count (intakes.Pages Fault) = down ≡ false

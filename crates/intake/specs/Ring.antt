@@ -10,15 +10,15 @@ use Rattle.intake.specs.declared.ring.Ring.{Ring}
 abbrev pub page_at : List (List ℕ) → ℕ → List ℕ
 page_at pages n = slice_index_or pages n []
 
--- octets behind their length in four octets
+-- octets after their length in four octets
 unfoldable pub sized : List ℕ → List ℕ
 sized octets = to_be_bytes w32 (length octets) ++ octets
 
--- an admission as it stands in a ring: its one spelling, behind the length
+-- an admission as it is stored in a ring: its unique encoding, after the length
 abbrev pub entry : Admitted → List ℕ
 entry a = sized (admission_octets a)
 
--- how many octets an admission takes in a ring, and counts in a batch: 4, and those of its spelling
+-- how many octets an admission takes in a ring, and counts in a batch: 4, and those of its encoding
 abbrev pub entry_octets : Admitted → ℕ
 entry_octets a = 4 + length (admission_octets a)
 
@@ -50,7 +50,7 @@ Reads octet size first octets = (k : ℕ) → k < length octets → octet (wrapp
 abbrev pub StandsIn : List (List ℕ) → Ring → List ℕ → Type 0
 StandsIn pages ring octets = Reads (ring_octet pages ring.low) (size_of ring) ring.first octets
 
--- the ring lies in a map of so many pages, has at most 65,535 of them, and uses no more octets than it has
+-- the ring lies in a map of `homes` pages, has at most 65,535 of them, and uses no more octets than it has
 pub record IsRing (homes : ℕ) (ring : Ring) : Type 0 where
   pub inside : ring.low + ring.count ≤ homes
   pub small : ring.low + ring.count < 2 ^ 64
@@ -64,7 +64,7 @@ pub record Holds (pages : List (List ℕ)) (ring : Ring) (admissions : List Admi
   pub size : octets_for admissions ≡ ring.used
   pub octets : StandsIn pages ring (flat_map entry admissions)
 
--- The page holds an octet of so many that stand behind the used ones.
+-- The page holds one of the first `octets` octets after the used ones.
 abbrev pub HoldsBehind : Ring → ℕ → ℕ → Type 0
 HoldsBehind ring octets n = (k : ℕ) × (k < octets) × (n ≡ ring.low + wrapped (size_of ring) (ring.first + (ring.used + k)) / 16384)
 
@@ -72,7 +72,7 @@ HoldsBehind ring octets n = (k : ℕ) × (k < octets) × (n ≡ ring.low + wrapp
 abbrev pub ListsBehind : Ring → ℕ → List ℕ → List ℕ → Type 0
 ListsBehind ring octets old new = (n : ℕ) → IsListed n new ↔ (IsListed n old ⊎ HoldsBehind ring octets n)
 
--- The listed pages, with those that hold so many octets behind the used ones, are more than 31.
+-- The listed pages, with those that hold one of the first `octets` octets after the used ones, are more than 31.
 pub record Crowds (ring : Ring) (octets : ℕ) (listed : List ℕ) : Type 0 where
   pub all : List ℕ
   pub distinct : AreDistinct all
@@ -98,8 +98,8 @@ pub record Gains (shows : List (List ℕ) → Type 0) (old : List (List ℕ)) (r
   pub changes : ChangesOnly ring old pages
   pub stands : Stands pages ring admissions
 
--- Pages are shown on which these octets stand behind the used ones, whatever those are, and outside of the ring they are as
--- they were.
+-- Pages are shown that hold these octets after the used ones, whatever those are, and outside of the ring they are as they
+-- were.
 pub record Adds (shows : List (List ℕ) → Type 0) (old : List (List ℕ)) (ring : Ring) (octets : List ℕ) : Type 0 where
   pub pages : List (List ℕ)
   pub shown : shows pages

@@ -16,7 +16,7 @@ pub record StandsFirst (pages : List (List ℕ)) (ring : Ring) (a : Admitted) : 
   pub fits : length (entry a) ≤ ring.used
   pub octets : StandsIn pages ring (entry a)
 
--- an entry of which no more is looked at than its length and its time: the time, and the octets behind it
+-- an entry of which only the length and the time are looked at: the time, and the octets after it
 pub record Outline : Type 0 where
   pub time : ℕ
   pub more : List ℕ
@@ -29,7 +29,7 @@ outlined o = sized (to_be_bytes w64 o.time ++ o.more)
 abbrev pub time_in : Outline → ℕ
 time_in o = o.time
 
--- the time is in whole seconds, and the octets are no more than those of an admission's spelling may be
+-- the time is in whole seconds, and the octets are no more than those of an admission's encoding may be
 pub record IsOutline (o : Outline) : Type 0 where
   pub time : o.time < 2 ^ 32
   pub small : 8 + length o.more ≤ 131072

@@ -36,7 +36,7 @@ impl Ring {
     ghost use Rattle.intake.specs.Calls.{OnlyReads, AppendRefusal, most_pages};
     ghost use Rattle.page_tx.specs.declared.error.PageError.TheVariants as pages_refusals;
 
-    /// Puts a batch behind what waits, where it fits: an admission takes 4 octets and those of its spelling. These are
+    /// Appends a batch to what waits, where it fits: an admission takes 4 octets and those of its encoding. These are
     /// counted before any page is touched. The pages are set together, each once; a batch of at most 262,144 octets sets
     /// at most 17. After a refusal nothing is set.
     pub fn append<P: Pages>(

@@ -1,4 +1,4 @@
-//! Images of a ring's pages, into which a batch is spelled before they are laid.
+//! Images of a ring's pages, into which a batch is encoded before they are laid.
 ghost use Rattle.std.specs.Prelude.{◌≡◌, ◌<◌, ◌≤◌, ◌↔◌, ◌+◌, ◌*◌, ◌/◌, ◌++◌, ◌∷◌, [], ℕ, List, length, take, drop, flat_map, slice_get, slice_set, OnOk, IfOk, IfErr, IsErrOf, IsTrue, Some};
 ghost use Rattle.std.specs.List.{AllByRecursion};
 ghost use Rattle.route_model.specs.Admission.{IsAdmission};
@@ -65,8 +65,8 @@ fn begun_page<P: Pages>(
     copy_of(pages, n)
 }
 
-// Images of so many pages of a ring, from the one on that has the place behind the used octets. Those pages aren't copied
-// whose octets are all among so many behind the used ones.
+// Images of `count` pages of a ring, from the one on that has the place after the used octets. Those pages aren't copied
+// whose octets are all among the first `octets` after the used ones.
 fn images_from<P: Pages>(
     alloc: Global,
     pages: &mut P,
@@ -120,7 +120,7 @@ fn put_into(images: &mut Vec<(u64, Page)>, k: usize, from: usize, octets: &[u8])
     images[k].1.put(from, octets);
 }
 
-// Puts a first piece of the octets into the image of the page behind the used octets, and tells how many that are.
+// Puts a first piece of the octets into the image of the page with the place after the used octets. Returns how many that are.
 fn put_piece(images: &mut Vec<(u64, Page)>, ring: Ring, begun: u64, octets: &[u8]) -> usize
     requires few { ring.count ≤ 65535 }
     requires start { ring.first < size_of ring }
@@ -142,7 +142,7 @@ fn put_piece(images: &mut Vec<(u64, Page)>, ring: Ring, begun: u64, octets: &[u8
     len
 }
 
-// Puts octets into the images, behind the used ones.
+// Puts octets into the images, after the used ones.
 fn put_octets(images: &mut Vec<(u64, Page)>, ring: Ring, begun: u64, octets: &[u8])
     requires few { ring.count ≤ 65535 }
     requires start { ring.first < size_of ring }
@@ -163,7 +163,7 @@ fn put_octets(images: &mut Vec<(u64, Page)>, ring: Ring, begun: u64, octets: &[u
     }
 }
 
-// Puts an admission into the images, behind the used octets.
+// Puts an admission into the images, after the used octets.
 fn put_entry(
     alloc: Global,
     images: &mut Vec<(u64, Page)>,
@@ -192,7 +192,7 @@ fn put_entry(
     Ok(())
 }
 
-// Puts a batch into the images, behind the used octets.
+// Puts a batch into the images, after the used octets.
 fn put_batch(
     alloc: Global,
     images: &mut Vec<(u64, Page)>,
@@ -218,7 +218,7 @@ fn put_batch(
     Ok(())
 }
 
-// On how many pages so many octets lie, from a place in the first of them on.
+// The number of pages that `octets` octets lie on, from a place in the first of them on.
 fn page_count(from: u64, octets: u64) -> u64
     requires from { from < 16384 }
     requires few { octets ≤ 16384 * 65535 }
@@ -234,7 +234,7 @@ fn page_count(from: u64, octets: u64) -> u64
     }
 }
 
-// Images of the pages of a ring on which a batch lies, with the batch behind the used octets. So many octets it takes.
+// Images of the pages of a ring on which a batch lies, with the batch after the used octets. It takes `octets` octets.
 pub fn draft<P: Pages>(
     alloc: Global,
     pages: &mut P,

@@ -7,7 +7,7 @@ ghost use Rattle.intake.specs.Ring.{page_at, entry_octets, octets_for, size_of, 
 
 use route_model::spellings_are_one;
 
-/// What a ring holds stays where its pages stay, as they do while only pages of another ring, before or behind it, are
+/// What a ring holds stays where its pages stay, as they do while only pages of another ring, before or after it, are
 /// changed.
 pub fn rings_keep_what_they_hold()
     ensures pages { (homes : ℕ) (ring : Ring) (old new : List (List ℕ)) (waits : List Admitted) → IsRing homes ring → ((n : ℕ) → ring.low ≤ n → n < ring.low + ring.count → page_at new n ≡ page_at old n) → Holds old ring waits → Holds new ring waits }
@@ -23,7 +23,7 @@ pub fn rings_hold_one_list()
 }
 
 /// Places go round: the place of an octet is the remainder by the ring's size. So octets stand in a ring exactly where it has each of
-/// them at the place that the remainder tells.
+/// them at the place that the remainder gives.
 pub fn rings_go_round()
     ensures place { (size at : ℕ) → at < size + size → wrapped size at ≡ at % size }
     ensures stands { (homes : ℕ) (pages : List (List ℕ)) (ring : Ring) (octets : List ℕ) → IsRing homes ring → length octets ≤ size_of ring

@@ -1,4 +1,4 @@
-//! Octets of a ring, and the admission that they spell.
+//! Octets of a ring, and the admission that they encode.
 ghost use Rattle.std.specs.Prelude.{◌≡◌, ◌<◌, ◌≤◌, ◌+◌, ◌++◌, ℕ, List, length, take, drop, OnOk, IfOk, IfErr, IsErrOf};
 ghost use Rattle.std.specs.Int.{w32, from_be_bytes, to_be_bytes};
 ghost use Rattle.page_tx.specs.Start.{Start};
@@ -12,7 +12,7 @@ use page_tx::{PageError, Pages};
 use route_model::MAX_ADMISSION_LEN;
 use std::alloc::Global;
 
-// Reads a first piece of so many octets, which stand in one page from a place behind the first used octet on.
+// Reads a first piece, within one page, of the `most` octets that begin `from` octets after the first used one.
 fn read_piece<P: Pages>(
     pages: &mut P,
     ring: Ring,
@@ -40,7 +40,7 @@ fn read_piece<P: Pages>(
     Ok(())
 }
 
-// Reads so many octets from a place behind the first used octet on.
+// Reads `len` octets, beginning `from` octets after the first used one.
 pub fn read<P: Pages>(
     alloc: Global,
     pages: &mut P,
@@ -82,10 +82,10 @@ impl Ring {
     ghost use Rattle.intake.specs.Calls.{OnlyReads, ReadRefusal};
     ghost use Rattle.page_tx.specs.declared.error.PageError.TheVariants as pages_refusals;
 
-    /// The first admission that waits, none where nothing waits. Where no admission stands first, the page is told on
-    /// which it would begin. Where no octet is used, or too few for a length, no page is read for it. Else a failed read
-    /// and want of memory may refuse it before damage is found. One that is kept of a read before is the answer where its
-    /// octets stand first still: it isn't decoded again.
+    /// The first admission that waits, none where nothing waits. Where no admission is first, the error names the page on
+    /// which it would begin. Where no octet is used, or too few for a length, no page is read for it. Otherwise a failed
+    /// read or running out of memory may refuse it before damage is found. One that is kept from an earlier read is
+    /// returned where its octets still are the first: it isn't decoded again.
     pub fn front<P: Pages>(
         &self,
         alloc: Global,
@@ -120,7 +120,7 @@ impl Ring {
         }
         let octets = read(alloc, pages, *self, 4, len as usize)?;
         let Some(admission) = Encoded::decode(alloc, octets, kept)? else {
-            return Err(damaged); // octets that spell no admission
+            return Err(damaged); // octets that encode no admission
         };
         Ok(Some(admission))
     }

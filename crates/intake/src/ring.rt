@@ -34,7 +34,7 @@ impl Ring {
     ghost use Rattle.route_model.specs.Admission.{Admitted};
     ghost use Rattle.intake.specs.Ring.{wrapped, entry, size_of, IsRing, Holds};
 
-    /// A ring of so many pages from one on, in which nothing waits.
+    /// A ring of `count` pages from `low` on, in which nothing waits.
     pub fn empty(low: u64, count: u64) -> Ring
         ensures place { result ≡ record { low = low; count = count; first = 0; used = 0 } }
         ensures holds { (pages : List (List ℕ)) → Holds pages result [] }
@@ -47,7 +47,7 @@ impl Ring {
         }
     }
 
-    /// Whether it is a ring of a map of so many pages.
+    /// Whether it is a ring of a map of `homes` pages.
     pub fn is_within(&self, homes: u64) -> bool
         ensures within { IsTrue result ↔ IsRing homes self.now }
     {

@@ -25,7 +25,7 @@ fn long_number(octets: &[u8]) -> u64
     ])
 }
 
-// The length of an entry's spelling, and the time that the spelling begins with.
+// The length of an entry's encoding, and the time that the encoding begins with.
 fn length_and_time(front: &[u8]) -> (u32, u64)
     requires { length front.now ≡ 12 }
     ensures length { result.0 ≡ from_be_bytes w32 (take 4 front.now) }
@@ -45,7 +45,7 @@ fn add_time(times: &mut Vec<Moment>, time: Moment) -> Result<(), AllocError>
     Ok(())
 }
 
-// The page of a place behind the first used octet.
+// The page with the place `at` octets after the first used one.
 fn page_under(ring: Ring, at: u64) -> u64
     requires small { ring.low + ring.count < 2 ^ 64 }
     requires few { ring.count ≤ 65535 }
@@ -58,7 +58,7 @@ fn page_under(ring: Ring, at: u64) -> u64
     ring.low + wrap(PAGE * ring.count, ring.first + at) / PAGE
 }
 
-// The time of the entry at a place behind the first used octet, and where the next one is.
+// The time of the entry `at` octets after the first used one, and where the next one is.
 fn time_at<P: Pages>(
     alloc: Global,
     pages: &mut P,
@@ -105,10 +105,10 @@ impl Ring {
     ghost use Rattle.intake.specs.Standing.{page_of, TellsTimes, BreaksAt};
     ghost use Rattle.intake.specs.Calls.{OnlyReads, ReadRefusal};
 
-    /// The times of all that waits, in its order. Of each admission no more is read than its length and its time. Where no
-    /// length with a time behind it stands, the page is told on which it would begin. Changes aren't looked at. Where no
-    /// octet is used, or too few for a length and a time, no page is read. Else a failed read and want of memory may refuse
-    /// it before damage is found.
+    /// The times of all that waits, in its order. Of each admission only its length and its time are read. Where there is no
+    /// length with a time after it, the error names the page on which it would begin. Changes aren't looked at. Where no
+    /// octet is used, or too few for a length and a time, no page is read. Otherwise a failed read or running out of memory
+    /// may refuse it before damage is found.
     pub fn waiting_times<P: Pages>(
         &self,
         alloc: Global,

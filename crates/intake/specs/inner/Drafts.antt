@@ -5,7 +5,7 @@ use Rattle.page_journal.specs.Recovers.{laid}
 use Rattle.intake.specs.declared.ring.Ring.{Ring}
 use Rattle.intake.specs.Ring.{page_at, wrapped, size_of, StandsIn}
 
--- the numbers of so many pages of a ring, from one on
+-- the numbers of n pages of a ring, from one on
 abbrev pub numbers_from : ℕ → ℕ → ℕ → ℕ → List ℕ
 numbers_from low count page zero = []
 numbers_from low count page (suc n) = (low + wrapped count page) ∷ numbers_from low count (suc page) n
@@ -19,11 +19,11 @@ pub record AreFrom (low count begun : ℕ) (ns : List ℕ) : Type 0 where
   pub few : length ns ≤ count
   pub are : ns ≡ numbers_from low count begun (length ns)
 
--- each of so many octets behind the used ones lies on one of n pages from this one on
+-- each of the first `octets` octets after the used ones lies on one of n pages from this one on
 abbrev pub Covers : Ring → ℕ → ℕ → ℕ → Type 0
 Covers ring begun n octets = (k : ℕ) → k < octets → image_of ring.count begun (wrapped (size_of ring) (ring.first + (ring.used + k)) / 16384) < n
 
--- Where octets stand in a ring with the old images laid over its pages, these stand behind them with the new ones.
+-- Where octets are in a ring with the old images laid over its pages, these follow them with the new ones.
 abbrev pub Writes : Ring → List ℕ → List Image → List Image → Type 0
 Writes ring octets old new = (pages : List (List ℕ)) (stood : List ℕ) → ring.low + ring.count ≤ length pages → length stood ≡ ring.used
     → StandsIn (laid old pages) ring stood → StandsIn (laid new pages) ring (stood ++ octets)
