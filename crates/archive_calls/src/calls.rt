@@ -13,8 +13,8 @@ use std::alloc::Global;
 
 /// An archive with one owner: it takes batches and marks, applies them step by step, and answers questions.
 pub trait RouteArchive {
-    /// The archive carries this history. After a failed write or sync it is the one of before the call that failed, which
-    /// what is found when the archive is opened again goes on from.
+    /// The archive carries this history. After a failed write or sync it is the history from before the failed call; what
+    /// is found when the archive is opened again goes on from it.
     ghost carries: { Self → History → Type 0 };
 
     /// The most octets that a batch may have.

@@ -68,7 +68,7 @@ pub trait OctetFile {
     fn facts(&self) -> io::Result<FileFacts>
         ensures size { follows self.now → IfOk result (λ facts. facts.size ≡ octet_count self.now) };
 
-    /// Takes its lock so, which is let go when the file is closed. Answers whether that was free, and waits for no one.
+    /// Takes its lock with this access; the lock is released when the file is closed. Returns whether it was free, and waits for no one.
     fn hold(&mut self, access: Access) -> io::Result<bool>
         ensures follows { follows self.old ↔ follows self.new }
         ensures size { follows self.old → octet_count self.new ≡ octet_count self.old }

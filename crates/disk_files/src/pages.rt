@@ -76,7 +76,7 @@ impl<F: OctetFile> FileErase<F> {
         Ok(FileErase::over(file, size, Access::Alone))
     }
 
-    /// The disk that a file at hand holds. It is locked so, and brought to the device.
+    /// The disk in a file that the caller gives. It is locked with this access, and synced to the device.
     pub fn open_on(mut file: F, access: Access) -> Result<Self, FileError>
     where
         F: Drop,

@@ -55,7 +55,7 @@ impl Ring {
         ensures as_before { OnErr result (self.new ≡ self.old) }
         ensures nothing { OnErr result (OnlyReads P.Pages pages.old pages.new (result ≡ Err (IntakeError.Pages pages_refusals.Fault))) }
 
-        // Images are held of the pages that hold an octet of the batch, and of those of before. One transaction holds
+        // Images are held of the pages that hold an octet of the batch, and of those held before. One transaction holds
         // images of at most 31 pages; a batch within its limit needs at most 17 more.
         ensures set { OnOk result (ListsBehind self.old (octets_for batch.now) (P.named pages.old) (P.named pages.new)) }
         ensures room { result ≡ Err (IntakeError.Pages pages_refusals.TooManyImages) → Crowds self.old (octets_for batch.now) (P.named pages.old) }

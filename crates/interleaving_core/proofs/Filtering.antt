@@ -1,4 +1,4 @@
--- The rows up to a spot are the first of the rows that are left, and just those of their range.
+-- The rows up to a spot are the first of the rows that are left, and exactly those of their range.
 use Rattle.std.proofs.Common.{◌≡◌, ℕ, ◌<◌, List, [], ◌∷◌, ◌++◌, Bool, true, refl, sym, ap, ◌∙◌, inl, inr, arith, Some, None, Option, Contains, filter, append-nil}
 use Rattle.std.specs.List.{AllByRecursion}
 use Rattle.std.specs.Prelude.{nat_le}

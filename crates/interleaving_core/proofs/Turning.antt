@@ -1,4 +1,4 @@
--- A question in progress has just the first of what it asks for, and goes on so by each turn.
+-- A question in progress has exactly the first of what it asks for, and goes on so by each turn.
 use Rattle.std.proofs.Common.{◌≡◌, ℕ, ◌<◌, ◌≤◌, ◌⊎◌, List, [], ◌∷◌, ◌++◌, length, take, drop, Bool, true, refl, sym, ap, ◌∙◌, inl, inr, arith, subst, Some, None, Option, append-nil, append_assoc, length-append}
 use Rattle.std.specs.Prelude.{nat_lt}
 use Rattle.std.proofs.lemmas.Bool.{cases_Bool, lt-ltb, ltb-true}

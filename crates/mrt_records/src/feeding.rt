@@ -59,7 +59,7 @@ fn top_up(held: &mut Vec<u8>, piece: &[u8], want: usize) -> Result<usize, AllocE
 }
 
 /// Moves octets from the piece to the held ones until these are a record, or have a Length above the
-/// limit, or the piece is used up. Answers how many it moved.
+/// limit, or the piece is used up. Returns how many it moved.
 fn fill(held: &mut Vec<u8>, piece: &[u8]) -> Result<usize, AllocError>
     requires { BeginsWithRecord held.old.items → ⊥ }
     ensures ok { IfOk result (λ n. IsFilled held.old.items held.new.items piece.now n) }
@@ -83,7 +83,7 @@ fn fill(held: &mut Vec<u8>, piece: &[u8]) -> Result<usize, AllocError>
     }
 }
 
-/// Holds the rest of a piece until the next one, in place of what was held. Answers whether the rest is
+/// Holds the rest of a piece until the next one, in place of what was held. Returns whether the rest is
 /// above the limit, and then holds its header alone.
 fn hold(alloc: Global, held: &mut Vec<u8>, rest: &[u8]) -> Result<bool, AllocError>
     ensures ok { IfOk result (λ over. IsHeld over rest.now held.new.items) }
@@ -102,7 +102,7 @@ fn hold(alloc: Global, held: &mut Vec<u8>, rest: &[u8]) -> Result<bool, AllocErr
 }
 
 /// Adds the items of the whole records of octets, and holds what is left in place of what was held.
-/// Answers whether that is above the limit.
+/// Returns whether that is above the limit.
 fn feed_rest(
     alloc: Global,
     held: &mut Vec<u8>,

@@ -14,6 +14,6 @@ digest_of block = drop 16352 block
 abbrev pub IsWhole : List ℕ → Type 0
 IsWhole block = sha256 (body_of block) ≡ digest_of block
 
--- the block's body followed by its SHA-256
+-- the block's body followed by the body's SHA-256
 abbrev pub sealed : List ℕ → List ℕ
 sealed block = body_of block ++ sha256 (body_of block)

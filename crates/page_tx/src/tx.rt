@@ -58,7 +58,7 @@ impl<D: EraseDisk + Drop> Tx<D> {
         }
     }
 
-    /// Begins again without an image: those of before are forgotten.
+    /// Begins again without an image: those held before are forgotten.
     pub fn begin(&mut self, next: u64)
         requires { next ≤ home_pages (journal_of (pool_of self.old)) }
         ensures pool { pool_of self.new ≡ pool_of self.old }

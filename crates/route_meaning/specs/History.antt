@@ -71,7 +71,7 @@ pub record IsIntake (i : Intake) : Type 0 where
   pub mark : i.mark ≤ last_mark
   pub counted : length i.admitted ≤ i.offered
 
--- a place applied has one form: no more admissions than there are, and of the next one fewer changes than it has
+-- the place applied has one representation: no more admissions than there are, and of the next one fewer changes than it has
 pub record IsPlace (h : History) : Type 0 where
   pub within : h.whole ≤ length (all_of h)
   pub part : (h.some ≡ 0) ⊎ ((next : Placed Admitted) × (later : List (Placed Admitted)) × (waiting h ≡ next ∷ later) × (h.some < length next.item.changes))

@@ -12,8 +12,8 @@ use crate::number::{read_number, write_number};
 use route_model::{Address, Prefix};
 use std::alloc::AllocError;
 
-/// Writes a prefix at the end of `out`: its address, `/` and its length. After an error nothing is
-/// said of `out`.
+/// Writes a prefix at the end of `out`: its address, `/` and its length. After an error the content
+/// of `out` is unspecified.
 pub fn write_prefix(out: &mut String, prefix: &Prefix) -> Result<(), AllocError>
     ensures text { OnOk result (string_bytes out.new ≡ string_bytes out.old ++ prefix_text prefix.now) }
 {

@@ -12,7 +12,7 @@ pub data BlockNode : Type 0 where
   OldLeaf : (range : Range) (versions : List Version) → BlockNode
   OldColumn : (range : Range) (parts : List Part) → BlockNode
 
--- one range has just the stamps of the other, and its keys at least
+-- one range has exactly the stamps of the other, and at least its keys
 pub record IsWider (wide r : Range) : Type 0 where
   pub low : wide.low ≤ r.low
   pub high : r.high ≤ wide.high

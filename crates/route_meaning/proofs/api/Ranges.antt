@@ -1,4 +1,4 @@
--- The rows of a range and of the next one are those of both; and rows are determined by what they are.
+-- The rows of a range and of the next one are those of both; and the definition of rows admits one list alone.
 use Rattle.std.proofs.Common.{◌≡◌, ℕ, zero, suc, ◌<◌, ◌≤◌, ◌+◌, ◌⊎◌, List, [], ◌∷◌, ◌++◌, length, Bool, refl, sym, ap, ◌∙◌, inl, inr, arith, subst, Some, None, Option, Contains, take, ltb as nat_lt}
 use Rattle.std.specs.List.{AllByRecursion}
 use Rattle.std.proofs.lemmas.List.Elements.{Contains-append_left, Contains-append_right}
