@@ -45,7 +45,7 @@ fn put_part<K>(sheet: &mut Sheet<K>, at: usize, part: &Part)
     put_place(sheet, at, part.start, octet_of_kind(part.kind), part.block);
 }
 
-/// Writes parts one behind another, behind the header of a node without entries.
+/// Writes parts one after another, after the header of a node without entries.
 fn put_parts<K>(sheet: &mut Sheet<K>, parts: &[Part])
     requires room { 25 * length parts.now ≤ 16232 }
     ensures fits { AllByRecursion IsPartEntry parts.now }

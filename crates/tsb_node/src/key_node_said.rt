@@ -52,8 +52,8 @@ fn key_node_in(alloc: Global, header: &Header, entries: &[u8]) -> Result<KeyNode
     }
 }
 
-/// What the key node says that a page is. Refused as no node exactly where it is no key node, and for want of memory only where
-/// it is one.
+/// Reads the key node that a page encodes. Fails with NotANode exactly where the page is no key node, and with Memory only where it
+/// is one.
 pub fn key_node_of_page(alloc: Global, page: &Page) -> Result<KeyNodeSaid, ReadFault>
     ensures key_node { MatchResult result (λ said. IsKeyNodePage (key_node_said said) page.now) (IsRefusal (λ node. IsKeyNodePage node page.now)) }
 {

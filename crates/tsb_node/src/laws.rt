@@ -44,7 +44,7 @@ pub fn headers_are_of_their_nodes()
         → IsHeaderOf 3 node.level (length node.children) node.bounds header }
 {}
 
-/// Octets are the block of a node just where they begin as it does, the node has an end, and they carry their digest.
+/// Octets are the block of a node exactly where they begin as it does, the node has an end, and they carry their digest.
 pub fn blocks_begin_as_their_nodes()
     ensures leaves { (leaf : LeafNode) (octets : List ℕ) → IsLeafBlock leaf octets ↔ (BeginsAsLeaf leaf octets × IsSome leaf.bounds.end × IsWhole octets) }
     ensures columns { (column : ColumnInBlock) (octets : List ℕ) → IsColumnBlock column octets ↔ (BeginsAsOldColumn column octets × IsSome column.bounds.end × IsWhole octets) }

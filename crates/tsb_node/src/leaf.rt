@@ -83,7 +83,7 @@ pub fn entry_size(bytes: &[u8]) -> Option<usize>
     Some(size)
 }
 
-/// The last of so many entries that is of the key and not after the stamp, with all that stands behind it.
+/// The last of `count` entries that is of the key and not after the stamp, with all that follows it.
 fn last_of<'a>(
     area: &'a [u8],
     count: u16,
@@ -146,9 +146,9 @@ pub fn find<'a>(
 /// How many octets the entries of a leaf may fill.
 pub const ROOM: usize = 16_232;
 
-/// Writes a version of the leaf's keys that is later than all behind the others of the leaf in this page, where
-/// there is room for it, and answers whether there was. Refused only where the page isn't a leaf, and not always
-/// there. Where nothing was written the page is as it was.
+/// Appends a version of a key of the leaf in this page, later than all of its versions, where there is room for it, and returns
+/// whether there was. Fails only where the page isn't a leaf, and not always there. Where nothing was written the page is as it
+/// was.
 pub fn push(page: &mut Page, key: Key, stamp: Stamp, value: Option<&[u8]>) -> Result<bool, NotANode>
     requires short { length (value_spelled (option_map (λ x. x.now) value)) ≤ 3072 }
     ensures pushed { (leaf : LeafNode) → IsLeafPage leaf page.old → IsKeyWithin leaf.bounds key → IsAbove leaf.versions stamp

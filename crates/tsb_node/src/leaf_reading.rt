@@ -38,7 +38,7 @@ fn version_size(bytes: &[u8], bounds: &Bounds) -> Option<usize>
     Some(size)
 }
 
-/// Whether an entry of this tag and size is an end that has octets behind its length.
+/// Whether an entry of this tag and size is an end that has octets after its length.
 fn is_end_with_octets(tag: u8, size: usize) -> bool
     ensures { IsTrue result ↔ ((tag ≡ 0) × (59 < size)) }
 {
@@ -55,7 +55,7 @@ fn is_after(stamp: Stamp, last: Option<Stamp>) -> bool
     }
 }
 
-/// Whether the octets are so many entries of a leaf of these bounds.
+/// Whether the octets are exactly `count` entries of a leaf of these bounds.
 fn are_entries(bytes: &[u8], count: u16, bounds: &Bounds) -> bool
     ensures { IsTrue result ↔ AreEntries bounds.now count bytes.now }
 {

@@ -168,7 +168,7 @@ tree_wants shown v root level homes next at =
       | inr two ↦ (suc wants.0, (at.0, at.1, at.2, at.3, new_root at.0 wants.0 two), (let few = wants.2 in omega (arith, few)))
     ]
 
--- reading wants no pages
+-- reading needs no pages
 pub read_never_full : (e : TreeError) (down : Bool) → ReadRefusal down e → e ≡ errors.Pages pages.PagesFull → ⊥
 read_never_full e down refused is = subst (λ (x : TreeError). ReadRefusal down x) is refused
 
