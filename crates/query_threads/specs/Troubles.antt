@@ -1,4 +1,4 @@
--- Which troubles come to calls on an archive that carries a past, and what is so of the one that a call tells.
+-- Which troubles come to calls on an archive that carries a past, and what holds of the one that a call returns.
 use Rattle.std.specs.Prelude.{⊤}
 use Rattle.query_threads.specs.declared.refusal.Trouble.{Trouble}
 use Rattle.query_threads.specs.declared.refusal.Trouble.TheVariants.{Fault, NeedsRecovery, DamagedPage, DamagedBlock, CounterFull, TooHigh, PagesFull, OnceFull, OutOfMemory}
@@ -9,7 +9,7 @@ use Rattle.query_threads.specs.declared.refusal.MarkError.TheVariants as marks
 use Rattle.query_threads.specs.declared.refusal.AskError.{AskError}
 use Rattle.query_threads.specs.declared.refusal.AskError.TheVariants as asks
 
--- no page and no block is said to be damaged
+-- no page and no block is reported as damaged
 abbrev pub BlamesNone : Trouble → Type 0
 BlamesNone Fault = ⊤
 BlamesNone NeedsRecovery = ⊤
@@ -21,7 +21,7 @@ BlamesNone PagesFull = ⊤
 BlamesNone OnceFull = ⊤
 BlamesNone OutOfMemory = ⊤
 
--- it is told as a device that failed, as an archive that must be opened again, or as want of memory: nothing is said to be damaged, and nothing to be full
+-- it reports a device that failed, an archive that must be opened again, or that memory ran out: no damage, and nothing that is full
 abbrev pub IsOutside : Trouble → Type 0
 IsOutside Fault = ⊤
 IsOutside NeedsRecovery = ⊤

@@ -85,12 +85,12 @@ impl Feeding {
                 return Ok(());
             }
         }
-        // No memory holds a count of so many pieces.
+        // No memory holds a count of that many pieces.
         Err(FeedStop::Trouble(Trouble::OutOfMemory))
     }
 }
 
-/// The most that a batch may have where rings have so many pages.
+/// The most that a batch may have where rings have `ring` pages.
 fn limits_of(records: u16, ring: u16) -> BatchLimits
     ensures limit { result ≡ limits_of records ring }
 {

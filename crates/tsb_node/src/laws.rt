@@ -63,8 +63,8 @@ pub fn sides_are_key_splits()
         → IsFromKey leaf.versions key side }
 {}
 
-/// The children of a key node follow one another over its keys; and the parts of a column over the stamps of its past, each in a block
-/// of a lower number where the tree sees to that. What a look-up answers is one of them, with its own keys or stamps.
+/// The children of a key node follow one another over its keys; and the parts of a column over the stamps of its past, each in a block of
+/// a lower number where the tree sees to that. A lookup returns one of them, with its own keys or stamps.
 pub fn nodes_say_what_the_tree_asks()
     ensures children { (node : KeyNodeInPage) → IsKeyNode node → AreChildren (keys_between node.bounds) node.children }
     ensures child { (node : KeyNodeInPage) (key : ℕ) (under : Under) → IsUnder node key under

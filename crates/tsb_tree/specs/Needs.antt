@@ -9,7 +9,7 @@ use Rattle.version_model.specs.Shows.{IsFrom}
 use Rattle.version_model.specs.Sizes.{octets, entry_octets}
 use Rattle.version_model.specs.Versions.{Version, IsRising}
 
--- the shown pages say a column of just the place's keys, whose current leaf has these versions
+-- the shown pages say a column of exactly the place's keys, whose current leaf has these versions
 pub record HasLeaf (shown : List (List ℕ)) (place : PagePlace) (leaf : List Version) : Type 0 where
   pub parts : List Part
   pub start : ℕ

@@ -1,4 +1,4 @@
--- How many pages that were never used a change uses: just those that are needed.
+-- How many pages that were never used a change uses: exactly those that are needed.
 use Rattle.std.specs.Prelude.{◌≡◌, ℕ, ◌+◌, ◌<◌, ◌≤◌, ◌⊎◌, List, Option, Some, None}
 use Rattle.tsb_walk.specs.declared.page_place.PagePlace.{PagePlace}
 use Rattle.version_model.specs.declared.child.Child.{Child}
