@@ -28,7 +28,7 @@ fn filled(alloc: Global, octet: u8) -> Result<Page, AllocError> {
 /// How many kinds of torn ranges are tried.
 const KINDS: u8 = 4;
 
-/// What a torn range holds: the last kind is octets that nobody wrote, an open gate's first of all.
+/// What a torn range holds: the last kind is octets that nobody wrote, first of all the commit flag of an open slot.
 fn torn(alloc: Global, kind: u8) -> Result<Torn, AllocError> {
     Ok(match kind {
         0 => Torn::Old,

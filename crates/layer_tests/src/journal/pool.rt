@@ -283,8 +283,8 @@ fn pools_of_each_capacity_show_what_is_written(rt: HostRuntime) {
     }
 }
 
-/// Whether the device fails at the last of these steps, in a pool of this capacity, and at none before. It fails at the n-th
-/// read: an opening reads nine times, the identity page and eight gates.
+/// Whether the device fails at the last of these steps, in a pool of this capacity, and at none before. It fails at the n-th read: an
+/// opening reads nine times, the identity page and eight commit flags.
 fn is_read_last(alloc: Global, capacity: usize, n: u64, steps: &[Step]) -> Option<bool> {
     let disk = scripted(alloc, made(alloc)?, Failure::Read(n))?;
     let mut tx = opened(alloc, disk, capacity)?;

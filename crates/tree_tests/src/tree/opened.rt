@@ -55,7 +55,7 @@ fn a_root_tells_its_level(rt: HostRuntime) {
     be(&rt, place.least == Stamp::new(6, 2), "the least stamp");
 }
 
-/// How far a look for the next key comes in pages.
+/// How far a lookup of the next key comes in pages.
 fn next_in(store: &mut Store, from: u16, stamp: Stamp) -> Option<Reached> {
     match store.next(key_of(from), stamp).ok()? {
         Looked::Here(reached) => Some(reached),
