@@ -306,7 +306,7 @@ const WRITES: [(Step, Answer); 5] = [
 /// A cut that only a sync meets is a failure, too.
 const SYNCS: [(Step, Answer); 1] = [(Sync, Fault)];
 
-/// Whether a disk whose file is cut goes on so, and fails so often.
+/// Whether a disk whose file is cut goes on so, and fails this often.
 fn is_met(rt: &HostRuntime, table: &[(Step, Answer)], faults: u64) -> Option<bool> {
     let folder = folder(rt, "cut")?;
     let mut disk = created(rt, &folder, 4)?;

@@ -1,4 +1,4 @@
-//! Hooks that run when a question has come so far.
+//! Hooks that run at two points of a question.
 
 /// Is called for the questions of a shared archive, while no lock is held.
 pub trait Gate {

@@ -14,7 +14,8 @@ use Rattle.disk_archive.specs.Archives.{GoesOn, once_of, once_state, settings_of
 use Rattle.disk_archive.specs.Cursors.{IsGathered}
 use Rattle.disk_archive.specs.Descents.{Lies}
 
--- The archive goes on with the past's history, or waits to be opened again with it; and just the past's blocks are settled on its disk.
+-- The archive goes on with the past's history, or waits to be opened again with it; and exactly the past's blocks are settled on its
+-- disk.
 pub record CarriesPast {E O Pen Seen : Type 0} {erase : EraseGhosts E} {once : OnceGhosts O Pen Seen} (a : Archive E O Pen Seen erase once) (p : Past) : Type 0 where
   pub goes_on : GoesOn a p.history
   pub blocks : AreTheSettled (once.block_count (once_of a)) (once_state a).settled p.blocks

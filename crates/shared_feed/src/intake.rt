@@ -30,7 +30,7 @@ const PAGE: usize = 16_384;
 const ONE_ADMISSION: usize = 131_076;
 
 impl Feeding {
-    /// Takes the records that are whole with the next piece. Answers whether the feed goes on.
+    /// Takes the records that are whole with the next piece. Returns whether the feed goes on.
     fn take_piece<A: Store, N: Named + OnDisk<A::Disk>, G: Gate + Drop, W: Write>(
         &mut self,
         rt: &impl Wait,
@@ -102,7 +102,7 @@ fn limits_of(records: u16, ring: u16) -> BatchLimits
     }
 }
 
-/// Takes a feed in to its end. Answers why it is cut short, if it is.
+/// Takes a feed in to its end. Returns why it is cut short, if it is.
 fn take_in<A: Store, N: Named + OnDisk<A::Disk>, G: Gate + Drop, R: Read, W: Write>(
     rt: &impl Wait,
     alloc: Global,

@@ -401,7 +401,7 @@ fn a_version_from_behind_the_end_of_its_block_counts_for_nothing(rt: HostRuntime
     be(&rt, tells(&mut past, &place, 7, 8, &[], 258), "none later");
 }
 
-/// A kind, a block and a high key that a place asks for, and the block that is called damaged.
+/// A kind, a block and a high key that a place asks for, and the block that is reported as damaged.
 const DAMAGED: [(PartKind, u64, u8, u64); 9] = [
     // Another kind, and more keys than the block has.
     (PartKind::LeafBlock, 4, 9, 4),

@@ -63,7 +63,7 @@ pub fn are_parts(bytes: &[u8], count: u16, start: Stamp, end: &Option<Stamp>) ->
     rest.is_empty()
 }
 
-/// The parts that octets are, where they are such.
+/// The parts that octets encode, where they encode `count` parts.
 fn parts_kept(alloc: Global, bytes: &[u8], count: u16) -> Result<Vec<Part>, ReadFault>
     ensures parts { IfOk result (λ kept. (start : ℕ) (end : Option ℕ) (parts : List PartValue) → AreParts start end count bytes.now parts → kept.items ≡ parts) }
     ensures refused { (start : ℕ) (end : Option ℕ) (parts : List PartValue) → AreParts start end count bytes.now parts → result ≡ Err ReadFault.NotANode → ⊥ }

@@ -31,7 +31,7 @@ pub struct OldColumnSaid {
     pub parts: Vec<Part>,
 }
 
-/// What the column says whose header and entries in a page these are.
+/// Reads the column whose header and entries in a page these are.
 fn column_in(alloc: Global, header: &Header, entries: &[u8]) -> Result<ColumnSaid, ReadFault>
     requires node { IsNode header.now entries.now }
     ensures column { MatchResult result (λ said. IsColumnOf header.now entries.now (column_said said)) (IsRefusal (IsColumnOf header.now entries.now)) }
@@ -56,7 +56,7 @@ fn column_in(alloc: Global, header: &Header, entries: &[u8]) -> Result<ColumnSai
     }
 }
 
-/// What the column says whose header and entries in a block these are.
+/// Reads the column whose header and entries in a block these are.
 fn read_old_column(
     alloc: Global,
     header: &Header,

@@ -64,7 +64,7 @@ pub fn are_children(bytes: &[u8], count: u16, bounds: &Bounds) -> bool
     rest.is_empty()
 }
 
-/// The children that octets are, where they are such.
+/// The children that octets encode, where they encode `count` children.
 fn children_kept(
     alloc: Global,
     bytes: &[u8],

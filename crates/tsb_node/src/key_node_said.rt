@@ -30,7 +30,7 @@ pub fn is_of_key_nodes(header: &Header) -> bool
     header.kind == 3 && header.level >= 2 && header.level <= 7 && header.count > 0
 }
 
-/// What the key node says whose header and entries these are.
+/// Reads the key node whose header and entries these are.
 fn key_node_in(alloc: Global, header: &Header, entries: &[u8]) -> Result<KeyNodeSaid, ReadFault>
     requires node { IsNode header.now entries.now }
     ensures key_node { MatchResult result (λ said. IsKeyNodeOf header.now entries.now (key_node_said said)) (IsRefusal (IsKeyNodeOf header.now entries.now)) }

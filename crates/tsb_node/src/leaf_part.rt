@@ -20,7 +20,7 @@ use version_model::{Entry, Stamp};
 /// Why octets are not read.
 #[derive(Clone, Copy, Debug, PartialEq, Eq)]
 pub enum ReadFault {
-    /// They aren't a node of the kind that was wanted.
+    /// They aren't a node of the expected kind.
     NotANode,
     /// There was no memory for what they say.
     Memory,

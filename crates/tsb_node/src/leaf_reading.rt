@@ -90,7 +90,7 @@ fn leaf_bounds(header: &Header, entries: &[u8]) -> Option<Bounds>
     Some(header.bounds)
 }
 
-/// The bounds of the leaf that a page is, or none where it is no leaf.
+/// The bounds of the leaf in a page, or none where the page is no leaf.
 pub fn read_leaf(page: &Page) -> Option<Bounds>
     ensures found { IfSome result (λ bounds. (leaf : LeafNode) × IsLeafPage leaf page.now × (leaf.bounds ≡ bounds)) }
     ensures none { IfNone result ((leaf : LeafNode) → IsLeafPage leaf page.now → ⊥) }
@@ -101,7 +101,7 @@ pub fn read_leaf(page: &Page) -> Option<Bounds>
     leaf_bounds(&header, entries)
 }
 
-/// The bounds of the leaf that a block is, or none where it is no leaf.
+/// The bounds of the leaf in a block, or none where the block is no leaf.
 pub fn read_leaf_block(block: &Block) -> Option<Bounds>
     ensures found { IfSome result (λ bounds. (leaf : LeafNode) × IsLeafBlock leaf block.now × (leaf.bounds ≡ bounds)) }
     ensures none { IfNone result ((leaf : LeafNode) → IsLeafBlock leaf block.now → ⊥) }

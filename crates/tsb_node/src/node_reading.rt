@@ -41,7 +41,7 @@ pub fn node_in(octets: &[u8]) -> Option<(Header, &[u8])>
     Some((header, entries))
 }
 
-/// The header of the node that a page is, and the octets of its entries; none where it is no page of a node.
+/// The header of the node in a page, and the octets of its entries; none where it is no page of a node.
 pub fn node_of_page(page: &Page) -> Option<(Header, &[u8])>
     ensures found { IfSome result (λ node. IsNodePage node.0 node.1.now page.now) }
     ensures none { IfNone result ((header : Header) (entries : List ℕ) → IsNodePage header entries page.now → ⊥) }
@@ -59,7 +59,7 @@ pub fn node_of_page(page: &Page) -> Option<(Header, &[u8])>
     Some((header, entries))
 }
 
-/// The header of the node that a block is, and the octets of its entries; none where it is no block of a node.
+/// The header of the node in a block, and the octets of its entries; none where it is no block of a node.
 pub fn node_of_block(block: &Block) -> Option<(Header, &[u8])>
     ensures found { IfSome result (λ node. IsNodeBlock node.0 node.1.now block.now) }
     ensures none { IfNone result ((header : Header) (entries : List ℕ) → IsNodeBlock header entries block.now → ⊥) }

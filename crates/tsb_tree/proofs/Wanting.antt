@@ -43,7 +43,7 @@ lay_wants_none pages.TooManyImages homes unused count is inside want = want
 lay_wants_none pages.PagesFull homes unused count is inside want = omega (arith, is, inside)
 lay_wants_none pages.OutOfMemory homes unused count is inside want = want
 
--- what is refused for want isn't raised only where what is below is two nodes
+-- raising a change fails for lack of room only where what is below is two nodes
 pub raised_wants : {F : Type 0} (change : Change) (r : Result Change TreeError) → (change.new ≡ None → r ≡ Ok change) → (IsSome change.new → F) → IfErr r (λ e. IsForWant e → F)
 raised_wants change (Ok put) kept up = tt
 raised_wants change (Err e) kept up = λ want. up (is_half change.new (λ none. let h = kept none in absurd (cc)))

@@ -51,7 +51,7 @@ pub record LeavesShelf {O Pen Seen : Type 0} (device : OnceGhosts O Pen Seen) (m
   pub counted : fault → device.pen_fault_count (pen_of new) ≡ min (device.pen_fault_count (pen_of old) + 1) 18446744073709551615
   pub none_left : device.honest (disk_of old) (pen_of old) → full → AllTried (device.model (pen_of new)) (next_of new) (device.block_count (disk_of old))
 
--- the same, by what a call of the tree answers
+-- the same, by what a call of the tree returns
 abbrev pub KeepsShelf : {O Pen Seen : Type 0} (device : OnceGhosts O Pen Seen) (most : ℕ) (old new : Shelf O Pen Seen) {T : Type 0} → Result T TreeError → Type 0
 KeepsShelf device most old new result = LeavesShelf device most old new (result ≡ Err (errors.Once appends.Fault)) (result ≡ Err (errors.Once appends.OnceFull))
 

@@ -94,8 +94,8 @@ fn make_room<O: OnceDisk + Drop>(
     }
 }
 
-/// Splits a column by time at the stamp of the last version of its leaf: the leaf as it was, which is in a page, becomes a block and a part
-/// of the column's past, and what goes on stays. A refusal leaves the column good for nothing.
+/// Splits a column by time at the stamp of the last version of its leaf: the leaf as it was, which is in a page, becomes a block and a
+/// part of the column's past, and what goes on stays. After an error the column can't be used.
 pub fn split_by_time<O: OnceDisk + Drop>(
     shelf: &mut Shelf<O>,
     alloc: Global,

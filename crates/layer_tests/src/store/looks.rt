@@ -1,4 +1,4 @@
-//! Looks into nodes built by hand: which child, which part, which versions.
+//! Lookups in nodes built by hand: which child, which part, which versions.
 
 use super::nodes::{LEAF, key_of, page_of};
 use super::spellings::{COLUMN, COLUMN_BLOCK, KEY_NODE, LEAF_BLOCK, block_of};

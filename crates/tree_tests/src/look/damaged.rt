@@ -246,7 +246,7 @@ const FIRST_LEAF: u64 = 9;
 /// What lookups do where an octet of a header is turned.
 #[derive(Clone, Copy)]
 enum Reading {
-    /// They call the page bad, or the block damaged.
+    /// They report the page as bad, or the block as damaged.
     Refused,
     /// They answer as they did.
     PassedOver,
@@ -1039,14 +1039,14 @@ const UNREFUSED_BLOCKS: [(u64, usize); 7] = [
     (3, 170),
 ];
 
-/// Whether a check calls a page bad of which an octet is turned. It is mended then.
+/// Whether a check reports a page as bad of which an octet is turned. It is mended then.
 fn is_page_found(tree: &mut Tree, n: u64, octet: usize) -> bool {
     spoil(tree, n, octet).is_some()
         && checked(tree) == Some(Err(NodeError::BadNode(n)))
         && mend(tree, n).is_some()
 }
 
-/// Whether a check calls a block damaged of which an octet is turned.
+/// Whether a check reports a block as damaged of which an octet is turned.
 fn is_block_found(tree: &mut Tree, n: u64, octet: usize) -> bool {
     spoil_block(tree, turned_of(n, octet)).is_some()
         && checked(tree) == Some(Err(NodeError::Damaged(n)))

@@ -163,7 +163,7 @@ fn root_with(tx: &mut Tx<MemErase>, alloc: Global, octet: usize) -> Option<Page>
     Some(page)
 }
 
-/// Whether a tree of no version, an octet of whose root is turned, is opened at level 1, or its root is called bad.
+/// Whether a tree of no version, an octet of whose root is turned, is opened at level 1, or its root is reported as bad.
 fn is_opened_or_bad(alloc: Global, octet: usize, is_opened: bool) -> Option<bool> {
     let mut tx = created(alloc)?;
     let page = root_with(&mut tx, alloc, octet)?;
