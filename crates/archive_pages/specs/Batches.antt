@@ -35,7 +35,7 @@ lane_with lane kept = record {
   used = lane.used + octets_for kept.timely;
 }
 
--- The collector's ring lies in a map of homes pages, and its counts have room for the batch.
+-- The collector's ring lies in a map of `homes` pages, and its counts have room for the batch.
 pub record CanTake (homes : ℕ) (s : Settings) (c : ℕ) (lane : Lane) (kept : Kept) : Type 0 where
   pub ring : IsRing homes (ring_of s c lane)
   pub offered : lane.offered + kept.offered < 2 ^ 64

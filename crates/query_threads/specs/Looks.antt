@@ -2,7 +2,7 @@
 use Rattle.std.specs.Prelude.{◌≡◌, ◌<◌, ◌↔◌, ℕ, List, Option, Some}
 use Rattle.board.specs.Past.{Past, IsBlock}
 
--- on a disk of count blocks, block n was found settled with these octets
+-- on a disk of `count` blocks, block `n` was found settled with these octets
 abbrev pub IsSettled : ℕ → (ℕ → Option (List ℕ)) → ℕ → List ℕ → Type 0
 IsSettled count known n octets = (n < count) × (known n ≡ Some octets)
 

@@ -29,7 +29,7 @@ pub record ComesOf {A D : Type 0} (disk : Option D) (disk_of : A → D) (carries
   pub before : IsSome disk → (p : Past) × carries was p × IsFrontOf p old × GoesOnAs p new.past
   pub after : IsSome disk → carries is new.past
 
--- Reading blocks with a look failed; the look as it was and as it is then. Where a disk is named, the look was one at it, and found
+-- Reading blocks with a look failed, by the look as it was and as it is then. Where a disk is named, the look was one at it, and found
 -- exactly these blocks settled before.
 pub record IsMissed {S D : Type 0} (disk : Option D) (honest : D → S → Type 0) (count : D → ℕ) (known : S → ℕ → Option (List ℕ)) (blocks : List (ℕ × List ℕ)) (misses : S → S → Type 0) : Type 0 where
   pub was : S

@@ -34,7 +34,7 @@ pub record IsCounterFull (h : History) (c more : ℕ) : Type 0 where
   pub here : slice_get h.intakes c ≡ Some intake
   pub above : 18446744073709551615 < intake.offered + more
 
--- Why no batch is taken. How full a full ring is, IsCrowded states beside it.
+-- Why no batch is taken. IsCrowded states separately how full a full ring is.
 abbrev pub IsRefusal : History → ℕ → List Admitted → AdmitError → Type 0
 IsRefusal h c batch admits.NoCollector = IsCollector h c → ⊥
 IsRefusal h c batch admits.BatchTooLarge = 262144 < sum_by entry_octets batch

@@ -24,7 +24,7 @@ pub record CarriesPast {E O Pen Seen : Type 0} {erase : EraseGhosts E} {once : O
 abbrev pub ring_pages : {E O Pen Seen : Type 0} {erase : EraseGhosts E} {once : OnceGhosts O Pen Seen} → Archive E O Pen Seen erase once → ℕ
 ring_pages a = (settings_of a).ring
 
--- the errand lies in the past's blocks, on a disk of count blocks, for the past's history
+-- the errand lies in the past's blocks, on a disk of `count` blocks, for the past's history
 abbrev pub LiesInPast : (count : ℕ) (errand : Errand) (c : Cursor) (p : Past) → Type 0
 LiesInPast count errand c p = (known : ℕ → Option (List ℕ)) → AreTheSettled count known p.blocks → Lies count known errand c p.history
 

@@ -51,7 +51,7 @@ pub record Remembers {E O Pen Seen : Type 0} {once : OnceGhosts O Pen Seen} (s :
   pub mark : s.settled ≡ settled h
   pub counts : AreCounts s.counts.items h
 
--- Disks that follow their models, of an archive with ring pages in each ring. Whatever they read as, or a crash may leave of them now,
+-- Disks that follow their models, of an archive with `ring` pages in each ring. Whatever they read as, or a crash may leave of them now,
 -- carries a history that the past's begins, and exactly the past's blocks are settled.
 pub record RestOn {E O Pen Seen : Type 0} (erase : EraseGhosts E) (once : OnceGhosts O Pen Seen) (disks : Disks E O Pen Seen) (ring : ℕ) (p : Past) : Type 0 where
   pub erasable : erase.honest disks.erase

@@ -18,14 +18,14 @@ use Rattle.service.specs.Turns.{Turn, Offer, Refuse}
 use Rattle.service.specs.declared.faults.FeedStop.{FeedStop}
 use Rattle.service.specs.declared.faults.FeedStop.TheVariants as stops
 
--- A call after what the pass had seen admitted the batch, as the reply says. Other threads may have called before it. Where nothing is
--- promised of the archive, no call of it is called right.
+-- A call made over what the pass had seen, or later, admitted the batch, as the reply says. Other threads may have called before it.
+-- Where nothing is promised of the archive, no call of it is called right.
 pub record Admits (promised : Type 0) (c : ℕ) (batch : List Admitted) (reply : BatchReply) (v w : View) : Type 0 where
   pub at : View
   pub since : Since v at
   pub sees : promised → Sees (DoesAdmit c batch (Ok reply)) at w
 
--- a call after what the pass had seen refused the batch for this
+-- a call made over what the pass had seen, or later, refused the batch for this
 pub record Refuses (promised : Type 0) (c : ℕ) (batch : List Admitted) (refusal : AdmitError) (v w : View) : Type 0 where
   pub at : View
   pub since : Since v at

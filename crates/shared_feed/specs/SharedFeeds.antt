@@ -22,7 +22,7 @@ use Rattle.service.specs.declared.intake.End.TheVariants as ends
 use Rattle.service.specs.declared.limits.BatchLimits.{BatchLimits}
 use Rattle.shared_feed.specs.Offers.{Makes, IsNotTaken, admitted_in, late_in}
 
--- the most that a batch may have of an archive whose rings have ring pages: records admissions; and the octets of a ring or the most of a
+-- the most that a batch may have of an archive whose rings have `ring` pages: `records` admissions; and the octets of a ring or the most of a
 -- batch, the lesser, but always room for one admission
 abbrev pub limits_of : ℕ → ℕ → BatchLimits
 limits_of records ring = record { records = records; octets = min 262144 (max 131076 (ring * 16384)) }

@@ -28,7 +28,7 @@ are-take (suc n) [] are i = omega arith
 are-take (suc n) (x ∷ xs) are zero = are 0
 are-take (suc n) (x ∷ xs) are (suc i) = are-take n xs (λ j. are (suc j)) i
 
--- the size octets from a place on are the encoding of their number
+-- the `size` octets from a place on are the encoding of their number
 pub again_in : (size place : ℕ) (octets : List ℕ) → AreOctets octets → place + size ≤ length octets → octets_of size (number_in size place octets) ≡ take size (drop place octets)
 again_in size place octets are le =
     octets_of-again size (take size (drop place octets)) (omega (arith, length-take size (drop place octets), length-drop place octets)) (are-take size (drop place octets) (are-drop place octets are))

@@ -55,7 +55,7 @@ abbrev pub IsHonest : {T : Type 0} → Result T TreeError → Type 0
 IsHonest (Ok x) = Unit {0}
 IsHonest (Err error) = BlamesNone error
 
--- the reasons for which no tree is made in homes pages, of which next was the first that was never used, with images of named pages held
+-- the reasons for which no tree is made in `homes` pages, of which `next` was the first that was never used, with images of `named` pages held
 abbrev pub CreateRefusal : ℕ → ℕ → ℕ → TreeError → Type 0
 CreateRefusal homes next named errors.StampBack = ⊥
 CreateRefusal homes next named errors.TooHigh = ⊥
@@ -94,7 +94,7 @@ GrowRefusal (errors.Pages refusal) = ⊥
 GrowRefusal (errors.Once refusal) = Unit {0}
 GrowRefusal errors.OutOfMemory = Unit {0}
 
--- the reasons for which a column isn't laid out in this many pages, of which unused is the next that was never used
+-- the reasons for which a column isn't laid out in this many pages, of which `unused` is the next that was never used
 abbrev pub LayoutRefusal : ℕ → ℕ → TreeError → Type 0
 LayoutRefusal homes unused errors.StampBack = ⊥
 LayoutRefusal homes unused errors.TooHigh = ⊥
@@ -118,7 +118,7 @@ BurnRefusal (errors.Pages refusal) = ⊥
 BurnRefusal (errors.Once refusal) = Unit {0}
 BurnRefusal errors.OutOfMemory = Unit {0}
 
--- The reasons for which a node of this level doesn't take a version, in homes pages, of which next was the first that was never used. A
+-- The reasons for which a node of this level doesn't take a version, in `homes` pages, of which `next` was the first that was never used. A
 -- level needs one page more at most, and the lowest two; what the shelf refuses is stated of the shelf.
 abbrev pub PlanRefusal : ℕ → ℕ → ℕ → Bool → TreeError → Type 0
 PlanRefusal homes next level down errors.StampBack = ⊥
@@ -134,7 +134,7 @@ PlanRefusal homes next level down (errors.Once refusal) = Unit {0}
 PlanRefusal homes next level down errors.OutOfMemory = Unit {0}
 
 -- The reasons for which a tree of this level doesn't take a version of a stamp, where `least` is the least one that may come, with images
--- of named pages held. A new root needs one page more, and one image more.
+-- of `named` pages held. A new root needs one page more, and one image more.
 abbrev pub InsertRefusal : ℕ → ℕ → ℕ → ℕ → Bool → ℕ → ℕ → TreeError → Type 0
 InsertRefusal homes next named level down least stamp errors.StampBack = stamp < least
 InsertRefusal homes next named level down least stamp errors.TooHigh = level ≡ 7

@@ -30,7 +30,7 @@ pub record SpendsAtMost (most : ℕ) (old new : OnceState) : Type 0 where
 abbrev pub SpendsOne : {O Pen Seen : Type 0} (device : OnceGhosts O Pen Seen) (old new : Shelf O Pen Seen) → Type 0
 SpendsOne device old new = device.honest (disk_of old) (pen_of old) → SpendsAtMost 1 (device.model (pen_of old)) (device.model (pen_of new))
 
--- What a disk of count blocks became, while the shelf's next number went from one to another, by at most `most` blocks: what was tried or
+-- What a disk of `count` blocks became, while the shelf's next number went from one to another, by at most `most` blocks: what was tried or
 -- settled stays so, tried blocks stay below the next number, and whatever a crash leaves then, it leaves what was settled before.
 pub record LeavesDisk (most count from to : ℕ) (old new : OnceState) : Type 0 where
   pub grows : DiskGrows old new

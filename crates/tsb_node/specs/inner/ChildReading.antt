@@ -23,7 +23,7 @@ pub record IsChildBefore (count : ℕ) (bytes : List ℕ) (key place : ℕ) : Ty
   pub passed : (number_in 40 (48 * place) bytes ≤ key) ⊎ (place ≡ 0)
   pub next : suc place < count → key < number_in 40 (48 * suc place) bytes
 
--- the octets are exactly these children, count of them, which follow one another from the lowest key on
+-- the octets are exactly these children, `count` of them, which follow one another from the lowest key on
 abbrev pub AreChildrenOf : Bounds → ℕ → List ℕ → List Child → Type 0
 AreChildrenOf b count bytes children = AreRows child_octets (IsChildEntry b) (λ c. c.low) b.low count bytes children
 

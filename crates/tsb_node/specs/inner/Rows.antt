@@ -3,7 +3,7 @@ use Rattle.std.specs.Prelude.{◌≡◌, ℕ, ◌<◌, List, [], ◌∷◌, ◌+
 use Rattle.std.specs.List.{flat_map, AllByRecursion}
 use Rattle.tsb_node.specs.Columns.{AreAscending}
 
--- each encoding has size octets, and octets begin with one entry at most
+-- each encoding has `size` octets, and octets begin with one entry at most
 pub record IsSpelling {X : Type 0} (spell : X → List ℕ) (valid : X → Type 0) (size : ℕ) : Type 0 where
   pub some : 0 < size
   pub size_is : (x : X) → length (spell x) ≡ size
@@ -14,7 +14,7 @@ abbrev pub StartsAt : ℕ → List ℕ → Type 0
 StartsAt first [] = Unit {0}
 StartsAt first (n ∷ rest) = n ≡ first
 
--- the octets are exactly these entries, count of them, whose numbers rise from the first one on
+-- the octets are exactly these entries, `count` of them, whose numbers rise from the first one on
 pub record AreRows {X : Type 0} (spell : X → List ℕ) (valid : X → Type 0) (number : X → ℕ) (first count : ℕ) (bytes : List ℕ) (rows : List X) : Type 0 where
   pub each : AllByRecursion valid rows
   pub from_first : StartsAt first (map number rows)
