@@ -33,7 +33,7 @@ IsOutside PagesFull = ⊥
 IsOutside OnceFull = ⊥
 IsOutside OutOfMemory = ⊤
 
--- where a batch isn't taken for a trouble, this is so of it
+-- where a batch isn't taken for a trouble, this holds of it
 abbrev pub OnAdmitTrouble : (Trouble → Type 0) → AdmitError → Type 0
 OnAdmitTrouble so admits.NoCollector = ⊤
 OnAdmitTrouble so admits.BatchTooLarge = ⊤
@@ -41,13 +41,13 @@ OnAdmitTrouble so admits.CounterFull = ⊤
 OnAdmitTrouble so admits.IntakeFull = ⊤
 OnAdmitTrouble so (admits.Trouble trouble) = so trouble
 
--- where a mark isn't set for a trouble, this is so of it
+-- where a mark isn't set for a trouble, this holds of it
 abbrev pub OnMarkTrouble : (Trouble → Type 0) → MarkError → Type 0
 OnMarkTrouble so marks.NoCollector = ⊤
 OnMarkTrouble so marks.MarkBack = ⊤
 OnMarkTrouble so (marks.Trouble trouble) = so trouble
 
--- where a question isn't answered for a trouble, this is so of it
+-- where a question isn't answered for a trouble, this holds of it
 abbrev pub OnAskTrouble : (Trouble → Type 0) → AskError → Type 0
 OnAskTrouble so (asks.AboveWatermark mark) = ⊤
 OnAskTrouble so (asks.Trouble trouble) = so trouble

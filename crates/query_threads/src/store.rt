@@ -102,7 +102,7 @@ pub trait Store {
     /// The question.
     ghost asks: { Self.Cursor → Query };
 
-    /// What the question has gathered is so over this history.
+    /// What the question has gathered holds over this history.
     ghost gathered: { Self.Cursor → History → Type 0 };
 
     /// The errand is one of the question's.
@@ -236,6 +236,6 @@ pub trait Store {
     /// A past that is stored is right.
     ghost right: { (store : Self) (p : Past) → carries store p → IsHistory p.history };
 
-    /// What was gathered of a settled moment stays so.
+    /// What was gathered of a settled moment holds over later histories too.
     ghost stays: { (cursor : Self.Cursor) (h g : History) → IsHistory h → Begins h g → last_moment (asks cursor) < settled h → gathered cursor h → gathered cursor g };
 }

@@ -1,5 +1,5 @@
 -- What a shared archive replies to a request, over what a pass sees once it is replied. Where nothing is promised of the archive, as of
--- one in files, no answer of it is called right.
+-- one in files, no answer of it is claimed to be right.
 use Rattle.std.specs.Prelude.{◌≡◌, ◌⊎◌, ⊤, ℕ, suc, ◌<◌, ◌≤◌, List}
 use Rattle.route_meaning.specs.History.{settled}
 use Rattle.interleaving_core.specs.declared.query.Query.{Query}

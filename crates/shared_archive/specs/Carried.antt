@@ -33,6 +33,6 @@ abbrev pub right_going : {E O Pen Seen : Type 0} {erase : EraseGhosts E} {once :
 right_going a h (inl carries) = carries.bears.right
 right_going a h (inr waits) = waits.told.right
 
--- what a question has gathered over a history is so over each later one
+-- what a question has gathered over a history holds over each later one
 abbrev pub gathered_on : (c : Cursor) (h g : History) → Begins h g → IsGathered c h → IsGathered c g
 gathered_on c h g begins gathered = λ k right on. gathered k right (Begins-trans h g k begins on)

@@ -37,7 +37,7 @@ counts_by records turns replies = record {
   skipped = capped (skips records);
 }
 
--- All turns of the feed were made, then it was written why it was cut short, if it was, and its counts.
+-- All turns of the feed were made, then the line of why it was cut short, if it was, and the line of its counts were written.
 pub record IsTakenIn (promised : Type 0) (c : ℕ) (limit : BatchLimits) (bytes : List ℕ) (cut : Option FeedCut) (v : View) (was : OutputState) (w : View) (now : OutputState) : Type 0 where
   pub rest : List ℕ
   pub records : List Told
@@ -75,14 +75,14 @@ pub record IsGivenUp (promised : Type 0) (c : ℕ) (limit : BatchLimits) (bytes 
   pub tells : Tells then now (refusal_line (of_stop why))
   pub since : Since v w
 
--- there is no such collector, which alone was written, and the pass sees what it saw
+-- there is no such collector, and only that was written, and the pass sees what it saw
 pub record IsOfNone (collectors c : ℕ) (v : View) (was : OutputState) (w : View) (now : OutputState) : Type 0 where
   pub none : collectors ≤ c
   pub same : w ≡ v
   pub tells : Tells was now (refusal_line (of_stop stops.NoCollector))
 
 -- How a feed of these octets ended, of an archive with this many collectors: all of it was read, or it was cut short, or it was given up
--- for this. For a collector that there isn't, nothing is written but that.
+-- for this. For a collector that doesn't exist only that is written.
 abbrev pub IsEnd : Type 0 → ℕ → ℕ → BatchLimits → List ℕ → End → View → OutputState → View → OutputState → Type 0
 IsEnd promised collectors c limit bytes ends.Well v was w now = (c < collectors) × IsTakenIn promised c limit bytes None v was w now
 IsEnd promised collectors c limit bytes ends.Cut v was w now = (c < collectors) × ((why : FeedCut) × IsTakenIn promised c limit bytes (Some why) v was w now)
