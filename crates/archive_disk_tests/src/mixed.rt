@@ -34,7 +34,7 @@ fn created(alloc: Global) -> Option<MemArchive> {
     Some(MemArchive { archive })
 }
 
-/// What an opening that nothing stops finds: the archive, how many changes are applied by the head on its home page, and how many calls
+/// What an opening that nothing stops finds: the archive, how many changes are applied according to the head on its home page, and how many calls
 /// the opening made.
 #[derive(Drop)]
 struct Witness {
@@ -43,7 +43,7 @@ struct Witness {
     opening: Calls,
 }
 
-// How many changes are applied by the head on its home page.
+// How many changes are applied according to the head on its home page.
 fn applied_on(alloc: Global, disks: &mut Both) -> Option<u64> {
     let head = octets_of(alloc, &mut disks.erase, 265)?;
     if head.len() < 8 {
