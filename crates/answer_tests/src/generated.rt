@@ -42,9 +42,9 @@ struct Told {
     answer: Answer,
 }
 
-/// How many answers there were, how many of them tell a row or an event, and how many of those are behind a place or behind events that
-/// are skipped; how often changes were applied or a page was flushed, how many errands were read, and between the first and the last turn
-/// of how many questions a leaf was split, which burns a block.
+/// How many answers there were, how many of them return a row or an event, and how many of those start after a place or
+/// after skipped events; how often changes were applied or a page was flushed, how many errands were read, and between
+/// the first and the last turn of how many questions a leaf was split, which burns a block.
 #[derive(Clone, Copy)]
 struct Counts {
     answers: u32,
@@ -73,7 +73,7 @@ fn tells(answer: &Answer) -> bool {
     }
 }
 
-// Whether a question is of what is behind a place, or behind events that are skipped.
+// Whether a question is of what comes after a place, or after skipped events.
 fn is_behind(query: &Query) -> bool {
     match query {
         Query::Rows(question) => question.after.is_some(),
@@ -131,7 +131,7 @@ fn answer_with(disk: &mut Made, reader: &mut Reader, query: Query) -> Option<Ans
     disk.answer_with(reader, query).ok()
 }
 
-// How many blocks are settled, where so many are at least.
+// How many blocks are settled, where at least `least` are.
 fn count_blocks(disk: &mut Made, counter: &mut Reader, least: u64) -> Option<u64> {
     let mut seen = disk.seen().ok()?;
     let mut count = least;
@@ -252,7 +252,7 @@ enum Turned {
     Failed,
 }
 
-// A turn of a question. What its errand asks for is read behind more work.
+// A turn of a question. What its errand asks for is read after more work.
 fn turn(both: &mut Both, reader: &mut Reader, cursor: &mut Cursor) -> Turned {
     match both.disk.descend(cursor) {
         Ok(Descent::Done(answer)) => Turned::Done(answer),
@@ -341,7 +341,7 @@ impl Questions {
         self.tell(query, answer)
     }
 
-    // The next turn of a question, behind more work.
+    // The next turn of a question, after more work.
     fn go_on(&mut self, both: &mut Both, asked: Asked) -> Option<()> {
         both.work()?;
         let Asked {
@@ -407,7 +407,7 @@ fn ran(alloc: Global, seed: u64) -> Option<Counts> {
     questions.counted(&mut both)
 }
 
-// What so many histories from this seed on came to.
+// What the histories from this seed on came to.
 fn ran_all(alloc: Global, first: u64) -> Option<Counts> {
     let mut counts = NOTHING;
     for seed in first..first.saturating_add(HISTORIES) {
@@ -416,9 +416,10 @@ fn ran_all(alloc: Global, first: u64) -> Option<Counts> {
     Some(counts)
 }
 
-// All questions of so many histories from this seed on have the machine's answers. In each history four answers tell something, two
-// of them behind a place or behind events that are skipped, changes are applied twenty times, thirty pages are flushed, ten errands are
-// read, and between the first and the last turn of two questions a leaf is split, or more, all taken together.
+// All questions of the histories from this seed on have the machine's answers. In each history four answers return
+// something, two of them after a place or after skipped events, changes are applied twenty times, thirty pages are
+// flushed, ten errands are read, and between the first and the last turn of two questions a leaf is split, or more, all
+// taken together.
 fn expect_pure(rt: &impl Abort, alloc: Global, first: u64) {
     let counts = ran_all(alloc, first);
     be(rt, counts.is_some(), "answers as the machine's");

@@ -79,7 +79,7 @@ impl Numbers {
         })
     }
 
-    // What a collector tells at the time of the clock or a little before.
+    // What a collector reports at the time of the clock or a little before.
     fn admission(&mut self, alloc: Global, collector: u8) -> Option<Admission> {
         let seconds = self.clock.saturating_sub(self.below(2));
         let mut changes = Vec::new(alloc);

@@ -49,7 +49,7 @@ fn announced(alloc: Global) -> Option<Made> {
     Some(archive)
 }
 
-// Whether the field of this number of each line, with a space behind each, is this text.
+// Whether the field of this number of each line, with a space after each, is this text.
 fn has_fields(alloc: Global, lines: &str, number: usize, wanted: &str) -> Option<bool> {
     let mut fields = String::new(alloc);
     for line in lines.lines() {
@@ -79,14 +79,14 @@ fn are_told(alloc: Global, archive: &mut Made, reader: &mut Reader) -> bool {
     true
 }
 
-// Whether the history is told from a second on, up to a second.
+// Whether the history is returned from a second on, up to a second.
 fn is_history_told(alloc: Global, archive: &mut Made, reader: &mut Reader) -> Option<bool> {
     let line = "history 3 58 0 192.0.2.1 65001 10.1.0.0/16 skip 54";
     let told = ask(alloc, archive, reader, line)?;
     Some(has_fields(alloc, &told, 1, "57 58 2 ")? && has_fields(alloc, &told, 5, "57 58 - ")?)
 }
 
-// Whether all is answered through a reader that keeps so many blocks. Of the 60 routes a leaf has room for 15 or 16.
+// Whether all is answered through a reader that keeps `capacity` blocks. Of the 60 routes a leaf has room for 15 or 16.
 fn is_read_by(alloc: Global, archive: &mut Made, capacity: usize) -> Option<bool> {
     let mut reader = reader_of(archive, capacity)?;
     let are_told = are_told(alloc, archive, &mut reader);

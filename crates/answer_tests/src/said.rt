@@ -27,7 +27,7 @@ pub(crate) fn moment_of(seconds: u32) -> Moment {
     Moment::from(seconds)
 }
 
-/// A route of nearly 1,000 octets, which this MED tells from others.
+/// A route of nearly 1,000 octets, which this MED distinguishes from others.
 pub(crate) fn route_of(alloc: Global, med: u32) -> Option<SharedRoute> {
     let numbers = AsNumbers::new(vec![in alloc; 65001u32; LONG].ok()?);
     let others = Attributes::try_new(Vec::new(alloc))?;

@@ -5,7 +5,7 @@ use memory_archive::MemArchive;
 use service::{Output, Request, ask, read_request};
 use std::alloc::Global;
 
-/// The lines that a request line is answered or refused by. None where standard error was told something.
+/// The lines that a request line is answered or refused by. None where something was written to standard error.
 pub(crate) fn answer(alloc: Global, archive: &mut MemArchive, line: &str) -> Option<Vec<u8>> {
     let mut out: Vec<u8> = Vec::new(alloc);
     let mut err: Vec<u8> = Vec::new(alloc);

@@ -9,7 +9,7 @@ use disk_memory::{Failure, MemErase, MemOnce, MemPen, Torn};
 use disk_models::{Block, EraseDisk, OnceDisk};
 use std::alloc::Global;
 
-/// So many changes of one prefix: with their keys, stamps and routes they fill the leaf of one column three times.
+/// How many changes of one prefix there are: with their keys, stamps and routes they fill the leaf of one column three times.
 const CHANGES: usize = 700;
 
 /// Where an octet is changed, and what is found then.
@@ -22,7 +22,7 @@ struct Change {
     found: CheckError,
 }
 
-/// Octets of home pages. The tree begins behind the head and the ring: its root on page 10 is a column, whose leaf is on page 11.
+/// Octets of home pages. The tree begins after the head and the ring: its root on page 10 is a column, whose leaf is on page 11.
 const PAGES: [Change; 8] = [
     Change {
         name: "the root is of no kind of node",
@@ -114,8 +114,8 @@ const BLOCKS: [Change; 4] = [
     },
 ];
 
-/// The family of the first peer of the first admission that waits, on the ring's first page: behind the entry's length, the time, the count
-/// of peers and the collector.
+/// The family of the first peer of the first admission that waits, on the ring's first page: after the entry's length, the time, the
+/// count of peers and the collector.
 const WAITING: [Change; 1] = [Change {
     name: "the first admission that waits has a peer of no family",
     place: 1,
@@ -134,7 +134,7 @@ fn filled(alloc: Global) -> Option<Made> {
     Some(archive)
 }
 
-/// Whether a check counts so many changes, or finds this.
+/// Whether a check counts this many changes, or finds this.
 fn checks_as(archive: &mut Made, answer: Result<u64, CheckError>) -> bool {
     archive.check() == answer
 }

@@ -61,7 +61,7 @@ fn an_admission_that_is_stopped_elsewhere_is_there_whole_or_not(rt: HostRuntime)
         let is_whole = is_given_whole(alloc, failing, number < 4, &[0, 1, 2, 3, IN_TURN]);
         be(&rt, is_whole == Some(true), "a sync");
     }
-    // To open it, the identity page, eight gates, the head and a page of the ring are read.
+    // To open it, the identity page, eight commit flags, the head and a page of the ring are read.
     for number in 0..11 {
         let failing = disks.failing(alloc, Failure::Read(number));
         let is_whole = is_given_whole(alloc, failing, true, &[IN_TURN]);
@@ -84,7 +84,7 @@ fn does_no_more(archive: &mut Made) -> bool {
         && archive.flush_step() == Err(FlushError::NeedsRecovery)
 }
 
-// Whether the archive tells what it told before the record that it refused.
+// Whether the archive returns what it returned before the record that it refused.
 fn is_as_before(archive: &mut Made) -> bool {
     has_records(archive, 1)
         && archive.settled() == mark_at(1_704_067_200)
@@ -92,7 +92,7 @@ fn is_as_before(archive: &mut Made) -> bool {
         && archive.seen().is_ok()
 }
 
-// Whether a record is refused by these disks, and each call behind it, also one that has another fault.
+// Whether a record is refused by these disks, and each call after it, also one that has another fault.
 fn is_down(alloc: Global, disks: Option<Both>) -> Option<bool> {
     let mut archive = opened(alloc, disks?)?;
     let batch = vectors(alloc, 1, 1)?;
@@ -106,7 +106,7 @@ fn is_down(alloc: Global, disks: Option<Both>) -> Option<bool> {
     )
 }
 
-// Four writes, and two syncs behind those of the opening.
+// Four writes, and two syncs after those of the opening.
 #[test]
 fn an_archive_that_failed_tells_and_does_nothing_else(rt: HostRuntime) {
     let alloc = rt.alloc();
@@ -171,7 +171,7 @@ impl Lines {
         }
     }
 
-    // Adds the end of a line, behind the path of its route.
+    // Adds the end of a line, after the path of its route.
     fn add_end(&mut self) {
         self.add("|IGP|192.0.2.1|||NAG||99/c0/");
         for _ in 0..58 {
@@ -185,7 +185,7 @@ impl Lines {
 const HUNDRED: &str =
     "0000000000000000000000000000000000000000000000000000000000000000000000000000000000000000000000000000";
 
-// The lines of the history of the prefix where so many changes are applied.
+// The lines of the history of the prefix where this many changes are applied.
 fn history(alloc: Global, changes: u32) -> Lines {
     let mut lines = Lines::new(alloc);
     for number in 0..changes.min(6) {
@@ -214,8 +214,8 @@ fn is_answered(alloc: Global, archive: &mut MemArchive, line: &str, lines: &Line
     lines.is_whole && answers_as(alloc, archive, line, &lines.octets)
 }
 
-// Whether the archive answers what it has to while so many changes are applied, five or six: its watermark, the history below that,
-// and the first route, whose page became a block.
+// Whether the archive answers as it should while this many changes are applied, five or six: its watermark, the history below that, and
+// the first route, whose page became a block.
 fn is_right(alloc: Global, archive: Made, changes: u32) -> bool {
     let (line, settled) = if changes == 5 {
         (
@@ -248,7 +248,7 @@ fn is_tried(disks: &Both, blocks: &[u64]) -> bool {
     tried.map(|burn| burn.number()).eq(blocks.iter().copied())
 }
 
-// Makes the next step of applying on these disks, and tells whether a change was applied.
+// Makes the next step of applying on these disks, and returns whether a change was applied.
 fn apply_one(alloc: Global, disks: Both) -> Option<Given> {
     let mut archive = opened(alloc, disks)?;
     let is_acknowledged = apply(&mut archive) == Some(true);
@@ -265,8 +265,8 @@ fn burns_the_next(alloc: Global, disks: Both) -> Option<bool> {
     Some(is_spent && is_right_on(alloc, again.disks, 6)?)
 }
 
-// Whether a step that is stopped before its gate has spent block 0, which nothing refers to behind this crash; and whether the same
-// step burns block 1 then.
+// Whether a step that is stopped before its commit flag has spent block 0, which nothing refers to after this crash; and whether the
+// same step burns block 1 then.
 fn spends_its_block(alloc: Global, disks: Option<Both>, crash: u8) -> Option<bool> {
     let stopped = apply_one(alloc, disks?)?;
     let is_stopped = !stopped.is_acknowledged && is_tried(&stopped.disks, &[0]);
@@ -275,7 +275,7 @@ fn spends_its_block(alloc: Global, disks: Option<Both>, crash: u8) -> Option<boo
     Some(is_stopped && is_before && burns_the_next(alloc, left)?)
 }
 
-// A header and three images are written before the gate: of a leaf, a column and the head.
+// A header and three images are written before the commit flag: of a leaf, a column and the head.
 #[test]
 fn a_step_that_is_stopped_behind_its_settle_spends_a_block(rt: HostRuntime) {
     let alloc = rt.alloc();
@@ -291,7 +291,7 @@ fn a_step_that_is_stopped_behind_its_settle_spends_a_block(rt: HostRuntime) {
     }
 }
 
-// Whether a step that a failure stops, or none does, is done whole or not at all behind a crash; done, where it was acknowledged.
+// Whether a step that a failure stops, or none does, is done whole or not at all after a crash; done, where it was acknowledged.
 fn is_applied_whole(
     alloc: Global,
     disks: Option<Both>,

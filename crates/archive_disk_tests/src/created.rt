@@ -21,7 +21,7 @@ const IDENTITY: &[u8] = b"RHAPAGE1\0\0\0\0\0\0\0\x27\0\0\0\0\0\0\0\x05\x02\0\x09
 const HEAD: &[u8] =
     b"\0\0\0\0\0\0\0\0\0\0\0\0\0\0\0\0\0\0\0\0\0\0\0\0\0\0\0\0\0\0\0\x15\0\0\0\0\0\0\0\0\0\0\0\0\0\0\0\x13";
 
-// Whether the archive has its settings, and its first page and its head are these, with zeros behind.
+// Whether the archive has its settings, and its first page and its head are these, with zeros after them.
 fn stands(alloc: Global) -> Option<bool> {
     let archive = made(alloc, SETTINGS)?;
     let has_settings = archive.collectors() == 2 && archive.ring() == 9;
@@ -78,8 +78,8 @@ fn is_refused(alloc: Global, failure: Option<Failure>) -> Option<bool> {
     })
 }
 
-// Eight gates, the tree's two pages, the head, and the identity page in two pieces: 13 writes. A sync comes first, and one after each
-// piece. A call that isn't made leaves no trace.
+// Eight commit flags, the tree's two pages, the head, and the identity page in two pieces: 13 writes. A sync comes first, and one after
+// each piece. A call that isn't made leaves no trace.
 #[test]
 fn a_failed_write_or_sync_refuses_the_archive(rt: HostRuntime) {
     let alloc = rt.alloc();

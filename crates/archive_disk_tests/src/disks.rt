@@ -19,7 +19,7 @@ pub(crate) const IN_TURN: u8 = 4;
 // The most ranges that are torn.
 const RANGES: u8 = 40;
 
-/// What a torn range holds: the last kind is octets that nobody wrote, an open gate's first of all.
+/// What a torn range holds: the last kind is octets that nobody wrote, first of all the commit flag of an open slot.
 pub(crate) fn torn(alloc: Global, kind: u8) -> Option<Torn> {
     Some(match kind {
         0 => Torn::Old,
@@ -71,7 +71,7 @@ impl Both {
         Some(Both { erase, once, pen })
     }
 
-    /// The disks behind a crash now.
+    /// The disks after a crash now.
     pub(crate) fn crash(&self, alloc: Global, crash: u8) -> Option<Both> {
         let choice = choice(alloc, crash)?;
         let (erase, once, pen) = crash_both(
@@ -147,7 +147,7 @@ pub(crate) struct Unopened {
     pub(crate) error: OpenError,
 }
 
-/// What opening these disks answers. None where there is no memory.
+/// What opening these disks returns. None where there is no memory.
 pub(crate) fn open(alloc: Global, disks: Both) -> Option<Result<Made, Unopened>> {
     let Both { erase, once, pen } = disks;
     let once = Arc::new(alloc, once).ok()?;
@@ -176,7 +176,7 @@ pub(crate) fn opened(alloc: Global, disks: Both) -> Option<Made> {
     open(alloc, disks)?.ok()
 }
 
-/// The archive on the disks behind a crash now.
+/// The archive on the disks after a crash now.
 pub(crate) fn opened_behind(alloc: Global, disks: &Both, crash: u8) -> Option<Made> {
     opened(alloc, disks.crash(alloc, crash)?)
 }

@@ -79,7 +79,7 @@ pub(crate) fn draw_call(alloc: Global, chance: &mut Chance, number: u32) -> Opti
     })
 }
 
-/// A failure of the erasable disk, where an opening makes so many calls of it: mostly at one of the next calls behind those.
+/// A failure of the erasable disk, where an opening makes this many calls of it: mostly at one of the next calls after those.
 pub(crate) fn draw_failure(alloc: Global, chance: &mut Chance, opening: Calls) -> Option<Failure> {
     let kind = chance.below(KINDS);
     match chance.below(8) {

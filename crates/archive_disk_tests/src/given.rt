@@ -11,7 +11,7 @@ pub(crate) const SETTINGS: Settings = Settings {
     ring: 9,
 };
 
-// Gives a record, so many seconds behind the first moment. None where it isn't taken.
+// Gives a record, this many seconds after the first moment. None where it isn't taken.
 fn give_one(alloc: Global, archive: &mut Made, behind: u8) -> Option<()> {
     give(archive, 0, &vectors(alloc, 1, behind)?)
 }
@@ -38,8 +38,8 @@ pub(crate) struct Given {
     pub(crate) is_acknowledged: bool,
 }
 
-/// Gives a second record, a second later, to the archive on these disks. Its header, the page of its ring and the head are written
-/// into a slot, and behind a sync the gate: four writes. To open the archive and to give the record two syncs are made each.
+/// Gives a second record, a second later, to the archive on these disks. Its header, the page of its ring and the head are written into
+/// a slot, and after a sync the commit flag: four writes. To open the archive and to give the record two syncs are made each.
 pub(crate) fn give_second(alloc: Global, disks: Both) -> Option<Given> {
     match open(alloc, disks)? {
         Ok(mut archive) => Some(Given {
@@ -53,7 +53,7 @@ pub(crate) fn give_second(alloc: Global, disks: Both) -> Option<Given> {
     }
 }
 
-/// Where the collector goes on behind so many records.
+/// Where the collector goes on after this many records.
 fn behind(records: u32) -> Resume {
     Resume {
         offered: u64::from(records),
@@ -62,12 +62,12 @@ fn behind(records: u32) -> Resume {
     }
 }
 
-/// Whether an archive has so many records.
+/// Whether an archive has this many records.
 pub(crate) fn has_records(archive: &Made, records: u32) -> bool {
     resume_of(archive, 0) == Some(behind(records))
 }
 
-/// Whether so many records are there behind a crash now.
+/// Whether this many records are there after a crash now.
 pub(crate) fn leaves(alloc: Global, disks: &Both, crash: u8, records: u32) -> Option<bool> {
     let archive = opened(alloc, disks.crash(alloc, crash)?)?;
     Some(has_records(&archive, records))

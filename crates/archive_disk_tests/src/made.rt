@@ -22,7 +22,7 @@ const VECTOR: [u8; 67] = [
     2, 1, 0, 0, 0, 0, 1, 1, 0, 0, 4, 8, 0x0A, 0, 0,
 ];
 
-/// Disks below an archive: so many home pages and blocks, and the calls that fail.
+/// Disks below an archive: how many home pages and blocks, and the calls that fail.
 #[derive(Drop)]
 pub(crate) struct Disks {
     pub(crate) blocks: u64,
@@ -42,7 +42,7 @@ pub(crate) fn disks_of(alloc: Global, homes: u64) -> Disks {
 
 pub(crate) type Made = Archive<MemErase, MemOnce>;
 
-/// What creating an archive on these disks answers. None where there can't be such disks, or no memory.
+/// What creating an archive on these disks returns. None where there can't be such disks, or no memory.
 pub(crate) fn made_on(
     alloc: Global,
     disks: Disks,
@@ -99,7 +99,7 @@ pub(crate) fn empty_at(alloc: Global, times: &[u32]) -> Option<Vec<Admission>> {
     Some(batch)
 }
 
-/// So many admissions without changes, at a time.
+/// `count` admissions without changes, at a time.
 pub(crate) fn empties(alloc: Global, count: u32, seconds: u32) -> Option<Vec<Admission>> {
     let mut batch = Vec::new(alloc);
     for _ in 0..count {
@@ -158,7 +158,7 @@ fn large_one(alloc: Global, number: u8) -> Option<Admission> {
     admission_of(1_704_067_200 + u32::from(number), one(alloc, change)?)
 }
 
-/// So many admissions, a second after another from 1704067200 on, of which each announces 10.0.0.0/8 by a route of 2,925 octets.
+/// `count` admissions, a second after another from 1704067200 on, of which each announces 10.0.0.0/8 by a route of 2,925 octets.
 pub(crate) fn large(alloc: Global, count: u8) -> Option<Vec<Admission>> {
     let mut batch = Vec::new(alloc);
     for number in 0..count {
@@ -167,7 +167,7 @@ pub(crate) fn large(alloc: Global, count: u8) -> Option<Vec<Admission>> {
     Some(batch)
 }
 
-/// So many admissions of 67 octets, of the moment 1704067200 or so many seconds behind it.
+/// `count` admissions of 67 octets, of the moment 1704067200 or the given number of seconds after it.
 pub(crate) fn vectors(alloc: Global, count: usize, behind: u8) -> Option<Vec<Admission>> {
     let mut octets = VECTOR;
     octets[7] = 0x80u8.saturating_add(behind);

@@ -34,7 +34,7 @@ fn created(alloc: Global) -> Option<MemArchive> {
     Some(MemArchive { archive })
 }
 
-/// What an opening that nothing stops finds: the archive, how many changes the head on its home page tells as applied, and how many calls
+/// What an opening that nothing stops finds: the archive, how many changes are applied according to the head on its home page, and how many calls
 /// the opening made.
 #[derive(Drop)]
 struct Witness {
@@ -43,7 +43,7 @@ struct Witness {
     opening: Calls,
 }
 
-// How many changes the head on its home page tells as applied.
+// How many changes are applied according to the head on its home page.
 fn applied_on(alloc: Global, disks: &mut Both) -> Option<u64> {
     let head = octets_of(alloc, &mut disks.erase, 265)?;
     if head.len() < 8 {
@@ -100,7 +100,7 @@ fn reopened(alloc: Global, chance: &mut Chance, opening: Calls, mut disks: Both)
     }
 }
 
-/// What is found behind a crash: the archive to go on with, what it tells, and the same archive on disks that don't fail.
+/// What is found after a crash: the archive to go on with, what it returns, and the same archive on disks that don't fail.
 #[derive(Drop)]
 struct Found {
     disk: MemArchive,
@@ -163,7 +163,7 @@ const NONE: Stops = Stops {
 };
 
 impl Stops {
-    // A call was stopped on these disks, or all crashed behind it.
+    // A call was stopped on these disks, or all crashed after it.
     fn count(&mut self, told: Told, disks: &Both) {
         match (told, disks.once_failed()) {
             (Told::Stopped, false) => self.erasable = self.erasable.saturating_add(1),
@@ -188,7 +188,7 @@ impl Stops {
     }
 }
 
-// Whether the archive is behind a call that wasn't stopped what the model is.
+// Whether the archive is what the model is after a call that wasn't stopped.
 fn goes_on(model: &mut Model, disk: &MemArchive, step: Step, told: Told) -> bool {
     let applied = disk.archive.applied();
     model.does(step, told, applied) && model.state() == Some(state_of(disk, applied))
@@ -216,8 +216,9 @@ fn goes_on_alike(
     answers_alike(alloc, chance, model, &mut found.witness, settled)
 }
 
-// What is found behind a crash, where that is what the model is: all that was told as done is there, and a call that was stopped was made
-// whole or not at all. One disk failed where a call was stopped, and elsewhere none did. None where it isn't so, or there is no memory.
+// What is found after a crash, where that is what the model is: all that was reported as done is there, and a call that was stopped was
+// made whole or not at all. One disk failed where a call was stopped, and elsewhere none did. None where it isn't so, or there is no
+// memory.
 fn find_alike(
     alloc: Global,
     chance: &mut Chance,
@@ -277,7 +278,7 @@ impl Run {
         Some(disk)
     }
 
-    // Makes the call of this number: the archive to go on with. It crashes behind each call that fails, and behind each sixteenth one.
+    // Makes the call of this number: the archive to go on with. It crashes after each call that fails, and after each sixteenth one.
     fn call(&mut self, mut disk: MemArchive, number: u32) -> Option<MemArchive> {
         let step = draw_call(self.alloc, &mut self.chance, number)?;
         let told = make(&mut disk, &step);
@@ -304,8 +305,8 @@ fn goes_alike(alloc: Global, seed: u64) -> Option<Stops> {
     Some(run.stops)
 }
 
-// So many runs from this seed on go as the model's calls. Taken together, in each of them a failing disk stops a call seven times or more, the
-// erasable one four times; the write-once one stops ten calls in three of them, and an opening is stopped twice in each.
+// The runs from this seed on go as the model's calls. Taken together, in each of them a failing disk stops a call seven times or more,
+// the erasable one four times; the write-once one stops ten calls in three of them, and an opening is stopped twice in each.
 fn expect_alike(rt: &impl Abort, alloc: Global, first: u64) {
     let mut all = NONE;
     for seed in first..first.saturating_add(RUNS) {

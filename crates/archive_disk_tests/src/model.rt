@@ -11,8 +11,8 @@ use std::alloc::Global;
 // More changes than wait at any time.
 const WAITING: u32 = 2_000;
 
-/// The pure machine, how many changes it applied, where each record has one at least, and the steps by which it came there, with what was
-/// told of each.
+/// The pure machine, how many changes it applied, where each record has one at least, and the steps by which it came there, with what
+/// each returned.
 #[derive(Drop)]
 pub(crate) struct Model {
     alloc: Global,
@@ -46,7 +46,7 @@ impl Model {
         }
     }
 
-    /// The settled watermark, which is told where the last moment of all is asked of. None where there is no memory.
+    /// The settled watermark, which is returned where the last moment of all is asked of. None where there is no memory.
     pub(crate) fn settled(&mut self) -> Option<Mark> {
         let all = Query::Rows(RowsQuestion {
             moment: Moment::from(u32::MAX),
@@ -56,7 +56,7 @@ impl Model {
         settled_in(&self.reply_to(all)?)
     }
 
-    /// What the machine tells of itself.
+    /// The machine's state.
     pub(crate) fn state(&mut self) -> Option<State> {
         Some(State {
             first: self.machine.resume(0),
@@ -85,7 +85,7 @@ impl Model {
         told
     }
 
-    // Applies a change at a time, until so many are applied.
+    // Applies a change at a time, until `applied` are applied.
     fn catch_up(&mut self, applied: u64) {
         for _ in 0..WAITING {
             if self.applied >= applied || self.make(&Step::Apply(0)) != Told::Applied {
@@ -98,7 +98,7 @@ impl Model {
         self.is_whole &= self.steps.push(step).is_ok() && self.told.push(told).is_ok();
     }
 
-    // Makes a step. One that applies a change goes on until so many are applied.
+    // Makes a step. One that applies a change goes on until `applied` are applied.
     fn make_until(&mut self, step: Step, applied: u64) -> Told {
         let before = self.applied;
         let told = self.make(&step);
@@ -112,12 +112,12 @@ impl Model {
         told
     }
 
-    /// Whether the model does as was told, and so many changes are applied then. A step of the disks' archive applies one or more.
+    /// Whether the model returns the same, and `applied` changes are applied then. A step of the disks' archive applies one or more.
     pub(crate) fn does(&mut self, step: Step, told: Told, applied: u64) -> bool {
         self.make_until(step, applied) == told && self.applied == applied
     }
 
-    /// Whether the model does as was told. Where that applies a change it goes on until all is settled up to this mark.
+    /// Whether the model returns the same. Where the step applies a change it goes on until all is settled up to this mark.
     pub(crate) fn does_up_to(&mut self, step: &Step, told: Told, settled: Mark) -> bool {
         if self.make(step) != told {
             return false;
@@ -136,7 +136,7 @@ impl Model {
         false
     }
 
-    /// Whether what was found behind a call that was stopped is what the model is then: the call was made whole, or not at all.
+    /// Whether what was found after a call that was stopped is what the model is then: the call was made whole, or not at all.
     pub(crate) fn follows(&mut self, step: Step, found: &State) -> bool {
         if self.state() == Some(*found) {
             return true;
@@ -151,8 +151,8 @@ impl Model {
         run(self.alloc, machine, &self.steps).ok()
     }
 
-    /// All goes down, and comes up again. Whether each step of a run through all steps tells what was told, and its machine, with which it
-    /// goes on, tells the same of itself.
+    /// All goes down, and comes up again. Whether each step of a run through all steps returns what was returned, and the run's
+    /// machine, which the model goes on with, has the same state.
     pub(crate) fn crash(&mut self) -> Option<bool> {
         let before = self.state();
         self.remember(Step::Crash, Told::Crashed);
@@ -205,7 +205,7 @@ fn above(alloc: Global, settled: Mark) -> Option<String> {
     format!(in alloc; "X|24|AboveWatermark|{seconds}\n").ok()
 }
 
-// The settled watermark, where a reply tells it.
+// The settled watermark, where a reply names it.
 fn settled_in(reply: &Reply) -> Option<Mark> {
     match reply {
         Reply::AboveWatermark(settled) => Some(*settled),
@@ -213,7 +213,7 @@ fn settled_in(reply: &Reply) -> Option<Mark> {
     }
 }
 
-// Whether the replies tell this.
+// Whether the replies are these.
 fn are_told(replies: &[Reply], told: &[Told]) -> bool {
     replies.len() == told.len()
         && replies

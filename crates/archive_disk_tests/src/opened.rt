@@ -1,4 +1,4 @@
-//! Disks are opened as an archive: as they were given up, behind a crash, and where they name none.
+//! Disks are opened as an archive: as they were given up, after a crash, and where they name none.
 
 use crate::be;
 use crate::disks::{
@@ -37,7 +37,7 @@ struct Crash {
     records: u32,
 }
 
-// The kinds: old, new, half, and octets that begin as an open gate.
+// The kinds: old, new, half, and octets that begin as the commit flag of an open slot.
 const CRASHED: [Crash; 9] = [
     Crash {
         failing: Some((0, 1)),
@@ -49,7 +49,7 @@ const CRASHED: [Crash; 9] = [
         crash: 3,
         records: 1,
     },
-    // The gate alone decides.
+    // The commit flag alone decides.
     Crash {
         failing: Some((3, 0)),
         crash: 1,
@@ -95,7 +95,7 @@ fn armed(alloc: Global, disks: &Both, crash: &Crash) -> Option<Both> {
     }
 }
 
-// Whether so many records are there behind the crash, and the second one was acknowledged where no write failed.
+// Whether the records that the crash should leave are there, and the second one was acknowledged where no write failed.
 fn is_found(alloc: Global, disks: &Both, crash: &Crash) -> Option<bool> {
     let given = give_second(alloc, armed(alloc, disks, crash)?)?;
     let is_there = leaves(alloc, &given.disks, crash.crash, crash.records)?;
@@ -111,7 +111,7 @@ fn a_crash_leaves_a_batch_whole_or_not_at_all(rt: HostRuntime) {
     }
 }
 
-/// Octets that are written over those of a disk, and what opening it answers.
+/// Octets that are written over those of a disk, and what opening it returns.
 struct Written {
     name: &'static str,
     at: u64,
@@ -119,7 +119,7 @@ struct Written {
     answer: Result<(), OpenError>,
 }
 
-// The disk has 39 home pages behind 265 pages of the journal. Its note, from octet 16 on, tells 5 blocks, 2 collectors and rings of 9
+// The disk has 39 home pages after 265 pages of the journal. Its note, from octet 16 on, says 5 blocks, 2 collectors and rings of 9
 // pages.
 const WRITTEN: [Written; 14] = [
     Written {
@@ -218,7 +218,7 @@ fn write_over(disk: &mut MemErase, at: u64, octets: &[u8]) -> Option<()> {
     disk.write_at(at, octets).ok()
 }
 
-// Whether opening disks answers so.
+// Whether opening disks returns this.
 fn is_answered(alloc: Global, disks: Both, answer: Result<(), OpenError>) -> Option<bool> {
     Some(match open(alloc, disks)? {
         Ok(_) => answer == Ok(()),
@@ -243,7 +243,7 @@ fn a_disk_that_names_no_archive_is_refused(rt: HostRuntime) {
     }
 }
 
-// A disk of so many pages, with the identity page and the head of another one.
+// A disk of `pages` pages, with the identity page and the head of another one.
 fn cut(alloc: Global, disk: &mut MemErase, pages: u64) -> Option<MemErase> {
     let mut cut = MemErase::new(alloc, pages.min(65_536) * PAGE);
     for page in [0, 265] {
@@ -252,7 +252,7 @@ fn cut(alloc: Global, disk: &mut MemErase, pages: u64) -> Option<MemErase> {
     Some(cut)
 }
 
-// Whether an opening answers so where the disk has so many pages.
+// Whether an opening returns this where the disk has `pages` pages.
 fn is_cut(
     alloc: Global,
     named: &mut Both,
@@ -314,7 +314,7 @@ fn disks_that_are_refused_are_handed_back(rt: HostRuntime) {
     be(&rt, is_handed_back(rt.alloc()) == Some(true), "disks");
 }
 
-// Whether both records are there behind each of these crashes.
+// Whether both records are there after each of these crashes.
 fn are_left(alloc: Global, disks: &Both, crashes: &[u8]) -> Option<bool> {
     for crash in crashes {
         if !leaves(alloc, disks, *crash, 2)? {
@@ -324,13 +324,13 @@ fn are_left(alloc: Global, disks: &Both, crashes: &[u8]) -> Option<bool> {
     Some(true)
 }
 
-// Whether opening these disks is refused for a failed call, and both records are there behind each of these crashes.
+// Whether opening these disks is refused for a failed call, and both records are there after each of these crashes.
 fn stops_whole(alloc: Global, disks: Option<Both>, crashes: &[u8]) -> Option<bool> {
     let Unopened { disks, error } = hand_back(alloc, disks?)?;
     Some(error == OpenError::Fault && are_left(alloc, &disks, crashes)?)
 }
 
-// Two open slots of two images: they go home by four writes, and both gates are closed.
+// Two open slots of two images: they go home by four writes, and both commit flags are cleared.
 #[test]
 fn an_opening_that_is_stopped_at_a_write_loses_nothing(rt: HostRuntime) {
     let alloc = rt.alloc();
@@ -345,8 +345,8 @@ fn an_opening_that_is_stopped_at_a_write_loses_nothing(rt: HostRuntime) {
     }
 }
 
-// A sync stands before all, one behind the images, and one behind each gate. Read are the identity page, eight gates, three parts of
-// both headers, and the images.
+// One sync comes before all else, one after the images, and one after each commit flag. What is read: the identity page, eight commit
+// flags, three parts of both headers, and the images.
 #[test]
 fn an_opening_that_is_stopped_elsewhere_loses_nothing(rt: HostRuntime) {
     let alloc = rt.alloc();

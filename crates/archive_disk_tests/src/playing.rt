@@ -20,12 +20,12 @@ use std::alloc::Global;
 /// A call, or a look at what it came to.
 #[derive(Clone, Copy, PartialEq, Eq)]
 pub(crate) enum Call {
-    /// A collector offers records without changes at these times. Told are how many it offered, the numbers from which and to below
-    /// which they are admitted, and how many are late.
+    /// A collector offers records without changes at these times. The result is how many it offered, the numbers from which and to
+    /// below which they are admitted, and how many are late.
     Times,
-    /// It offers so many without changes, at a time.
+    /// It offers a number of records without changes, at a time.
     Empties,
-    /// It offers so many records of 67 octets, so many seconds behind 1704067200.
+    /// It offers a number of records of 67 octets, a number of seconds after 1704067200.
     Vectors,
     /// It offers a record of two changes at the moment 7.
     Two,
@@ -49,10 +49,10 @@ pub(crate) enum Call {
     Check,
 }
 
-/// A call, the number of a collector, further numbers, and what is told.
+/// A call, the number of a collector, further numbers, and what is returned.
 pub(crate) type Act = (Call, u8, &'static [u32], &'static str);
 
-/// What is done one after another with an archive of so many collectors, with rings of so many pages, to which nothing was given.
+/// What is done one after another with an archive of this many collectors, with rings of this many pages, to which nothing was given.
 pub(crate) struct Script {
     pub(crate) name: &'static str,
     pub(crate) collectors: u8,
@@ -97,7 +97,7 @@ fn step_of(alloc: Global, call: Call, collector: u8, numbers: &[u32]) -> Option<
     })
 }
 
-// What is told, as a text.
+// What is returned, as a text.
 fn is_told(alloc: Global, told: Told, wanted: &str) -> bool {
     match told {
         Told::Taken(offered, from, to, late) => {
@@ -157,7 +157,7 @@ impl Stage {
         })
     }
 
-    // Whether both make the step and tell this.
+    // Whether both make the step and return this.
     fn takes(&mut self, step: Option<Step>, wanted: &str) -> bool {
         let Some(step) = step else {
             return false;
@@ -176,7 +176,7 @@ impl Stage {
         }
     }
 
-    // Whether so many steps apply all, and both are settled up to the same mark then.
+    // Whether `wanted` steps apply all, and both are settled up to the same mark then.
     fn applies_all(&mut self, wanted: &str) -> bool {
         let Some(count) = apply_all(&mut self.disk.archive) else {
             return false;
@@ -186,7 +186,7 @@ impl Stage {
             && self.model.settled() == Some(self.disk.settled())
     }
 
-    // Whether so many pages are written home.
+    // Whether `wanted` pages are written home.
     fn flushes(&mut self, wanted: &str) -> bool {
         match flush_all(&mut self.disk.archive) {
             Some(count) => is_number(self.alloc, u64::from(count), wanted),
@@ -200,7 +200,7 @@ impl Stage {
         is_number(self.alloc, settled.seconds(), wanted) && self.model.settled() == Some(settled)
     }
 
-    // Whether both tell this of where a collector goes on.
+    // Whether both return this for where a collector goes on.
     fn goes_on(&self, collector: u8, wanted: &str) -> Option<bool> {
         let resume = self.disk.resume(collector)?;
         let offered = resume.offered;
@@ -220,7 +220,7 @@ impl Stage {
         )
     }
 
-    // Whether a check counts so many changes.
+    // Whether a check counts `wanted` changes.
     fn checks(&mut self, wanted: &str) -> bool {
         match self.disk.check() {
             Ok(count) => is_number(self.alloc, count, wanted),

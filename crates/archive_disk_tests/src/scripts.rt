@@ -2,7 +2,7 @@
 
 use crate::playing::{Act, Call, Script};
 
-/// What a question of 10.0.0.0/8 tells, where the peer 192.0.2.1 of AS 65001 announced it.
+/// What a question of 10.0.0.0/8 returns, where the peer 192.0.2.1 of AS 65001 announced it.
 const ROW: &str = "R|0|192.0.2.1|65001|10.0.0.0/8|65001 65002|IGP|192.0.2.1|||NAG||
 E|1
 ";

@@ -1,4 +1,4 @@
-//! What an archive's calls and the pure machine's steps tell, and what an archive tells of itself.
+//! What an archive's calls and the pure machine's steps return, and the state that an archive shows.
 
 use archive_calls as calls;
 use archive_calls::{AdmitError, MarkError, RouteArchive, Trouble};
@@ -6,7 +6,7 @@ use interleaving_core::{BatchReply, Reply, Resume, Step};
 use memory_archive::MemArchive;
 use route_model::{Admission, Mark};
 
-/// What a call or a step tells.
+/// What a call or a step returns.
 #[derive(Clone, Copy, PartialEq, Eq)]
 pub(crate) enum Told {
     /// How many records were offered until now, the numbers from which and to below which they are admitted, and how many are late.
@@ -28,7 +28,7 @@ pub(crate) enum Told {
     Refused,
 }
 
-/// What an archive tells of itself, and how many changes are applied.
+/// The state that an archive shows, and how many changes are applied.
 #[derive(Clone, Copy, PartialEq, Eq)]
 pub(crate) struct State {
     pub(crate) first: Option<Resume>,
@@ -51,7 +51,7 @@ fn told_of_batch(reply: &BatchReply) -> Told {
     Told::Taken(reply.offered, receipt.from, receipt.to, reply.late.len())
 }
 
-/// What a reply of the pure machine tells.
+/// What a reply of the pure machine returns.
 pub(crate) fn told_of(reply: &Reply) -> Told {
     match reply {
         Reply::Taken(batch) => told_of_batch(batch),

@@ -14,7 +14,7 @@ pub const JOURNAL_PAGES: u64 = 265;
 /// The place of the head in `pages.rha`.
 pub const HEAD_PLACE: u64 = PAGE * JOURNAL_PAGES;
 
-/// How many pages a slot has. The first slot's gate is on page 1.
+/// How many pages a slot has. The first slot's gate, its commit flag, is on page 1.
 const SLOT_PAGES: u64 = 33;
 
 /// The first octet of an open slot's gate.

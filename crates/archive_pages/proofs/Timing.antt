@@ -36,7 +36,7 @@ timed_begun (suc n) p ps = append-nil (map (at_time (time_of p)) (take (suc n) p
 timed_front : (n : ℕ) (before : List (Placed Admitted)) (w : List (Placed Admitted)) (p : Placed Admitted) (later : List (Placed Admitted)) → w ≡ p ∷ later → timed (before ++ begun n w) ≡ timed before ++ map (at_time (time_of p)) (take n p.item.changes)
 timed_front n before w p later e = timed-append before (begun n w) ∙ ap (λ l. timed before ++ l) (ap (λ x. timed (begun n x)) e ∙ timed_begun n p later)
 
--- behind the changes that were applied stands the next one
+-- the next change follows the changes that were applied
 joined : (before : List Timed) (n : ℕ) (p : Placed Admitted) (changes : List Change) → changes ≡ take n p.item.changes ++ take 1 (drop n p.item.changes) → before ++ map (at_time (time_of p)) changes ≡ (before ++ map (at_time (time_of p)) (take n p.item.changes)) ++ next_change n p
 joined before n p changes e =
     ap (λ l. before ++ map (at_time (time_of p)) l) e

@@ -9,7 +9,7 @@ use Rattle.intake.specs.Ring.{entry, octets_for, size_of, IsRing}
 use Rattle.archive_pages.specs.declared.settings.Settings.{Settings}
 use Rattle.archive_pages.specs.Places.{ring_of}
 
--- what is kept of a batch: those of its admissions that aren't late, how many were offered, and the mark behind them
+-- what is kept of a batch: those of its admissions that aren't late, how many were offered, and the mark after them
 pub record Kept : Type 0 where
   pub timely : List Admitted
   pub offered : ℕ
@@ -35,7 +35,7 @@ lane_with lane kept = record {
   used = lane.used + octets_for kept.timely;
 }
 
--- The collector's ring lies in a map of so many pages, and its counts have room for the batch.
+-- The collector's ring lies in a map of `homes` pages, and its counts have room for the batch.
 pub record CanTake (homes : ℕ) (s : Settings) (c : ℕ) (lane : Lane) (kept : Kept) : Type 0 where
   pub ring : IsRing homes (ring_of s c lane)
   pub offered : lane.offered + kept.offered < 2 ^ 64

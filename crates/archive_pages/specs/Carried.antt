@@ -23,7 +23,7 @@ last_time before (t ∷ ts) = last_time t.time ts
 abbrev pub TreeOn : Type 1
 TreeOn = List (List ℕ) → (ℕ → List ℕ → Type 0) → ℕ → ℕ → ℕ → ℕ → ℕ → List Version → Type 0
 
--- The head tells what a collector gave, and the collector's ring holds of it what waits, in its order.
+-- The head says what a collector gave, and the collector's ring holds of it what waits, in its order.
 pub record LaneStands (s : Settings) (pages : List (List ℕ)) (c : ℕ) (lane : Lane) (i : Intake) (waits : List Admitted) : Type 0 where
   pub offered : lane.offered ≡ i.offered
   pub admitted : lane.admitted ≡ length i.admitted
@@ -44,7 +44,7 @@ pub record Bears (Tree : TreeOn) (s : Settings) (settled : ℕ → List ℕ → 
   pub kept : Kept (applied h) versions
   pub tree : Tree pages settled (tree_low s) head.root head.fresh head.block (stamp_of head.last head.applied) versions
 
--- Page 0 is the one spelling of a head with which the pages carry the history.
+-- Page 0 is the one encoding of a head with which the pages carry the history.
 pub record Represents (Tree : TreeOn) (s : Settings) (settled : ℕ → List ℕ → Type 0) (pages : List (List ℕ)) (h : History) : Type 0 where
   pub head : Contents
   pub valid : IsHead head

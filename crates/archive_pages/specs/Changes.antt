@@ -18,7 +18,7 @@ use Rattle.archive_pages.specs.Carried.{TreeOn, last_time}
 abbrev pub with_lane : Contents → ℕ → Lane → Contents
 with_lane head c lane = record head { lanes = slice_set head.lanes c lane }
 
--- what the head keeps of a collector behind a batch: its ring uses so many octets then
+-- what the head keeps of a collector after a batch: its ring uses `used` octets then
 abbrev pub lane_given : Lane → ℕ → List Admitted → ℕ → Lane
 lane_given lane mark batch used = record {
   offered = lane.offered + length batch;

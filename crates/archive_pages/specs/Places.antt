@@ -5,7 +5,7 @@ use Rattle.intake.specs.declared.ring.Ring.{Ring}
 use Rattle.intake.specs.Ring.{page_at}
 use Rattle.archive_pages.specs.declared.settings.Settings.{Settings}
 
--- an archive may have so many collectors, and rings of so many pages
+-- an archive may have this many collectors, and rings of this many pages
 pub record AreSettings (s : Settings) : Type 0 where
   pub some : 1 ≤ s.collectors
   pub few : s.collectors ≤ 16
@@ -16,7 +16,7 @@ pub record AreSettings (s : Settings) : Type 0 where
 abbrev pub ring_low : Settings → ℕ → ℕ
 ring_low s c = 1 + c * s.ring
 
--- the first page of the tree, behind all rings
+-- the first page of the tree, after all rings
 abbrev pub tree_low : Settings → ℕ
 tree_low s = ring_low s s.collectors
 

@@ -1,4 +1,4 @@
-//! A batch is given: its collector's ring takes what isn't late, and the head tells of it.
+//! A batch is given: its collector's ring takes what isn't late, and the head counts it.
 
 ghost use Rattle.std.specs.Prelude.{◌≡◌, ◌≢◌, ◌<◌, ◌≤◌, ◌+◌, ◌++◌, ◌↔◌, ℕ, List, length, sum_by, IsTrue, IfOk, OnOk, OnErr, IfErr, Err};
 ghost use Rattle.page_tx.specs.Device.{KeepsDevice};
@@ -28,7 +28,7 @@ pub struct Sifted {
     pub timely: Vec<Admission>,
     /// How many admissions were offered, late ones too.
     pub offered: u64,
-    /// The mark of its collector behind it.
+    /// The mark of its collector after it.
     pub mark: Mark,
 }
 
@@ -52,7 +52,7 @@ fn lane_takes(homes: u64, settings: Settings, collector: u8, lane: Lane, batch: 
             .is_some()
 }
 
-/// Whether the head has such a collector, its ring lies in a map of so many pages, and its counts have room for the batch.
+/// Whether the head has such a collector, its ring lies in a map of `homes` pages, and its counts have room for the batch.
 pub fn can_give(homes: u64, settings: Settings, head: &Head, collector: u8, batch: &Sifted) -> bool
     ensures collector { IsTrue result → collector < length head.now.lanes }
     ensures fits { IsTrue result → (lane : Lane) → HasLane head.now collector lane → CanTake homes settings collector lane batch.now }
@@ -103,8 +103,8 @@ fn take<P: Pages>(
     })
 }
 
-/// Gives a batch: what is kept of it goes behind what waits in its collector's ring, and the head tells of it. Page 0 isn't
-/// written. After a refusal the head is as it was, and the same pages are shown.
+/// Gives a batch: what is kept of it is appended to what waits in its collector's ring, and the head counts it. Page 0 isn't written.
+/// After an error the head is as it was, and the same pages are shown.
 pub fn give<P: Pages>(
     alloc: Global,
     pages: &mut P,

@@ -13,8 +13,8 @@ use page_tx::{PageError, Pages};
 use route_model::Moment;
 use std::alloc::{AllocError, Global};
 
-/// The same head. A call changes the copy, and the head itself only once what it tells is committed. It fails where memory
-/// is refused, and only then.
+/// The same head. A call changes the copy, and the head itself only once what it says is committed. It fails where memory is refused, and
+/// only then.
 pub fn copy_head(alloc: Global, head: &Head) -> Result<Head, AllocError>
     ensures copy { IfOk result (λ copy. copy ≡ head.now) }
 {

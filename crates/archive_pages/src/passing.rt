@@ -13,7 +13,7 @@ use archive_head::{Head, Lane};
 use disk_models::PAGE_SIZE;
 use route_model::Admission;
 
-/// What the head tells of the tree.
+/// What the head says of the tree.
 #[derive(Clone, Copy, Debug, PartialEq, Eq)]
 pub struct TreePlace {
     /// The first home page that was never used.
@@ -75,8 +75,8 @@ fn without_first(settings: Settings, collector: u8, lane: Lane, admission: &Admi
     }
 }
 
-/// The head tells that the next change of the admission, where it has one, is applied, and what the tree is then. The
-/// admission is the first that waits of its collector. With its last change it leaves its ring: this is answered.
+/// Sets in the head that the next change of the admission, where it has one, is applied, and what the tree is then. The admission is the
+/// first that waits of its collector. Returns whether this was its last change, with which it leaves its ring.
 pub fn pass_change(
     settings: Settings,
     head: &mut Head,

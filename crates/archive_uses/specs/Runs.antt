@@ -16,8 +16,8 @@ use Rattle.archive_uses.specs.Use.{AllStepsOf, Use}
 use Rattle.archive_uses.specs.Uses.{Stage}
 use Rattle.archive_uses.specs.Uses.Stage.{on, off, gone}
 
--- The uses are a run of the pure machine, from a created world of so many collectors to one with this history, which is down or isn't; and
--- all that is promised of runs is true of it.
+-- The uses are a run of the pure machine, from a created world of this many collectors to one with this history, which is down or isn't;
+-- and all that is promised of runs is true of it.
 pub record AreRun (collectors : ℕ) (us : List Use) (down : Bool) (h : History) : Type 0 where
   pub steps : List Step
   pub replies : List Reply
@@ -28,8 +28,8 @@ pub record AreRun (collectors : ℕ) (us : List Use) (down : Bool) (h : History)
   pub history : last.history ≡ h
   pub headline : Headline collectors steps replies last
 
--- What a crash left of disks, of which the write-once one has so many blocks, carries a history with P of an archive of these settings, and its note
--- tells both. So where there is room for its pages, an opening isn't refused but for want of the device or of memory.
+-- What a crash left of disks, of which the write-once one has this many blocks, carries a history with P of an archive of these settings,
+-- and its note says both. So where there is room for its pages, an opening fails only for the device or for lack of memory.
 pub record LeftWith (made : Settings) (P : History → Type 0) (blocks : ℕ) (left : Left) : Type 0 where
   pub site : Site
   pub noted : IsNoted site

@@ -35,8 +35,8 @@ use Rattle.archive_uses.specs.Verdicts.{of_admit, of_mark, of_apply, of_flush, o
 use Rattle.archive_uses.specs.Calls.{Admits, Marks, Steps, Flushes, Asks, Looks, Turns, Finishes, IsCut}
 use Rattle.archive_uses.specs.Openings.{Opens}
 
--- What there is: an archive, which may have to be opened again; both disks, with the pen of the write-once one; or what a crash left of disks, of
--- which the write-once one has so many blocks.
+-- What there is: an archive, which may have to be opened again; both disks, with the pen of the write-once one; or what a crash left of
+-- disks, of which the write-once one has this many blocks.
 pub data Stage (E O Pen Seen : Type 0) (erase : EraseGhosts E) (once : OnceGhosts O Pen Seen) : Type 0 where
   on : Archive E O Pen Seen erase once → Stage E O Pen Seen erase once
   off : E → O → Pen → Stage E O Pen Seen erase once
@@ -78,7 +78,7 @@ Leads {E} {O} {Pen} {Seen} {erase} {once} cut_opening (off e o pen) (gone n left
     × CrashPair (erase.model e) (erase.model (erase_after result)) (once.model pen) (once.model pen) (once.model (pen_after result)) left × (n ≡ once.block_count o)
 Leads _ _ _ = ⊥
 
--- an errand in hand: on a disk of so many blocks, of which these were settled when it was given
+-- an errand in hand: on a disk of this many blocks, of which these were settled when it was given
 pub record Errands : Type 0 where
   pub errand : Errand
   pub blocks : ℕ

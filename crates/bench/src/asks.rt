@@ -1,4 +1,4 @@
-//! Asks an archive in the files of a folder, which is open once, and tells how long whole answers took.
+//! Asks an archive in the files of a folder, which is open once, and prints how long whole answers took.
 
 use crate::reading::more;
 use anyhow::{Context, Result, bail};
@@ -9,7 +9,7 @@ use std::alloc::Global;
 use std::fs;
 use std::time::Instant;
 
-/// The kinds of questions that are told apart: the third word of a request line, or its first.
+/// The kinds of questions that are counted apart: the third word of a request line, or its first.
 const KINDS: [&str; 6] = ["route", "prefix", "cover", "peer", "all", "history"];
 
 /// What was asked of a kind. Times are in nanoseconds.
@@ -17,20 +17,20 @@ const KINDS: [&str; 6] = ["route", "prefix", "cover", "peer", "all", "history"];
 struct Asked {
     /// Of each question when it was asked for the first time.
     first: Vec<u64>,
-    /// Of each question asked once more, right behind.
+    /// Of each question asked once more, right after.
     again: Vec<u64>,
     rows: u64,
     replies: u64,
 }
 
-/// How much an answer had.
+/// How long an answer was.
 #[derive(Clone, Copy, Drop)]
 struct Size {
     rows: u64,
     replies: u64,
 }
 
-/// What stands behind a question so that it goes on behind a reply that ended so: behind its last row, or that many events.
+/// What follows a question so that it goes on after a reply that ended so: after its last row, or after that many events.
 fn behind(alloc: Global, end: &str) -> Result<String> {
     if end.contains('|') {
         return Ok(format!(in alloc; " after {}", end.replace(alloc, "|", " ")?)?);
@@ -38,7 +38,7 @@ fn behind(alloc: Global, end: &str) -> Result<String> {
     Ok(format!(in alloc; " skip {end}")?)
 }
 
-/// What stands behind a question so that it goes on behind a reply; none where the reply was the last one.
+/// What follows a question so that it goes on after a reply; none where the reply was the last one.
 fn continuation(alloc: Global, reply: &str) -> Result<Option<String>> {
     let Some(end) = reply.lines().last() else {
         bail!("a reply without lines")
@@ -116,7 +116,7 @@ fn ask_kind<A: RouteArchive>(
     Ok(asked)
 }
 
-/// The time that so many of a hundred questions took at most.
+/// The most time that `hundredths` of a hundred questions took.
 fn part(times: &[u64], hundredths: usize) -> u64 {
     let at = times.len().saturating_mul(hundredths) / 100;
     times.get(at).copied().unwrap_or(0)

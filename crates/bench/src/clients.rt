@@ -1,4 +1,4 @@
-//! Asks a served archive the request lines of a file over several connections at once, and tells how long the replies took.
+//! Asks a served archive the request lines of a file over several connections at once, and prints how long the replies took.
 
 use crate::reading::more;
 use anyhow::{Context, Result, bail};
@@ -15,7 +15,7 @@ pub const MOST: u32 = 64;
 /// How many seconds a client waits for a line.
 const PATIENCE: u64 = 60;
 
-/// What a client was told: how many nanoseconds each reply took, how many lines all had, and how many replies were refusals.
+/// What a client received: how many nanoseconds each reply took, how many lines all of them had, and how many replies were refusals.
 #[derive(Drop)]
 struct Heard {
     times: Vec<u64>,
@@ -30,7 +30,7 @@ fn is_last(line: &str) -> bool {
     !is_row && !is_event
 }
 
-/// Reads the lines of a reply. Tells how many there were, and whether it was a refusal.
+/// Reads the lines of a reply. Returns how many there were, and whether it was a refusal.
 fn hear<R: BufRead>(alloc: Global, lines: &mut R) -> Result<(u64, bool)> {
     let mut line = String::new(alloc);
     for count in 1..u64::MAX {
@@ -81,7 +81,7 @@ fn ask_over<H: Clock + Net<Listener = TcpListener, Stream = TcpStream>>(
     Ok(heard)
 }
 
-/// The time that so many of a hundred replies took at most.
+/// The most time that `hundredths` of a hundred replies took.
 fn part(times: &[u64], hundredths: usize) -> u64 {
     let at = times.len().saturating_mul(hundredths) / 100;
     times.get(at).copied().unwrap_or(0)
@@ -109,8 +109,8 @@ fn print_heard(rt: &HostRuntime, clients: usize, spent: Duration, all: Vec<Heard
     Ok(())
 }
 
-/// Asks the archive that is served at an address all questions of a file, which are request lines: so many clients at once, each of
-/// which asks its share, one question behind the reply to the one before.
+/// Asks the archive that is served at an address all questions of a file, which are request lines: `clients` clients at once, each of
+/// which asks its share, one question after the reply to the one before.
 ///
 /// # Errors
 ///

@@ -15,16 +15,16 @@ pub trait Counter {
     fn count(&mut self, alloc: Global, items: &[Item]);
 }
 
-/// Adds to a count, which goes round behind its last value.
+/// Adds to a count, which wraps around after its last value.
 pub fn more(count: &mut u64, by: usize) {
     *count = count.wrapping_add(by as u64);
 }
 
-/// Frames a file in pieces of so many octets and has its items counted. None is kept.
+/// Frames a file in pieces of `piece` octets and has its items counted. None is kept.
 ///
 /// # Errors
 ///
-/// Where the file can't be opened or read, or doesn't end behind a whole record.
+/// Where the file can't be opened or read, or doesn't end after a whole record.
 pub fn count_file<C: Counter>(
     rt: &HostRuntime,
     path: &str,

@@ -3,8 +3,8 @@ use Rattle.std.specs.Prelude.{ℕ, zero, suc, ◌≤◌, max, List, [], ◌∷�
 use Rattle.route_meaning.specs.History.{History}
 use Rattle.board.specs.Past.{Past, GoesOnAs, reach}
 
--- A past that was seen, and the numbers that the words of the board had: the watermark, then the count of each
--- collector. They may be newer than the past.
+-- A past that was seen, and the numbers that were seen in the board's words: the watermark, then the count of each collector. They may be
+-- newer than the past.
 pub record View : Type 0 where
   pub past : Past
   pub numbers : List ℕ

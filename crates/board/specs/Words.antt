@@ -8,7 +8,7 @@ abbrev pub place_of : Word → ℕ
 place_of Watermark = 0
 place_of (Durable c) = suc c
 
--- a board of so many collectors has the word
+-- a board of this many collectors has the word
 abbrev pub IsWord : ℕ → Word → Type 0
 IsWord collectors Watermark = ⊤
 IsWord collectors (Durable c) = c < collectors

@@ -1,4 +1,4 @@
-//! The rule of the board, and what each step on it tells.
+//! The rule of the board, and what each step on it shows.
 use crate::view::SeatView;
 use atomic_table::{Join, Play, Split, TableRule};
 use std::marker::{Brand, PhantomData};

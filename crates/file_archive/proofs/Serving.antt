@@ -1,4 +1,4 @@
--- What an archive on disks tells as one that feeds and questions use.
+-- What an archive on disks returns as one that feeds and questions use.
 use Rattle.std.proofs.Common.{◌≡◌, ◌∙◌, ◌↔◌, ◌<◌, ◌≤◌, ◌+◌, ℕ, Bool, false, List, [], ◌∷◌, length, sum_by, Some, Err, Result, inl, inr, refl, ap, arith, ⊎_elim}
 use Rattle.std.specs.List.{slice_get}
 use Rattle.std.proofs.lemmas.Bool.{cases_lt}

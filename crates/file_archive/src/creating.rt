@@ -20,8 +20,8 @@ use std::alloc::Global;
 use std::fs::File;
 use std::rt::Files;
 
-/// Creates an archive in a folder that was made for it, on a disk of so many octets that has room for it. Where it is refused
-/// it leaves no file in the folder.
+/// Creates an archive in a folder that was made for it, on a disk of `size` octets that has room for it. On an error it leaves no file in
+/// the folder.
 fn create_in<R: Files<File = File>>(
     alloc: Global,
     files: &R,
@@ -63,17 +63,17 @@ fn create_in<R: Files<File = File>>(
 }
 
 impl FileArchive {
-    /// Creates an archive of these settings, to which nothing was given, in a new folder: with so many home pages and blocks. Its
-    /// files cost no room on the device before they are written to.
+    /// Creates an archive of these settings, to which nothing was given, in a new folder, with this number of home pages and of blocks.
+    /// Its files cost no room on the device before they are written to.
     ///
-    /// Where it is refused, what it made is taken away again, as far as the system does and there is memory for a file's name,
-    /// and nothing that was there before is touched.
+    /// On an error, what it made is taken away again, as far as the system does and there is memory for a file's name, and nothing that
+    /// was there before is touched.
     ///
     /// # Errors
     ///
-    /// `Archive` of `PagesFull` where there are fewer pages than the head, all rings and a tree of no version need; `File` of
-    /// `Size` where there are 2^49 - 265 pages or more, no block, or 2^49 blocks or more; `Folder` where the folder is there
-    /// already; and each where the system fails or a growth of memory is refused.
+    /// `Archive` of `PagesFull` where there are fewer pages than the head, all rings and a tree of no version need; `File` of `Size`
+    /// where there are 2^49 - 265 pages or more, no block, or 2^49 blocks or more; `Folder` where the folder is there already; and each
+    /// where the system fails or a growth of memory is refused.
     pub fn create<R: Files<File = File>>(
         alloc: Global,
         files: &R,

@@ -33,7 +33,7 @@ pub struct FileDisks {
     pub(crate) failures: Arc<Failures>,
 }
 
-/// How many octets the erasable disk of so many home pages has.
+/// How many octets the erasable disk of `pages` home pages has.
 pub(crate) fn disk_size(pages: u64) -> Result<u64, FileError>
     ensures size { IfOk result (λ size. size ≡ 16384 * (265 + pages)) }
     ensures fits { IfOk result ArePages }
@@ -50,8 +50,8 @@ impl FileDisks {
     ghost use Rattle.disk_files.specs.Blocks.{count_of, identity_of};
     ghost use Rattle.file_archive.specs.Disks.{AreDisks, AreHeld, erase_in, once_in};
 
-    /// Makes the files of both disks in a folder: so many octets to be written over, and so many blocks. Where it is refused
-    /// it leaves nothing in the folder that it made.
+    /// Makes the files of both disks in a folder: `size` octets to be written over, and `blocks` blocks. On an error it leaves nothing in
+    /// the folder that it made.
     pub(crate) fn create<R: Files<File = File>>(
         alloc: Global,
         files: &R,

@@ -48,7 +48,7 @@ impl<'a> MadeFolder<'a> {
         }
     }
 
-    /// Takes the folder away, which is empty, for good. Where the system doesn't, nothing is told.
+    /// Takes the folder away, which is empty, for good. Where the system doesn't, nothing is reported.
     pub(crate) fn take_away<R: Files<File = File>>(self, files: &R) {
         if fs::remove_dir(files, self.path).is_ok() {
             let _ = self.above.sync_all();

@@ -13,7 +13,7 @@ use disk_models::{EraseDisk, Fault};
 /// How many slots the journal has.
 const SLOTS: u64 = 8;
 
-/// How many pages a slot has. The first slot's gate is on page 1, and its header on the next.
+/// How many pages a slot has. The first slot's gate, its commit flag, is on page 1, and its header on the next.
 const SLOT_PAGES: u64 = 33;
 
 /// The first octet of an open slot's gate.

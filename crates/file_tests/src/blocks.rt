@@ -122,7 +122,7 @@ impl Bench {
     }
 }
 
-/// A new disk of so many blocks.
+/// A new disk of `count` blocks.
 fn created(rt: &HostRuntime, folder: &str, count: u64) -> Option<Bench> {
     let (disk, pen) = FileOnce::create(rt.alloc(), rt, folder, count).ok()?;
     Some(Bench {
@@ -149,7 +149,7 @@ fn not_opened(rt: &HostRuntime, folder: &str) -> Option<FileError> {
     FileOnce::open(rt.alloc(), rt, folder, Access::Alone).err()
 }
 
-/// Why a disk of so many blocks isn't created, if it isn't.
+/// Why a disk of `count` blocks isn't created, if it isn't.
 fn not_created(rt: &HostRuntime, folder: &str, count: u64) -> Option<FileError> {
     FileOnce::create(rt.alloc(), rt, folder, count).err()
 }
@@ -423,7 +423,7 @@ fn what_is_refused_leaves_no_map(rt: HostRuntime) {
     be(&rt, remove(&rt, &folder), "the folder goes");
 }
 
-/// Why the disk of a folder isn't opened, if it isn't, where its files have so many octets.
+/// Why the disk of a folder isn't opened, if it isn't, where its files are cut to these sizes.
 fn not_opened_cut(
     rt: &HostRuntime,
     folder: &str,

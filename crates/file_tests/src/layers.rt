@@ -99,7 +99,7 @@ fn is_alike<D: EraseDisk + Drop, E: EraseDisk + Drop>(
     Some(true)
 }
 
-/// Whether both are alike at so many steps.
+/// Whether both are alike at each of the steps.
 fn are_alike(
     alloc: Global,
     over_file: &mut Tx<FileErase>,

@@ -68,12 +68,12 @@ fn plays(rt: &HostRuntime, folder: &str, disk: &mut FileErase, table: &[(Step, A
     true
 }
 
-/// A new disk of so many pages.
+/// A new disk of `pages` pages.
 fn created(rt: &HostRuntime, folder: &str, pages: u64) -> Option<FileErase> {
     FileErase::create(rt.alloc(), rt, folder, pages.checked_mul(PAGE)?).ok()
 }
 
-/// Whether a new disk of so many pages is made, and let go.
+/// Whether a new disk of `pages` pages is made, and let go.
 fn is_created(rt: &HostRuntime, folder: &str, pages: u64) -> bool {
     created(rt, folder, pages).is_some()
 }
@@ -88,7 +88,7 @@ fn not_opened(rt: &HostRuntime, folder: &str) -> Option<FileError> {
     FileErase::open(rt.alloc(), rt, folder, Access::Alone).err()
 }
 
-/// Why a disk of so many octets isn't created, if it isn't.
+/// Why a disk of `octets` octets isn't created, if it isn't.
 fn not_created(rt: &HostRuntime, folder: &str, octets: u64) -> Option<FileError> {
     FileErase::create(rt.alloc(), rt, folder, octets).err()
 }
@@ -255,7 +255,7 @@ fn a_file_is_taken_away_by_its_maker_alone(rt: HostRuntime) {
     be(&rt, remove(&rt, &folder), "the folder goes");
 }
 
-/// Why the disk of a folder isn't opened, if it isn't, where its file has so many octets.
+/// Why the disk of a folder isn't opened, if it isn't, where its file is cut to `octets`.
 fn not_opened_cut(rt: &HostRuntime, folder: &str, octets: u64) -> Option<Option<FileError>> {
     if cut(rt, folder, FILE, octets) != Yes {
         return None;
@@ -306,7 +306,7 @@ const WRITES: [(Step, Answer); 5] = [
 /// A cut that only a sync meets is a failure, too.
 const SYNCS: [(Step, Answer); 1] = [(Sync, Fault)];
 
-/// Whether a disk whose file is cut goes on so, and fails so often.
+/// Whether a disk whose file is cut goes on so, and fails this often.
 fn is_met(rt: &HostRuntime, table: &[(Step, Answer)], faults: u64) -> Option<bool> {
     let folder = folder(rt, "cut")?;
     let mut disk = created(rt, &folder, 4)?;
@@ -435,7 +435,7 @@ fn is_cut_at(failures: &Failures, call: Call) -> bool {
         })
 }
 
-/// Whether the first failure is told with the name of its file.
+/// Whether the first failure is reported with the name of its file.
 fn is_named(rt: &HostRuntime, folder: &str, failures: &Failures) -> Option<bool> {
     let text = failures.text(rt.alloc())?;
     let wanted = format!(in rt.alloc();

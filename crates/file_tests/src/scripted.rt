@@ -8,7 +8,7 @@ use disk_models::{Block, EraseDisk, Fault, OnceDisk};
 use std::alloc::Global;
 use std::io::ErrorKind;
 
-/// A disk of one page over a file that moves at most so many octets a call.
+/// A disk of one page over a file that moves at most `most` octets a call.
 fn slow(alloc: Global, most: usize, wrong: Wrong) -> Option<FileErase<SlowFile>> {
     FileErase::create_on(SlowFile::new(alloc, most, wrong), PAGE).ok()
 }

@@ -14,11 +14,11 @@ pub(crate) enum Wrong {
     Settles,
     IsHeld,
     IsIrregular,
-    /// Reads and writes fail once so many calls were made.
+    /// Reads and writes fail once this many calls were made.
     Moves(u64),
 }
 
-/// It moves at most so many octets a call, and every third call is interrupted before it does anything.
+/// It moves at most `most` octets a call, and every third call is interrupted before it does anything.
 #[derive(Drop)]
 pub(crate) struct SlowFile {
     pub(crate) octets: Vec<u8>,
@@ -49,7 +49,7 @@ impl SlowFile {
         }
     }
 
-    /// How many octets are moved of so many at a place.
+    /// How many octets are moved at a place where `wanted` are asked for.
     fn count(&self, at: u64, wanted: usize) -> usize
         ensures { result ≤ wanted }
     {

@@ -28,7 +28,7 @@ fn filled(alloc: Global, octet: u8) -> Result<Page, AllocError> {
 /// How many kinds of torn ranges are tried.
 const KINDS: u8 = 4;
 
-/// What a torn range holds: the last kind is octets that nobody wrote, an open gate's first of all.
+/// What a torn range holds: the last kind is octets that nobody wrote, first of all the commit flag of an open slot.
 fn torn(alloc: Global, kind: u8) -> Result<Torn, AllocError> {
     Ok(match kind {
         0 => Torn::Old,
@@ -38,7 +38,7 @@ fn torn(alloc: Global, kind: u8) -> Result<Torn, AllocError> {
     })
 }
 
-/// So many ranges torn alike.
+/// `count` ranges torn alike.
 fn all_torn(alloc: Global, kind: u8, count: u64) -> Result<Vec<Torn>, AllocError> {
     let mut choice = Vec::new(alloc);
     for _ in 0..count {
@@ -67,7 +67,7 @@ fn made_journal(alloc: Global) -> Option<Journal<MemErase>> {
     opened(alloc, made(alloc)?).ok()
 }
 
-/// What is told of a page that isn't read. No page is filled with it.
+/// What is returned for a page that isn't read. No page is filled with it.
 const UNREAD: u8 = 255;
 
 /// The first octet of each page, where the last one is the same.

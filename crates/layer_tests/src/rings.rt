@@ -21,7 +21,7 @@ const PAGE: u64 = 16_384;
 /// The home pages: page 0 and the last one belong to no ring.
 const HOMES: u64 = 11;
 
-/// An admission of one announcement, by hand: its spelling has 67 octets, and its time is 1704067200.
+/// An admission of one announcement, by hand: its encoding has 67 octets, and its time is 1704067200.
 pub(crate) const ONE: [u8; 67] = [
     0, 0, 0, 0, 0x65, 0x92, 0, 0x80, 0, 1, 0, 4, 192, 0, 2, 1, 0, 0, 0, 0, 0, 0, 0, 0, 0, 0, 0, 0,
     0, 0, 0xfd, 0xe9, 0, 1, 0, 21, 0, 0, 1, 2, 2, 0, 0, 0xfd, 0xe9, 0, 0, 0xfd, 0xea, 4, 192, 0, 2,
@@ -40,7 +40,7 @@ fn one(alloc: Global) -> Option<Admission> {
     Admission::decode(alloc, &ONE).ok()?
 }
 
-/// So many times the same admission.
+/// `count` times the same admission.
 fn many(alloc: Global, count: usize) -> Option<Vec<Admission>> {
     let admission = one(alloc)?;
     let mut batch = Vec::new(alloc);
@@ -50,7 +50,8 @@ fn many(alloc: Global, count: usize) -> Option<Vec<Admission>> {
     Some(batch)
 }
 
-/// An admission of so many ends of a session, at most 43,678: its spelling has 36 octets and 3 for each, and 14 without one.
+/// An admission of `count` ends of a session, at most 43,678: its encoding has 36 octets and 3 for each, and 14 without
+/// one.
 fn ends(alloc: Global, seconds: u32, count: usize) -> Option<Admission> {
     let peer = Peer::decode(&PEER)?;
     let mut changes = Vec::new(alloc);
@@ -60,7 +61,7 @@ fn ends(alloc: Global, seconds: u32, count: usize) -> Option<Admission> {
     Admission::new(Moment::from(seconds), changes).ok()
 }
 
-/// An admission as large as one may be: 43,677 ends of a session and a withdrawn prefix of no bits, whose spelling has
+/// An admission as large as one may be: 43,677 ends of a session and a withdrawn prefix of no bits, whose encoding has
 /// 36 + 3 * 43,677 + 5 = 131,072 octets.
 fn largest(alloc: Global, seconds: u32) -> Option<Admission> {
     let peer = Peer::decode(&PEER)?;
@@ -100,7 +101,7 @@ fn copy_of(alloc: Global, tx: &mut Tx<MemErase>, n: u64) -> Option<Page> {
     Some(page)
 }
 
-/// A transaction over so many home pages. These calls of its disk fail.
+/// A transaction over `homes` home pages. These calls of its disk fail.
 pub(crate) fn empty(alloc: Global, homes: u64, failures: Vec<Failure>) -> Option<Tx<MemErase>> {
     if homes > 65_536 {
         return None;
@@ -121,7 +122,7 @@ fn settle(tx: &mut Tx<MemErase>) -> Option<()> {
     tx.checkpoint().ok()
 }
 
-/// Fills so many home pages with the octet 90.
+/// Fills `homes` home pages with the octet 90.
 pub(crate) fn fill_all(alloc: Global, tx: &mut Tx<MemErase>, homes: u64) -> Option<()> {
     for n in 0..homes {
         fill(alloc, tx, n)?;
@@ -132,7 +133,7 @@ pub(crate) fn fill_all(alloc: Global, tx: &mut Tx<MemErase>, homes: u64) -> Opti
     settle(tx)
 }
 
-/// A transaction over so many home pages that are filled with the octet 90. These calls of its disk fail.
+/// A transaction over `homes` home pages that are filled with the octet 90. These calls of its disk fail.
 fn filled_on(alloc: Global, homes: u64, failures: Vec<Failure>) -> Option<Tx<MemErase>> {
     let mut tx = empty(alloc, homes, failures)?;
     fill_all(alloc, &mut tx, homes)?;
@@ -144,7 +145,7 @@ fn begun(alloc: Global) -> Option<Tx<MemErase>> {
     filled_on(alloc, HOMES, Vec::new(alloc))
 }
 
-/// A transaction over so many home pages.
+/// A transaction over `homes` home pages.
 fn begun_with(alloc: Global, homes: u64) -> Option<Tx<MemErase>> {
     filled_on(alloc, homes, Vec::new(alloc))
 }
@@ -176,7 +177,7 @@ fn is_rest_untouched(tx: &mut Tx<MemErase>, low: u64, high: u64) -> bool {
     true
 }
 
-/// The octets of so many pages, from one on.
+/// The octets of `count` pages, from `low` on.
 fn octets_of(alloc: Global, tx: &mut Tx<MemErase>, low: u64, count: u64) -> Option<Vec<u8>> {
     let mut octets = Vec::new(alloc);
     for n in low..low.saturating_add(count) {
@@ -245,7 +246,7 @@ fn free(tx: &Tx<MemErase>, ring: &Ring) -> Option<u64> {
     }
 }
 
-/// Whether an admission has this spelling.
+/// Whether an admission has this encoding.
 fn is_spelled(alloc: Global, admission: &Admission, wanted: &[u8]) -> bool {
     match admission.encode(alloc) {
         Ok(octets) => octets.as_slice() == wanted,
@@ -253,7 +254,7 @@ fn is_spelled(alloc: Global, admission: &Admission, wanted: &[u8]) -> bool {
     }
 }
 
-/// Whether two admissions have one spelling.
+/// Whether two admissions have one encoding.
 fn is_same(alloc: Global, one: &Admission, other: &Admission) -> bool {
     match other.encode(alloc) {
         Ok(octets) => is_spelled(alloc, one, &octets),

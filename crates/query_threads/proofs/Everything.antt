@@ -97,7 +97,7 @@ count (suc k) n (suc c) lt = count k n c (omega arith)
 reaches : (k n : ℕ) → 18446744073709551615 ≤ n → ReachesAll (everything (suc k) n)
 reaches k n enough = record { right = right (suc k) n; watermark = watermark k n; counts = λ c lt. (let few = count (suc k) n c lt in omega (arith, few)) }
 
--- a past that reaches all, of so many collectors
+-- a past of k collectors that reaches all
 pub some_past : (k : ℕ) → 1 ≤ k → (p : Past) × ReachesAll p.history × (length p.history.intakes ≡ k)
 some_past zero some = absurd (omega arith)
 some_past (suc k) some = of 18446744073709551615 (le_refl 18446744073709551615)

@@ -1,4 +1,4 @@
--- What is told of an archive is told of it as it was and as the call left it.
+-- What an archive returns holds of it as it was and as the call left it.
 use Rattle.std.proofs.Common.{◌≡◌, ℕ, List, Option, Some, None, Result, IfSome, inl, inr, le_trans, refl, subst}
 use Rattle.std.proofs.lemmas.Result.{IfErr-weaker}
 use Rattle.std.specs.Prelude.{IfErr, IsSome}
@@ -57,7 +57,7 @@ front_since p u v (inr b) f = record { past = goes_on_then u.past v.past p b.pas
 pub comes_since : {A D : Type 0} (disk : Option D) (disk_of : A → D) (carries : A → Past → Type 0) (does : A → A → Type 0) (u v w : View) → Since u v → ComesOf disk disk_of carries does v w → ComesOf disk disk_of carries does u w
 comes_since disk disk_of carries does u v w since k = record { was = k.was; is = k.is; done = k.done; on = k.on; before = λ named. (let p = k.before named in (p.0, p.1, front_since p.0 u v since p.2, p.3)); after = k.after }
 
--- ---- a look in vain
+-- ---- a look that failed
 
 -- a look that was got with an errand over a past is one at the disk that is named, and found the past's blocks
 pub look_at : {D E S : Type 0} (disk : Option D) (lies : E → D → Past → Type 0) (honest : D → S → Type 0) (count : D → ℕ) (known : S → ℕ → Option (List ℕ)) (p : Past) (errand : E) (seen : S)

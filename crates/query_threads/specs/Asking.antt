@@ -1,9 +1,9 @@
--- What two answers tell.
+-- When two answers are the same.
 use Rattle.std.specs.Prelude.{◌≡◌}
 use Rattle.interleaving_core.specs.declared.query.Answer.{Answer}
 use Rattle.interleaving_core.specs.declared.query.Answer.TheVariants.{Rows, Events}
 
--- both have the same rows, or the same events, and tell alike whether more follow
+-- both have the same rows, or the same events, and say alike whether more follow
 abbrev pub IsSameAnswer : Answer → Answer → Type 0
 IsSameAnswer (Rows a) (Rows b) = (a.rows.items ≡ b.rows.items) × (a.more ≡ b.more)
 IsSameAnswer (Rows a) (Events b) = ⊥

@@ -2,7 +2,7 @@
 use Rattle.std.specs.Prelude.{◌≡◌, ◌<◌, ◌↔◌, ℕ, List, Option, Some}
 use Rattle.board.specs.Past.{Past, IsBlock}
 
--- on a disk of so many blocks, the block of this number was found settled with these octets
+-- on a disk of `count` blocks, block `n` was found settled with these octets
 abbrev pub IsSettled : ℕ → (ℕ → Option (List ℕ)) → ℕ → List ℕ → Type 0
 IsSettled count known n octets = (n < count) × (known n ≡ Some octets)
 
@@ -10,7 +10,7 @@ IsSettled count known n octets = (n < count) × (known n ≡ Some octets)
 abbrev pub AreSettled : ℕ → (ℕ → Option (List ℕ)) → List (ℕ × List ℕ) → Type 0
 AreSettled count known blocks = (n : ℕ) (octets : List ℕ) → IsBlock n octets blocks → IsSettled count known n octets
 
--- these are just the blocks that were found settled
+-- these are exactly the blocks that were found settled
 abbrev pub AreTheSettled : ℕ → (ℕ → Option (List ℕ)) → List (ℕ × List ℕ) → Type 0
 AreTheSettled count known blocks = (n : ℕ) (octets : List ℕ) → IsBlock n octets blocks ↔ IsSettled count known n octets
 

@@ -19,7 +19,7 @@ pub record Sees (does : History → History → Type 0) (old new : View) : Type 
 abbrev pub Since : View → View → Type 0
 Since old new = (new ≡ old) ⊎ BeginsView old new
 
--- What a call told, or did, was so of an archive as it was and as the call left it. Where a disk is named, the archive was on it and had
+-- What a call returned, or did, holds of an archive as it was and as the call left it. Where a disk is named, the archive was on it and
 -- carried a past that the view before begins; it carries that of the view after, which goes on from there.
 pub record ComesOf {A D : Type 0} (disk : Option D) (disk_of : A → D) (carries : A → Past → Type 0) (does : A → A → Type 0) (old new : View) : Type 0 where
   pub was : A
@@ -29,8 +29,8 @@ pub record ComesOf {A D : Type 0} (disk : Option D) (disk_of : A → D) (carries
   pub before : IsSome disk → (p : Past) × carries was p × IsFrontOf p old × GoesOnAs p new.past
   pub after : IsSome disk → carries is new.past
 
--- Blocks were read in vain with a look, as it was and as it is then. Where a disk is named, the look was one at it, and had found just these
--- blocks settled.
+-- Reading blocks with a look failed, by the look as it was and as it is then. Where a disk is named, the look was one at it, and found
+-- exactly these blocks settled before.
 pub record IsMissed {S D : Type 0} (disk : Option D) (honest : D → S → Type 0) (count : D → ℕ) (known : S → ℕ → Option (List ℕ)) (blocks : List (ℕ × List ℕ)) (misses : S → S → Type 0) : Type 0 where
   pub was : S
   pub is : S

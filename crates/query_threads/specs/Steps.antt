@@ -1,4 +1,4 @@
--- What a call on an archive does to its history, and what it tells.
+-- What a call on an archive does to its history, and what it returns.
 use Rattle.std.specs.Prelude.{◌≡◌, ◌<◌, ◌+◌, ◌*◌, ℕ, List, [], length, Some, slice_get, sum_by, Result, Ok, Err, IfErr}
 use Rattle.route_model.specs.Admission.{Admitted, admission_octets}
 use Rattle.sequencer.specs.Late.{timely}
@@ -18,23 +18,23 @@ use Rattle.query_threads.specs.declared.refusal.Step.TheVariants.{Applied, Idle}
 use Rattle.query_threads.specs.declared.refusal.Flush.{Flush}
 use Rattle.query_threads.specs.Troubles.{BlamesNone, IsOutside}
 
--- how many octets an admission takes in a ring and counts in a batch: 4, and those of its spelling
+-- how many octets an admission takes in a ring and counts in a batch: 4, and those of its encoding
 abbrev pub entry_octets : Admitted → ℕ
 entry_octets a = 4 + length (admission_octets a)
 
--- what waits of the collector leaves too little room, in a ring of so many pages, for the records of the batch that aren't late
+-- what waits of the collector leaves too little room, in a ring of this many pages, for the records of the batch that aren't late
 pub record IsCrowded (pages : ℕ) (h : History) (c : ℕ) (batch : List Admitted) : Type 0 where
   pub intake : Intake
   pub here : slice_get h.intakes c ≡ Some intake
   pub crowded : 16384 * pages < sum_by entry_octets (part c (waiting h)) + sum_by entry_octets (timely admitted_time intake.mark [] batch)
 
--- so many more records can't be counted for the collector
+-- this many more records can't be counted for the collector
 pub record IsCounterFull (h : History) (c more : ℕ) : Type 0 where
   pub intake : Intake
   pub here : slice_get h.intakes c ≡ Some intake
   pub above : 18446744073709551615 < intake.offered + more
 
--- Why no batch is taken. How full a ring is that is full is said beside it, by IsCrowded.
+-- Why no batch is taken. IsCrowded states separately how full a full ring is.
 abbrev pub IsRefusal : History → ℕ → List Admitted → AdmitError → Type 0
 IsRefusal h c batch admits.NoCollector = IsCollector h c → ⊥
 IsRefusal h c batch admits.BatchTooLarge = 262144 < sum_by entry_octets batch
@@ -42,7 +42,7 @@ IsRefusal h c batch admits.CounterFull = IsCounterFull h c (length batch)
 IsRefusal h c batch admits.IntakeFull = IsCollector h c
 IsRefusal h c batch (admits.Trouble trouble) = IsOutside trouble
 
--- a batch was taken, as the reply tells
+-- a batch was taken, as the reply says
 pub record IsTaken (h : History) (c : ℕ) (batch : List Admitted) (reply : BatchReply) (g : History) : Type 0 where
   pub intake : Intake
   pub here : slice_get h.intakes c ≡ Some intake
@@ -68,17 +68,17 @@ pub record AppliesSome (h g : History) : Type 0 where
   pub more : ℕ
   pub others : AppliesMore more first g
 
--- the next change was applied at least; or nothing may be applied, or the call failed and nothing is said to be damaged, and nothing changes
+-- the next change was applied at least; or nothing may be applied, or the call failed and reports no damage, and nothing changes
 abbrev pub DoesApply : Result Step Trouble → History → History → Type 0
 DoesApply (Ok Applied) h g = AppliesSome h g
 DoesApply (Ok Idle) h g = NothingToApply h × (g ≡ h)
 DoesApply (Err trouble) h g = BlamesNone trouble × (g ≡ h)
 
--- nothing that was said changes, and the call fails only for a trouble from outside
+-- the history stays as it is, and the call fails only for a trouble from outside
 abbrev pub DoesFlush : Result Flush Trouble → History → History → Type 0
 DoesFlush told h g = IfErr told IsOutside × (g ≡ h)
 
--- What is found begins with all that was said, and may go on with what a call that failed was about; where the archive isn't opened
+-- What is found begins with the history of before, and may go on with what a call that failed was about; where the archive isn't opened
 -- again nothing changes.
 abbrev pub DoesReopen : Result (Unit {0}) Trouble → History → History → Type 0
 DoesReopen (Ok done) h g = Begins h g

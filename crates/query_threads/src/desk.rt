@@ -39,7 +39,7 @@ impl<A: Store, N: Named + OnDisk<A::Disk>> Model for Desk<A, N> {
     ghost invariant = { λ d. (N.table.words ≡ length d.writer.past.history.intakes + 1) × (IsSome N.disk → A.carries d.archive d.writer.past × IsCaughtUp d.writer × (N.disk ≡ Some (A.disk_of d.archive)) × (N.pages ≡ A.pages d.archive)) × (IsNone N.disk → ReachesAll d.writer.past.history) };
 }
 
-// Raises each word to what the archive tells, which the past of the writing seat reaches.
+// Raises each word to what the archive returns, which the past of the writing seat reaches.
 pub(crate) fn catch_up<A: Store, N: Named + OnDisk<A::Disk>>(
     board: &Board<N>,
     writer: &mut Writer<N>,
@@ -236,7 +236,7 @@ impl<A: Store, N: Named + OnDisk<A::Disk>> Desk<A, N> {
         }
     }
 
-    /// A reader of this archive's blocks, which keeps none yet. It is refused for want of memory alone.
+    /// A reader of this archive's blocks, which keeps none yet. Fails only when out of memory.
     pub fn reader(&self, alloc: Global, capacity: usize) -> Result<A::Reader, Trouble>
         requires some { 1 ≤ capacity }
         requires few { capacity ≤ 1024 }

@@ -1,11 +1,11 @@
-//! What is told when a question has come so far.
+//! Hooks that run at two points of a question.
 
-/// Is told of the questions of a shared archive, while no lock is held.
+/// Is called for the questions of a shared archive, while no lock is held.
 pub trait Gate {
-    /// The request's first turn has come back. It is told once a request, also where that turn was refused.
+    /// The request's first turn has come back. Called once a request, also where that turn was refused.
     fn descended(&self, request: u64);
 
-    /// The request's reply is made. It is told once a request, also where the reply is a refusal.
+    /// The request's reply is made. Called once a request, also where the reply is a refusal.
     fn answered(&self, request: u64);
 }
 

@@ -1,4 +1,4 @@
-//! What calls on an archive tell.
+//! What calls on an archive return.
 ghost use Rattle.std.specs.Prelude.{◌≡◌};
 ghost use Rattle.query_threads.specs.declared.refusal.AskError.TheVariants as asks;
 
@@ -21,7 +21,7 @@ pub enum Trouble {
     /// A block isn't what was put there.
     #[error("block {0} is damaged")]
     DamagedBlock(u64),
-    /// So many changes can't be counted.
+    /// The count of applied changes would overflow.
     #[error("the count of applied changes is full")]
     CounterFull,
     /// The tree would need a seventh level of key nodes.

@@ -24,8 +24,8 @@ use std::alloc::Global;
 use std::marker::{Brand, Model, PhantomData};
 use std::sync::{Mutex, Wait};
 
-/// The archive, its words, and what is told of questions. Contracts see how many collectors there are and how many pages
-/// each ring has.
+/// The archive, its words, and the gate that is called for questions. Contracts see how many collectors there are and how many pages each
+/// ring has.
 pub struct Shared<A: Store, N: Named + OnDisk<A::Disk>, G: Gate + Drop> {
     desk: Mutex<Desk<A, N>>,
     board: Board<N>,
@@ -63,7 +63,7 @@ impl<A: Store, N: OnDisk<A::Disk>> Model for Reader<A, N> {
 }
 
 impl<A: Store, N: Named + OnDisk<A::Disk>> Reader<A, N> {
-    /// A reader that keeps up to so many blocks, 1 to 1,024, and none yet. It is refused for want of memory alone.
+    /// A reader that keeps up to `capacity` blocks, 1 to 1,024, and none yet. Fails only when out of memory.
     pub fn new<G: Gate + Drop>(
         rt: &impl Wait,
         alloc: Global,
@@ -237,14 +237,14 @@ impl<A: Store, N: Named + OnDisk<A::Disk>, G: Gate + Drop> Shared<A, N, G> {
         self.desk.lock(rt).failure(alloc)
     }
 
-    // Tells once of a request that it has descended.
+    // Reports to the gate once that a request has descended.
     fn descended(&self, untold: &mut Option<u64>) {
         if let Some(request) = untold.take() {
             self.gate.descended(request);
         }
     }
 
-    // A turn of a question. The lock is free again at its end, and of the first turn is told.
+    // A turn of a question. The lock is free again at its end; the end of the first turn is reported to the gate.
     fn turn(
         &self,
         rt: &impl Wait,
@@ -304,9 +304,9 @@ impl<A: Store, N: Named + OnDisk<A::Disk>, G: Gate + Drop> Shared<A, N, G> {
         unreachable!()
     }
 
-    /// Answers a question over a history that what the pass had seen begins, and that the pass then knows. The lock is
-    /// taken for each descent alone; blocks are read without it. The reader is new, or was used with this pass alone. The
-    /// question is never refused as above the watermark below one that the pass has seen.
+    /// Answers a question over a history that begins with what the pass has seen before, and that the pass knows from then on. The lock
+    /// is taken for each descent alone; blocks are read without it. The reader is new, or was used with this pass alone. The question is
+    /// never refused as above the watermark below one that the pass has seen.
     pub fn ask(
         &self,
         rt: &impl Wait,

@@ -21,9 +21,9 @@ use route_model::{Admission, Mark};
 use std::alloc::Global;
 use std::marker::{Brand, PhantomData};
 
-/// What is promised of a shared archive: that it carries a past, with its blocks on this disk, and that each of its rings has
-/// so many pages. With no disk nothing is promised of it, as where its devices aren't known to follow their models. Each call
-/// of a program picks it.
+/// What is promised of a shared archive: that it carries a past, with its blocks on this disk, and that each of its rings has `pages`
+/// pages. With no disk nothing is promised of it, as where its devices aren't known to follow their models. Each call of a program picks
+/// it.
 pub trait OnDisk<D> {
     /// The disk of its blocks, or none.
     ghost disk: { Option D };
@@ -102,7 +102,7 @@ pub trait Store {
     /// The question.
     ghost asks: { Self.Cursor → Query };
 
-    /// What the question has gathered is so over this history.
+    /// What the question has gathered holds over this history.
     ghost gathered: { Self.Cursor → History → Type 0 };
 
     /// The errand is one of the question's.
@@ -111,7 +111,7 @@ pub trait Store {
     /// With the blocks of this past, on this disk, finishing the errand gathers what comes next.
     ghost lies: { Self.Errand → Self.Cursor → Self.Disk → Past → Type 0 };
 
-    /// A call told this trouble, of the archive as it was and as the call left it.
+    /// A call returned this trouble: the archive before the call and after it.
     ghost tells: { Self → Trouble → Self → Type 0 };
 
     /// An opening returned this: the archive before the call and after it.
@@ -120,7 +120,7 @@ pub trait Store {
     /// A step of flushing did this, with the archive as it was and as the step left it.
     ghost flushes: { Self → Flush → Self → Type 0 };
 
-    /// Blocks were read in vain with this look, for this trouble.
+    /// Reading blocks with this look failed, for this trouble.
     ghost misses: { Self.Seen → Trouble → Self.Seen → Type 0 };
 
     /// How many collectors there are.
@@ -209,7 +209,7 @@ pub trait Store {
         ensures disk { disk_of self.new ≡ disk_of self.old }
         ensures pages { pages self.new ≡ pages self.old };
 
-    /// A reader that keeps up to so many blocks, 1 to 1,024, and none yet. It is refused for want of memory alone.
+    /// A reader that keeps up to `capacity` blocks, 1 to 1,024, and none yet. Fails only when out of memory.
     fn reader(&self, alloc: Global, capacity: usize) -> Result<Self::Reader, Trouble>
         requires some { 1 ≤ capacity }
         requires few { capacity ≤ 1024 }
@@ -236,6 +236,6 @@ pub trait Store {
     /// A past that is stored is right.
     ghost right: { (store : Self) (p : Past) → carries store p → IsHistory p.history };
 
-    /// What was gathered of a settled moment stays so.
+    /// What was gathered of a settled moment holds over later histories too.
     ghost stays: { (cursor : Self.Cursor) (h g : History) → IsHistory h → Begins h g → last_moment (asks cursor) < settled h → gathered cursor h → gathered cursor g };
 }

@@ -1,4 +1,4 @@
--- Lines that are answered one behind another, while more octets come.
+-- Lines that are answered one after another, while more octets come.
 use Rattle.std.proofs.Common.{◌≡◌, ◌<◌, ℕ, List, [], ◌++◌, Option, length, true, inl, inr, refl, sym, ap, ◌∙◌, subst, append-nil, append_assoc, Ok, Err}
 use Rattle.std.specs.Io.KnownBytes.{Consumes, IsAtEnd}
 use Rattle.std.proofs.KnownBytes.{Consumes-nil, Consumes-trans}
@@ -108,7 +108,7 @@ ends_unread promised n held v was a b c rest more new w now eaten served is =
     let s = served_more promised n held v was a b c rest more w now eaten served in
     (s.gave, s.consumed, inl (subst (λ (t : List ℕ). AnswersAll promised n (held ++ s.gave) v was t w now) (sym is) s.answered))
 
--- where the next line can't be read, what is told of it and how the connection ends
+-- where the next line can't be read, what is written about it and how the connection ends
 pub ends_at : (promised : Type 0) (n : ℕ) (held : List ℕ) (v : View) (was : OutputState) (a b c : Option (List ℕ)) (rest more line new : List ℕ) (w : View) (now out : OutputState) (why : LineError) (ending : Ending) → Consumes b c more → Served promised n held v was a b rest w now
     → ReadsLine (Err why) (rest ++ more) line new c → TellsEnd why ending now out → Ends promised n ending held v was a new w out c
 ends_at promised n held v was a b c rest more line new w now out errors.TooLong ending eaten served reads tells =

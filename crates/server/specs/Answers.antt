@@ -18,7 +18,8 @@ use Rattle.server.specs.Lines.{ok_line}
 use Rattle.server.specs.Marks.{MarksAndApplies, IsUnmarked}
 use Rattle.server.specs.Replies.{IsReplyOver, IsRefusedOver, IsNotBelow, SeesBy}
 
--- The line of why there is no reply is written, over what the pass sees then. No question is told above the watermark that is below one which the pass had seen.
+-- The line of why there is no reply is written, over what the pass sees then. No question is refused as above the watermark that is below
+-- one which the pass has seen before.
 pub record TellsRefusal (promised : Type 0) (collectors : ℕ) (request : Request) (v w : View) (was now : OutputState) : Type 0 where
   pub why : Unanswered
   pub refused : IsRefusedOver promised collectors w request why
@@ -51,23 +52,23 @@ pub record TellsUnmarked (promised : Type 0) (collector mark : ℕ) (v w : View)
   pub unmarked : promised → IsUnmarked collector mark v w why
   pub tells : Tells was now (refusal_line (of_load why))
 
--- a mark is set, or why it isn't is told
+-- a mark is set and the watermark written, or why it isn't set is written
 abbrev pub AnswersMark : Type 0 → ℕ → ℕ → View → View → OutputState → OutputState → Type 0
 AnswersMark promised collector mark v w was now = TellsMarked promised collector mark v w was now ⊎ TellsUnmarked promised collector mark v w was now
 
--- the line asks nothing, which is told, or memory was wanting to read it
+-- the line asks nothing, and that is written, or there was no memory to read it
 pub record TellsNone (line : List ℕ) (v w : View) (was now : OutputState) : Type 0 where
   pub same : w ≡ v
   pub tells : (((command : Command) → IsCommandLine line command → ⊥) × Tells was now (refusal_line refusals.BadRequest)) ⊎ Tells was now (refusal_line refusals.OutOfMemory)
 
--- How a line is answered behind which the next one is read: a request, a mark, or a line that asks nothing.
+-- How a line is answered after which the next one is read: a request, a mark, or a line that asks nothing.
 abbrev pub AnswersOne : Type 0 → ℕ → List ℕ → View → View → OutputState → OutputState → Type 0
 AnswersOne promised collectors line v w was now =
     ((request : Request) × IsCommandLine line (commands.Request request) × AnswersRequest promised collectors request v w was now)
     ⊎ (((collector : ℕ) × (mark : ℕ) × IsCommandLine line (commands.Mark collector mark) × AnswersMark promised collector mark v w was now)
     ⊎ TellsNone line v w was now)
 
--- How a line is answered, by what the connection does then: nothing is told before a feed, and `ok` before an end.
+-- How a line is answered, by what the connection does then: nothing is written before a feed, and `ok` before an end.
 abbrev pub AnswersLine : Type 0 → ℕ → List ℕ → Next → View → View → OutputState → OutputState → Type 0
 AnswersLine promised collectors line nexts.Line v w was now = AnswersOne promised collectors line v w was now
 AnswersLine promised collectors line (nexts.Feed collector limit) v w was now = IsCommandLine line (commands.Feed collector limit) × (w ≡ v) × (now ≡ was)

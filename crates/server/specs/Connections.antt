@@ -12,13 +12,14 @@ use Rattle.server.specs.declared.connection.Ending.{Ending}
 use Rattle.server.specs.declared.connection.Ending.TheVariants as endings
 use Rattle.server.specs.Answers.{AnswersLine}
 
--- Of what a connection sent, the first octets are lines that were answered one behind another, each written out before the next; these follow them. So what is seen and what is written went on.
+-- Of what a connection sent, the first octets are lines that were answered one after another, each written out before the next; these
+-- follow them. So what is seen and what is written went on.
 pub data AnswersAll (promised : Type 0) (collectors : ℕ) (octets : List ℕ) (v : View) (was : OutputState) : List ℕ → View → OutputState → Type 0 where
   Begun : AnswersAll promised collectors octets v was octets v was
   Answered : (mid line rest : List ℕ) (w x : View) (now told out : OutputState) → AnswersAll promised collectors octets v was mid w now → BeginsWithLine mid line rest → AnswersLine promised collectors line nexts.Line w x now told → Tells told out []
       → AnswersAll promised collectors octets v was rest x out
 
--- the lines before the last were answered, and so was that one, behind which the connection does this
+-- the lines before the last were answered, and so was that one, after which the connection does this
 pub record AnswersUntil (promised : Type 0) (collectors : ℕ) (octets : List ℕ) (v : View) (was : OutputState) (next : Next) (rest : List ℕ) (x : View) (out : OutputState) : Type 0 where
   pub mid : List ℕ
   pub line : List ℕ
@@ -36,7 +37,7 @@ pub record AnswersAllSent (promised : Type 0) (collectors : ℕ) (octets : List 
   pub none : HasNoEnd rest
   pub ended : IsAtEnd left
 
--- all lines were answered; what follows is too long for a line, which is told
+-- all lines were answered; what follows is too long for a line, and that is written
 pub record RefusesLong (promised : Type 0) (collectors : ℕ) (octets : List ℕ) (v : View) (was : OutputState) (rest : List ℕ) (w : View) (out : OutputState) : Type 0 where
   pub now : OutputState
   pub before : AnswersAll promised collectors octets v was rest w now
@@ -44,7 +45,7 @@ pub record RefusesLong (promised : Type 0) (collectors : ℕ) (octets : List ℕ
   pub long : length rest ≡ 4096
   pub told : Tells now out (refusal_line refusals.BadRequest)
 
--- a read failed behind lines that were answered, or a write behind the last of them
+-- a read failed after lines that were answered, or a write after the last of them
 abbrev pub Fails : Type 0 → ℕ → List ℕ → View → OutputState → List ℕ → View → OutputState → Type 0
 Fails promised collectors octets v was rest w now = AnswersAll promised collectors octets v was rest w now ⊎ ((next : Next) × AnswersUntil promised collectors octets v was next rest w now × (now.failed ≡ true))
 

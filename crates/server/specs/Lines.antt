@@ -1,4 +1,4 @@
--- The lines that a connection is told beside replies.
+-- The lines that a connection is sent beside replies.
 use Rattle.std.specs.Prelude.{ℕ, List, ◌++◌, codes}
 use Rattle.service.specs.Refusals.{line_end}
 use Rattle.service.specs.declared.refusal.Refusal.{Refusal}

@@ -20,7 +20,8 @@ pub record MarksAndApplies (collector mark : ℕ) (old new : View) : Type 0 wher
   pub marked : Sees (DoesMark collector mark (Ok tt)) old then
   pub applied : AppliesUntilIdle then new
 
--- why a mark isn't set and all applied: there is no such collector, or its mark is above, and nothing changes by that; or the archive had another trouble, with the mark set or not
+-- why a mark isn't set and all applied: there is no such collector, or its mark is above, and nothing changes by that; or the archive
+-- reported another trouble, with the mark set or not
 abbrev pub IsUnmarked : ℕ → ℕ → View → View → LoadStop → Type 0
 IsUnmarked collector mark old new ends.NoCollector = Sees (DoesMark collector mark (Err marks.NoCollector)) old new
 IsUnmarked collector mark old new ends.MarkBack = Sees (DoesMark collector mark (Err marks.MarkBack)) old new

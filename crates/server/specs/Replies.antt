@@ -1,5 +1,5 @@
 -- What a shared archive replies to a request, over what a pass sees once it is replied. Where nothing is promised of the archive, as of
--- one in files, no answer of it is called right.
+-- one in files, no answer of it is claimed to be right.
 use Rattle.std.specs.Prelude.{◌≡◌, ◌⊎◌, ⊤, ℕ, suc, ◌<◌, ◌≤◌, List}
 use Rattle.route_meaning.specs.History.{settled}
 use Rattle.interleaving_core.specs.declared.query.Query.{Query}
@@ -29,13 +29,14 @@ IsReplyOver promised v (Question query) text = IsAnswerOver promised v query tex
 IsReplyOver promised v Watermark text = text ≡ watermark_line (watermark_of v)
 IsReplyOver promised v (Durable collector) text = text ≡ count_line (durable_of v collector)
 
--- the collector that is asked about, if one is, is one of so many
+-- the collector that is asked about, if one is, is one of this many
 abbrev pub NamesOneOf : ℕ → Request → Type 0
 NamesOneOf collectors (Question query) = ⊤
 NamesOneOf collectors Watermark = ⊤
 NamesOneOf collectors (Durable collector) = collector < collectors
 
--- Why there is no reply, of an archive with so many collectors: the question's last moment isn't below the settled watermark, which is told; there is no such collector; or the archive had another trouble.
+-- Why there is no reply, of an archive with this many collectors: the question's last moment isn't below the settled watermark, which is
+-- returned; there is no such collector; or the archive reported another trouble.
 abbrev pub IsRefusedOver : Type 0 → ℕ → View → Request → Unanswered → Type 0
 IsRefusedOver promised collectors v (Question query) (whys.AboveWatermark told) = promised → (told ≡ settled v.past.history) × (settled v.past.history ≤ last_moment query)
 IsRefusedOver promised collectors v (Durable collector) whys.NoCollector = collectors ≤ collector
@@ -48,7 +49,7 @@ SeesBy (Question query) v w = BeginsView v w
 SeesBy Watermark v w = (w ≡ with_seen v 0 (watermark_of w)) × (watermark_of v ≤ watermark_of w)
 SeesBy (Durable collector) v w = (w ≡ v) ⊎ ((w ≡ with_seen v (suc collector) (durable_of w collector)) × (durable_of v collector ≤ durable_of w collector))
 
--- a question is told above the watermark only where it isn't below one that the pass had seen
+-- a question is refused as above the watermark only where it isn't below one that the pass has seen before
 abbrev pub IsNotBelow : View → Request → Unanswered → Type 0
 IsNotBelow v (Question query) (whys.AboveWatermark told) = watermark_of v ≤ last_moment query
 IsNotBelow v request why = ⊤

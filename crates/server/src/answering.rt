@@ -20,13 +20,12 @@ use std::io::Write;
 use std::sync::Wait;
 use std::sync::atomic::{AtomicU64, Ordering};
 
-/// What a connection does behind a line.
+/// What a connection does after a line.
 #[derive(Clone, Copy, Debug, PartialEq, Eq)]
 pub enum Next {
     /// It reads the next line.
     Line,
-    /// It takes the octets behind the line in, as records of the collector of this number, in batches of at most so many
-    /// admissions.
+    /// It takes the octets after the line in, as records of the collector of this number, in batches of at most this many admissions.
     Feed(u8, u16),
     /// It ends.
     Quit,
@@ -105,8 +104,8 @@ fn answer_mark<A: Store, N: Named + OnDisk<A::Disk>, G: Gate + Drop, W: Write>(
     }
 }
 
-/// Answers a line of a connection, which is without its end, and tells what the connection does then. A line that is none
-/// is refused, and the next one is read.
+/// Answers a line of a connection, which is without its end, and returns what the connection does then. A line that is none is refused,
+/// and the next one is read.
 pub fn answer_line<A: Store, N: Named + OnDisk<A::Disk>, G: Gate + Drop, W: Write>(
     rt: &impl Wait,
     alloc: Global,

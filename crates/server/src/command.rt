@@ -18,8 +18,8 @@ pub enum Command {
     Request(Request),
     /// That the mark of the collector of this number is raised to this.
     Mark(u8, Mark),
-    /// That all octets behind the line are taken in as records of the collector of this number, in batches of at most so
-    /// many admissions, 1 to 1,000.
+    /// That all octets after the line are taken in as records of the collector of this number, in batches of at most this many
+    /// admissions, 1 to 1,000.
     Feed(u8, u16),
     /// That the connection ends.
     Quit,

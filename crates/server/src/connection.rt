@@ -1,4 +1,4 @@
-//! A connection: its lines, one behind another, until one ends it.
+//! A connection: its lines, one after another, until one ends it.
 
 ghost use Rattle.std.specs.Prelude.{ℕ, List, ◌++◌, IsSome};
 ghost use Rattle.std.specs.Io.KnownBytes.{Consumes};
@@ -21,8 +21,8 @@ use std::sync::atomic::AtomicU64;
 pub enum Ending {
     /// The client ended it, or a line of it was too long.
     Done,
-    /// The octets behind the last line are records of the collector of this number, to be taken in in batches of at most so
-    /// many admissions.
+    /// The octets after the last line are records of the collector of this number, to be taken in in batches of at most this many
+    /// admissions.
     Feed(u8, u16),
     /// The server is to end.
     Stop,
@@ -44,8 +44,8 @@ fn end_of<W: Write>(why: LineError, out: &mut Output<W>) -> Ending
     }
 }
 
-/// Answers the lines of a connection one behind another, each written out before the next one is read, until one ends it
-/// or announces a feed. A line that is too long is refused as no request, and ends it; octets without an end are no line.
+/// Answers the lines of a connection one after another, each written out before the next one is read, until one ends it or announces a
+/// feed. A line that is too long is refused as no request, and ends it; octets without an end are no line.
 pub fn serve_lines<A: Store, N: Named + OnDisk<A::Disk>, G: Gate + Drop, R: Read, W: Write>(
     rt: &impl Wait,
     alloc: Global,

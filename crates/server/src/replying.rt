@@ -126,9 +126,8 @@ fn tell_count<A: Store, N: Named + OnDisk<A::Disk>, G: Gate + Drop>(
     }
 }
 
-/// What is replied to a request, over what the pass sees then, or why there is no reply. A question takes the lock for each
-/// of its descents; `watermark` and `durable` wait for nobody, and tell the board's numbers. `number` is the one by which
-/// the gate is told of a question.
+/// What is replied to a request, over what the pass sees then, or why there is no reply. A question takes the lock for each of its
+/// descents; `watermark` and `durable` wait for nobody, and return the board's numbers. `number` names a question to the gate.
 pub fn reply_to<A: Store, N: Named + OnDisk<A::Disk>, G: Gate + Drop>(
     rt: &impl Wait,
     alloc: Global,

@@ -65,7 +65,7 @@ fn closing_behind(end: End, failed: bool) -> Closing
     }
 }
 
-/// Takes in what stands behind the line of a feed.
+/// Takes in what follows the line of a feed.
 fn take_feed<A: Store, N: Named + OnDisk<A::Disk>, G: Gate + Drop, R: Read, W: Write>(
     rt: &impl Wait,
     alloc: Global,
@@ -83,7 +83,7 @@ fn take_feed<A: Store, N: Named + OnDisk<A::Disk>, G: Gate + Drop, R: Read, W: W
     closing_behind(end, out.has_failed())
 }
 
-/// Serves a connection to its end: its lines, one behind another, and the feed that one of them announces, which ends it.
+/// Serves a connection to its end: its lines, one after another, and the feed that one of them announces, which ends it.
 pub fn serve_client<A: Store, N: Named + OnDisk<A::Disk>, G: Gate + Drop, R: Read, W: Write>(
     rt: &impl Wait,
     alloc: Global,

@@ -3,7 +3,7 @@
 use crate::warning::Warnings;
 use std::sync::atomic::{AtomicBool, AtomicU64, Ordering};
 
-/// What the threads of a server tell one another.
+/// What the threads of a server signal to one another.
 #[derive(Drop)]
 pub(crate) struct Signals {
     /// How many questions were asked.
@@ -14,7 +14,7 @@ pub(crate) struct Signals {
     pub(crate) untaken: Warnings,
     /// No connection is taken any more.
     is_stopping: AtomicBool,
-    /// A worker had no memory to serve with.
+    /// A worker was out of memory to serve with.
     is_short: AtomicBool,
     /// How many places workers have.
     places: AtomicU64,
@@ -43,12 +43,12 @@ impl Signals {
         self.is_stopping.load(Ordering::SeqCst)
     }
 
-    /// Tells that a worker has no memory to serve with.
+    /// Signals that a worker is out of memory to serve with.
     pub(crate) fn lack_memory(&self) {
         self.is_short.store(true, Ordering::SeqCst);
     }
 
-    /// Whether a worker had no memory to serve with.
+    /// Whether a worker was out of memory to serve with.
     pub(crate) fn is_short(&self) -> bool {
         self.is_short.load(Ordering::SeqCst)
     }

@@ -109,7 +109,7 @@ fn close_stream<R: Net + Clock, L: Log>(
     }
 }
 
-/// Serves connections, one behind another, until no more come. Where there is no memory for that, the server stops.
+/// Serves connections, one after another, until no more come. Where there is no memory for that, the server stops.
 fn work<A: Store, N: Named + OnDisk<A::Disk>, G: Gate + Drop, R: Wait + Clock + Net, L: Log>(
     desk: &Desk<'_, R, L>,
     shared: &Shared<A, N, G>,

@@ -46,7 +46,7 @@ impl From<AllocError> for ServeError {
     }
 }
 
-/// What the threads of a server of so many workers do, each with a pass of its own. Workers come last.
+/// What the threads of a server with `workers` workers do, each with a pass of its own. Workers come last.
 fn jobs_of<'a, A: Store, N: Named + OnDisk<A::Disk>, G: Gate + Drop>(
     alloc: Global,
     shared: &Shared<A, N, G>,
@@ -165,11 +165,11 @@ fn hand_back<A: Store, N: Named + OnDisk<A::Disk>, G: Gate + Drop>(
     shared.close(passes)
 }
 
-/// Serves an archive on a socket, by so many workers, until a connection asks it to stop. The calling thread takes connections
-/// and hands them to the workers, each of which serves one to its end before it takes the next; one more thread applies
-/// changes, and one flushes pages. Once all of these are made, `ready` is called: connections are taken if it returns true. Where
-/// a thread can't be made it isn't called, and no connection is taken. A connection whose socket fails ends with a warning,
-/// `29 Outside`, of which there is no more than one a second. To stop, no connection is taken any more, those that are open are served to their end, what may be applied is
+/// Serves an archive on a socket, with `workers` workers, until a connection asks it to stop. The calling thread takes connections and
+/// hands them to the workers, each of which serves one to its end before it takes the next; one more thread applies changes, and one
+/// flushes pages. Once all of these are made, `ready` is called: connections are taken if it returns true. Where a thread can't be made
+/// it isn't called, and no connection is taken. A connection whose socket fails ends with a warning, `29 Outside`, of which there is no
+/// more than one a second. To stop, no connection is taken any more, those that are open are served to their end, what may be applied is
 /// applied, and all pages are written home. The archive is handed back.
 pub fn serve<
     A: Store + Send,

@@ -10,10 +10,10 @@ use std::sync::Wait;
 use std::thread;
 use std::time::{Clock, Duration};
 
-/// How many milliseconds no connection is taken behind one that couldn't be, as for want of descriptors.
+/// How many milliseconds no connection is taken after one that couldn't be, as where the process is out of descriptors.
 const REST: u64 = 10;
 
-/// How many milliseconds each read waits for a client that was told the last line.
+/// How many milliseconds each read waits for a client that was sent the last line.
 const LINGER: u64 = 200;
 
 /// How many such reads there are at most.
@@ -65,8 +65,8 @@ pub(crate) fn stop_taking<R: Net>(rt: &R, listener: &TcpListener, signals: &Sign
     }
 }
 
-/// Lets a connection go whose last line was told. What its client sends still is read for a while, since the system drops
-/// what wasn't delivered where a connection is closed that has octets unread.
+/// Lets a connection go whose last line was sent. What its client still sends is read for a while, since the system drops what wasn't
+/// delivered where a connection is closed that has octets unread.
 pub(crate) fn let_go(stream: &TcpStream) {
     let wait = Some(Duration::from_millis(LINGER));
     if stream.shutdown(Shutdown::Write).is_err() || stream.set_read_timeout(wait).is_err() {

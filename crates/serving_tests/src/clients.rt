@@ -1,4 +1,4 @@
-//! Connections whose octets lie in memory: what they are told, and how they close.
+//! Connections whose octets lie in memory: what they receive, and how they close.
 
 ghost use Rattle.std.specs.Prelude.{◌≡◌, ◌≤◌};
 ghost use Rattle.board.specs.Opened.{name_of};
@@ -22,8 +22,9 @@ use test_octets::octets;
 
 type Stage<B> = Shared<MemStore, Unpromised<B>, NoGate>;
 
-/// A connection to an archive to which nothing was given: the lines and, as hexadecimal digits, the octets that it sends,
-/// what it is told, and how it closes. Where that is as failed, it is lost behind what it sends; else it ends there.
+/// A connection to an archive to which nothing was given: the lines and, as hexadecimal digits, the octets that it
+/// sends, what it receives, and how it closes. Where it closes as failed, it is lost after what it sends; else it ends
+/// there.
 #[derive(Drop)]
 struct Conversation {
     lines: &'static str,
@@ -138,7 +139,7 @@ fn octets_of(alloc: Global, it: &Conversation) -> Option<Vec<u8>> {
     Some(all)
 }
 
-/// What a connection is told goes to `told`. How it closes.
+/// What a connection receives goes to `told`. Returns how it closes.
 fn serve_sent<B: Named>(
     rt: &impl Wait,
     alloc: Global,
@@ -164,7 +165,7 @@ fn serve_sent<B: Named>(
     ))
 }
 
-/// Whether a connection to the archive that sends all of these octets is told what it has to be, and closes so.
+/// Whether a connection to the archive that sends all of these octets receives what it should, and closes so.
 fn is_so<B: Named>(
     rt: &impl Wait,
     alloc: Global,

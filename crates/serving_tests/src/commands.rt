@@ -23,7 +23,7 @@ enum Asked {
     Nothing,
 }
 
-/// Whether the command raises the mark of this collector to so many seconds.
+/// Whether the command raises the mark of this collector to `seconds`.
 fn is_mark(command: &Command, collector: u8, seconds: u64) -> bool {
     match Mark::new(seconds) {
         Some(mark) => *command == Command::Mark(collector, mark),

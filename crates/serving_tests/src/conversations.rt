@@ -1,4 +1,4 @@
-//! Connections whose octets lie in memory: what they are told, and how they end.
+//! Connections whose octets lie in memory: what they receive, and how they end.
 
 ghost use Rattle.std.specs.Prelude.{◌≡◌, ◌≤◌};
 ghost use Rattle.board.specs.Opened.{name_of};
@@ -18,7 +18,7 @@ use std::sync::atomic::AtomicU64;
 
 type Stage<B> = Shared<MemStore, Unpromised<B>, NoGate>;
 
-/// A connection: what it sends, what it is told, and how it ends.
+/// A connection: what it sends, what it receives, and how it ends.
 #[derive(Drop)]
 struct Conversation {
     sent: &'static [u8],
@@ -26,7 +26,7 @@ struct Conversation {
     ending: Ending,
 }
 
-/// Connections to one archive, one behind another.
+/// Connections to one archive, one after another.
 const CONVERSATIONS: [Conversation; 7] = [
     Conversation {
         sent: b"watermark\ndurable 0\nat 0 all\nquit\nwatermark\n",
@@ -65,7 +65,7 @@ const CONVERSATIONS: [Conversation; 7] = [
     },
 ];
 
-/// Whether a connection is told this and ends so.
+/// Whether a connection receives this and ends so.
 fn is_so<B: Named>(
     rt: &impl Wait,
     alloc: Global,

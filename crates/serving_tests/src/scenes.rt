@@ -1,4 +1,4 @@
-//! What clients do, and what they are told.
+//! What clients do, and what they receive.
 
 use crate::full::{self, APPLIED, BLOCKS, OFFERED, PAGES, RING};
 use crate::made::{Made, PLAIN};
@@ -154,7 +154,7 @@ pub(crate) const QUESTION: &str = "at 1704067200 prefix 10.0.0.0/8\n";
 pub(crate) const ANSWER: &str =
     "R|0|192.0.2.1|65001|10.0.0.0/8|65001 65002|IGP|192.0.2.1|||NAG||\nE|1\n";
 
-/// Asks what was told of 10.0.0.0/8 at 1704067200: of some hundred records some ten thousand octets are answered.
+/// Asks what was recorded of 10.0.0.0/8 at 1704067200: for some hundred records some ten thousand octets are answered.
 const EVENTS: &str = "history 1704067200 1704067200 0 192.0.2.1 65001 10.0.0.0/8\n";
 
 /// A record is fed, asked for, and the server stopped, each by a connection of its own.
@@ -223,7 +223,7 @@ static CUT: [Step; 39] = [
     HearLast(2, "N|0\n"),
     Send(0, "watermark\n"),
     Hear(0, "S|0\n"),
-    // in the middle of a feed: while it is open, when its client is gone, and when its end was told
+    // in the middle of a feed: while it is open, when its client is gone, and when its end was sent
     Connect,
     Send(3, "feed 0 1\n"),
     SendOctets(3, UPDATE),
@@ -306,8 +306,8 @@ static UNMARKED: [Step; 15] = [
     HearLast(1, "ok\n"),
 ];
 
-/// A feed ends behind the stop of the server, so that the most of what it gives is applied at the server's end, and is written
-/// home then.
+/// A feed ends after the stop of the server, so that the most of what it gives is applied at the server's end, and is
+/// written home then.
 static LAST: [Step; 11] = [
     Connect,
     Send(0, "durable 0\n"),

@@ -21,7 +21,7 @@ impl Screen {
         }
     }
 
-    /// Whether just this was written.
+    /// Whether exactly this was written.
     pub(crate) fn shows(&self, wanted: &str) -> bool {
         match self.text.try_borrow() {
             Ok(text) => text.as_str() == wanted,

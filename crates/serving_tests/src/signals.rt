@@ -1,4 +1,4 @@
-//! What threads tell each other.
+//! What threads signal to each other.
 
 use std::sync::atomic::{AtomicBool, Ordering};
 use std::thread;
@@ -7,7 +7,7 @@ use std::time::{Clock, Duration};
 /// How many milliseconds a thread that waits rests between two looks.
 const REST: u64 = 10;
 
-/// How many looks it takes before it gives up: so many that a slow machine is no reason.
+/// How many looks it takes before it gives up: enough that a slow machine is no reason.
 const LOOKS: u32 = 4_000;
 
 /// Flags of one thread for another.
@@ -17,7 +17,7 @@ pub(crate) struct Signals {
     pub(crate) is_held: AtomicBool,
     /// What a thread waits for is done.
     pub(crate) is_done: AtomicBool,
-    /// A thread waited in vain.
+    /// A thread gave up waiting.
     pub(crate) is_late: AtomicBool,
 }
 

@@ -70,7 +70,7 @@ fn is_warning(line: &[u8]) -> bool {
     head.starts_with("[WARN ") && has_call && client.ends_with("Z")
 }
 
-/// Whether each of the lines of a log is the warning of a failed socket, and they are so many.
+/// Whether each of the lines of a log is the warning of a failed socket, and there are `count`.
 pub(crate) fn are_warnings(lines: &[u8], count: usize) -> bool {
     let mut left = count;
     for line in lines.split(|octet| *octet == b'\n') {

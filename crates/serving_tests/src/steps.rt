@@ -7,13 +7,14 @@ use std::thread;
 use std::time::{Clock, Duration};
 use test_octets::octets;
 
-/// How many seconds a client waits for what it is to be told, or for room for what it sends: more than a question is held.
+/// How many seconds a client waits for what it should receive, or for room for what it sends: more than a question is
+/// held.
 const PATIENCE: u64 = 50;
 
-/// How many milliseconds a client rests behind a question that it asks over and over.
+/// How many milliseconds a client rests after a question that it asks over and over.
 const REST: u64 = 10;
 
-/// How often it asks at most until it is told what it has to be.
+/// How often it asks at most until it receives what it should.
 const ASKS: u32 = 4_000;
 
 /// What a client does. Connections have numbers, the first 0.
@@ -23,25 +24,25 @@ pub(crate) enum Step {
     Connect,
     /// It sends a text.
     Send(usize, &'static str),
-    /// It sends octets, which these hexadecimal digits tell.
+    /// It sends octets, given as hexadecimal digits.
     SendOctets(usize, &'static str),
-    /// It sends such octets so many times.
+    /// It sends such octets this many times.
     SendOctetsOften(usize, &'static str, usize),
     /// It sends such octets with a number of two octets after them, for each number below this one.
     SendOctetsEach(usize, &'static str, u16),
-    /// It sends a text so many times.
+    /// It sends a text this many times.
     SendOften(usize, &'static str, usize),
     /// It sends no more.
     SendNoMore(usize),
-    /// It is told just this.
+    /// It receives exactly this.
     Hear(usize, &'static str),
-    /// It is told this, and then its connection ends.
+    /// It receives this, and then its connection ends.
     HearLast(usize, &'static str),
-    /// It sends a line until it is told this; what it is told before is as long.
+    /// It sends a line until it receives this; what it receives before is as long.
     AskUntil(usize, &'static str, &'static str),
-    /// It sends a line so many times, and is told just this each time.
+    /// It sends a line this many times, and receives exactly this each time.
     AskOften(usize, &'static str, &'static str, usize),
-    /// It goes away, whatever it is told.
+    /// It goes away, whatever it receives.
     GoAway(usize),
 }
 
@@ -100,7 +101,7 @@ impl Clients {
     }
 }
 
-/// Sends octets so many times.
+/// Sends octets `times` times.
 fn send_often(clients: &Clients, number: usize, octets: &[u8], times: usize) -> Option<()> {
     for _ in 0..times {
         clients.send(number, octets)?;
@@ -124,7 +125,7 @@ fn send_each(
     clients.send(number, &all)
 }
 
-/// Sends a line until what is told is this text. Whether it is in time.
+/// Sends a line until what comes back is this text. Returns whether it is in time.
 fn ask_until(
     clock: &impl Clock,
     alloc: Global,
@@ -143,7 +144,7 @@ fn ask_until(
     Some(false)
 }
 
-/// Sends a line so many times. Whether what is told is this text each time.
+/// Sends a line `times` times. Returns whether what comes back is this text each time.
 fn ask_often(
     clock: &impl Clock,
     alloc: Global,

@@ -33,7 +33,7 @@ more m settled fewer n octets (Some x) e = (
       (cases_lt n m),
 )
 
--- just the blocks that are settled below a number are listed
+-- exactly the blocks that are settled below a number are listed
 pub listed_are : (count : ℕ) (settled : ℕ → Option (List ℕ)) → AreTheSettled count settled (listed count settled)
 listed_are zero settled n octets = ((λ b. absurd b), (λ s. let low = s.0 in absurd (omega (arith, low))))
 listed_are (suc m) settled n octets = more m settled (listed_are m settled) n octets (settled m) refl

@@ -127,7 +127,7 @@ not_taken down n h c batch (admits.BadNode page) same none large count full soun
 not_taken down n h c batch admits.Fault same none large count full sound = tt
 not_taken down n h c batch admits.OutOfMemory same none large count full sound = tt
 
--- a ring is told to be full only by the refusal of this name
+-- a ring is reported full only by the refusal of this name
 pub only_full : (e : AdmitError) → of_admit e ≡ refusals.IntakeFull → e ≡ admits.IntakeFull
 only_full admits.NeedsRecovery is = cc
 only_full admits.NoCollector is = cc
@@ -175,13 +175,13 @@ pub flushing_is_outside : (e : FlushError) → IsOutside (of_flush e)
 flushing_is_outside flushes.NeedsRecovery = tt
 flushing_is_outside flushes.Fault = tt
 
--- blocks are read in vain only for a reason from outside
+-- reading blocks fails only for a reason from outside
 pub reading_is_outside : (e : BlockError) → ((block : ℕ) → e ≡ blocks.Damaged block → ⊥) → IsOutside (of_block e)
 reading_is_outside blocks.Fault sound = tt
 reading_is_outside (blocks.Damaged block) sound = sound block refl
 reading_is_outside blocks.OutOfMemory sound = tt
 
--- ---- what is told of a collector
+-- ---- what is returned of a collector
 
 count_resumed : (r : Resume) (o : Option Intake) → option_map resume_of o ≡ Some r → r.admitted ≡ count_in o
 count_resumed r None e = absurd cc

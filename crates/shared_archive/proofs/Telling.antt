@@ -1,4 +1,4 @@
--- Which trouble a call tells, by the refusal of the archive.
+-- Which trouble a call returns, by the refusal of the archive.
 use Rattle.std.proofs.Common.{◌≡◌, ◌∙◌, ◌⊎◌, ◌↔◌, ◌<◌, ◌+◌, ℕ, Bool, true, false, List, length, sum_by, Err, Result, inl, inr, refl, sym, arith, min, ⊎_elim}
 use Rattle.disk_models.specs.declared.erase.EraseDisk.{Ghosts as EraseGhosts}
 use Rattle.disk_models.specs.declared.once.OnceDisk.{Ghosts as OnceGhosts}
@@ -41,7 +41,7 @@ up false true isnt falls = absurd (falls refl refl)
 up false false isnt falls = (refl, refl)
 
 module _ {E O Pen Seen : Type 0} {erase : EraseGhosts E} {once : OnceGhosts O Pen Seen} (a b : Archive E O Pen Seen erase once) where
-  -- it needn't be opened again where this refusal, which isn't so by recovery or by a failure, is told
+  -- it needn't be opened again where this refusal is returned, which is neither that one must recover nor a failure
   stays_up : {R X : Type 0} (e need fault : X) → ((◌≡◌ {A = Result R X} (Err e) (Err need)) ↔ (is_down a ≡ true)) → (is_down a ≡ false → is_down b ≡ true → ◌≡◌ {A = Result R X} (Err e) (Err fault)) → (e ≡ need → ⊥) → (e ≡ fault → ⊥) → StaysUp a b
   stays_up e need fault down falls isnt quiet = up (is_down a) (is_down b) (λ is. isnt (same_Err (down.1 is))) (λ l r. quiet (same_Err (falls l r)))
 

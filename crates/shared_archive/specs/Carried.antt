@@ -14,7 +14,8 @@ use Rattle.disk_archive.specs.Archives.{GoesOn, once_of, once_state, settings_of
 use Rattle.disk_archive.specs.Cursors.{IsGathered}
 use Rattle.disk_archive.specs.Descents.{Lies}
 
--- The archive goes on with the past's history, or waits to be opened again with it; and just the past's blocks are settled on its disk.
+-- The archive goes on with the past's history, or waits to be opened again with it; and exactly the past's blocks are settled on its
+-- disk.
 pub record CarriesPast {E O Pen Seen : Type 0} {erase : EraseGhosts E} {once : OnceGhosts O Pen Seen} (a : Archive E O Pen Seen erase once) (p : Past) : Type 0 where
   pub goes_on : GoesOn a p.history
   pub blocks : AreTheSettled (once.block_count (once_of a)) (once_state a).settled p.blocks
@@ -23,7 +24,7 @@ pub record CarriesPast {E O Pen Seen : Type 0} {erase : EraseGhosts E} {once : O
 abbrev pub ring_pages : {E O Pen Seen : Type 0} {erase : EraseGhosts E} {once : OnceGhosts O Pen Seen} → Archive E O Pen Seen erase once → ℕ
 ring_pages a = (settings_of a).ring
 
--- the errand lies in the past's blocks, on a disk with so many, for the past's history
+-- the errand lies in the past's blocks, on a disk of `count` blocks, for the past's history
 abbrev pub LiesInPast : (count : ℕ) (errand : Errand) (c : Cursor) (p : Past) → Type 0
 LiesInPast count errand c p = (known : ℕ → Option (List ℕ)) → AreTheSettled count known p.blocks → Lies count known errand c p.history
 
@@ -32,6 +33,6 @@ abbrev pub right_going : {E O Pen Seen : Type 0} {erase : EraseGhosts E} {once :
 right_going a h (inl carries) = carries.bears.right
 right_going a h (inr waits) = waits.told.right
 
--- what a question has gathered over a history is so over each later one
+-- what a question has gathered over a history holds over each later one
 abbrev pub gathered_on : (c : Cursor) (h g : History) → Begins h g → IsGathered c h → IsGathered c g
 gathered_on c h g begins gathered = λ k right on. gathered k right (Begins-trans h g k begins on)

@@ -51,8 +51,8 @@ pub record Remembers {E O Pen Seen : Type 0} {once : OnceGhosts O Pen Seen} (s :
   pub mark : s.settled ≡ settled h
   pub counts : AreCounts s.counts.items h
 
--- Disks that follow their models, of an archive with so many pages in each ring. Whatever they read as, or a crash may leave of them now,
--- carries a history that the past's begins, and just the past's blocks are settled.
+-- Disks that follow their models, of an archive with `ring` pages in each ring. Whatever they read as, or a crash may leave of them now,
+-- carries a history that the past's begins, and exactly the past's blocks are settled.
 pub record RestOn {E O Pen Seen : Type 0} (erase : EraseGhosts E) (once : OnceGhosts O Pen Seen) (disks : Disks E O Pen Seen) (ring : ℕ) (p : Past) : Type 0 where
   pub erasable : erase.honest disks.erase
   pub burnable : once.honest disks.once.value disks.pen
@@ -89,7 +89,7 @@ abbrev pub LacksPast : {E O Pen Seen : Type 0} {erase : EraseGhosts E} {once : O
 LacksPast (Open a) disks p = ⊥
 LacksPast {erase = erase} {once = once} (Closed s) disks p = Lacks erase once s disks p
 
--- A call was refused for this trouble: of an archive that is open as Tells says, and else because it must be opened again.
+-- A call was refused for this trouble: where the archive is open, as Tells says, and else because it must be opened again.
 abbrev pub HeldTells : {E O Pen Seen : Type 0} {erase : EraseGhosts E} {once : OnceGhosts O Pen Seen} → Held E O Pen Seen erase once → Trouble → Held E O Pen Seen erase once → Type 0
 HeldTells (Open a) trouble (Open b) = Tells a trouble b
 HeldTells (Open a) trouble (Closed t) = ⊥

@@ -37,8 +37,8 @@ abbrev pub IsAway : {E O Pen Seen : Type 0} {erase : EraseGhosts E} {once : Once
 IsAway (Open a) = ⊥
 IsAway (Closed s) = s.disks ≡ None
 
--- An opening was refused for this trouble, of disks that had failed so often before and have so often then: one of them counted a failure; or a page
--- is damaged, or there was no memory. It is refused as one that must be opened again only if there are no disks.
+-- An opening failed with this trouble, by how often the disks failed before it and after it: one of them counted a failure; or a page is
+-- damaged, or there was no memory. It fails as one that must be opened again only if there are no disks.
 abbrev pub Fails : Type 0 → (erase erase' pen pen' : ℕ) → Trouble → Type 0
 Fails away erase erase' pen pen' Fault = Failed erase erase' ⊎ Failed pen pen'
 Fails away erase erase' pen pen' NeedsRecovery = away

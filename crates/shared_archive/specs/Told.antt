@@ -37,7 +37,7 @@ Tells a PagesFull b = StaysUp a b × (unused_pages a < 9)
 Tells a OnceFull b = StaysUp a b × (IsHonest a → NoneBlank b)
 Tells a OutOfMemory b = StaysUp a b
 
--- a step of flushing took the page home that had waited for longest; or no page had waited, and the whole journal is free
+-- a step of flushing wrote home the page that waited longest; or no page waited, and the whole journal is free
 abbrev pub Flushes : {E O Pen Seen : Type 0} {erase : EraseGhosts E} {once : OnceGhosts O Pen Seen} → Archive E O Pen Seen erase once → Flush → Archive E O Pen Seen erase once → Type 0
 Flushes a Flushed b = IsHomed (dirty_pages a) (dirty_pages b)
 Flushes a Clean b = (dirty_pages a ≡ []) × (dirty_pages b ≡ []) × (closed_in b ≡ 8)

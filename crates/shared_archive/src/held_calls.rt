@@ -157,8 +157,8 @@ impl<E: EraseDisk + Drop, O: OnceDisk + Drop> Held<E, O> {
         }
     }
 
-    /// A reader that keeps up to so many blocks, and none yet. It is refused as for want of memory, also while the archive isn't
-    /// open.
+    /// A reader that keeps up to `capacity` blocks, and none yet. Fails with OutOfMemory alone, which is also the error while the archive
+    /// isn't open.
     pub fn reader(&self, capacity: usize) -> Result<ShelfReader<O>, Trouble>
         requires some { 1 ≤ capacity }
         requires few { capacity ≤ 1024 }

@@ -9,7 +9,7 @@ ghost use Rattle.shared_archive.specs.Carried.{CarriesPast};
 use disk_archive::Archive;
 use disk_models::{EraseDisk, OnceDisk};
 
-/// An archive that goes on with a history carries a past with it: the one of just the blocks that are settled on its disk.
+/// An archive that goes on with a history carries a past with it: the one of exactly the blocks that are settled on its disk.
 pub fn past_is_carried<E: EraseDisk + Drop, O: OnceDisk + Drop>(archive: &Archive<E, O>)
     ensures carried { (h : History) → GoesOn archive.now h → (p : Past) × CarriesPast archive.now p × (p.history ≡ h) }
 {}

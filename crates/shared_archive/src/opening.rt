@@ -35,7 +35,7 @@ fn open_trouble(error: OpenError) -> Trouble
     }
 }
 
-// The archive, if its rings have so many pages.
+// The archive, if its rings have `ring` pages.
 fn with_ring<E: EraseDisk + Drop, O: OnceDisk + Drop>(
     archive: Archive<E, O>,
     ring: u16,
@@ -86,8 +86,8 @@ fn open_synced<E: EraseDisk + Drop, O: OnceDisk + Drop>(
     }
 }
 
-/// Opens disks as an archive with rings of so many pages, once all that was written is on the device. Where that fails they are
-/// handed back, and carry what they carried.
+/// Opens disks as an archive with rings of `ring` pages, once all that was written is on the device. Where that fails they are handed
+/// back, and carry what they carried.
 pub(crate) fn open<E: EraseDisk + Drop, O: OnceDisk + Drop>(
     alloc: Global,
     mut disks: Disks<E, O>,

@@ -1,4 +1,4 @@
-//! Turns of questions, their errands, and what an archive tells, by its past.
+//! Turns of questions, their errands, and what an archive returns, by its past.
 
 ghost use Rattle.std.specs.Prelude.{◌≡◌, ◌<◌, ◌≤◌, ℕ, List, [], IfErr, IfOk, OnOk, ⊤};
 ghost use Rattle.route_meaning.specs.History.{applied, settled};
@@ -76,7 +76,7 @@ pub(crate) fn seen<E: EraseDisk + Drop, O: OnceDisk + Drop>(
     }
 }
 
-/// A reader that keeps up to so many blocks, and none yet. It is refused for want of memory alone.
+/// A reader that keeps up to `capacity` blocks, and none yet. Fails only when out of memory.
 pub(crate) fn reader<E: EraseDisk + Drop, O: OnceDisk + Drop>(
     archive: &Archive<E, O>,
     capacity: usize,

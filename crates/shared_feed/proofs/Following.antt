@@ -20,7 +20,7 @@ use Rattle.shared_feed.specs.inner.Feeding.{HasDone, IsCounted, IsBehind, TakesN
 use Rattle.shared_feed.specs.declared.feeding.Feeding.{Feeding}
 use Rattle.shared_feed.proofs.Making.{done_none}
 
--- what comes behind one more record, once its turns are made
+-- what follows one more record, once its turns are made
 pub behind_more : (promised : Type 0) (c : ℕ) (limit : BatchLimits) (v : View) (records : List Told) (r : Told) (x : Result (Option Admitted) ResolveFault) (next : Feed) (old new : Feeding) (w u : View) (was mid now : OutputState)
     (b : IsBehind promised c limit v records old w was mid)
     → new.collector ≡ old.collector → new.limit ≡ old.limit → new.resolver ≡ next

@@ -65,11 +65,11 @@ gives_more promised c v turns later w was now why g = record {
   since = g.since;
 }
 
--- all of these turns were made, and memory was wanting for what comes then, or a reader or a writer failed
+-- all of these turns were made, and memory ran out for what comes then, or a reader or a writer failed
 pub gives_all : (promised : Type 0) (c : ℕ) (v : View) (turns : List Turn) (counts : FeedCounts) (w : View) (was now : OutputState) (why : FeedStop) → IsReason promised c [] w w why → HasDone promised c v turns counts w was now → GivesUp promised c v turns w was now why
 gives_all promised c v turns counts w was now why reason d = record { made = turns; unmade = []; parts = sym (append-nil turns); replies = d.replies; last = w; makes = d.makes; reason = reason; since = d.since }
 
--- memory was wanting for a record that is refused: its line isn't written
+-- memory ran out for a record that is refused: its line isn't written
 pub gives_wanting : (t : Result (Unit {0}) FeedStop) (promised : Type 0) (c : ℕ) (v : View) (turns : List Turn) (counts : FeedCounts) (w : View) (was mid now : OutputState)
     → IfErr t (λ why. why ≡ stops.Trouble troubles.OutOfMemory) → OnErr t (now ≡ mid) → HasDone promised c v turns counts w was mid → IfErr t (GivesUp promised c v turns w was now)
 gives_wanting (Ok done_) promised c v turns counts w was mid now wanting untold d = tt
@@ -118,7 +118,7 @@ stops_before (Ok done_) promised c limit v records item old w u was mid now b g 
 stops_before (Err why) promised c limit v records item old w u was mid now b g =
     record { front = []; back = item ∷ []; parts = refl; results = b.results; means = subst (λ (t : List Told). Means c t b.results) (sym (append-nil records)) b.means; gives_up = g }
 
--- the feed is given up at one of the items, behind those that were taken
+-- the feed is given up at one of the items, after those that were taken
 pub stops_among : (promised : Type 0) (c : ℕ) (limit : BatchLimits) (v : View) (records : List Told) (items : List Item) (i : ℕ) (item : Item) (w : View) (was now : OutputState) (why : FeedStop)
     → i < length items → item ≡ get_or items i item → StopsAmong promised c limit v (records ++ map told (take i items)) (item ∷ []) w was now why → StopsAmong promised c limit v records items w was now why
 stops_among promised c limit v records items i item w was now why lt is s =
@@ -174,12 +174,12 @@ stops_within promised c limit v bytes rest before items w was now why framed s =
       gives_up = gives_more promised c v (turns_for limit 0 [] s.results) (last_turns (waits_behind limit [] s.results)) w was now why s.gives_up;
     }
 
--- what comes behind is left too
+-- what comes after it is left too
 pub within_more : (promised : Type 0) (c : ℕ) (limit : BatchLimits) (v : View) (bytes more : List ℕ) (w : View) (was now : OutputState) (why : FeedStop) → StopsWithin promised c limit v bytes w was now why → StopsWithin promised c limit v (bytes ++ more) w was now why
 within_more promised c limit v bytes more w was now why s =
     record { seen = s.seen; later = s.later ++ more; parts = ap (λ (t : List ℕ). t ++ more) s.parts ∙ append_assoc s.seen s.later more; items = s.items; framed = s.framed; results = s.results; means = s.means; gives_up = s.gives_up }
 
--- the feed is given up behind all that was read, and nothing of it is untold
+-- the feed is given up after all that was read, and no line of it is missing
 pub stops_behind : (promised : Type 0) (c : ℕ) (limit : BatchLimits) (v : View) (bytes rest : List ℕ) (feeding : Feeding) (w : View) (was now : OutputState) (why : FeedStop)
     → IsReason promised c [] w w why → Reads promised c limit v bytes rest feeding w was now → StopsWithin promised c limit v bytes w was now why
 stops_behind promised c limit v bytes rest feeding w was now why reason r =
@@ -197,7 +197,7 @@ stops_behind promised c limit v bytes rest feeding w was now why reason r =
       gives_up = gives_more promised c v turns (last_turns (waits_behind limit [] b.results)) w was now why (gives_all promised c v turns feeding.counts w was now why reason b.done);
     }
 
--- the feed is given up while its last batch is offered, or its end told
+-- the feed is given up while its last batch is offered, or its end written
 pub stops_last : (promised : Type 0) (c : ℕ) (limit : BatchLimits) (v : View) (bytes rest : List ℕ) (feeding : Feeding) (w u : View) (was mid now : OutputState) (why : FeedStop)
     (r : Reads promised c limit v bytes rest feeding w was mid)
     → GivesUp promised c v (turns_for limit 0 [] r.behind.results ++ last_turns feeding.gathered.items) u was now why → StopsWithin promised c limit v bytes u was now why

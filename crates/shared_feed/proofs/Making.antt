@@ -104,7 +104,7 @@ done_refuse promised c v turns old new w was mid now place n fault is tells admi
   refused = let sum = refusals_both turns (Refuse n fault ∷ []) in let before = d.refused in omega (arith, refused, sum, before);
 }
 
--- counts of records and skipped ones tell nothing of what was done
+-- counts of records and skipped ones don't matter for what was done
 pub done_counted : (promised : Type 0) (c : ℕ) (v : View) (turns : List Turn) (old new : FeedCounts) (w : View) (was now : OutputState)
     → new.admitted ≡ old.admitted → new.late ≡ old.late → new.refused ≡ old.refused → HasDone promised c v turns old w was now → HasDone promised c v turns new w was now
 done_counted promised c v turns old new w was now admitted late refused d = record { replies = d.replies; makes = d.makes; since = d.since; admitted = admitted ∙ d.admitted; late = late ∙ d.late; refused = refused ∙ d.refused }

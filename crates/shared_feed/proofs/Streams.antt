@@ -27,11 +27,11 @@ use Rattle.shared_feed.specs.inner.Feeding.{HasDone, IsBehind, Reads, IsHeld, Is
 use Rattle.shared_feed.specs.declared.feeding.Feeding.{Feeding}
 use Rattle.shared_feed.proofs.GivingUp.{within_more, stops_behind, means_from}
 
--- the same items behind others
+-- the same items after others
 gains_behind : (bytes now : List ℕ) (none items mid : List Item) → none ≡ [] → GainsFrames bytes now none items → GainsFrames bytes now mid (mid ++ items)
 gains_behind bytes now none items mid e p = (p.0, p.1, (p.2.0, p.2.1, ap (λ (t : List Item). mid ++ t) (p.2.2 ∙ ap (λ (t : List Item). t ++ p.2.0) e)))
 
--- one more piece, behind which this rest is left
+-- one more piece, after which this rest is left
 pub piece_read : (promised : Type 0) (c : ℕ) (limit : BatchLimits) (v : View) (bytes held piece rest : List ℕ) (old new : Feeding) (w u : View) (was mid now : OutputState) (none items got : List Item)
     → none ≡ [] → got ≡ items → GainsFrames (held ++ piece) rest none items
     → ((records : List Told) → IsBehind promised c limit v records old w was mid → IsBehind promised c limit v (records ++ map told got) new u was now)
@@ -53,7 +53,7 @@ piece_goes promised c limit v bytes held piece now_held old new w u was mid now 
     subst (λ (t : Bool). IsRead promised c limit v (bytes ++ piece) now_held t new u was now) (sym goes_on)
     (record { rest = now_held; holds = refl; reads = piece_read promised c limit v bytes held piece now_held old new w u was mid now none items got empty same gains behind r })
 
--- one more piece, and behind its records stands a Length above the limit
+-- one more piece, and a Length above the limit follows its records
 pub piece_stops : (promised : Type 0) (c : ℕ) (limit : BatchLimits) (v : View) (bytes held piece now_held : List ℕ) (old new : Feeding) (w u : View) (was mid now : OutputState) (none items got : List Item) (on : Bool)
     → on ≡ false → none ≡ [] → got ≡ items → EndsOver (held ++ piece) now_held none items
     → ((records : List Told) → IsBehind promised c limit v records old w was mid → IsBehind promised c limit v (records ++ map told got) new u was now)
@@ -66,7 +66,7 @@ piece_stops promised c limit v bytes held piece now_held old new w u was mid now
       reads = piece_read promised c limit v bytes held piece (now_held ++ ends.0) old new w u was mid now none items got empty same ends.1 behind r;
     })
 
--- what a reader still has, where it tells that
+-- what a reader still has, where that is known
 left_of : Option (List ℕ) → List ℕ
 left_of None = []
 left_of (Some rest) = rest
@@ -148,7 +148,7 @@ taken_piece_gives promised c limit v bytes piece known reader next held feeding 
           (within_more promised c limit v ((bytes ++ l.done) ++ piece) rest u was now why (stops_ (bytes ++ l.done) l.reads)),
     )
 
--- the next piece is taken, and the feed is given up behind it
+-- the next piece is taken, and the feed is given up after it
 pub taken_failed : (promised : Type 0) (c : ℕ) (limit : BatchLimits) (v : View) (bytes piece : List ℕ) (known reader next : Option (List ℕ)) (held left : List ℕ) (old new : Feeding) (w u : View) (was mid now : OutputState) (on : Bool)
     → Consumes reader next piece → Taken promised c limit v bytes known reader held old w was mid
     → ((seen : List ℕ) → Reads promised c limit v seen held old w was mid → IsRead promised c limit v (seen ++ piece) left on new u was now)
@@ -163,7 +163,7 @@ taken_failed promised c limit v bytes piece known reader next held left old new 
           (stops_behind promised c limit v ((bytes ++ l.done) ++ piece) read.rest new u was now stops.Outside tt read.reads)),
     )
 
--- what stands behind a Length above the limit is left with it
+-- what follows a Length above the limit is left with it
 over_more : (bytes rest more : List ℕ) (items : List Item) → Over rest → GainsFrames bytes rest [] items → GainsFrames (bytes ++ more) (rest ++ more) [] items
 over_more bytes rest more items over g = (g.0, record { whole = ap (λ (t : List ℕ). t ++ more) g.1.whole ∙ append_assoc _ rest more; each = g.1.each; ended = over_begins_none (rest ++ more) (over-append rest more over) }, g.2)
 
@@ -209,7 +209,7 @@ cut_short held rest false None over is = let long = (subst (λ (t : List ℕ). O
 cut_short held rest false (Some cuts.Truncated) over is = absurd (is.1 over.2)
 cut_short held rest false (Some cuts.TooLong) over is = subst Over (sym over.1) (over-append held over.0 over.2)
 
--- all is read, and its end is told
+-- all is read, and its end is written
 pub all_taken_in : (promised : Type 0) (c : ℕ) (limit : BatchLimits) (v : View) (bytes held : List ℕ) (cut : Option FeedCut) (old new : Feeding) (w u : View) (was mid then now : OutputState)
     → IsReadOut promised c limit v bytes held old w was mid → IsCut held cut → IsSameFeed old new
     → ((turns : List Turn) → old.collector ≡ c → HasDone promised c v turns old.counts w was mid → HasDone promised c v (turns ++ last_turns old.gathered.items) new.counts u was then)

@@ -18,13 +18,14 @@ use Rattle.service.specs.Turns.{Turn, Offer, Refuse}
 use Rattle.service.specs.declared.faults.FeedStop.{FeedStop}
 use Rattle.service.specs.declared.faults.FeedStop.TheVariants as stops
 
--- A call behind what the pass had seen admitted the batch, as the reply tells. Other threads may have called before it. Where nothing is promised of the archive, no call of it is called right.
+-- A call made over what the pass had seen, or later, admitted the batch, as the reply says. Other threads may have called before it.
+-- Where nothing is promised of the archive, no call of it is claimed to be right.
 pub record Admits (promised : Type 0) (c : ℕ) (batch : List Admitted) (reply : BatchReply) (v w : View) : Type 0 where
   pub at : View
   pub since : Since v at
   pub sees : promised → Sees (DoesAdmit c batch (Ok reply)) at w
 
--- a call behind what the pass had seen refused the batch for this
+-- a call made over what the pass had seen, or later, refused the batch for this
 pub record Refuses (promised : Type 0) (c : ℕ) (batch : List Admitted) (refusal : AdmitError) (v w : View) : Type 0 where
   pub at : View
   pub since : Since v at
@@ -38,7 +39,7 @@ pub record StaysFull (promised : Type 0) (c : ℕ) (batch : List Admitted) (v w 
   pub applied : promised → AppliesUntilIdle full room
   pub second : Refuses promised c batch admits.IntakeFull room w
 
--- why a batch isn't taken; of troubles nothing is said
+-- why a batch isn't taken; nothing is stated of troubles
 abbrev pub IsNotTaken : Type 0 → ℕ → List Admitted → View → View → FeedStop → Type 0
 IsNotTaken promised c batch v w stops.NoCollector = Refuses promised c batch admits.NoCollector v w
 IsNotTaken promised c batch v w stops.CounterFull = Refuses promised c batch admits.CounterFull v w
@@ -54,7 +55,8 @@ admitted_in reply = reply.receipt.to - reply.receipt.from
 abbrev pub late_in : BatchReply → ℕ
 late_in reply = length reply.late.items
 
--- These turns were made one behind another: each batch was admitted, with this reply, whose lines were written; of each refused record the line was.
+-- These turns were made one after another: each batch was admitted, with this reply, whose lines were written; of each refused record the
+-- line was.
 pub data Makes (promised : Type 0) (c : ℕ) (v : View) (was : OutputState) : List Turn → List BatchReply → View → OutputState → Type 0 where
   Begun : Makes promised c v was [] [] v was
   Offered : (turns : List Turn) (replies : List BatchReply) (w x : View) (now out : OutputState) (batch : List Admitted) (reply : BatchReply)

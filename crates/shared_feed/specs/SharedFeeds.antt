@@ -22,7 +22,8 @@ use Rattle.service.specs.declared.intake.End.TheVariants as ends
 use Rattle.service.specs.declared.limits.BatchLimits.{BatchLimits}
 use Rattle.shared_feed.specs.Offers.{Makes, IsNotTaken, admitted_in, late_in}
 
--- the most that a batch may have of an archive whose rings have so many pages: so many admissions; and the octets of a ring or the most of a batch, the lesser, but always room for one admission
+-- the most that a batch may have of an archive whose rings have `ring` pages: `records` admissions; and the octets of a ring or the most of a
+-- batch, the lesser, but always room for one admission
 abbrev pub limits_of : ℕ → ℕ → BatchLimits
 limits_of records ring = record { records = records; octets = min 262144 (max 131076 (ring * 16384)) }
 
@@ -36,7 +37,7 @@ counts_by records turns replies = record {
   skipped = capped (skips records);
 }
 
--- All turns of the feed were made, then it was told why it was cut short, if it was, and its counts.
+-- All turns of the feed were made, then the line of why it was cut short, if it was, and the line of its counts were written.
 pub record IsTakenIn (promised : Type 0) (c : ℕ) (limit : BatchLimits) (bytes : List ℕ) (cut : Option FeedCut) (v : View) (was : OutputState) (w : View) (now : OutputState) : Type 0 where
   pub rest : List ℕ
   pub records : List Told
@@ -49,13 +50,13 @@ pub record IsTakenIn (promised : Type 0) (c : ℕ) (limit : BatchLimits) (bytes 
   pub tells : Tells then now (cut_line cut (capped (length records)) ++ counts_line (counts_by records (feed_turns limit results) replies))
   pub since : Since v w
 
--- why the next turns aren't made: the next batch isn't taken; or memory was wanting, or a reader or a writer failed
+-- why the next turns aren't made: the next batch isn't taken; or memory ran out, or a reader or a writer failed
 abbrev pub IsReason : Type 0 → ℕ → List Turn → View → View → FeedStop → Type 0
 IsReason promised c unmade v w (stops.Trouble trouble) = ⊤
 IsReason promised c unmade v w stops.Outside = ⊤
 IsReason promised c unmade v w why = (batch : List Admitted) × (later : List Turn) × (unmade ≡ Offer batch ∷ later) × IsNotTaken promised c batch v w why
 
--- The first turns for the first records of the feed were made, and the next ones weren't; then the refusal was told.
+-- The first turns for the first records of the feed were made, and the next ones weren't; then the refusal was written.
 pub record IsGivenUp (promised : Type 0) (c : ℕ) (limit : BatchLimits) (bytes : List ℕ) (why : FeedStop) (v : View) (was : OutputState) (w : View) (now : OutputState) : Type 0 where
   pub seen : List ℕ
   pub later : List ℕ
@@ -74,13 +75,14 @@ pub record IsGivenUp (promised : Type 0) (c : ℕ) (limit : BatchLimits) (bytes 
   pub tells : Tells then now (refusal_line (of_stop why))
   pub since : Since v w
 
--- there is no such collector, which alone was told, and the pass sees what it saw
+-- there is no such collector, and only that was written, and the pass sees what it saw
 pub record IsOfNone (collectors c : ℕ) (v : View) (was : OutputState) (w : View) (now : OutputState) : Type 0 where
   pub none : collectors ≤ c
   pub same : w ≡ v
   pub tells : Tells was now (refusal_line (of_stop stops.NoCollector))
 
--- How a feed of these octets ended, of an archive with so many collectors: all of it was read, or it was cut short, or it was given up for this. Of a collector that there isn't nothing else is told than that.
+-- How a feed of these octets ended, of an archive with this many collectors: all of it was read, or it was cut short, or it was given up
+-- for this. For a collector that doesn't exist only that is written.
 abbrev pub IsEnd : Type 0 → ℕ → ℕ → BatchLimits → List ℕ → End → View → OutputState → View → OutputState → Type 0
 IsEnd promised collectors c limit bytes ends.Well v was w now = (c < collectors) × IsTakenIn promised c limit bytes None v was w now
 IsEnd promised collectors c limit bytes ends.Cut v was w now = (c < collectors) × ((why : FeedCut) × IsTakenIn promised c limit bytes (Some why) v was w now)

@@ -35,7 +35,7 @@ pub(crate) struct Feeding {
     pub(crate) counts: FeedCounts,
 }
 
-/// Whether so many octets with so many more are more than there may be.
+/// Whether `octets` and `more` octets together are more than `most`.
 fn is_over(octets: usize, more: usize, most: usize) -> bool
     ensures over { result ≡ ltb most (octets + more) }
 {
@@ -105,7 +105,7 @@ impl Feeding {
         Ok(())
     }
 
-    /// Offers what is gathered where it would be too large with so many octets more.
+    /// Offers what is gathered where it would be too large with `octets` more octets.
     fn make_room<A: Store, N: Named + OnDisk<A::Disk>, G: Gate + Drop, W: Write>(
         &mut self,
         rt: &impl Wait,
@@ -164,7 +164,7 @@ impl Feeding {
         self.offer(rt, shared, pass, out)
     }
 
-    /// Adds an admission of so many octets to what is gathered.
+    /// Adds an admission of `octets` octets to what is gathered.
     fn push(&mut self, admission: Admission, octets: usize) -> Result<(), AllocError>
         ensures same { IsSameFeed self.old self.new }
         ensures counts { self.new.counts ≡ self.old.counts }
@@ -200,7 +200,7 @@ impl Feeding {
         }
     }
 
-    /// Counts a refused record, and writes its line. Want of memory is no fault of a record.
+    /// Counts a refused record, and writes its line. Running out of memory is no fault of a record.
     fn refuse<W: Write>(
         &mut self,
         fault: ResolveFault,

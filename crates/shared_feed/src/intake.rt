@@ -30,7 +30,7 @@ const PAGE: usize = 16_384;
 const ONE_ADMISSION: usize = 131_076;
 
 impl Feeding {
-    /// Takes the records that are whole with the next piece. Answers whether the feed goes on.
+    /// Takes the records that are whole with the next piece. Returns whether the feed goes on.
     fn take_piece<A: Store, N: Named + OnDisk<A::Disk>, G: Gate + Drop, W: Write>(
         &mut self,
         rt: &impl Wait,
@@ -85,12 +85,12 @@ impl Feeding {
                 return Ok(());
             }
         }
-        // No memory holds a count of so many pieces.
+        // No memory holds a count of that many pieces.
         Err(FeedStop::Trouble(Trouble::OutOfMemory))
     }
 }
 
-/// The most that a batch may have where rings have so many pages.
+/// The most that a batch may have where rings have `ring` pages.
 fn limits_of(records: u16, ring: u16) -> BatchLimits
     ensures limit { result ≡ limits_of records ring }
 {
@@ -102,7 +102,7 @@ fn limits_of(records: u16, ring: u16) -> BatchLimits
     }
 }
 
-/// Takes a feed in to its end. Answers why it is cut short, if it is.
+/// Takes a feed in to its end. Returns why it is cut short, if it is.
 fn take_in<A: Store, N: Named + OnDisk<A::Disk>, G: Gate + Drop, R: Read, W: Write>(
     rt: &impl Wait,
     alloc: Global,

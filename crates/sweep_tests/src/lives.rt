@@ -94,7 +94,7 @@ fn count_leaves(burns: &[Burn]) -> usize {
     burns.iter().filter(|burn| is_leaf(burn)).count()
 }
 
-/// Whether a call closes a slot: it writes a gate, and not as open.
+/// Whether a call closes a slot: it writes a commit flag, and not that of an open slot.
 fn closes(call: &Call) -> bool {
     match call {
         Call::Write(write) => {

@@ -47,7 +47,7 @@ fn changes_alike(one: &Change, other: &Change) -> bool {
     }
 }
 
-/// Whether both have the same rows or events, in the same order, and tell the same of more of them.
+/// Whether both have the same rows or events, in the same order, and say the same of more of them.
 pub(crate) fn answers_alike(one: &Answer, other: &Answer) -> bool {
     match (one, other) {
         (Answer::Rows(rows), Answer::Rows(others)) => rows_alike(rows, others),

@@ -29,7 +29,7 @@ pub(crate) const FIRST: u64 = 1_000;
 /// The moment up to which a loaded archive has records, and from which more are given to it.
 pub(crate) const SECOND: u64 = 1_060;
 
-/// How many records are given of one prefix, one each second: of so many routes of 800 octets a leaf overflows three times.
+/// How many records are given of one prefix, one each second: with this many routes of 800 octets a leaf overflows three times.
 pub(crate) const RECORDS: u8 = 60;
 
 // The octets of an erasable disk: 265 pages before the home pages; the head, the rings, and 400 pages of the tree.
@@ -180,7 +180,7 @@ pub(crate) fn draw_batch(
     Some(batch)
 }
 
-/// Announcements of 10.0.0.0/16 by one peer of the first collector, so many, each a second later than the one before.
+/// `count` announcements of 10.0.0.0/16 by one peer of the first collector, each a second later than the one before.
 pub(crate) fn announcements(alloc: Global, from: u64, count: u8) -> Option<Vec<Admission>> {
     let mut batch = Vec::new(alloc);
     for number in 0..count {

@@ -49,7 +49,7 @@ pub(crate) struct Hand<B: Named> {
 }
 
 impl<B: Named> Hand<B> {
-    /// With a reader that keeps up to so many blocks, from 1 to 1,024. None for want of memory.
+    /// With a reader that keeps up to `capacity` blocks, from 1 to 1,024. None where there is no memory.
     pub(crate) fn new(
         rt: &impl Wait,
         alloc: Global,

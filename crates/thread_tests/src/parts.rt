@@ -9,7 +9,7 @@ use std::sync::Wait;
 /// How many questions a thread asks that does nothing else.
 const QUESTIONS: u16 = 2_000;
 
-/// The moments about which it asks: so many below this one.
+/// The moments about which it asks: `MOMENTS` below this one.
 const ASKED: u64 = 1_200;
 
 const MOMENTS: u8 = 200;
@@ -20,13 +20,13 @@ const LAST: u64 = SECOND + RECORDS as u64;
 /// What a thread does.
 #[derive(Clone, Copy)]
 pub(crate) enum Part {
-    /// So many calls of any kind.
+    /// This many calls of any kind.
     Mix(u16),
-    /// So often it gives records, applies them, and asks about the moment just below the watermark.
+    /// This often it gives records, applies them, and asks about the moment right below the watermark.
     Own(u16),
     /// It gives records of every second moment from one to another, and applies them.
     Give(u64, u64),
-    /// It asks with a reader that keeps so many blocks.
+    /// It asks with a reader that keeps this many blocks.
     Ask(usize),
     /// It asks question 1, at which the gate holds it.
     AskHeld,

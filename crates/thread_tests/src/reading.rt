@@ -24,8 +24,8 @@ use std::alloc::Global;
 use std::sync::Arc;
 use std::sync::atomic::Ordering;
 
-/// An archive with its blocks on an armed disk, which counts turns. Nothing is promised of it, so that it carries no past, and tells
-/// of most troubles as of a failed device.
+/// An archive with its blocks on an armed disk, which counts turns. Nothing is promised of it, so that it carries no past, and reports
+/// most troubles as a failed device.
 #[derive(Drop)]
 pub(crate) struct ArmedStore {
     archive: Archive<MemErase, ArmedOnce>,

@@ -1,4 +1,4 @@
-//! What a thread that is held and the thread for which it is held tell each other.
+//! What a thread that is held and the thread for which it is held signal to each other.
 
 use std::sync::atomic::{AtomicBool, AtomicU64, Ordering};
 use std::thread;
@@ -7,7 +7,7 @@ use std::time::Duration;
 // How often a thread that waits looks, before it gives up.
 const LOOKS: u16 = 1_000;
 
-// How many milliseconds it sleeps behind each look.
+// How many milliseconds it sleeps after each look.
 const REST: u64 = 10;
 
 /// Flags that are set once.
@@ -18,7 +18,7 @@ pub(crate) struct Signals {
     pub(crate) is_held: AtomicBool,
     /// What it is held for is done.
     pub(crate) is_done: AtomicBool,
-    /// A thread waited in vain.
+    /// A thread gave up waiting.
     pub(crate) is_late: AtomicBool,
     /// How many turns of questions were made.
     pub(crate) turns: AtomicU64,

@@ -1,4 +1,4 @@
-//! Tests of trees of versions, over transactions and shelves on disks in memory: trees that grow, looks into nodes built by hand and
+//! Tests of trees of versions, over transactions and shelves on disks in memory: trees that grow, lookups in nodes built by hand and
 //! damaged ones, migration of leaves and columns into blocks, questions over stores of versions, and the check of a tree.
 #![tactic(auto)]
 

@@ -17,7 +17,7 @@ use tsb_check::InUse;
 use version_model::{Bounds, Stamp};
 
 /// A transaction over home pages of which those from one on were never used, on a disk of which these calls fail, with a pool that
-/// keeps so many pages that are home.
+/// keeps `kept` pages that are home.
 pub(crate) fn begun(
     alloc: Global,
     homes: u64,
@@ -38,7 +38,7 @@ pub(crate) fn begun(
     Some(Tx::new(alloc, pool, unused))
 }
 
-/// A shelf over a disk of so many blank blocks, where these calls fail.
+/// A shelf over a disk of `blocks` blank blocks, where these calls fail.
 pub(crate) fn shelf_of(
     alloc: Global,
     blocks: u64,

@@ -49,7 +49,7 @@ struct Head {
     used: u16,
 }
 
-/// So many octets of one kind after others.
+/// `count` octets of one kind after others.
 pub(crate) fn add(octets: &mut Vec<u8>, octet: u8, count: usize) -> Option<()> {
     for _ in 0..count {
         octets.push(octet).ok()?;
@@ -112,7 +112,7 @@ fn add_header(octets: &mut Vec<u8>, head: Head, span: Span, times: Times) -> Opt
     add_end(octets, times.1)
 }
 
-/// The head of a node of so many entries of one size.
+/// The head of a node of `count` entries of one size.
 fn head_of(kind: u8, level: u8, count: usize, size: u16) -> Head {
     let count = u16::try_from(count).unwrap_or(0);
     Head {

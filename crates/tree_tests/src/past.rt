@@ -291,7 +291,7 @@ fn are(part: &KeyVersions, key: Key, versions: Versions) -> bool {
         })
 }
 
-/// Whether just these versions are told, and up to this time.
+/// Whether exactly these versions are returned, and up to this time.
 fn tells(past: &mut Past, place: &Place, key: u8, from: u64, versions: Versions, end: u64) -> bool {
     match part_of(past, place, key, from) {
         Some(Ok(part)) => {
@@ -351,7 +351,7 @@ fn the_next_key_is_found_in_the_past(rt: HostRuntime) {
     }
 }
 
-/// A key and a time; the versions that are told, and up to when. The copy of key 5 is none.
+/// A key and a time; the versions that are returned, and up to when. The copy of key 5 is none.
 const TOLD: [(u8, u64, Versions, u64); 9] = [
     (3, 0, &[(2, Some(187)), (200, None)], 258),
     (3, 2, &[(2, Some(187)), (200, None)], 258),
@@ -401,7 +401,7 @@ fn a_version_from_behind_the_end_of_its_block_counts_for_nothing(rt: HostRuntime
     be(&rt, tells(&mut past, &place, 7, 8, &[], 258), "none later");
 }
 
-/// A kind, a block and a high key that a place asks for, and the block that is called damaged.
+/// A kind, a block and a high key that a place asks for, and the block that is reported as damaged.
 const DAMAGED: [(PartKind, u64, u8, u64); 9] = [
     // Another kind, and more keys than the block has.
     (PartKind::LeafBlock, 4, 9, 4),
@@ -418,7 +418,7 @@ const DAMAGED: [(PartKind, u64, u8, u64); 9] = [
     (PartKind::ColumnBlock, 99, 9, 99),
 ];
 
-/// Whether each look from a place calls a block damaged.
+/// Whether each lookup from a place reports a block as damaged.
 fn is_damaged(past: &mut Past, place: &Place, block: u64) -> Option<bool> {
     let wanted = Some(BlockError::Damaged(block));
     Some(

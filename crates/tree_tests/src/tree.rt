@@ -27,13 +27,13 @@ use std::alloc::Global;
 use tsb_tree::{TreeError, TreePlace, create, insert};
 use version_model::{Entry, Stamp};
 
-/// A value: so many octets of one kind.
+/// A value: this many octets of one kind.
 type Octets = (usize, u8);
 
 /// A version of a key: its stamp, and a value or an end.
 type Row = (Stamp, Option<Octets>);
 
-/// The disks below a tree: so many home pages and blocks, a pool that keeps so many pages that are home, and the calls that fail.
+/// The disks below a tree: how many home pages and blocks, how many pages that are home a pool keeps, and the calls that fail.
 #[derive(Drop)]
 struct Disks {
     homes: u64,
@@ -227,7 +227,7 @@ fn state_of(tree: &Tree) -> State {
     }
 }
 
-/// Whether a tree's root is in this page and of this level, and so many pages were used and blocks burnt.
+/// Whether a tree's root is in this page and of this level, and `next_page` pages were used and `next_block` blocks burnt.
 fn is_at(tree: &Tree, root: u64, level: u8, next_page: u64, next_block: u64) -> bool {
     let state = state_of(tree);
     state.root == root

@@ -1,4 +1,4 @@
--- What a check tells of a tree.
+-- What a check returns of a tree.
 use Rattle.std.proofs.Common.{◌≡◌, ℕ, ◌⊎◌, inl, inr, List, [], ◌∷◌, Option, length, sym, ◌∙◌, ap, subst, Result, Ok, Err, IfOk}
 use Rattle.version_model.specs.Versions.{Version}
 use Rattle.version_model.specs.Pages.{Keys, Store, StandsIn, TreeStands, all_keys}

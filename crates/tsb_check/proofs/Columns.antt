@@ -1,4 +1,4 @@
--- What is told of one column.
+-- What is returned of one column.
 use Rattle.std.proofs.Common.{◌≡◌, ℕ, ◌+◌, ◌⊎◌, inl, inr, List, Option, ◌∙◌, ap, min}
 use Rattle.tsb_node.specs.declared.column_said.ColumnSaid.{ColumnSaid}
 use Rattle.version_model.specs.declared.part.Place.{Place}

@@ -17,11 +17,11 @@ use Rattle.tsb_check.specs.inner.Columns.{IsColumnAt, TellsColumn, IsBadColumn, 
 use Rattle.tsb_check.proofs.Stacks.{all_front, all_back, all_both, all_from}
 use Rattle.tsb_check.proofs.Under.{under_both, under_apart}
 
--- numbers that are told, added
+-- numbers as a count returns them, added
 pub told_both : (t c n m : ℕ) → n ≡ told t → m ≡ told c → min (n + m) 18446744073709551615 ≡ told (t + c)
 told_both t c n m is other = grind (arith, is, other)
 
--- a number that is told is told again
+-- a number as a count returns it stays so when nothing is added
 as_told : (t n : ℕ) → n ≡ told t → min (n + 0) 18446744073709551615 ≡ n
 as_told t n is = grind (arith, is)
 

@@ -1,4 +1,4 @@
--- Places that are left, and those behind them.
+-- Places that are left, and those after them.
 use Rattle.std.proofs.Common.{◌≡◌, ℕ, ◌+◌, List, [], ◌∷◌, ◌++◌, Option, inl, inr, refl, subst, arith}
 use Rattle.std.specs.List.{AllByRecursion}
 use Rattle.version_model.specs.declared.part.Part.{Part}

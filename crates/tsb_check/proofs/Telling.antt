@@ -1,4 +1,4 @@
--- What one block tells.
+-- What one block holds for its place.
 use Rattle.std.proofs.Common.{◌≡◌, ℕ, List, IsSome, inl, inr, refl, sym, ◌∙◌, subst}
 use Rattle.version_model.specs.declared.part.PartKind.TheVariants.{LeafBlock, ColumnBlock}
 use Rattle.version_model.specs.declared.part.Place.{Place}

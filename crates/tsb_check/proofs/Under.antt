@@ -1,4 +1,4 @@
--- Places of pages that are left, and those behind them; and what is left to read grows less.
+-- Places of pages that are left, and those after them; and what is left to read grows less.
 use Rattle.std.proofs.Common.{◌≡◌, ℕ, suc, ◌+◌, ◌-◌, ◌*◌, ◌^◌, ◌<◌, ◌≤◌, List, [], ◌∷◌, ◌++◌, Option, length, subst, arith}
 use Rattle.std.proofs.Math.Nat.{pow-suc, one-le-pow, mul-le-mul_right, add-mul}
 use Rattle.version_model.specs.declared.child.Child.{Child}

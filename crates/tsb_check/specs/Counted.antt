@@ -33,7 +33,7 @@ AreLower block parts = AllByRecursion (λ part. part.block < block) parts
 abbrev pub IsSoundFor : Place → List ℕ → Type 0
 IsSoundFor place octets = ((versions : List Version) × IsLeafFor place octets versions) ⊎ ((parts : List Part) × IsColumnFor place octets parts × AreLower place.part.block parts)
 
--- Every block of some places says what its place asks for, and so many versions are counted: those that a leaf has of its place's keys
+-- Every block of some places says what its place asks for, and this many versions are counted: those that a leaf has of its place's keys
 -- and stamps, so that copies from before the start don't count, and those of all parts of a column.
 pub data AreCounted (known : ℕ → Option (List ℕ)) (count : ℕ) : List Place → ℕ → Type 0 where
   none_counted : AreCounted known count [] 0
@@ -61,11 +61,11 @@ pub record MeetDamage (known : ℕ → Option (List ℕ)) (count : ℕ) (places 
   pub is : place.part.block ≡ block
   pub unsound : (octets : List ℕ) → IsKnown known count place.part.block octets → IsSoundFor place octets → ⊥
 
--- a number as a count tells it: the greatest count where it is greater
+-- a number as a count returns it: the greatest count where it is greater
 abbrev pub told : ℕ → ℕ
 told n = min n 18446744073709551615
 
--- so many versions are told of some places
+-- a count of the versions of some places returns n
 pub record TellsPast (known : ℕ → Option (List ℕ)) (count : ℕ) (places : List Place) (n : ℕ) : Type 0 where
   pub total : ℕ
   pub counted : AreCounted known count places total

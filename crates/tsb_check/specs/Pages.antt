@@ -29,7 +29,7 @@ places_under place children = children_of (place.level - 1) place.high children
 abbrev pub past_of : PagePlace → List Part → ℕ → List Place
 past_of place parts start = places_of (record { low = place.low; high = place.high; start = 0; end = Some start }) parts
 
--- Every page at some places, and every one below them, says what its place asks for, and so do the blocks of the past. So many versions
+-- Every page at some places, and every one below them, says what its place asks for, and so do the blocks of the past. This many versions
 -- are counted: those of the past of each column, and those of its keys that its current leaf has from its start on.
 pub data AreCountedUnder (shown : List (List ℕ)) (known : ℕ → Option (List ℕ)) (count : ℕ) : List PagePlace → ℕ → Type 0 where
   none_under : AreCountedUnder shown known count [] 0
@@ -58,7 +58,7 @@ pub data IsBadUnder (shown : List (List ℕ)) (places : List PagePlace) : ℕ �
   no_column : (place : PagePlace) → IsUnder shown places place → place.level ≡ 1 → IsNoColumn shown place → IsBadUnder shown places place.page
   no_leaf : (column : PagePlace) (parts : List Part) (start current : ℕ) → IsColumnUnder shown places column parts start current → IsNoLeaf shown column start current → IsBadUnder shown places current
 
--- so many versions are told of the tree at some places
+-- a count of the versions of the tree at some places returns n
 pub record TellsTree (shown : List (List ℕ)) (known : ℕ → Option (List ℕ)) (count : ℕ) (places : List PagePlace) (n : ℕ) : Type 0 where
   pub total : ℕ
   pub counted : AreCountedUnder shown known count places total

@@ -1,4 +1,4 @@
-//! What one block tells of the place for which it is read.
+//! What one block holds for the place for which it is read.
 
 ghost use Rattle.std.specs.Prelude.{◌≡◌, ◌<◌, ◌≤◌, ◌↔◌, All, IsTrue, IsSome, IfOk, Err, None};
 ghost use Rattle.version_model.specs.declared.part.PartKind.TheVariants.{LeafBlock, ColumnBlock};
@@ -14,7 +14,7 @@ use std::alloc::Global;
 use tsb_node::{ReadFault, column_of_block, key_fits, leaf_of_block, stamp_fits};
 use version_model::{Bounds, Part, PartKind, Place, Stamp};
 
-/// What a block tells: how many versions it has of its place's keys and stamps, or the parts where they are.
+/// What a block holds for its place: how many versions it has of the place's keys and stamps, or the parts where they are.
 #[derive(Debug, Drop)]
 pub enum Told {
     Versions(u64),
@@ -62,7 +62,7 @@ fn is_same_end(wide: Option<Stamp>, end: Option<Stamp>) -> bool
     }
 }
 
-// Whether bounds have an end, are of just the stamps of others, and of their keys at least.
+// Whether bounds have an end, are of exactly the stamps of others, and of their keys at least.
 fn is_wider(wide: &Bounds, bounds: &Bounds) -> bool
     ensures { IsTrue result ↔ (IsSome wide.now.end × IsWider (range_of wide.now) (range_of bounds.now)) }
 {
@@ -81,7 +81,7 @@ pub fn are_lower(parts: &[Part], block: u64) -> bool
     parts.iter().all(|part| part.block < block)
 }
 
-// How many versions the leaf has that a block is.
+// How many versions the leaf in a block has.
 fn versions_told(alloc: Global, block: &Block, place: &Place) -> Result<Told, ReadFault>
     requires kind { place.now.part.kind ≡ LeafBlock }
     ensures told { IfOk result (IsToldOf place.now block.now) }
@@ -98,7 +98,7 @@ fn versions_told(alloc: Global, block: &Block, place: &Place) -> Result<Told, Re
     Ok(Told::Versions(count_inside(&place.bounds, &said.entries)))
 }
 
-// The parts of the column that a block is.
+// The parts of the column in a block.
 fn parts_told(alloc: Global, block: &Block, place: &Place) -> Result<Told, ReadFault>
     requires kind { place.now.part.kind ≡ ColumnBlock }
     ensures told { IfOk result (IsToldOf place.now block.now) }
@@ -118,8 +118,8 @@ fn parts_told(alloc: Global, block: &Block, place: &Place) -> Result<Told, ReadF
     Ok(Told::Parts(said.parts))
 }
 
-/// What a block tells of a place. Refused as no node exactly where it isn't what the place asks for: a leaf or a column, by the place's
-/// kind, of just its stamps and of its keys at least; and the parts of a column are in blocks of lower numbers.
+/// What a block holds for a place. Fails with NotANode exactly where it isn't what the place asks for: a leaf or a column, by the place's
+/// kind, of exactly its stamps and of its keys at least; and the parts of a column are in blocks of lower numbers.
 pub fn told_by(alloc: Global, block: &Block, place: &Place) -> Result<Told, ReadFault>
     ensures told { IfOk result (IsToldOf place.now block.now) }
     ensures sound { IsSoundFor place.now block.now → result ≡ Err ReadFault.NotANode → ⊥ }

@@ -101,12 +101,12 @@ pub fn count_under<P: Pages, O: OnceDisk + Drop>(
     Ok(count)
 }
 
-/// Checks the tree with this root: every page and block that is reached from it says what the one above asks for, and the number
-/// told is that of the tree's versions, each counted once. The pages that are reached, and the blocks that their columns name, are in use.
+/// Checks the tree with this root: every page and block that is reached from it says what the one above asks for, and the result is the
+/// number of the tree's versions, each counted once. The pages that are reached, and the blocks that their columns name, are in use.
 ///
-/// The error names the first page or block that doesn't. Where a column names a block that was never burnt, that is the column's page; where
-/// else a page or a block isn't in use, it is the page with the record of what is. A number above the greatest `u64` is returned as that
-/// one. Pages are only read.
+/// The error names the first page or block that doesn't. Where a column names a block that was never burnt, that is the column's page;
+/// where else a page or a block isn't in use, it is the page with the record of what is. A number above the greatest `u64` is returned as
+/// that one. Pages are only read.
 pub fn check<P: Pages, O: OnceDisk + Drop>(
     pages: &mut P,
     reader: &mut ShelfReader<O>,

@@ -9,7 +9,7 @@ use std::alloc::{AllocError, Global};
 use tsb_walk::PagePlace;
 use version_model::Child;
 
-// The lowest key of the child behind a place; without one, the high key.
+// The lowest key of the child after child `i`; without one, the high key.
 fn high_behind(high: &Option<Key>, children: &[Child], i: usize) -> Option<Key>
     requires within { i < length children.now }
     ensures { result ≡ high_at high.now (drop (i + 1) children.now) }

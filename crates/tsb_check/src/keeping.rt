@@ -4,7 +4,7 @@ ghost use Rattle.std.specs.Prelude.{◌≡◌, ◌++◌, ◌∷◌, [], OnOk};
 
 use std::alloc::AllocError;
 
-/// Puts an item behind the others.
+/// Appends an item to the others.
 pub fn keep<T: Drop>(kept: &mut Vec<T>, item: T) -> Result<(), AllocError>
     ensures { OnOk result (kept.new.items ≡ kept.old.items ++ item ∷ []) }
 {

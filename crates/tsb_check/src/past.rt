@@ -14,7 +14,7 @@ use std::alloc::{AllocError, Global};
 use tsb_node::ReadFault;
 use version_model::Place;
 
-// What the block of a place tells.
+// What the block of a place holds for it.
 fn told_at<O: OnceDisk + Drop>(
     reader: &mut ShelfReader<O>,
     seen: &mut O::Seen,
@@ -45,7 +45,7 @@ fn told_at<O: OnceDisk + Drop>(
     }
 }
 
-// Takes what the block of a place tells: its versions are counted, or its parts are left to be read.
+// Takes what the block of a place holds for it: its versions are counted, or its parts are left to be read.
 fn take(
     alloc: Global,
     left: &mut Vec<Place>,
@@ -70,7 +70,7 @@ fn take(
 /// How many versions the past has at some places. Every block to which they lead is read, one after another, with a stack of the places
 /// that are left.
 ///
-/// The first block that isn't what its place asks for is called damaged. A number above the greatest `u64` is told as that one.
+/// The error names the first block that isn't what its place asks for. A number above the greatest `u64` is returned as that one.
 pub fn count_past<O: OnceDisk + Drop>(
     reader: &mut ShelfReader<O>,
     seen: &mut O::Seen,

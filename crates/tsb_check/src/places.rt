@@ -8,7 +8,7 @@ use route_model::Key;
 use std::alloc::{AllocError, Global};
 use version_model::{Bounds, Part, Place, Stamp};
 
-// Where the part behind a place starts; without one, the end.
+// Where the part after part `i` starts; without one, the end.
 fn end_behind(end: &Option<Stamp>, parts: &[Part], i: usize) -> Option<Stamp>
     requires within { i < length parts.now }
     ensures { result ≡ end_at end.now (drop (i + 1) parts.now) }

@@ -72,7 +72,7 @@ spelled_here b bytes are whole small le end low high =
           (rw (take_on 59 n bytes, take_on 57 2 bytes, take_on 56 1 bytes, take_on 40 16 bytes, k, s, t, l, v.octets) refl);
     }
 
--- the octets are the entry and what stands behind it
+-- the octets are the entry and what follows it
 pub is_front : (b : Bounds) (bytes : List ℕ) → IsSpelled b bytes → bytes ≡ entry (version_in bytes) ++ behind_version bytes
 is_front b bytes sp = sym (take-append-drop (59 + value_size bytes) bytes) ∙ ap (λ (t : List ℕ). t ++ behind_version bytes) sp.spelled
 
@@ -86,7 +86,7 @@ pub end_is_empty : (o : Option (List ℕ)) → tag o ≡ 0 → length (value_spe
 end_is_empty None e = refl
 end_is_empty (Some v) e = absurd (omega (arith, e))
 
--- a spelled version is an entry
+-- an encoded version is an entry
 pub is_spelled : (b : Bounds) (v : Version) (rest : List ℕ) → IsVersionOf b v → IsSpelled b (entry v ++ rest)
 is_spelled b v rest is =
     let r = entry_read b v rest is in
@@ -172,7 +172,7 @@ check_end b bytes rest count last c none = record {
     empty [] e = refl
     empty (x ∷ xs) e = absurd (omega (arith, e))
 
--- what entries have behind the first n of them
+-- what follows the first n entries
 stands_at : (b : Bounds) (count n : ℕ) (bytes : List ℕ) (are : AreEntries b count bytes) → n ≤ count → after n bytes ≡ entries (drop n are.versions)
 stands_at b count n bytes are le =
     ap (after n) (are.spelled ∙ sym (append-nil (entries are.versions))) ∙ after_spelled b n are.versions [] are.each (omega (arith, are.counted)) ∙ append-nil (entries (drop n are.versions))

@@ -80,7 +80,7 @@ part-size : (p : Part) → length (part_octets p) ≡ 25
 unfolding part_octets
 part-size p = place-size p.start (part_kind p.kind) p.block
 
--- ---- many: the i-th part, and what stands behind all
+-- ---- many: the i-th part, and what follows all of them
 
 pub part_stands : (ps : List Part) (i : ℕ) (p : Part) (rest : List ℕ) → slice_get ps i ≡ Some p → (more : List ℕ) × (drop (25 * i) (flat_map part_octets ps ++ rest) ≡ part_octets p ++ more)
 part_stands [] i p rest e = absurd (none-some p e)
@@ -130,7 +130,7 @@ column_says c octets is =
     let says = body_says 2 1 (length c.parts + 1) c.bounds es is.last (omega (arith, is.valid.follow.fits)) fits is.valid.bounds.low is.valid.bounds.start in
     ap (number_in 2 4) is.spelled ∙ says.count_is
 
--- what stands behind the parts
+-- what follows the parts
 behind_parts : (c : ColumnInPage) (octets : List ℕ) → BeginsAsColumn c octets → (more : List ℕ) × (area octets ≡ flat_map part_octets c.parts ++ (current_octets c.current ++ more))
 behind_parts c octets is =
     let ps : List ℕ = flat_map part_octets c.parts in

@@ -224,7 +224,7 @@ old_begins_of h es octets c is of = record { valid = of.valid; last = is.last; s
 pub of_old_begins : (h : Header) (es octets : List ℕ) (c : ColumnInBlock) → BeginsAsNode h es octets → BeginsAsOldColumn c octets → IsOldColumnOf h es c
 of_old_begins h es octets c is column = old_of_begun h es octets c is column.valid (record { valid = old_node c column.valid; last = column.last; spelled = column.spelled })
 
--- what is said of a column that is found, and of none
+-- another predicate for a column that is found, and for none
 pub some_column : (o : Option Bounds) (P Q : ColumnInBlock → Type 0) → ((c : ColumnInBlock) → P c → Q c) → IfSome o (λ b. (c : ColumnInBlock) × P c × (c.bounds ≡ b)) → IfSome o (λ b. (c : ColumnInBlock) × Q c × (c.bounds ≡ b))
 some_column None P Q f is = tt
 some_column (Some b) P Q f is = (is.0, f is.0 is.1, is.2)

@@ -29,7 +29,7 @@ place_laid at start kind number old le =
     ∙ ap (λ (n : ℕ). laid n (octets_of 8 number) (laid at (s ++ (kind ∷ [])) old)) e2
     ∙ put_two at (s ++ (kind ∷ [])) (octets_of 8 number) old (omega (arith, two, le))
 
--- the first n parts are written behind any header
+-- the first n parts are written after any header
 pub record HasPut (ps : List Part) (n at : ℕ) (old sheet : List ℕ) : Type 0 where
   pub at_is : at ≡ 120 + 25 * n
   pub each : AllByRecursion IsPartEntry (take n ps)

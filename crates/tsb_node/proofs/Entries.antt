@@ -1,4 +1,4 @@
--- The entries of a leaf: what is spelled is read again.
+-- The entries of a leaf: what is encoded is read again.
 use Rattle.std.proofs.Common.{◌≡◌, ℕ, zero, suc, ◌+◌, ◌<◌, ◌≤◌, List, [], ◌∷◌, ◌++◌, length, take, drop, slice_index, slice_get, Option, Some, None, refl, ap, ◌∙◌, append_assoc, arith}
 use Rattle.std.specs.List.{AllByRecursion}
 use Rattle.std.proofs.lemmas.List.{length-append, take_at, drop_at, get_or-append_right}
@@ -97,7 +97,7 @@ unfolding versions_in
 versions_in-size zero bytes = refl
 versions_in-size (suc n) bytes = ap suc (versions_in-size n (behind_version bytes))
 
--- behind the first n spelled versions the others stand
+-- after the first n encoded versions the others follow
 pub after_spelled : (b : Bounds) (n : ℕ) (vs : List Version) (rest : List ℕ) → AllByRecursion (IsVersionOf b) vs → n ≤ length vs → after n (entries vs ++ rest) ≡ entries (drop n vs) ++ rest
 unfolding after entries
 after_spelled b zero vs rest all le = refl

@@ -1,4 +1,4 @@
--- Headers: what is read is spelled so.
+-- Headers: the octets that are read are the encoding of what they read as.
 use Rattle.std.proofs.Common.{◌≡◌, ℕ, zero, suc, ◌+◌, ◌*◌, ◌^◌, ◌<◌, ◌≤◌, List, [], ◌∷◌, ◌++◌, length, take, drop, replicate, slice_index, Option, Some, None, refl, sym, ap, subst, ◌∙◌, arith}
 use Rattle.std.specs.Option.{IfSome}
 use Rattle.std.proofs.Math.Nat.{pow-suc}
@@ -28,7 +28,7 @@ are-take (suc n) [] are i = omega arith
 are-take (suc n) (x ∷ xs) are zero = are 0
 are-take (suc n) (x ∷ xs) are (suc i) = are-take n xs (λ j. are (suc j)) i
 
--- so many octets from a place on are spelled as their number is
+-- the `size` octets from a place on are the encoding of their number
 pub again_in : (size place : ℕ) (octets : List ℕ) → AreOctets octets → place + size ≤ length octets → octets_of size (number_in size place octets) ≡ take size (drop place octets)
 again_in size place octets are le =
     octets_of-again size (take size (drop place octets)) (omega (arith, length-take size (drop place octets), length-drop place octets)) (are-take size (drop place octets) (are-drop place octets are))
@@ -74,7 +74,7 @@ bound_apart size place octets are le never =
       | inr other ↦ omega (arith, lt, top, other)
     ]
 
--- a bound has one spelling
+-- a bound has one encoding
 pub bound_one : (size : ℕ) (a b : Option ℕ) → IfSome a (λ n. n + 1 < 256 ^ size) → IfSome b (λ n. n + 1 < 256 ^ size) → bound_octets size a ≡ bound_octets size b → a ≡ b
 unfolding bound_octets
 bound_one size None None p q e = refl
@@ -113,7 +113,7 @@ header_spelled octets high end are le unit_zero zero_zero high_is end_is =
     let f5 = again_in 16 88 octets are (omega arith) in
     rw (take_on 104 16 octets, take_on 88 16 octets, take_on 48 40 octets, take_on 8 40 octets, take_on 6 2 octets, take_on 4 2 octets, e0, f1, f2, f3, f5, high_is, end_is) refl
 
--- what is spelled is said
+-- an encoded header reads as its fields
 pub has_says : (h : Header) (octets : List ℕ) → HasHeader h octets → HeaderSays h.kind 0 h.level h.count h.used h.bounds octets
 has_says h octets has =
     subst (HeaderSays h.kind 0 h.level h.count h.used h.bounds) (ap (λ (t : List ℕ). t ++ drop 120 octets) (sym has.spelled) ∙ take-append-drop 120 octets)

@@ -30,7 +30,7 @@ put_field at front field rest new here len =
     let behind : drop (at + length new) all ≡ rest = sym (drop_twice at (length new) all) ∙ ap (drop (length new)) (drop_at front (field ++ rest) at here) ∙ drop_at field rest (length new) len in
     rw (before, behind) (append_assoc front new rest)
 
--- two fields that are laid behind one another are one
+-- two fields that are laid one after the other are one
 pub put_two : (at : ℕ) (a b old : List ℕ) → at + length a ≤ length old → laid (at + length a) b (laid at a old) ≡ laid at (a ++ b) old
 unfolding laid
 put_two at a b old le =
@@ -54,12 +54,12 @@ replicate_add (suc a) b y =
     let e : suc a + b ≡ suc (a + b) = omega arith in
     ap (λ (n : ℕ). replicate n y) e ∙ ap (λ (t : List ℕ). y ∷ t) (replicate_add a b y)
 
--- ---- a version behind the others of a leaf
+-- ---- a version after the others of a leaf
 
 regroup7 : (f0 f1 f2 f3 f4 f5 f6 r : List ℕ) → ((((((f0 ++ f1) ++ f2) ++ f3) ++ f4) ++ f5) ++ f6) ++ r ≡ f0 ++ (f1 ++ (f2 ++ ((((f3 ++ f4) ++ f5) ++ f6) ++ r)))
 regroup7 f0 f1 f2 f3 f4 f5 f6 r = simp append_assoc
 
--- what a header has behind its counts
+-- what follows the counts in a header
 bounds_octets : Bounds → List ℕ
 bounds_octets b = ((octets_of 40 b.low ++ bound_octets 40 b.high) ++ octets_of 16 b.start) ++ bound_octets 16 b.end
 
@@ -90,7 +90,7 @@ recounted kind unit level count used count' used' b rest =
     let two : laid 6 u' (f ++ (c' ++ (u ++ r))) ≡ (f ++ c') ++ (u' ++ r) = ap (laid 6 u') (sym (append_assoc f c' (u ++ r))) ∙ put_field 6 (f ++ c') u r u' six usize in
     ap (laid 6 u') one ∙ two ∙ append_assoc f c' (u' ++ r) ∙ sym (header_parts kind unit level count' used' b rest)
 
--- entries behind the others of a body
+-- entries after the others of a body
 body_pushed : (kind level count used : ℕ) (b : Bounds) (es new last : List ℕ) → used ≡ length es → length es + length new ≤ 16232
     → laid 6 (octets_of 2 (used + length new)) (laid 4 (octets_of 2 (count + 1)) (laid (120 + used) new (body kind level count b es ++ last))) ≡ body kind level (count + 1) b (es ++ new) ++ last
 unfolding body

@@ -78,7 +78,7 @@ block_of h es block leaf is of = record {
 pub of_block : (h : Header) (es block : List ℕ) (leaf : LeafNode) → IsNodeBlock h es block → IsLeafBlock leaf block → IsLeafOf h es leaf
 of_block h es block leaf is leaf_is = of_begun h es block leaf (block_begins h es block is) leaf_is.valid (block_begins (leaf_header leaf) (entries leaf.versions) block (leaf_block leaf block leaf_is))
 
--- what is said of a leaf that is found, and of none
+-- another predicate for a leaf that is found, and for none
 pub some_leaf : (o : Option Bounds) (P Q : LeafNode → Type 0) → ((leaf : LeafNode) → P leaf → Q leaf) → IfSome o (λ b. (leaf : LeafNode) × P leaf × (leaf.bounds ≡ b)) → IfSome o (λ b. (leaf : LeafNode) × Q leaf × (leaf.bounds ≡ b))
 some_leaf None P Q f is = tt
 some_leaf (Some b) P Q f is = (is.0, f is.0 is.1, is.2)

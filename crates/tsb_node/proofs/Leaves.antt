@@ -40,7 +40,7 @@ header-size kind unit level count used b =
     let e5 : length p5 ≡ 104 = omega (arith, e4, s5, length-append p4 (octets_of 16 b.start)) in
     omega (arith, e5, s6, length-append p5 (bound_octets 16 b.end))
 
--- what a header says, with anything behind it
+-- what a header says, with anything after it
 pub record HeaderSays (kind unit level count used : ℕ) (b : Bounds) (octets : List ℕ) : Type 0 where
   pub kind_is : slice_index octets 0 ≡ kind
   pub unit_is : slice_index octets 1 ≡ unit
@@ -100,7 +100,7 @@ header_says kind unit level count used b rest count_lt used_lt low_lt start_lt =
       end_is = ap (λ (t : List ℕ). take 16 (drop 104 t)) e6 ∙ part 16 104 (((((f0 ++ f1) ++ f2) ++ f3) ++ f4) ++ f5) f6 rest z6 s6;
     }
 
--- the octets of a node behind its header
+-- the octets of a node after its header
 pub body-size : (kind level count : ℕ) (b : Bounds) (es : List ℕ) → length es ≤ 16232 → length (body kind level count b es) ≡ 16352
 unfolding body
 body-size kind level count b es fits =

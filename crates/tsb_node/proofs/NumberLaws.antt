@@ -1,4 +1,4 @@
--- Numbers in octets: what is spelled is read again, and what is read is spelled so.
+-- Numbers in octets: what is encoded is read again, and what is read is the encoding of its number.
 use Rattle.std.proofs.Common.{◌≡◌, ℕ, zero, suc, ◌+◌, ◌*◌, ◌^◌, ◌<◌, ◌≤◌, ◌-◌, ◌/◌, List, [], ◌∷◌, ◌++◌, length, take, drop, slice_index, refl, sym, ap, subst, ◌∙◌, arith}
 use Rattle.std.specs.Int.{byte_at, bytes_high_first}
 use Rattle.std.proofs.Math.Nat.{mod-lt}
@@ -51,7 +51,7 @@ stamp_in octets place le =
     sym (ap number_of parts ∙ number_of-append front back ∙ ap (λ (n : ℕ). number_of front * 256 ^ n + number_of back) size
     ∙ ap (λ (n : ℕ). n * 256 ^ 8 + number_of back) one ∙ ap (λ (n : ℕ). number_at 8 place octets * 256 ^ 8 + n) two)
 
--- ---- what is spelled is read again
+-- ---- what is encoded is read again
 
 pub octets_of-size : (size n : ℕ) → length (octets_of size n) ≡ size
 unfolding octets_of
@@ -78,14 +78,14 @@ pub octets_of-each : (size n : ℕ) → AreOctets (octets_of size n)
 unfolding octets_of
 octets_of-each size n = bytes-lt size n
 
--- ---- what is read is spelled so
+-- ---- what is read is the encoding of its number
 
 pub octets_of-again : (size : ℕ) (o : List ℕ) → length o ≡ size → AreOctets o → octets_of size (number_of o) ≡ o
 octets_of-again size o len are =
     let lt : number_of o < 256 ^ size = subst (λ (n : ℕ). number_of o < 256 ^ n) len (number_lt o are) in
     number_one (octets_of size (number_of o)) o (octets_of-size size (number_of o) ∙ sym len) (octets_of-each size (number_of o)) are (octets_of-number size (number_of o) lt)
 
--- ---- a field behind a front
+-- ---- a field after a front
 
 pub field_in : (size place : ℕ) (front field rest : List ℕ) → length front ≡ place → length field ≡ size → number_in size place (front ++ (field ++ rest)) ≡ number_of field
 field_in size place front field rest at len =

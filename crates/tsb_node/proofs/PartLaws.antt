@@ -1,4 +1,4 @@
--- Parts and current leaves in octets: what is read is spelled so.
+-- Parts and current leaves in octets: the octets that are read are the encoding of what they read as.
 use Rattle.std.proofs.Common.{◌≡◌, ℕ, ◌+◌, ◌-◌, ◌≤◌, List, [], ◌∷◌, ◌++◌, length, take, drop, slice_index, Option, None, refl, sym, ap, subst, ◌∙◌, arith}
 use Rattle.std.proofs.lemmas.List.{append-nil, length-append, length-drop, take-append-drop, take_at, drop_at}
 use Rattle.route_model.specs.Octets.{AreOctets}
@@ -16,7 +16,7 @@ use Rattle.tsb_node.proofs.HeaderLaws.{again_in, number_in-lt, take_on, are-drop
 use Rattle.tsb_node.proofs.CheckingLaws.{one_octet}
 use Rattle.tsb_node.proofs.ColumnLaws.{place-size, part_read, current_read, index_drop}
 
--- a place at the front of octets is spelled as it is read
+-- a place at the front of octets is encoded as it is read
 pub place_spelled : (kind : ℕ) (bytes : List ℕ) → AreOctets bytes → 25 ≤ length bytes → slice_index bytes 16 ≡ kind → bytes ≡ place_octets (number_in 16 0 bytes) kind (number_in 8 17 bytes) ++ drop 25 bytes
 place_spelled kind bytes are le is =
     let s = again_in 16 0 bytes are (omega (arith, le)) in

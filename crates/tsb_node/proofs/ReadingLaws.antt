@@ -63,7 +63,7 @@ node_parts kind level count b es last octets fits is =
       rest_is = ap (drop (length es)) here ∙ drop_at es z (length es) refl;
     }
 
--- what has these parts is the node, with anything behind it
+-- what has these parts is the node, with anything after it
 pub parts_node : (kind level count used : ℕ) (b : Bounds) (es octets : List ℕ) → length octets ≡ 16384 → used ≡ length es → used ≤ 16232 → take 120 octets ≡ header kind seconds level count used b
     → take used (area octets) ≡ es → All (λ octet. octet ≡ 0) (drop used (area octets)) → octets ≡ body kind level count b es ++ drop 16352 octets
 unfolding body
@@ -80,7 +80,7 @@ parts_node kind level count used b es octets size same fits front here zeros_all
     sym (take-append-drop 120 node) ∙ ap (λ (t : List ℕ). t ++ area octets) head ∙ ap (λ (t : List ℕ). h ++ t) inner ∙ sym (append_assoc h es (replicate (16232 - length es) 0)) in
     sym (take-append-drop 16352 octets) ∙ ap (λ (t : List ℕ). t ++ drop 16352 octets) whole
 
--- what stands behind a node
+-- what follows a node
 pub node_last : (kind level count : ℕ) (b : Bounds) (es last octets : List ℕ) → length es ≤ 16232 → octets ≡ body kind level count b es ++ last → (take 16352 octets ≡ body kind level count b es) × (drop 16352 octets ≡ last)
 node_last kind level count b es last octets fits is =
     (ap (take 16352) is ∙ take_at (body kind level count b es) last 16352 (body-size kind level count b es fits), ap (drop 16352) is ∙ drop_at (body kind level count b es) last 16352 (body-size kind level count b es fits))

@@ -26,7 +26,7 @@ pub if_ok_map : {X E : Type 0} (r : Result X E) (P Q : X → Type 0) → ((x : X
 if_ok_map (Ok x) P Q f p = f x p
 if_ok_map (Err e) P Q f p = p
 
--- a refusal where there is one is for want of memory
+-- where there is a reading the error is Memory
 pub refusal_of : {Y T : Type 0} (Reads : Y → Type 0) (y : Y) → Reads y → (fault : ReadFault) → (◌≡◌ {A = Result T ReadFault} (Err fault) (Err NotANode) → ⊥) → IsRefusal Reads fault
 refusal_of Reads y is NotANode never = absurd (never refl)
 refusal_of Reads y is Memory never = (y, is)

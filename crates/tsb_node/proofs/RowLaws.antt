@@ -1,4 +1,4 @@
--- Entries of one size: they are read from the first on, and spelled in one way.
+-- Entries of one size: they are read from the first on, and encoded in one way.
 use Rattle.std.proofs.Common.{◌≡◌, ℕ, zero, suc, ◌+◌, ◌*◌, ◌<◌, ◌≤◌, List, [], ◌∷◌, ◌++◌, length, drop, map, Option, Some, None, refl, sym, ap, subst, ◌∙◌, append_assoc, arith}
 use Rattle.std.specs.List.{flat_map, AllByRecursion}
 use Rattle.std.proofs.lemmas.List.{append-nil, length-append, drop_at}
@@ -67,7 +67,7 @@ module _ {X : Type 0} (spell : X → List ℕ) (valid : X → Type 0) (number : 
   rows-size [] = omega arith
   rows-size (x ∷ xs) = omega (arith, rows-size xs, is.size_is x, length-append (spell x) (flat_map spell xs))
 
-  -- what octets have behind some entries
+  -- where the octets of ys begin with those of xs, the rest of ys follows
   pub rows_behind : (xs ys : List X) (rest : List ℕ) → AllByRecursion valid xs → AllByRecursion valid ys → flat_map spell xs ++ rest ≡ flat_map spell ys
       → (more : List X) × (ys ≡ xs ++ more) × (rest ≡ flat_map spell more)
   rows_behind [] ys rest p q e = (ys, refl, e)

@@ -18,7 +18,7 @@ use Rattle.tsb_node.proofs.Laying.{put_field}
 abbrev pub ending : Bounds → ℕ → Bounds
 ending b end = record { low = b.low; high = b.high; start = b.start; end = Some end }
 
--- a node that is sealed, whatever stands behind it
+-- a node that is sealed, whatever follows it
 pub sealed_is : (node sheet : List ℕ) → length node ≡ 16352 → sheet ≡ node ++ replicate 32 0 → sealed sheet ≡ node ++ sha256 node
 sealed_is node sheet size is = ap (λ (t : List ℕ). t ++ sha256 t) (ap (take 16352) is ∙ take_at node (replicate 32 0) 16352 size)
 

@@ -44,7 +44,7 @@ module _ (leaf : LeafNode) (valid : CanBeLeaf leaf) (n : ℕ) (v : Version) (at 
   pub whole_above : IsAbove (take n leaf.versions) v.stamp
   whole_above = record { above = λ w has. (let h = in_front leaf.versions n has.place w has.is in valid.rising.rises has.place n w v h.0 h.1 at) }
 
-  -- there is room for the version behind those before it
+  -- there is room for the version after those before it
   pub whole_fits : length (entries (take n leaf.versions)) + length (entry v) ≤ 16232
   whole_fits =
       let front = ap (λ (t : List Version). length (entries t)) (take_version leaf.versions n v at) ∙ ap length (entries-push (take n leaf.versions) v) ∙ length-append (entries (take n leaf.versions)) (entry v) in

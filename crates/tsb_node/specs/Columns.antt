@@ -94,7 +94,7 @@ pub record CanBeOldColumn (c : ColumnInBlock) : Type 0 where
   pub bounds : AreInOrder c.bounds
   pub follow : OldPartsFollow c
 
--- the octets of a column's page but for the last 32: a node of kind 2 and level 1, the current leaf behind the parts
+-- the octets of a column's page but for the last 32: a node of kind 2 and level 1, the current leaf after the parts
 abbrev pub column_body : ColumnInPage → List ℕ
 column_body c = body 2 1 (length c.parts + 1) c.bounds (flat_map part_octets c.parts ++ current_octets c.current)
 

@@ -3,11 +3,11 @@ use Rattle.std.specs.Prelude.{◌≡◌, ℕ, ◌+◌, List, ◌++◌, length, t
 use Rattle.std.specs.List.{flat_map, AllByRecursion}
 use Rattle.route_model.specs.Keys.{number_of}
 
--- 57 octets, two that say a length, and so many more
+-- 57 octets, two that encode a length, and as many more as the length says
 abbrev pub IsSomeEntry : List ℕ → Type 0
 IsSomeEntry octets = length octets ≡ 59 + number_of (take 2 (drop 57 octets))
 
--- the octets begin with so many entries
+-- the octets begin with this many entries
 pub record BeginsWithEntries (count : ℕ) (octets : List ℕ) : Type 0 where
   pub some : List (List ℕ)
   pub counted : length some ≡ count

@@ -4,8 +4,8 @@ use Rattle.sha2.specs.Sha256.{sha256}
 use Rattle.version_model.specs.declared.bounds.Bounds.{Bounds}
 use Rattle.tsb_node.specs.Numbers.{octets_of, bound_octets}
 
--- Some key and some stamp lie between the bounds, of which none is spelled as a missing bound is: what a writer asks of bounds, beside
--- what their types say.
+-- Some key and some stamp lie between the bounds, none of which is encoded as a missing bound is: what a writer requires of bounds,
+-- beside what their types say.
 pub record AreInOrder (b : Bounds) : Type 0 where
   pub high : IfSome b.high (λ n. (n + 1 < 256 ^ 40) × (b.low < n))
   pub end : IfSome b.end (λ n. (n + 1 < 256 ^ 16) × (b.start < n))

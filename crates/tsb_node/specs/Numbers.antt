@@ -2,7 +2,7 @@
 use Rattle.std.specs.Prelude.{ℕ, List, replicate, Option, Some, None}
 use Rattle.byteorder.specs.Endian.{big_bytes}
 
--- a number in so many octets
+-- a number in `size` octets
 unfoldable pub octets_of : ℕ → ℕ → List ℕ
 octets_of size n = big_bytes size n
 

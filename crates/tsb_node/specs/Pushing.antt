@@ -7,7 +7,7 @@ use Rattle.tsb_node.specs.Leaves.{LeafNode, IsLeafPage, entry, entries}
 abbrev pub version : ℕ → ℕ → Option (List ℕ) → Version
 version key stamp value = record { key = key; stamp = stamp; value = value }
 
--- the leaf with one more version behind the others
+-- the leaf with one more version after the others
 abbrev pub with_version : LeafNode → Version → LeafNode
 with_version leaf v = record leaf { versions = leaf.versions ++ v ∷ [] }
 

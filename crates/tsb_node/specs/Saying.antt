@@ -26,7 +26,7 @@ old_column_said said = record { bounds = said.bounds; parts = said.parts.items }
 abbrev pub key_node_said : KeyNodeSaid → KeyNodeInPage
 key_node_said said = record { level = said.level; bounds = said.bounds; children = said.children.items }
 
--- a reader's refusal: as no node exactly where there is none, for want of memory only where there is one
+-- a reader's error: NotANode exactly where there is no reading, Memory only where there is one
 abbrev pub IsRefusal : {X : Type 0} → (X → Type 0) → ReadFault → Type 0
 IsRefusal Reads NotANode = (x : _) → Reads x → ⊥
 IsRefusal Reads Memory = (x : _) × Reads x

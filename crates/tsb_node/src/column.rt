@@ -89,7 +89,7 @@ fn place_before(area: &[u8], count: u16, stamp: Stamp) -> usize
 }
 
 /// Where the column that begins these octets of a page has its versions at a stamp.
-/// Refused only where they aren't a column, and not always there.
+/// Fails only where they aren't a column, but not in every such case.
 pub fn spot_for(octets: &[u8], stamp: Stamp) -> Result<Spot, NotANode>
     requires size { length octets.now ≡ 16384 }
     ensures spot { (column : ColumnInPage) → BeginsAsColumn column octets.now → MatchResult result (IsSpot column stamp) (λ e. ⊥) }
@@ -119,7 +119,7 @@ pub fn spot_for(octets: &[u8], stamp: Stamp) -> Result<Spot, NotANode>
 }
 
 /// The part of a past in which a stamp lies, of the column of a block that ends at a stamp.
-/// Refused only where the octets aren't such a column, and not always there.
+/// Fails only where the octets aren't such a column, but not in every such case.
 pub fn part_for(octets: &[u8], end: Stamp, stamp: Stamp) -> Result<PartAt, NotANode>
     requires size { length octets.now ≡ 16384 }
     requires before { stamp < end }

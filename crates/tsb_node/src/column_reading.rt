@@ -43,7 +43,7 @@ fn is_next_start(start: Stamp, last: Option<Stamp>, first: Stamp) -> bool
     }
 }
 
-/// Whether octets are just so many parts that follow one another from a start on, all before an end.
+/// Whether octets are exactly `count` parts that follow one another from a start on, all before an end.
 pub fn are_parts(bytes: &[u8], count: u16, start: Stamp, end: &Option<Stamp>) -> bool
     ensures { IsTrue result ↔ ((parts : List PartValue) × AreParts start end.now count bytes.now parts) }
 {
@@ -63,7 +63,7 @@ pub fn are_parts(bytes: &[u8], count: u16, start: Stamp, end: &Option<Stamp>) ->
     rest.is_empty()
 }
 
-/// The parts that octets are, where they are such.
+/// The parts that octets encode, where they encode `count` parts.
 fn parts_kept(alloc: Global, bytes: &[u8], count: u16) -> Result<Vec<Part>, ReadFault>
     ensures parts { IfOk result (λ kept. (start : ℕ) (end : Option ℕ) (parts : List PartValue) → AreParts start end count bytes.now parts → kept.items ≡ parts) }
     ensures refused { (start : ℕ) (end : Option ℕ) (parts : List PartValue) → AreParts start end count bytes.now parts → result ≡ Err ReadFault.NotANode → ⊥ }
@@ -80,7 +80,7 @@ fn parts_kept(alloc: Global, bytes: &[u8], count: u16) -> Result<Vec<Part>, Read
     Ok(kept)
 }
 
-/// The parts that octets are: so many, that follow one another from a start on, all before an end.
+/// The parts that octets encode: `count` of them, which follow one another from a start on, all before an end.
 pub fn parts_in(
     alloc: Global,
     bytes: &[u8],
@@ -111,7 +111,7 @@ fn current_in(bytes: &[u8]) -> Option<Current>
     })
 }
 
-/// Whether a current leaf may stand behind the octets of parts: without parts it starts where the column does.
+/// Whether a current leaf may follow the octets of parts: without parts it starts where the column does.
 fn may_follow(begun: Stamp, front: &[u8], start: Stamp) -> bool
     ensures { IsTrue result ↔ (length front.now ≡ 0 → begun ≡ start) }
 {

@@ -31,7 +31,7 @@ pub struct OldColumnSaid {
     pub parts: Vec<Part>,
 }
 
-/// What the column says whose header and entries in a page these are.
+/// Reads the column whose header and entries in a page these are.
 fn column_in(alloc: Global, header: &Header, entries: &[u8]) -> Result<ColumnSaid, ReadFault>
     requires node { IsNode header.now entries.now }
     ensures column { MatchResult result (λ said. IsColumnOf header.now entries.now (column_said said)) (IsRefusal (IsColumnOf header.now entries.now)) }
@@ -56,7 +56,7 @@ fn column_in(alloc: Global, header: &Header, entries: &[u8]) -> Result<ColumnSai
     }
 }
 
-/// What the column says whose header and entries in a block these are.
+/// Reads the column whose header and entries in a block these are.
 fn read_old_column(
     alloc: Global,
     header: &Header,
@@ -78,7 +78,7 @@ fn read_old_column(
     }
 }
 
-/// What the column says that a page is. Refused as no node exactly where it is no page of a column, and for want of memory only
+/// Reads the column that a page encodes. Fails with NotANode exactly where the page is no page of a column, and with Memory only
 /// where it is one.
 pub fn column_of_page(alloc: Global, page: &Page) -> Result<ColumnSaid, ReadFault>
     ensures column { MatchResult result (λ said. IsColumnPage (column_said said) page.now) (IsRefusal (λ column. IsColumnPage column page.now)) }
@@ -89,7 +89,7 @@ pub fn column_of_page(alloc: Global, page: &Page) -> Result<ColumnSaid, ReadFaul
     column_in(alloc, &header, entries)
 }
 
-/// What the column says that a block is. Refused as no node exactly where it is no block of a column, and for want of memory only
+/// Reads the column that a block encodes. Fails with NotANode exactly where the block is no block of a column, and with Memory only
 /// where it is one.
 pub fn column_of_block(alloc: Global, block: &Block) -> Result<OldColumnSaid, ReadFault>
     ensures column { MatchResult result (λ said. IsColumnBlock (old_column_said said) block.now) (IsRefusal (λ column. IsColumnBlock column block.now)) }

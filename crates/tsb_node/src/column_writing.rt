@@ -45,7 +45,7 @@ fn put_part<K>(sheet: &mut Sheet<K>, at: usize, part: &Part)
     put_place(sheet, at, part.start, octet_of_kind(part.kind), part.block);
 }
 
-/// Writes parts one behind another, behind the header of a node without entries.
+/// Writes parts one after another, after the header of a node without entries.
 fn put_parts<K>(sheet: &mut Sheet<K>, parts: &[Part])
     requires room { 25 * length parts.now ≤ 16232 }
     ensures fits { AllByRecursion IsPartEntry parts.now }
@@ -58,7 +58,7 @@ fn put_parts<K>(sheet: &mut Sheet<K>, parts: &[Part])
     }
 }
 
-/// Makes a page that of a column.
+/// Writes a column over a page.
 pub fn write_column(page: &mut Page, bounds: &Bounds, parts: &[Part], current: Current)
     requires in_page { bounds.now.end ≡ None }
     requires valid { CanBeColumn (record { bounds = bounds.now; parts = parts.now; current = current }) }
@@ -79,7 +79,7 @@ pub fn write_column(page: &mut Page, bounds: &Bounds, parts: &[Part], current: C
     put_place(page, FIRST + 25 * count, current.start, 0, current.page);
 }
 
-/// Makes a block that of a column whose past is at its end.
+/// Writes a column whose past is at its end over a block.
 pub fn write_old_column(block: &mut Block, bounds: &Bounds, parts: &[Part])
     requires in_block { IsSome bounds.now.end }
     requires valid { CanBeOldColumn (record { bounds = bounds.now; parts = parts.now }) }

@@ -26,7 +26,7 @@ pub fn is_of_kind(header: &Header, kind: u8, level: u8) -> bool
     header.kind == kind && header.level == level
 }
 
-/// Whether a key is another one.
+/// Whether two keys are the same.
 pub fn is_same_key(key: Key, other: Key) -> bool
     ensures { IsTrue result ↔ (key ≡ other) }
 {

@@ -1,5 +1,5 @@
 //! The headers of nodes, read alone. A walk through a tree goes on by what they say, and doesn't look at the entries that it doesn't
-//! need: where octets are a node, its header is answered; of other octets nothing is promised but that the call ends.
+//! need: where octets are a node, its header is returned; of other octets nothing is promised but that the call ends.
 
 ghost use Rattle.std.specs.Prelude.{◌≡◌, ◌≤◌, length, IfOk, IsErr, Ok};
 ghost use Rattle.tsb_node.specs.Leaves.{LeafNode, BeginsAsLeaf};
@@ -22,8 +22,8 @@ pub struct KeyNodeHead {
     pub bounds: Bounds,
 }
 
-/// The level and the bounds of the key node that begins these octets. Refused where they are a column; else only where they aren't a key
-/// node, and not always there.
+/// The level and the bounds of the key node that begins these octets. Fails where they are a column; else only where they aren't a key
+/// node, but not in every such case.
 pub fn key_node_head(octets: &[u8]) -> Result<KeyNodeHead, NotANode>
     requires size { length octets.now ≡ 16384 }
     ensures head { (node : KeyNodeInPage) → BeginsAsKeyNode node octets.now → result ≡ Ok (record { level = node.level; bounds = node.bounds }) }
@@ -42,8 +42,8 @@ pub fn key_node_head(octets: &[u8]) -> Result<KeyNodeHead, NotANode>
     })
 }
 
-/// The bounds of the column that begins these octets, a page's or a block's. Refused only where they aren't a column, and not always
-/// there.
+/// The bounds of the column that begins these octets, a page's or a block's. Fails only where they aren't a column, but not in every such
+/// case.
 pub fn column_head(octets: &[u8]) -> Result<Bounds, NotANode>
     requires size { length octets.now ≡ 16384 }
     ensures column { (column : ColumnInPage) → BeginsAsColumn column octets.now → result ≡ Ok column.bounds }
@@ -52,7 +52,8 @@ pub fn column_head(octets: &[u8]) -> Result<Bounds, NotANode>
     bounds_of(octets, 2, 1)
 }
 
-/// The bounds of the leaf that begins these octets, a page's or a block's. Refused only where they aren't a leaf, and not always there.
+/// The bounds of the leaf that begins these octets, a page's or a block's. Fails only where they aren't a leaf, but not in every such
+/// case.
 pub fn leaf_head(octets: &[u8]) -> Result<Bounds, NotANode>
     requires size { length octets.now ≡ 16384 }
     ensures leaf { (leaf : LeafNode) → BeginsAsLeaf leaf octets.now → result ≡ Ok leaf.bounds }

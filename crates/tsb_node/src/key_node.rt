@@ -42,8 +42,8 @@ fn child_before(area: &[u8], count: u16, key: Key) -> usize
     first
 }
 
-/// The child under which a key lies, of the key node that begins these octets: found by halves.
-/// Refused only where they aren't a key node, and not always there.
+/// The child under which a key lies, of the key node that begins these octets: found by binary search.
+/// Fails only where they aren't a key node, but not in every such case.
 pub fn child_for(octets: &[u8], key: Key) -> Result<Under, NotANode>
     requires size { length octets.now ≡ 16384 }
     ensures under { (node : KeyNodeInPage) → BeginsAsKeyNode node octets.now → IsKeyWithin node.bounds key → MatchResult result (IsUnder node key) (λ e. ⊥) }

@@ -44,7 +44,7 @@ fn is_next_low(low: Key, last: Option<Key>, first: Key) -> bool
     }
 }
 
-/// Whether octets are just so many children that follow one another from the lowest key of these bounds on.
+/// Whether octets are exactly `count` children that follow one another from the lowest key of these bounds on.
 pub fn are_children(bytes: &[u8], count: u16, bounds: &Bounds) -> bool
     ensures { IsTrue result ↔ ((children : List ChildValue) × AreChildrenOf bounds.now count bytes.now children) }
 {
@@ -64,7 +64,7 @@ pub fn are_children(bytes: &[u8], count: u16, bounds: &Bounds) -> bool
     rest.is_empty()
 }
 
-/// The children that octets are, where they are such.
+/// The children that octets encode, where they encode `count` children.
 fn children_kept(
     alloc: Global,
     bytes: &[u8],
@@ -86,7 +86,7 @@ fn children_kept(
     Ok(kept)
 }
 
-/// The children that octets are: so many, that follow one another from the lowest key of these bounds on.
+/// The children that octets encode: `count` of them, which follow one another from the lowest key of these bounds on.
 pub fn children_in(
     alloc: Global,
     bytes: &[u8],

@@ -30,7 +30,7 @@ pub fn is_of_key_nodes(header: &Header) -> bool
     header.kind == 3 && header.level >= 2 && header.level <= 7 && header.count > 0
 }
 
-/// What the key node says whose header and entries these are.
+/// Reads the key node whose header and entries these are.
 fn key_node_in(alloc: Global, header: &Header, entries: &[u8]) -> Result<KeyNodeSaid, ReadFault>
     requires node { IsNode header.now entries.now }
     ensures key_node { MatchResult result (λ said. IsKeyNodeOf header.now entries.now (key_node_said said)) (IsRefusal (IsKeyNodeOf header.now entries.now)) }
@@ -52,8 +52,8 @@ fn key_node_in(alloc: Global, header: &Header, entries: &[u8]) -> Result<KeyNode
     }
 }
 
-/// What the key node says that a page is. Refused as no node exactly where it is no key node, and for want of memory only where
-/// it is one.
+/// Reads the key node that a page encodes. Fails with NotANode exactly where the page is no key node, and with Memory only where it
+/// is one.
 pub fn key_node_of_page(alloc: Global, page: &Page) -> Result<KeyNodeSaid, ReadFault>
     ensures key_node { MatchResult result (λ said. IsKeyNodePage (key_node_said said) page.now) (IsRefusal (λ node. IsKeyNodePage node page.now)) }
 {

@@ -9,7 +9,7 @@ use crate::writing::{bounds_fit, eight_octets, key_octets, put_header};
 use disk_models::Page;
 use version_model::{Bounds, Child};
 
-/// Makes a page that of a key node.
+/// Writes a key node over a page.
 pub fn write_key_node(page: &mut Page, level: u8, bounds: &Bounds, children: &[Child])
     requires current { bounds.now.end ≡ None }
     requires valid { CanBeKeyNode (record { level = level; bounds = bounds.now; children = children.now }) }

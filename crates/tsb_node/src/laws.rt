@@ -44,7 +44,7 @@ pub fn headers_are_of_their_nodes()
         → IsHeaderOf 3 node.level (length node.children) node.bounds header }
 {}
 
-/// Octets are the block of a node just where they begin as it does, the node has an end, and they carry their digest.
+/// Octets are the block of a node exactly where they begin as it does, the node has an end, and they carry their digest.
 pub fn blocks_begin_as_their_nodes()
     ensures leaves { (leaf : LeafNode) (octets : List ℕ) → IsLeafBlock leaf octets ↔ (BeginsAsLeaf leaf octets × IsSome leaf.bounds.end × IsWhole octets) }
     ensures columns { (column : ColumnInBlock) (octets : List ℕ) → IsColumnBlock column octets ↔ (BeginsAsOldColumn column octets × IsSome column.bounds.end × IsWhole octets) }
@@ -63,8 +63,8 @@ pub fn sides_are_key_splits()
         → IsFromKey leaf.versions key side }
 {}
 
-/// The children of a key node follow one another over its keys; and the parts of a column over the stamps of its past, each in a block
-/// of a lower number where the tree sees to that. What a look-up answers is one of them, with its own keys or stamps.
+/// The children of a key node follow one another over its keys; and the parts of a column over the stamps of its past, each in a block of
+/// a lower number where the tree sees to that. A lookup returns one of them, with its own keys or stamps.
 pub fn nodes_say_what_the_tree_asks()
     ensures children { (node : KeyNodeInPage) → IsKeyNode node → AreChildren (keys_between node.bounds) node.children }
     ensures child { (node : KeyNodeInPage) (key : ℕ) (under : Under) → IsUnder node key under

@@ -51,7 +51,7 @@ impl<'a> Value<'a> {
     }
 }
 
-/// The octets aren't a node of the kind that was wanted.
+/// The octets aren't a node of the expected kind.
 #[derive(Clone, Copy, Debug, PartialEq, Eq)]
 pub struct NotANode;
 
@@ -83,7 +83,7 @@ pub fn entry_size(bytes: &[u8]) -> Option<usize>
     Some(size)
 }
 
-/// The last of so many entries that is of the key and not after the stamp, with all that stands behind it.
+/// The last of `count` entries that is of the key and not after the stamp, with all that follows it.
 fn last_of<'a>(
     area: &'a [u8],
     count: u16,
@@ -126,7 +126,7 @@ fn found_at<'a>(bytes: &'a [u8]) -> FoundVersion<'a>
 }
 
 /// What the leaf that begins these octets, a page's or a block's, has for a key at a stamp.
-/// Refused only where they aren't a leaf, and not always there.
+/// Fails only where they aren't a leaf, but not in every such case.
 pub fn find<'a>(
     octets: &'a [u8],
     key: Key,
@@ -146,9 +146,8 @@ pub fn find<'a>(
 /// How many octets the entries of a leaf may fill.
 pub const ROOM: usize = 16_232;
 
-/// Writes a version of the leaf's keys that is later than all behind the others of the leaf in this page, where
-/// there is room for it, and answers whether there was. Refused only where the page isn't a leaf, and not always
-/// there. Where nothing was written the page is as it was.
+/// Appends a version of a key of the leaf in this page, later than all of its versions, where there is room for it, and returns whether
+/// there was. Fails only where the page isn't a leaf, but not in every such case. Where nothing was written the page is as it was.
 pub fn push(page: &mut Page, key: Key, stamp: Stamp, value: Option<&[u8]>) -> Result<bool, NotANode>
     requires short { length (value_spelled (option_map (λ x. x.now) value)) ≤ 3072 }
     ensures pushed { (leaf : LeafNode) → IsLeafPage leaf page.old → IsKeyWithin leaf.bounds key → IsAbove leaf.versions stamp
@@ -172,7 +171,7 @@ pub fn push(page: &mut Page, key: Key, stamp: Stamp, value: Option<&[u8]>) -> Re
     Ok(true)
 }
 
-/// Makes a page that of a leaf without versions.
+/// Writes a leaf without versions over a page.
 pub fn start_leaf(page: &mut Page, bounds: &Bounds)
     requires valid { AreInOrder bounds.now }
     requires current { bounds.now.end ≡ None }

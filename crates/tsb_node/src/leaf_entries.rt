@@ -13,7 +13,7 @@ use crate::numbers::{key_at, number2, stamp_at};
 use std::alloc::{AllocError, Global};
 use version_model::Entry;
 
-/// Whether octets begin with so many entries, whatever these say: what is asked before memory is taken for them.
+/// Whether octets begin with `count` entries, whatever these contain: checked before memory is taken for them.
 pub fn begins_with_entries(octets: &[u8], count: u16) -> bool
     ensures { IsTrue result ↔ BeginsWithEntries count octets.now }
 {
@@ -53,7 +53,7 @@ pub fn entry_of(alloc: Global, bytes: &[u8]) -> Result<Entry, AllocError>
     })
 }
 
-/// Puts an item behind the others.
+/// Appends an item to the others.
 pub fn keep<T: Drop>(kept: &mut Vec<T>, item: T) -> Result<(), AllocError>
     ensures { OnOk result (kept.new.items ≡ kept.old.items ++ item ∷ []) }
 {
@@ -61,8 +61,8 @@ pub fn keep<T: Drop>(kept: &mut Vec<T>, item: T) -> Result<(), AllocError>
     Ok(())
 }
 
-/// The entries of the leaf that begins these octets. Refused as no node exactly where they don't hold as many entries as they
-/// count, as a leaf does; and for want of memory only where they do.
+/// The entries of the leaf that begins these octets. Fails with NotANode exactly where they don't hold as many entries as they
+/// count, as a leaf does; and with Memory only where they do.
 pub fn entries_in(alloc: Global, octets: &[u8]) -> Result<Vec<Entry>, ReadFault>
     requires size { length octets.now ≡ 16384 }
     ensures entries { IfOk result (λ all. (leaf : LeafNode) → BeginsAsLeaf leaf octets.now → versions_of all.items ≡ leaf.versions) }

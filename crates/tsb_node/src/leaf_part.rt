@@ -20,7 +20,7 @@ use version_model::{Entry, Stamp};
 /// Why octets are not read.
 #[derive(Clone, Copy, Debug, PartialEq, Eq)]
 pub enum ReadFault {
-    /// They aren't a node of the kind that was wanted.
+    /// They aren't a node of the expected kind.
     NotANode,
     /// There was no memory for what they say.
     Memory,
@@ -55,9 +55,9 @@ fn is_entry_of(bytes: &[u8], key: Key, from: Stamp, end: Option<Stamp>) -> bool
     }
 }
 
-/// The versions of the key from a stamp on and before the end, ends of it included, in the order of their stamps, of the leaf
-/// that begins these octets. Refused as no node exactly where they don't hold as many entries as they count, as a leaf does;
-/// and for want of memory only where they do.
+/// The versions of the key from a stamp on and before the end, ends of it included, in the order of their stamps, of the leaf that
+/// begins these octets. Fails with NotANode exactly where they don't hold as many entries as they count, as a leaf does; and with
+/// Memory only where they do.
 pub fn part(
     alloc: Global,
     octets: &[u8],

@@ -38,7 +38,7 @@ fn version_size(bytes: &[u8], bounds: &Bounds) -> Option<usize>
     Some(size)
 }
 
-/// Whether an entry of this tag and size is an end that has octets behind its length.
+/// Whether an entry of this tag and size is an end that has octets after its length.
 fn is_end_with_octets(tag: u8, size: usize) -> bool
     ensures { IsTrue result ↔ ((tag ≡ 0) × (59 < size)) }
 {
@@ -55,7 +55,7 @@ fn is_after(stamp: Stamp, last: Option<Stamp>) -> bool
     }
 }
 
-/// Whether the octets are so many entries of a leaf of these bounds.
+/// Whether the octets are exactly `count` entries of a leaf of these bounds.
 fn are_entries(bytes: &[u8], count: u16, bounds: &Bounds) -> bool
     ensures { IsTrue result ↔ AreEntries bounds.now count bytes.now }
 {
@@ -90,7 +90,7 @@ fn leaf_bounds(header: &Header, entries: &[u8]) -> Option<Bounds>
     Some(header.bounds)
 }
 
-/// The bounds of the leaf that a page is, or none where it is no leaf.
+/// The bounds of the leaf in a page, or none where the page is no leaf.
 pub fn read_leaf(page: &Page) -> Option<Bounds>
     ensures found { IfSome result (λ bounds. (leaf : LeafNode) × IsLeafPage leaf page.now × (leaf.bounds ≡ bounds)) }
     ensures none { IfNone result ((leaf : LeafNode) → IsLeafPage leaf page.now → ⊥) }
@@ -101,7 +101,7 @@ pub fn read_leaf(page: &Page) -> Option<Bounds>
     leaf_bounds(&header, entries)
 }
 
-/// The bounds of the leaf that a block is, or none where it is no leaf.
+/// The bounds of the leaf in a block, or none where the block is no leaf.
 pub fn read_leaf_block(block: &Block) -> Option<Bounds>
     ensures found { IfSome result (λ bounds. (leaf : LeafNode) × IsLeafBlock leaf block.now × (leaf.bounds ≡ bounds)) }
     ensures none { IfNone result ((leaf : LeafNode) → IsLeafBlock leaf block.now → ⊥) }

@@ -18,8 +18,7 @@ pub struct LeafSaid {
     pub entries: Vec<Entry>,
 }
 
-/// What the leaf says that a page is. Refused as no node exactly where it is no leaf, and for want of memory only
-/// where it is one.
+/// Reads the leaf that a page encodes. Fails with NotANode exactly where the page is no leaf, and with Memory only where it is one.
 pub fn leaf_of_page(alloc: Global, page: &Page) -> Result<LeafSaid, ReadFault>
     ensures leaf { MatchResult result (λ said. IsLeafPage (leaf_said said) page.now) (IsRefusal (λ leaf. IsLeafPage leaf page.now)) }
 {
@@ -32,8 +31,8 @@ pub fn leaf_of_page(alloc: Global, page: &Page) -> Result<LeafSaid, ReadFault>
     }
 }
 
-/// What the leaf says that a block is. Refused as no node exactly where it is no leaf, and for want of memory only
-/// where it is one.
+/// Reads the leaf that a block encodes. Fails with NotANode exactly where the block is no leaf, and with Memory only where it is
+/// one.
 pub fn leaf_of_block(alloc: Global, block: &Block) -> Result<LeafSaid, ReadFault>
     ensures leaf { MatchResult result (λ said. IsLeafBlock (leaf_said said) block.now) (IsRefusal (λ leaf. IsLeafBlock leaf block.now)) }
 {

@@ -9,7 +9,7 @@ use disk_models::{Block, Page};
 use once_store::seal;
 use version_model::Stamp;
 
-/// Makes a block that of the leaf in a page, with an end stamp.
+/// Writes the leaf of a page, with an end stamp, over a block.
 pub fn seal_leaf(page: &Page, end: Stamp, block: &mut Block)
     requires { end + 1 < 256 ^ 16 }
     ensures { (leaf : LeafNode) → IsLeafPage leaf page.now → leaf.bounds.start < end → IsLeafBlock (ended leaf end) block.new }

@@ -25,8 +25,8 @@ fn is_within(key: Key, bounds: &Bounds) -> bool
     is_below_high(key, bounds.high)
 }
 
-/// Makes a page that of a leaf of these bounds, with the versions that the leaf in these octets has of their keys.
-/// Refused only where the octets aren't a leaf, and not always there. After a refusal the page holds any octets.
+/// Writes a leaf of these bounds over a page, with the versions of their keys that the leaf in these octets has.
+/// Fails only where the octets aren't a leaf, but not in every such case. After an error the page holds any octets.
 pub fn copy_side(octets: &[u8], bounds: &Bounds, fresh: &mut Page) -> Result<(), NotANode>
     requires size { length octets.now ≡ 16384 }
     requires valid { AreInOrder bounds.now }

@@ -18,7 +18,7 @@ fn octets_of_value(value: &Option<Vec<u8>>) -> Option<&[u8]>
     }
 }
 
-/// Makes a page that of a leaf of these bounds, with the versions of these entries.
+/// Writes a leaf of these bounds over a page, with the versions of these entries.
 pub fn write_leaf(page: &mut Page, bounds: &Bounds, entries: &[Entry])
     requires valid { CanBeLeaf (record { bounds = bounds.now; versions = versions_of entries.now }) }
     requires current { bounds.now.end ≡ None }

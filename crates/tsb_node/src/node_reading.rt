@@ -1,4 +1,4 @@
-//! What all nodes have in common is read: a header, the octets of its entries, zeros behind them, and what ends a page or a block.
+//! Reads what all nodes have in common: a header, the octets of the entries, zeros after them, and what ends a page or a block.
 
 ghost use Rattle.std.specs.Prelude.{List, ℕ, ◌≡◌, ◌↔◌, length, All, IfSome, IfNone, IsTrue};
 ghost use Rattle.tsb_node.specs.inner.NodeReading.{BeginsAsNode, IsNodePage, IsNodeBlock};
@@ -19,8 +19,8 @@ pub fn are_zeros(octets: &[u8]) -> bool
     seen == 0
 }
 
-/// The header of the node with which octets begin, and the octets of its entries. None where they begin as no node does:
-/// its bounds aren't in order, its entries have more octets than there is room for, or octets other than zero stand behind them.
+/// The header of the node with which octets begin, and the octets of its entries. None where they begin as no node does: its bounds
+/// aren't in order, its entries have more octets than there is room for, or octets other than zero follow them.
 pub fn node_in(octets: &[u8]) -> Option<(Header, &[u8])>
     requires size { length octets.now ≡ 16384 }
     ensures found { IfSome result (λ node. BeginsAsNode node.0 node.1.now octets.now) }
@@ -41,7 +41,7 @@ pub fn node_in(octets: &[u8]) -> Option<(Header, &[u8])>
     Some((header, entries))
 }
 
-/// The header of the node that a page is, and the octets of its entries; none where it is no page of a node.
+/// The header of the node in a page, and the octets of its entries; none where it is no page of a node.
 pub fn node_of_page(page: &Page) -> Option<(Header, &[u8])>
     ensures found { IfSome result (λ node. IsNodePage node.0 node.1.now page.now) }
     ensures none { IfNone result ((header : Header) (entries : List ℕ) → IsNodePage header entries page.now → ⊥) }
@@ -59,7 +59,7 @@ pub fn node_of_page(page: &Page) -> Option<(Header, &[u8])>
     Some((header, entries))
 }
 
-/// The header of the node that a block is, and the octets of its entries; none where it is no block of a node.
+/// The header of the node in a block, and the octets of its entries; none where it is no block of a node.
 pub fn node_of_block(block: &Block) -> Option<(Header, &[u8])>
     ensures found { IfSome result (λ node. IsNodeBlock node.0 node.1.now block.now) }
     ensures none { IfNone result ((header : Header) (entries : List ℕ) → IsNodeBlock header entries block.now → ⊥) }

@@ -122,7 +122,7 @@ one_place_at (c ∷ d ∷ cs) zero (suc (suc r)) child key up at lt below le bef
 one_place_at (c ∷ cs) (suc i) (suc r) child key up at lt below le before above =
     ap suc (one_place_at cs i r child key up.1 at lt below (omega (arith, le)) (λ j e less at_j. before (suc j) e (omega (arith, less)) at_j) above)
 
--- behind one child only does a key begin
+-- a key begins after one child only
 pub one_place : (cs : List Child) (i r key : ℕ) → AreAscending (lows_of cs) → BeginsBehind cs i key → r ≤ length cs → ((j : ℕ) (c : Child) → j < r → slice_get cs j ≡ Some c → c.low ≤ key) → ((c : Child) → slice_get cs r ≡ Some c → key < c.low) → r ≡ suc i
 one_place cs i r key up behind le before above = one_place_at cs i r behind.child key up behind.at behind.above behind.below le before above
 
@@ -130,13 +130,13 @@ one_place cs i r key up behind le before above = one_place_at cs i r behind.chil
 pub behind_one : (cs : List Child) (r key : ℕ) (child : Child) → slice_get cs r ≡ Some child → (child.low ≡ key → ⊥) → ((j : ℕ) (c : Child) → j < suc r → slice_get cs j ≡ Some c → c.low ≤ key) → ((c : Child) → slice_get cs (suc r) ≡ Some c → key < c.low) → BeginsBehind cs r key
 behind_one cs r key child at ne before above = record { child = child; at = at; above = (let h = before r child (omega arith) at in omega (arith, h, ne)); below = above }
 
--- a key below the second child isn't behind a later one
+-- a key below the second child isn't after a later one
 above_first : (c : Child) (cs : List Child) (j key : ℕ) → AreAscending (lows_of (c ∷ cs)) → ((d : Child) → slice_get cs 0 ≡ Some d → key < d.low) → BeginsBehind (c ∷ cs) (suc j) key → ⊥
 above_first c [] j key up below b = none-some b.child b.at
 above_first c (d ∷ cs) zero key up below b = (let e = ap (λ (x : Child). x.low) (same_Some d b.child b.at) in let h = below d refl in omega (arith, e, h, b.above))
 above_first c (d ∷ cs) (suc j) key up below b = (let e = all_get d.low cs j b.child up.1.0 b.at in let h = below d refl in omega (arith, e, h, b.above))
 
--- two children behind which a key begins are one
+-- two children after which a key begins are one
 pub one_behind : (cs : List Child) (i j key : ℕ) → AreAscending (lows_of cs) → BeginsBehind cs i key → BeginsBehind cs j key → i ≡ j
 one_behind [] i j key up a b = absurd (none-some a.child a.at)
 one_behind (c ∷ cs) zero zero key up a b = refl

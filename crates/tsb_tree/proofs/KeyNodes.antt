@@ -75,6 +75,6 @@ module _ (node front back : KeyNodeSaid) (wide : IsWide node) (halves : AreKeyHa
       each_at : (cs : List Child) (n : ℕ) → AllByRecursion (λ c. IfSome node.bounds.high (λ n. c.low < n)) cs → slice_get cs n ≡ Some halves.mid → IfSome node.bounds.high (λ n. halves.mid.low < n)
       each_at cs n all at = each_get (λ c. IfSome node.bounds.high (λ n. c.low < n)) cs n halves.mid all at
 
--- below the child behind a child there is a key more
+-- above the lowest key of a child that another one follows there is one more key
 pub mid_fits : (cs : List Child) (n : ℕ) (mid next : Child) → AreAscending (lows_of cs) → slice_get cs n ≡ Some mid → slice_get cs (suc n) ≡ Some next → next.low < 256 ^ 40 → mid.low + 1 < 256 ^ 40
 mid_fits cs n mid next up at at' fits = (let h = rises_next cs n mid next up at at' in omega (arith, h, fits))

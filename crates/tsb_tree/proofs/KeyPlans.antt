@@ -135,7 +135,7 @@ below_next shown key place next lower k lt c at =
     let is : low_or (high_or place.high) (slice_get lower.children (suc lower.child.place)) ≡ c.low = ap (low_or (high_or place.high)) at in
     omega (arith, high, is, lt)
 
--- a new half of the child begins behind it
+-- a new half of the child begins after it
 pub behind_child : (shown : List (List ℕ)) (key : ℕ) (place next : PagePlace) (lower : IsLower shown key place next) (new : ℕ) → next.low < new → new < high_or next.high → BeginsBehind lower.children lower.child.place new
 behind_child shown key place next lower new above below = record {
   child = record { low = next.low; page = next.page };

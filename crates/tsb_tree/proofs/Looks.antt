@@ -1,4 +1,4 @@
--- Looks into a tree, by what its pages show.
+-- Lookups in a tree, by what its pages show.
 use Rattle.std.proofs.Common.{◌≡◌, ℕ, List, Option, Result, Ok, Err, IfOk, IfErr, Bool, refl, sym, subst}
 use Rattle.page_tx.specs.declared.pages.Pages.{Ghosts}
 use Rattle.route_history.specs.Blame.{BlamesNone}
@@ -34,7 +34,7 @@ module _ {P : Type 0} (pages : Ghosts P) (held : P) (root level : ℕ) where
   ok_all Q (Ok a) h = h
   ok_all Q (Err e) h = tt
 
-  -- where no page is called bad, nothing is blamed
+  -- where no page is reported as bad, nothing is blamed
   pub err_none : {A : Type 0} (r : Result A NodeError) (down : Bool) → IfErr r (LookRefusal down)
       → ((blocks : ℕ → Option BlockNode) (all : List Version) → ShowsVersions pages held blocks all root level → (page : ℕ) → r ≡ Err (walks.BadNode page) → ⊥)
       → IfErr r (λ refusal. (blocks : ℕ → Option BlockNode) (all : List Version) → ShowsVersions pages held blocks all root level → BlamesNone refusal)

@@ -168,11 +168,11 @@ tree_wants shown v root level homes next at =
       | inr two ↦ (suc wants.0, (at.0, at.1, at.2, at.3, new_root at.0 wants.0 two), (let few = wants.2 in omega (arith, few)))
     ]
 
--- reading wants no pages
+-- reading needs no pages
 pub read_never_full : (e : TreeError) (down : Bool) → ReadRefusal down e → e ≡ errors.Pages pages.PagesFull → ⊥
 read_never_full e down refused is = subst (λ (x : TreeError). ReadRefusal down x) is refused
 
--- where pages are wanted for what is laid out, or for a half
+-- where pages are lacking for what is laid out, or for a half
 pub layout_full : (e : TreeError) (homes unused : ℕ) → LayoutRefusal homes unused e → e ≡ errors.Pages pages.PagesFull → homes < unused + 2
 layout_full e homes unused refused is = subst (λ (x : TreeError). LayoutRefusal homes unused x) is refused
 

@@ -228,7 +228,7 @@ put_raise (errors.Pages pages.NeedsRecovery) homes unused down is = absurd is
 put_raise (errors.Once refusal) homes unused down is = is
 put_raise errors.OutOfMemory homes unused down is = tt
 
--- a call of the tree that put no block on the shelf, behind one that did
+-- a call of the tree that put no block on the shelf, after one that did
 pub keeps_on : {O Pen Seen A B : Type 0} (device : OnceGhosts O Pen Seen) (old new : Shelf O Pen Seen) (a : A) (r : Result B TreeError) → KeepsShelf device 2 old new (Ok a) → ((e : AppendError) → r ≡ Err (errors.Once e) → ⊥) → KeepsShelf device 2 old new r
 keeps_on device old new a r keeps never = leaves_more device 2 2 old new _ _ _ _ (omega arith) (λ e. absurd (cc)) (λ e. absurd (never appends.Fault e)) (λ e. absurd (never appends.OnceFull e)) keeps
 

@@ -63,7 +63,7 @@ takes_split blocks more burnt next next' next'' w w' leaf' parts v at is stamp f
       });
 }
 
--- the same with what both calls of a shelf tell
+-- the same with what both calls of a shelf leave
 pub took : {O Pen Seen : Type 0} (device : Ghosts O Pen Seen) (old mid new : Shelf O Pen Seen) (column : Option ℕ) (n : ℕ) (w w' : Whole) (leaf : List Version) (parts : List Part) (v : Version) (at start : ℕ)
     → start ≡ w.start → w.leaf ≡ leaf ++ v ∷ [] → v.stamp ≡ at → IsFrom w.leaf at w'.leaf → at < stamp_end → w.start < at → w'.low ≡ w.low → w'.high ≡ w.high → w'.start ≡ at
     → ((blocks : ℕ → Option BlockNode) → ShelfSays device old blocks → MakesRoom device mid blocks (packed w column blocks) (next_of old) w parts)

@@ -73,7 +73,7 @@ pub some_map : (P Q : ℕ → Type 0) (r : Option ℕ) → ((x : ℕ) → P x �
 some_map P Q None f h = tt
 some_map P Q (Some x) f h = f x h
 
--- a page that the tree calls bad is one that the walk does
+-- a page that the tree reports as bad is one that the walk does
 pub bad_from : (r : NodeError) (e : TreeError) (page : ℕ) → e ≡ of_node r → e ≡ errors.BadNode page → r ≡ walks.BadNode page
 bad_from (walks.BadNode n) e page is bad = (let same : errors.BadNode n ≡ errors.BadNode page = sym is ∙ bad in cc)
 bad_from (walks.Damaged n) e page is bad = absurd (let same : errors.Damaged n ≡ errors.BadNode page = sym is ∙ bad in cc)

@@ -87,7 +87,7 @@ reads_then pages a b c F G one nf two = record {
 pub same_Err : {A E : Type 0} (m n : E) → ◌≡◌ {A = Result A E} (Err m) (Err n) → m ≡ n
 same_Err m n e = cc
 
--- the device failed in a walk just where the tree tells that
+-- the device failed in a walk exactly where the tree reports it
 pub fault_of : (e : NodeError) → of_node e ≡ errors.Pages refusals.Fault → e ≡ walks.Fault
 fault_of (walks.BadNode page) is = cc
 fault_of (walks.Damaged block) is = cc
@@ -102,6 +102,6 @@ fault_to {A} e t of is = ap Err (of ∙ ap of_node (same_Err {A = A} e walks.Fau
 pub fault_from : {A B : Type 0} (e : NodeError) (t : TreeError) → t ≡ of_node e → ◌≡◌ {A = Result B TreeError} (Err t) (Err (errors.Pages refusals.Fault)) → ◌≡◌ {A = Result A NodeError} (Err e) (Err walks.Fault)
 fault_from {A} {B} e t of is = ap Err (fault_of e (sym of ∙ same_Err {A = B} t (errors.Pages refusals.Fault) is))
 
--- a refusal that isn't the device's, behind calls that read alone
+-- an error that isn't the device's, after calls that read alone
 pub reads_no : {P A : Type 0} (pages : Ghosts P) (old new : P) (F : Type 0) (e : TreeError) → (◌≡◌ {A = Result A TreeError} (Err e) (Err (errors.Pages refusals.Fault)) → ⊥) → (F → ⊥) → OnlyReads pages old new F → OnlyReads pages old new (◌≡◌ {A = Result A TreeError} (Err e) (Err (errors.Pages refusals.Fault)))
 reads_no pages old new F e not nf reads = reads_as pages old new F _ reads (λ f. absurd (nf f)) (λ is. absurd (not is))

@@ -92,7 +92,7 @@ leaves_err device old new m F G keeps f f' g = record {
       ap (λ (o : OnceState). o.tried i) (puts.same full) ∙ puts.full full i (omega (arith, keeps.forward, from)) to);
 }
 
--- what a call of the tree answers where a node didn't become a block
+-- what a call of the tree returns where a node didn't become a block
 pub err_shelf : {O Pen Seen A : Type 0} (device : Ghosts O Pen Seen) (old new : Shelf O Pen Seen) (m : MigrationError) (r : Result A TreeError) → r ≡ Err (of_migration m) → KeepsShelf device old new (Err m) → TreeKeeps device 1 old new r
 err_shelf {A = A} device old new m r is keeps = rw is (leaves_err device old new m _ _ keeps (λ e. same_TreeErr {A = A} (of_migration m) _ e) (λ e. ap Err e) (λ e. same_TreeErr {A = A} (of_migration m) _ e))
 

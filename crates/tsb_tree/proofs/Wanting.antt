@@ -21,7 +21,7 @@ pub is_half : (o : Option Child) → (o ≡ None → ⊥) → IsSome o
 is_half None some = absurd (some refl)
 is_half (Some new) some = refl
 
--- reading wants neither pages nor blocks
+-- reading lacks neither pages nor blocks
 pub read_wants_none : (e : TreeError) (down : Bool) → ReadRefusal down e → IsForWant e → ⊥
 read_wants_none errors.StampBack down is want = want
 read_wants_none errors.TooHigh down is want = is
@@ -43,7 +43,7 @@ lay_wants_none pages.TooManyImages homes unused count is inside want = want
 lay_wants_none pages.PagesFull homes unused count is inside want = omega (arith, is, inside)
 lay_wants_none pages.OutOfMemory homes unused count is inside want = want
 
--- what is refused for want isn't raised only where what is below is two nodes
+-- raising a change fails for lack of room only where what is below is two nodes
 pub raised_wants : {F : Type 0} (change : Change) (r : Result Change TreeError) → (change.new ≡ None → r ≡ Ok change) → (IsSome change.new → F) → IfErr r (λ e. IsForWant e → F)
 raised_wants change (Ok put) kept up = tt
 raised_wants change (Err e) kept up = λ want. up (is_half change.new (λ none. let h = kept none in absurd (cc)))
@@ -72,11 +72,11 @@ if_err (Err e) each = each e
 pub plan_never_high : (e : TreeError) (homes next level : ℕ) (down : Bool) → PlanRefusal homes next level down e → e ≡ errors.TooHigh → ⊥
 plan_never_high e homes next level down refused is = subst (λ (x : TreeError). PlanRefusal homes next level down x) is refused
 
--- where pages are wanted for what is planned
+-- where pages are lacking for what is planned
 pub plan_full : (e : TreeError) (homes next level : ℕ) (down : Bool) → PlanRefusal homes next level down e → e ≡ errors.Pages pages.PagesFull → homes < next + suc level
 plan_full e homes next level down refused is = subst (λ (x : TreeError). PlanRefusal homes next level down x) is refused
 
--- laying wants none more
+-- laying itself never lacks pages
 pub lay_never_full : (e : PageError) (homes unused count : ℕ) → LayRefusal homes unused count e → unused ≤ homes → of_page e ≡ errors.Pages pages.PagesFull → ⊥
 lay_never_full pages.Fault homes unused count is inside same = cc
 lay_never_full pages.NeedsRecovery homes unused count is inside same = cc

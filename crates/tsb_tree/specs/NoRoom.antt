@@ -25,7 +25,7 @@ pub data LeadsToFullColumn (shown : List (List ℕ)) (v : Version) : PagePlace �
 abbrev pub AtRoot : (PagePlace → Type 0) → ℕ → ℕ → Type 0
 AtRoot fact root level = (place : PagePlace) × (place.page ≡ root) × (place.level ≡ level) × (keys_at place ≡ all_keys) × fact place
 
--- a refusal for want of pages, of blocks or of levels
+-- an error that means a lack of pages, of blocks or of levels
 abbrev pub IsForWant : TreeError → Type 0
 IsForWant errors.StampBack = ⊥
 IsForWant errors.TooHigh = Unit {0}

@@ -13,7 +13,7 @@ use Rattle.version_model.specs.Inserts.{Splits}
 use Rattle.worm_migration.specs.Settled.{ShelfSays}
 use Rattle.tsb_tree.specs.declared.change.Change.{Change}
 
--- The images are of distinct pages of a map of so many. A node of this level needs two of them a level and two more, and one page that
+-- The images are of distinct pages of a map of `homes` pages. A node of this level needs two of them a level and two more, and one page that
 -- was never used a level and one more.
 pub record CanBeLaid (homes next level : ℕ) (change : Change) : Type 0 where
   pub distinct : AreDistinct (pages_of change.images.items)

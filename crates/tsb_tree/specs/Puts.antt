@@ -37,7 +37,7 @@ pub record PutsTwo (page level : ℕ) (k : Keys) (children : List Child) (change
 abbrev pub PutsChild : ℕ → ℕ → Keys → List Child → Change → Change → Type 0
 PutsChild page level k children change put = PutsOne page (KeyNode level k children) change put ⊎ PutsTwo page level k children change put
 
--- The reasons for which a key node doesn't take a child, in so many pages, of which this one is the next that was never used.
+-- The reasons for which a key node doesn't take a child, in this many pages, of which `unused` is the next that was never used.
 abbrev pub PutRefusal : ℕ → ℕ → TreeError → Type 0
 PutRefusal homes unused errors.StampBack = ⊥
 PutRefusal homes unused errors.TooHigh = ⊥

@@ -31,8 +31,8 @@ pub record GrowsRoot (level root : ℕ) (new : Child) (change grown : Change) : 
   pub unused : grown.unused ≡ change.unused + 1
   pub none : grown.new ≡ None
 
--- The images are of distinct pages of a map of so many. A tree of this level needs two of them a level and three more, and one page that
--- was never used a level and two more.
+-- The images are of distinct pages of a map of `homes` pages. A tree of this level needs two of them a level and three more, and one page
+-- that was never used a level and two more.
 pub record TreeCanBeLaid (homes next level : ℕ) (change : Change) : Type 0 where
   pub distinct : AreDistinct (pages_of change.images.items)
   pub below : AreBelow homes (pages_of change.images.items)
@@ -41,7 +41,7 @@ pub record TreeCanBeLaid (homes next level : ℕ) (change : Change) : Type 0 whe
   pub used : change.unused ≤ next + level + 2
   pub inside : change.unused ≤ homes
 
--- the reasons for which a key node isn't read and doesn't take a child, in so many pages, of which this one is the next that was never used
+-- the reasons for which a key node isn't read and doesn't take a child, in this many pages, of which `unused` is the next that was never used
 abbrev pub RaiseRefusal : ℕ → ℕ → Bool → TreeError → Type 0
 RaiseRefusal homes unused down errors.StampBack = ⊥
 RaiseRefusal homes unused down errors.TooHigh = ⊥
@@ -55,7 +55,7 @@ RaiseRefusal homes unused down (errors.Pages pages.NeedsRecovery) = down ≡ tru
 RaiseRefusal homes unused down (errors.Once refusal) = ⊥
 RaiseRefusal homes unused down errors.OutOfMemory = Unit {0}
 
--- the reasons for which a root of this level has no other above it, in so many pages, of which this one is the next that was never used
+-- the reasons for which a root of this level has no other above it, in this many pages, of which `unused` is the next that was never used
 abbrev pub RootRefusal : ℕ → ℕ → ℕ → TreeError → Type 0
 RootRefusal homes unused level errors.StampBack = ⊥
 RootRefusal homes unused level errors.TooHigh = level ≡ 7

@@ -9,8 +9,8 @@ use Rattle.version_model.specs.Pages.{ColumnNode, CurrentLeaf, past_range}
 use Rattle.version_model.specs.Sizes.{octets, entry_octets}
 use Rattle.version_model.specs.Versions.{Version}
 
--- The octets say a column of just the place's keys, whose parts follow one another up to the start of its current leaf. That isn't after
--- the stamp.
+-- The octets say a column of exactly the place's keys, whose parts follow one another up to the start of its current leaf. That isn't
+-- after the stamp.
 pub record IsColumnFor (octets : List ℕ) (place : PagePlace) (stamp : ℕ) (parts : List Part) (start current next : ℕ) : Type 0 where
   pub says : PageSays octets (ColumnNode (keys_at place) parts start current)
   pub are_parts : (parts ≡ []) ⊎ AreParts (past_range (keys_at place) start) parts next
@@ -25,7 +25,7 @@ pub record IsLeafOf (shown : List (List ℕ)) (place : PagePlace) (page : ℕ) (
   pub at : slice_get shown page ≡ Some image
   pub says : PageSays image (CurrentLeaf (keys_at place) start versions)
 
--- The shown pages say a column of just the place's keys and its current leaf. The column's parts follow one another up to the start of
+-- The shown pages say a column of exactly the place's keys and its current leaf. The column's parts follow one another up to the start of
 -- that leaf, which isn't after the stamp.
 pub record IsColumnShown (shown : List (List ℕ)) (place : PagePlace) (stamp : ℕ) : Type 0 where
   pub parts : List Part

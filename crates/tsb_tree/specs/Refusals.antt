@@ -12,7 +12,7 @@ use Rattle.worm_migration.specs.declared.error.MigrationError.TheVariants as mig
 use Rattle.tsb_tree.specs.declared.error.TreeError.{TreeError}
 use Rattle.tsb_tree.specs.declared.error.TreeError.TheVariants as errors
 
--- a refusal of the pages, told by the tree
+-- an error of the pages, as the tree reports it
 abbrev pub of_page : PageError → TreeError
 of_page pages.OutOfMemory = errors.OutOfMemory
 of_page pages.Fault = errors.Pages pages.Fault
@@ -20,7 +20,7 @@ of_page pages.NeedsRecovery = errors.Pages pages.NeedsRecovery
 of_page pages.TooManyImages = errors.Pages pages.TooManyImages
 of_page pages.PagesFull = errors.Pages pages.PagesFull
 
--- a refusal of a walk, told by the tree
+-- an error of a walk, as the tree reports it
 abbrev pub of_node : NodeError → TreeError
 of_node (walks.BadNode page) = errors.BadNode page
 of_node (walks.Damaged block) = errors.Damaged block
@@ -29,13 +29,13 @@ of_node walks.OnceFault = errors.Once appends.Fault
 of_node walks.NeedsRecovery = errors.Pages pages.NeedsRecovery
 of_node walks.OutOfMemory = errors.OutOfMemory
 
--- a refusal to move a node into a block, told by the tree
+-- an error of moving a node into a block, as the tree reports it
 abbrev pub of_migration : MigrationError → TreeError
 of_migration migrations.Fault = errors.Once appends.Fault
 of_migration migrations.OnceFull = errors.Once appends.OnceFull
 of_migration migrations.OutOfMemory = errors.OutOfMemory
 
--- a refusal to read the node in a page, told by the tree
+-- an error of reading the node in a page, as the tree reports it
 abbrev pub of_fault : ReadFault → ℕ → TreeError
 of_fault faults.NotANode page = errors.BadNode page
 of_fault faults.Memory page = errors.OutOfMemory
@@ -55,7 +55,7 @@ abbrev pub IsHonest : {T : Type 0} → Result T TreeError → Type 0
 IsHonest (Ok x) = Unit {0}
 IsHonest (Err error) = BlamesNone error
 
--- the reasons for which no tree is made in so many pages, of which this one was the first that was never used, with images of so many held
+-- the reasons for which no tree is made in `homes` pages, of which `next` was the first that was never used, with images of `named` pages held
 abbrev pub CreateRefusal : ℕ → ℕ → ℕ → TreeError → Type 0
 CreateRefusal homes next named errors.StampBack = ⊥
 CreateRefusal homes next named errors.TooHigh = ⊥
@@ -94,7 +94,7 @@ GrowRefusal (errors.Pages refusal) = ⊥
 GrowRefusal (errors.Once refusal) = Unit {0}
 GrowRefusal errors.OutOfMemory = Unit {0}
 
--- the reasons for which a column isn't laid out in so many pages, of which this one is the next that was never used
+-- the reasons for which a column isn't laid out in this many pages, of which `unused` is the next that was never used
 abbrev pub LayoutRefusal : ℕ → ℕ → TreeError → Type 0
 LayoutRefusal homes unused errors.StampBack = ⊥
 LayoutRefusal homes unused errors.TooHigh = ⊥
@@ -118,8 +118,8 @@ BurnRefusal (errors.Pages refusal) = ⊥
 BurnRefusal (errors.Once refusal) = Unit {0}
 BurnRefusal errors.OutOfMemory = Unit {0}
 
--- The reasons for which a node of this level doesn't take a version, in so many pages, of which this one was the first that was never
--- used. A level needs one page more at most, and the lowest two; what the shelf refuses is said of the shelf.
+-- The reasons for which a node of this level doesn't take a version, in `homes` pages, of which `next` was the first that was never used. A
+-- level needs one page more at most, and the lowest two; what the shelf refuses is stated of the shelf.
 abbrev pub PlanRefusal : ℕ → ℕ → ℕ → Bool → TreeError → Type 0
 PlanRefusal homes next level down errors.StampBack = ⊥
 PlanRefusal homes next level down errors.TooHigh = ⊥
@@ -133,8 +133,8 @@ PlanRefusal homes next level down (errors.Pages pages.NeedsRecovery) = down ≡ 
 PlanRefusal homes next level down (errors.Once refusal) = Unit {0}
 PlanRefusal homes next level down errors.OutOfMemory = Unit {0}
 
--- The reasons for which a tree of this level doesn't take a version of a stamp, where `least` is the least one that may come, with
--- images of so many pages held. A new root needs one page more, and one image more.
+-- The reasons for which a tree of this level doesn't take a version of a stamp, where `least` is the least one that may come, with images
+-- of `named` pages held. A new root needs one page more, and one image more.
 abbrev pub InsertRefusal : ℕ → ℕ → ℕ → ℕ → Bool → ℕ → ℕ → TreeError → Type 0
 InsertRefusal homes next named level down least stamp errors.StampBack = stamp < least
 InsertRefusal homes next named level down least stamp errors.TooHigh = level ≡ 7

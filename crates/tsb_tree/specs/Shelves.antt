@@ -19,7 +19,7 @@ use Rattle.tsb_tree.specs.declared.burning.Burnt.{Burnt}
 use Rattle.tsb_tree.specs.declared.whole.Whole.{Whole}
 use Rattle.tsb_tree.specs.Wholes.{Takes, keys_of_whole}
 
--- at most so many blocks became tried or burnt
+-- at most this many blocks became tried or burnt
 pub record SpendsAtMost (most : ℕ) (old new : OnceState) : Type 0 where
   pub spent : List ℕ
   pub few : length spent ≤ most
@@ -30,16 +30,16 @@ pub record SpendsAtMost (most : ℕ) (old new : OnceState) : Type 0 where
 abbrev pub SpendsOne : {O Pen Seen : Type 0} (device : OnceGhosts O Pen Seen) (old new : Shelf O Pen Seen) → Type 0
 SpendsOne device old new = device.honest (disk_of old) (pen_of old) → SpendsAtMost 1 (device.model (pen_of old)) (device.model (pen_of new))
 
--- What a disk of so many blocks became, while the shelf's next number went from one to another, by at most so many blocks: what was tried
--- or settled stays so, tried blocks stay below the next number, and whatever a crash leaves then, it leaves what was settled before.
+-- What a disk of `count` blocks became, while the shelf's next number went from one to another, by at most `most` blocks: what was tried or
+-- settled stays so, tried blocks stay below the next number, and whatever a crash leaves then, it leaves what was settled before.
 pub record LeavesDisk (most count from to : ℕ) (old new : OnceState) : Type 0 where
   pub grows : DiskGrows old new
   pub spends : SpendsAtMost most old new
   pub below : AreTriedBelow old count from → AreTriedBelow new count to
   pub earlier : (left : Left) → HasSettled new left → HasSettled old left
 
--- What a call leaves of a shelf that puts at most so many blocks on it. The disk stays, follows its model as before, and counts a failure
--- where the call tells of one. The next number never falls, nor leaves the disk. Where the call tells that the disk is full, no blank
+-- What a call leaves of a shelf that puts at most `most` blocks on it. The disk stays, follows its model as before, and counts a failure
+-- where the call reports one. The next number never falls, nor leaves the disk. Where the call reports that the disk is full, no blank
 -- block is left.
 pub record LeavesShelf {O Pen Seen : Type 0} (device : OnceGhosts O Pen Seen) (most : ℕ) (old new : Shelf O Pen Seen) (fault full : Type 0) : Type 0 where
   pub disk : disk_of new ≡ disk_of old
@@ -51,7 +51,7 @@ pub record LeavesShelf {O Pen Seen : Type 0} (device : OnceGhosts O Pen Seen) (m
   pub counted : fault → device.pen_fault_count (pen_of new) ≡ min (device.pen_fault_count (pen_of old) + 1) 18446744073709551615
   pub none_left : device.honest (disk_of old) (pen_of old) → full → AllTried (device.model (pen_of new)) (next_of new) (device.block_count (disk_of old))
 
--- the same, by what a call of the tree answers
+-- the same, by what a call of the tree returns
 abbrev pub KeepsShelf : {O Pen Seen : Type 0} (device : OnceGhosts O Pen Seen) (most : ℕ) (old new : Shelf O Pen Seen) {T : Type 0} → Result T TreeError → Type 0
 KeepsShelf device most old new result = LeavesShelf device most old new (result ≡ Err (errors.Once appends.Fault)) (result ≡ Err (errors.Once appends.OnceFull))
 

@@ -13,7 +13,7 @@ use Rattle.worm_migration.specs.Settled.{ShelfSays}
 use Rattle.tsb_tree.specs.declared.error.TreeError.{TreeError}
 use Rattle.tsb_tree.specs.declared.error.TreeError.TheVariants as errors
 
--- The call set no page, and shows the same ones. A failure of the device is counted where it told of one.
+-- The call set no page, and shows the same ones. A failure of the device is counted where the call reports one.
 abbrev pub ReadsAlone : {P : Type 0} (pages : Ghosts P) (old new : P) {T : Type 0} → Result T TreeError → Type 0
 ReadsAlone pages old new result = OnlyReads pages old new (result ≡ Err (errors.Pages refusals.Fault))
 

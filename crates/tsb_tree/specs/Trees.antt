@@ -32,15 +32,16 @@ pub record AreFirst (page : ℕ) (images : List Image) : Type 0 where
   pub says_column : PageSays column (ColumnNode all_keys [] 0 (page + 1))
   pub says_leaf : PageSays leaf (CurrentLeaf all_keys 0 [])
 
--- These pages tell a tree of no version, whatever blocks say: its root is a column in this page, its leaf is in the next one, and a
--- version to come may have any stamp. No page but these two is told of.
+-- These pages show a tree of no version, whatever blocks say: its root is a column in this page, its leaf is in the next one, and a version
+-- to come may have any stamp. Nothing is stated of any page but these two.
 pub record TellsFirst (pages : List (List ℕ)) (page : ℕ) : Type 0 where
   pub nodes : ℕ → Option PageNode
   pub tells : AreShown pages nodes
   pub own : (n : ℕ) → n < page → nodes n ≡ None
   pub has : (blocks : ℕ → Option BlockNode) (next : ℕ) → TreeHas (record { nodes = nodes; limit = page + 2; blocks = blocks; next = next }) [] page 1 0
 
--- The pages of a transaction show a tree of no version, whatever blocks say. No page but its own is told of, and none before its root.
+-- The pages of a transaction show a tree of no version, whatever blocks say. Nothing is stated of any page but its own, nor of any before
+-- its root.
 pub record ShowsTree {P : Type 0} (pages : Ghosts P) (held : P) (start : Start) (root level least : ℕ) : Type 0 where
   pub shown : List (List ℕ)
   pub shows : pages.shows held start shown
@@ -49,8 +50,8 @@ pub record ShowsTree {P : Type 0} (pages : Ghosts P) (held : P) (start : Start) 
   pub own : (n : ℕ) → n < root → nodes n ≡ None
   pub has : (blocks : ℕ → Option BlockNode) (next : ℕ) → TreeHas (record { nodes = nodes; limit = pages.next held; blocks = blocks; next = next }) [] root level least
 
--- The pages of a transaction and the settled blocks of a shelf show the tree with this root, and it stands for these versions. The pages
--- that are said are those of the tree alone.
+-- The pages of a transaction and the settled blocks of a shelf show the tree with this root, and it stands for these versions. The store
+-- has the pages of the tree alone.
 pub record TreeShown {P : Type 0} (pages : Ghosts P) (held : P) {O Pen Seen : Type 0} (device : OnceGhosts O Pen Seen) (shelf : Shelf O Pen Seen) (start : Start) (shown : List (List ℕ)) (all : List Version) (root level least : ℕ) : Type 0 where
   pub store : Store
   pub is : IsStore pages held device shelf start shown store

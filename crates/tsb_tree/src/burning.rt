@@ -18,15 +18,15 @@ use std::alloc::Global;
 use version_model::{Bounds, Leaf, Part, Stamp};
 use worm_migration::{migrate_column, settle_part};
 
-/// The blocks that a column's split by time was spent on: the one of its whole past, where its page had no room for a part more, and
-/// the one of its leaf.
+/// The blocks that a column's split by time used up: the one of its whole past, where its page had no room for another part, and the one of
+/// its leaf.
 #[derive(Clone, Copy, Debug)]
 pub struct Burnt {
     pub column: Option<u64>,
     pub leaf: u64,
 }
 
-// A column's page has so many parts at most.
+// The most parts that a column's page holds.
 const MOST_PARTS: usize = 648;
 
 // Puts one part in place of all of a column's.
@@ -39,7 +39,7 @@ fn keep_one(whole: &mut Whole, part: Part)
     whole.parts.truncate(1);
 }
 
-// Makes one block of all parts of a column whose page has no room for one more, and tells its number.
+// Makes one block of all parts of a column whose page has no room for one more, and returns its number.
 fn pack<O: OnceDisk + Drop>(
     shelf: &mut Shelf<O>,
     alloc: Global,
@@ -68,7 +68,7 @@ fn pack<O: OnceDisk + Drop>(
     Ok(block)
 }
 
-// Makes room in a column for a part more. Where there is none its whole past becomes a block, whose number is told.
+// Makes room in a column for another part. Where there is none its whole past becomes a block, whose number is returned.
 fn make_room<O: OnceDisk + Drop>(
     shelf: &mut Shelf<O>,
     alloc: Global,
@@ -94,8 +94,8 @@ fn make_room<O: OnceDisk + Drop>(
     }
 }
 
-/// Splits a column by time at the stamp of the last version of its leaf: the leaf as it was, which is in a page, becomes a block and a part
-/// of the column's past, and what goes on stays. A refusal leaves the column good for nothing.
+/// Splits a column by time at the stamp of the last version of its leaf: the leaf as it was, which is in a page, becomes a block and a
+/// part of the column's past, and what goes on stays. After an error the column can't be used.
 pub fn split_by_time<O: OnceDisk + Drop>(
     shelf: &mut Shelf<O>,
     alloc: Global,

@@ -18,7 +18,7 @@ use version_model::{Entry, Leaf, Stamp};
 // How many octets an entry of a leaf takes at most.
 const LARGEST: u64 = 3_131;
 
-/// Puts a copy of a version that is later than all behind the others of a column's leaf.
+/// Appends a copy of a version, later than all others, to a column's leaf.
 pub fn take(whole: &mut Whole, entry: &Entry) -> Result<(), AllocError>
     requires later { IsAbove whole.old.leaf entry.now.stamp }
     ensures taken { OnOk result (whole.new ≡ record whole.old { leaf = whole.old.leaf ++ version_of entry.now ∷ [] }) }

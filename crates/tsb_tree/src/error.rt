@@ -26,7 +26,7 @@ pub enum TreeError {
     /// The block with this number isn't what the page or block above it says of it.
     #[error("block {0} of the write-once disk is damaged")]
     Damaged(u64),
-    /// The pages refused, but for want of memory.
+    /// The pages refused, for a reason other than memory.
     #[error("{0}")]
     Pages(PageError),
     /// The shelf refused.

@@ -31,7 +31,7 @@ use std::alloc::Global;
 use tsb_walk::PagePlace;
 use version_model::{Entry, Stamp};
 
-// The stamp behind another one.
+// The stamp right after another one.
 fn stamp_behind(stamp: Stamp) -> Stamp
     requires end { stamp + 1 < 2 ^ 128 }
     ensures behind { result ≡ stamp + 1 }
@@ -114,12 +114,12 @@ fn planned<P: Pages, O: OnceDisk + Drop>(
     Ok((change, higher))
 }
 
-/// Puts a version into the tree at a place: from its stamp on its key has a value of at most 3,072 octets, or none any more. Tells
-/// where the tree lies then.
+/// Puts a version into the tree at a place: from its stamp on its key has a value of at most 3,072 octets, or none any more. Returns where
+/// the tree is then.
 ///
-/// The stamp must be at least the place's. All images are laid together, behind the last block that is settled, or none. So
-/// after a refusal the tree lies where it lay and stands for the same versions, and no page is set; but a block may be spent, and two
-/// where the column's page has no room for a part more.
+/// The stamp must be at least the place's. All images are laid together, after the last block is settled, or none is. So after an error the
+/// tree is where it was and stands for the same versions, and no page is set; but a block may be used up, and two where the column's page
+/// has no room for another part.
 pub fn insert<P: Pages, O: OnceDisk + Drop>(
     pages: &mut P,
     shelf: &mut Shelf<O>,

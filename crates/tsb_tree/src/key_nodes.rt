@@ -37,8 +37,8 @@ fn is_below(key: Key, high: Option<Key>) -> bool
     }
 }
 
-/// Behind which child of a node another one goes that begins at a key. None where the key isn't among the keys of a child, above the
-/// lowest of them.
+/// After which child of a node a new one goes that begins at a key. None where the key isn't among the keys of a child, above the lowest of
+/// them.
 pub fn place_behind(node: &KeyNodeSaid, key: Key) -> Option<usize>
     requires rising { AreAscending (lows_of node.now.children.items) }
     ensures behind { IfSome result (λ place. BeginsBehind node.now.children.items place key) }

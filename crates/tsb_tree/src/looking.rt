@@ -45,7 +45,7 @@ impl<P: Pages + Drop> Versions for Tree<P> {
 }
 
 impl<P: Pages + Drop> Tree<P> {
-    /// A tree at a place in pages, of which looks take memory.
+    /// A tree at a place in pages. Its lookups allocate from `alloc`.
     pub fn new(alloc: Global, pages: P, place: TreePlace) -> Tree<P>
         requires some { 1 ≤ place.level }
         ensures pages { result.pages ≡ pages }

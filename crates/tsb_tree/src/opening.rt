@@ -38,8 +38,8 @@ fn root_level(page: &Page) -> Option<u8>
     Some(1)
 }
 
-/// Opens the tree with this root, to which versions of stamps from `least` on may come: the header of its root's page has the level. A page
-/// that is called bad is no root, and not each that is none is called bad. Pages are only read.
+/// Opens the tree with this root, to which versions of stamps from `least` on may come: the header of its root's page has the level. A
+/// page that is reported as bad is no root, but not every page that is no root is reported. Pages are only read.
 pub fn open<P: Pages>(pages: &mut P, root: u64, least: Stamp) -> Result<TreePlace, TreeError>
     ensures level { (start : Start) (shown : List (List ℕ)) → P.shows pages.old start shown → IfOk result (λ place. HasRootLevel shown root place.level) }
     ensures bad { (start : Start) (shown : List (List ℕ)) → P.shows pages.old start shown → (page : ℕ) → result ≡ Err (TreeError.BadNode page) → (page ≡ root) × ((level : ℕ) → ShowsRoot shown root level → ⊥) }

@@ -19,10 +19,10 @@ use std::alloc::{AllocError, Global};
 use tsb_node::KeyNodeSaid;
 use version_model::Child;
 
-/// So many children have room in a page.
+/// The most children that have room in a page.
 const MOST_CHILDREN: usize = 338;
 
-// A node with a child more, behind the one at a place.
+// A node with one more child, after the one at a place.
 fn with_child(node: KeyNodeSaid, place: usize, new: Child) -> Result<KeyNodeSaid, AllocError>
     requires within { place < length node.children.items }
     ensures level { IfOk result (λ more. more.level ≡ node.level) }

@@ -26,8 +26,8 @@ fn octets_of_value(value: &Option<Vec<u8>>) -> Option<&[u8]>
     }
 }
 
-/// Writes a version of the leaf's keys that is later than all behind the others of the leaf, where there is room for it, and tells
-/// whether there was. The page of this number is called bad where it isn't a leaf, but not always there.
+/// Appends a version of a key of the leaf, later than all of its versions, where there is room for it, and returns whether there was. The
+/// error names page `n` where the image isn't a leaf, but not in every such case.
 pub fn push_entry(image: &mut Page, n: u64, entry: &Entry) -> Result<bool, TreeError>
     requires small { entry_octets (version_of entry.now) ≤ 3131 }
     ensures pushed { (leaf : LeafNode) → IsLeafPage leaf image.old → IsKeyWithin leaf.bounds entry.now.key → IsAbove leaf.versions entry.now.stamp

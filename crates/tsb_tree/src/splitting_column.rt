@@ -38,8 +38,8 @@ pub struct Unused {
     pub homes: u64,
 }
 
-// So many octets of entries, two thirds of what a page has room for, a leaf keeps at most when it is split by time: the next split is far
-// then.
+// The most octets of entries that a leaf keeps when it is split by time: two thirds of what a page has room for, so that the next split is
+// far off.
 const MOST_KEPT: u64 = 10_821;
 
 // Lays a column out: as one, or as two halves where its leaf keeps too much.

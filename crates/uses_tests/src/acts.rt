@@ -15,7 +15,7 @@ pub enum Tear {
     New,
     /// Half of it.
     Half,
-    /// An open gate.
+    /// The commit flag of an open slot.
     Gate,
 }
 
@@ -67,7 +67,7 @@ pub enum Birth {
     CutOff(Tear, Stop),
 }
 
-/// So many admissions of a second, and of the seconds after it.
+/// A number of admissions, of a second or of it and the seconds after it.
 #[derive(Clone, Copy)]
 pub enum Batch {
     /// Without changes, all of the first second.

@@ -27,8 +27,8 @@ fn cut(rt: &impl Abort, alloc: Global, stop: u64, tear: Tear, lives: bool) {
     assert!(rt; life.is_some() == lives, "{stop}");
 }
 
-// The disk is synced; eight gates, three pages and the identity page but for its first octet are written, and synced; then that octet is
-// written, and synced.
+// The disk is synced; eight commit flags, three pages and the identity page but for its first octet are written, and synced; then that
+// octet is written, and synced.
 #[test]
 fn creations_are_cut_off(rt: HostRuntime) {
     cut(&rt, rt.alloc(), 1, Tear::New, false);

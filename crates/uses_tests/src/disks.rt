@@ -47,7 +47,7 @@ fn crash(alloc: Global, both: &Both, tear: Tear, stop: Stop) -> Option<Both>
     Some(Both { erase, once, pen })
 }
 
-// What opening them answers.
+// What opening them returns.
 fn opened_on(alloc: Global, both: Both) -> Result<Made, Both>
     ensures opens { IfOk result (λ archive. Uses (apart ⟦<MemErase as EraseDisk>⟧ ⟦<MemOnce as OnceDisk>⟧ both.erase both.once.value both.pen) (opened ∷ []) (alone archive)) }
     ensures shuts { IfErr result (λ again. Uses (apart ⟦<MemErase as EraseDisk>⟧ ⟦<MemOnce as OnceDisk>⟧ both.erase both.once.value both.pen) (shut ∷ []) (apart ⟦<MemErase as EraseDisk>⟧ ⟦<MemOnce as OnceDisk>⟧ again.erase again.once.value again.pen)) }
@@ -139,7 +139,7 @@ pub(crate) fn cut_apply(alloc: Global, archive: Made, tear: Tear) -> Option<Next
     opened_until(alloc, &both, tear, Stop::Never)
 }
 
-// New disks of so many pages and blocks, which stop so.
+// New disks of `pages` pages and `blocks` blocks, which stop so.
 fn blank(alloc: Global, pages: u16, blocks: u64, stop: Stop) -> Option<Both>
     ensures none { IfSome result (λ both. (left : Left) → LeftNow (state_of (calls_of both.erase)) (once_model both.pen) left → HoldsNone left.erase) }
 {

@@ -70,7 +70,7 @@ fn play(alloc: Global, archive: Made, script: &[Act]) -> Option<Life>
     Some(Life { archive, turns })
 }
 
-// A new archive on disks of so many pages and blocks.
+// A new archive on disks of `pages` pages and `blocks` blocks.
 fn made(alloc: Global, pages: u16, blocks: u64, settings: Settings) -> Option<Made>
     requires settings { AreSettings settings }
     ensures lives { IfSome result (λ archive. Lives settings [] (alone archive)) }
@@ -86,7 +86,7 @@ fn made(alloc: Global, pages: u16, blocks: u64, settings: Settings) -> Option<Ma
     }
 }
 
-// An archive on new disks of so many pages and blocks, that comes to be so.
+// An archive on new disks of `pages` pages and `blocks` blocks, that comes to be so.
 fn born(alloc: Global, pages: u16, blocks: u64, settings: Settings, birth: Birth) -> Option<Made>
     requires settings { AreSettings settings }
     ensures born { IfSome result (IsBorn settings birth) }
@@ -97,8 +97,8 @@ fn born(alloc: Global, pages: u16, blocks: u64, settings: Settings, birth: Birth
     }
 }
 
-/// Makes an archive on disks of so many pages and blocks, and plays a script on it. None where no archive comes to be on them, both disks
-/// can't be opened after a crash, or there is no memory.
+/// Makes an archive on disks of `pages` pages and `blocks` blocks, and plays a script on it. None where no archive comes to be on them,
+/// both disks can't be opened after a crash, or there is no memory.
 pub fn live(
     alloc: Global,
     pages: u16,

@@ -12,7 +12,7 @@ use Rattle.worm_migration.specs.declared.error.MigrationError.{MigrationError}
 use Rattle.worm_migration.specs.Settled.{IsSettledAs, AreSettled, with_block}
 use Rattle.worm_migration.specs.Shelves.{KeepsShelf, SettlesAs}
 
--- what is settled was tried, so nothing is said of a blank block
+-- what is settled was tried, so no node is stated for a blank block
 none_said : (o : OnceState) (count from n : ℕ) (blocks : ℕ → Option BlockNode) → IsOnceSound o → IsFirstBlank o count from n → n < count → AreSettled o count blocks → (said : Option BlockNode) → blocks n ≡ said → blocks n ≡ None
 none_said o count from n blocks sound first inside are None e = e
 none_said o count from n blocks sound first inside are (Some node) e =

@@ -7,7 +7,7 @@ use Rattle.once_store.specs.Shelves.{disk_of, pen_of}
 use Rattle.version_model.specs.Blocks.{BlockNode}
 use Rattle.tsb_node.specs.Views.{BlockSays}
 
--- on a disk of so many blocks the one with this number is settled, and its octets say this node
+-- on a disk of `count` blocks, block `n` is settled, and its octets say this node
 pub record IsSettledAs (o : OnceState) (count n : ℕ) (node : BlockNode) : Type 0 where
   pub inside : n < count
   pub octets : List ℕ

@@ -10,17 +10,17 @@ use Rattle.worm_migration.specs.declared.error.MigrationError.{MigrationError}
 use Rattle.worm_migration.specs.declared.error.MigrationError.TheVariants.{Fault, OnceFull, OutOfMemory}
 use Rattle.worm_migration.specs.Settled.{HasSettledAs, ShelfSays, with_block}
 
--- the number of the block that an answer tells, or the refusal
+-- the number of the block that a result names, or the error
 abbrev pub told : {A : Type 0} → (A → ℕ) → Result A MigrationError → Result ℕ MigrationError
 told number (Ok answer) = Ok (number answer)
 told number (Err refusal) = Err refusal
 
--- The disk, of so many blocks, where the shelf's next number has gone from one to another. The number that is told was that of the
--- first blank block (blank). At most one block is spent, nothing else is burnt (spends), what was settled stays so (grows), and tried
--- blocks stay below the next number (below). It is full only where no blank block is left (full), where none is left the call is
--- refused (none_left), and then the disk is as it was (same). After a failure of the device the next number has passed over tried
--- blocks alone, or stands just behind the first blank block (failed). In every outcome, whatever a crash leaves of the disk then, it
--- leaves all that was settled before (earlier).
+-- The disk, of `count` blocks, where the shelf's next number has gone from one to another. The returned number was that of the first blank
+-- block (blank). At most one block is spent, nothing else is burnt (spends), what was settled stays so (grows), and tried blocks stay
+-- below the next number (below). It is full only where no blank block is left (full), where none is left the call is refused (none_left),
+-- and then the disk is as it was (same). After a failure of the device the next number has passed over tried blocks alone, or is the one
+-- right after the first blank block (failed). In every outcome, whatever a crash leaves of the disk then, it leaves all that was settled
+-- before (earlier).
 pub record PutsBlock (count from to : ℕ) (old new : OnceState) (result : Result ℕ MigrationError) : Type 0 where
   pub blank : IfOk result (IsFirstBlank old count from)
   pub spends : Spends from to old new
@@ -32,7 +32,7 @@ pub record PutsBlock (count from to : ℕ) (old new : OnceState) (result : Resul
   pub failed : IsErrOf result Fault → HasPassed from to old new ⊎ IsBehindBlank old count from to
   pub earlier : (left : Left) → HasSettled new left → HasSettled old left
 
--- The shelf, of every disk. A block that is told is the last one below the next number, which never falls nor leaves the disk. Want of
+-- The shelf, of every disk. A returned block is the last one below the next number, which never falls nor leaves the disk. Running out of
 -- memory comes before anything is tried, and leaves the shelf as it was. The disk stays, follows its model as before, and counts its
 -- failures. On a disk that follows its model a block is put there, or not.
 pub record KeepsShelf {O Pen Seen : Type 0} (device : Ghosts O Pen Seen) (old new : Shelf O Pen Seen) (result : Result ℕ MigrationError) : Type 0 where

@@ -18,7 +18,7 @@ use std::alloc::Global;
 use tsb_node::write_old_column;
 use version_model::{Bounds, Part, PartKind, Stamp};
 
-/// Makes one block of all parts of a column's past, of the column's keys and up to a stamp, where the last part ends; and tells the one
+/// Makes one block of all parts of a column's past, of the column's keys and up to a stamp, where the last part ends; and returns the one
 /// part that the column keeps for them.
 pub fn migrate_column<O: OnceDisk + Drop>(
     shelf: &mut Shelf<O>,

@@ -23,10 +23,10 @@ use std::alloc::Global;
 use tsb_node::{seal_leaf, write_leaf};
 use version_model::{Bounds, Leaf, Stamp};
 
-/// Makes a block of the leaf in a page as it was until a stamp above its start, and tells the block's number.
+/// Makes a block of the leaf in a page as it was until a stamp above its start, and returns the block's number.
 ///
-/// The page stays; the block has all that it has, in the same octets but for the end and the digest. What it has from the stamp on
-/// counts for nothing in the block.
+/// The page stays; the block has all that it has, in the same octets but for the end and the digest. What it has from the stamp on counts
+/// for nothing in the block.
 pub fn settle_leaf_page<O: OnceDisk + Drop>(
     shelf: &mut Shelf<O>,
     alloc: Global,
@@ -47,7 +47,7 @@ pub fn settle_leaf_page<O: OnceDisk + Drop>(
     settle(shelf, &block)
 }
 
-/// Makes a block of a current leaf as it was until a stamp above its start, and tells the block's number.
+/// Makes a block of a current leaf as it was until a stamp above its start, and returns the block's number.
 pub fn settle_leaf<O: OnceDisk + Drop>(
     shelf: &mut Shelf<O>,
     alloc: Global,

@@ -1,5 +1,5 @@
-//! Old nodes become blocks: the leaf of a column as it was until a stamp, and the parts of a column's past. Once the number of a
-//! block is told, the block is settled.
+//! Old nodes become blocks: the leaf of a column as it was until a stamp, and the parts of a column's past. Once the number of a block is
+//! returned, the block is settled.
 #![tactic(auto)]
 
 mod column;

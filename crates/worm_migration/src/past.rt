@@ -20,7 +20,7 @@ use once_store::Shelf;
 use std::alloc::Global;
 use version_model::{Part, PartKind, Stamp};
 
-/// Puts a part behind the others, where there is room for it.
+/// Appends a part to the others; there must be room for it.
 fn put(parts: &mut Vec<Part>, part: Part)
     requires { vec_len parts.old < vec_capacity parts.old }
     ensures { parts.new.items ≡ parts.old.items ++ part ∷ [] }
@@ -28,8 +28,8 @@ fn put(parts: &mut Vec<Part>, part: Part)
     let _pushed = parts.push(part);
 }
 
-/// Makes a block of the leaf in a page, which starts at `start`, as it was until a stamp above that; puts the block behind the parts
-/// of the leaf's column; and tells its number. A refusal leaves the parts as they were.
+/// Makes a block of the leaf in a page, which starts at `start`, as it was until a stamp above that; puts the block after the parts of
+/// the leaf's column; and returns its number. An error leaves the parts as they were.
 pub fn settle_part<O: OnceDisk + Drop>(
     shelf: &mut Shelf<O>,
     alloc: Global,

@@ -1,4 +1,4 @@
-//! A block is put on a shelf, and settled there before its number is told.
+//! Puts a block on a shelf, and settles it there before its number is returned.
 
 ghost use Rattle.std.specs.Prelude.{IfOk};
 ghost use Rattle.disk_models.specs.Once.{settled_in};
@@ -9,7 +9,7 @@ use crate::error::MigrationError;
 use disk_models::{Block, OnceDisk};
 use once_store::Shelf;
 
-/// Puts a block on a shelf. The shelf settles it before it tells the number.
+/// Puts a block on a shelf. The shelf settles it before it returns the number.
 pub fn settle<O: OnceDisk + Drop>(
     shelf: &mut Shelf<O>,
     block: &Block,

@@ -1,4 +1,4 @@
--- The pages behind a mark, behind a batch, and where more blocks are settled, carry the history of then.
+-- The pages after a mark, after a batch, and where more blocks are settled, carry the history of then.
 use Rattle.std.proofs.Common.{◌≡◌, ◌≢◌, ◌<◌, ◌≤◌, ℕ, ◌+◌, List, [], ◌++◌, length, set, refl, sym, ◌∙◌, ap, subst, inl, inr, arith, Some, length-set, length-append, get_or-set_same, get_or-set_other}
 use Rattle.std.specs.List.{slice_get}
 use Rattle.std.proofs.lemmas.Bool.{cases_lt}

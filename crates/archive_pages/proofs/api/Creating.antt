@@ -19,7 +19,7 @@ use Rattle.archive_pages.proofs.Lanes.{ring_before_tree, lane_as}
 abbrev nothing : Intake
 nothing = record { admitted = []; mark = 0; offered = 0 }
 
--- a lane of which nothing is told
+-- a lane to which nothing was given
 abbrev pub no_lane : Lane
 no_lane = record { offered = 0; admitted = 0; mark = 0; first = 0; used = 0 }
 

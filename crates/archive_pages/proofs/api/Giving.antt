@@ -1,4 +1,4 @@
--- The pages behind a batch that was given carry the history of then.
+-- The pages after a batch that was given carry the history of then.
 use Rattle.std.proofs.Common.{◌≡◌, ℕ, ◌+◌, List, [], ◌++◌, length, sym, ap, subst, Some}
 use Rattle.std.specs.List.{AllByRecursion, slice_get}
 use Rattle.route_model.specs.Admission.{Admitted, IsAdmission}

@@ -1,4 +1,4 @@
--- The pages behind an applied change carry the history of then.
+-- The pages after an applied change carry the history of then.
 use Rattle.std.proofs.Common.{◌≡◌, ◌<◌, ◌≤◌, ℕ, zero, suc, ◌+◌, List, [], ◌∷◌, ◌++◌, length, drop, refl, sym, ◌∙◌, ap, subst, arith, Some, length-set, length-append}
 use Rattle.std.specs.List.{slice_get, slice_set, flat_map}
 use Rattle.std.proofs.lemmas.Bool.{eq-eqb, ne_eqb}

@@ -1,4 +1,4 @@
--- The pages behind an applied change, and the head that passed over it, carry the history that applied the change.
+-- The pages after an applied change, and the head that passed over it, carry the history that applied the change.
 use Rattle.std.proofs.Common.{◌≡◌, ◌<◌, ◌≤◌, ℕ, zero, suc, List, [], ◌∷◌, length, refl, sym, ◌∙◌, ap, subst, inl, inr, arith, Some}
 use Rattle.std.specs.List.{slice_get, slice_set}
 use Rattle.std.proofs.lemmas.Bool.{cases_lt}

@@ -13,7 +13,7 @@ pub record Known : Type 0 where
   pub past : Option Past
   pub numbers : List ℕ
 
--- what a seat knows, whether it is the one that writes, and what it was told last by another seat
+-- what a seat knows, whether it is the one that writes, and what it heard last from another seat
 pub record Sight : Type 0 where
   pub writes : Bool
   pub knows : Known

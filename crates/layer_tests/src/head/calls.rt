@@ -1,4 +1,4 @@
-//! Calls that change a transaction's pages: the head's page, a batch in its ring, and what the head tells.
+//! Calls that change a transaction's pages: the head's page, a batch in its ring, and what the head says.
 
 use super::{begun, given, has_lanes, holds, lane, passed, put, sifted, start};
 use crate::rings::{ONE, SHORTEST};
@@ -67,7 +67,7 @@ fn a_batch_goes_into_its_collectors_ring(rt: HostRuntime) {
         has_lanes(&head, lane(), wanted),
         "what is kept of the second collector",
     );
-    // The second ring begins on page 10: an entry is a length in four octets, and the spelling.
+    // The second ring begins on page 10: an entry is a length in four octets, and the encoding.
     be(&rt, holds(&mut tx, 10, 0, &[0, 0, 0, 67]), "a length");
     be(
         &rt,
@@ -154,7 +154,7 @@ fn is_applied(head: &Head) -> bool {
         && head.root == 20
 }
 
-/// What is kept of a collector of two admissions, of which so many octets are left from this one on.
+/// What is kept of a collector of two admissions, of which `used` octets are left from `first` on.
 fn left(first: u64, used: u64) -> Lane {
     Lane {
         offered: 2,

@@ -69,7 +69,7 @@ fn is_said(head: &Head) -> bool {
         && is_second(&head.lanes[1])
 }
 
-/// Whether a page is read as a head of so many collectors, at most sixteen.
+/// Whether a page is read as a head of `collectors` collectors, at most sixteen.
 fn is_head(alloc: Global, page: &Page, collectors: usize) -> Option<bool> {
     if collectors > 16 {
         return None;

@@ -25,7 +25,7 @@ fn step_of(call: &Call) -> Step {
     }
 }
 
-/// Whether a disk's calls were these, but for so many first ones.
+/// Whether a disk's calls were these, after the first `skipped` ones.
 fn are_steps(disk: &MemErase, skipped: usize, wanted: &[Step]) -> bool {
     let calls = disk.calls().get(skipped..).unwrap_or(&[]);
     calls.len() == wanted.len()

@@ -19,7 +19,8 @@ use std::num::NonZeroUsize;
 pub(super) enum Step {
     /// Sets a page, filled with an octet.
     Set(u64, u8),
-    /// Lays so many of the first pages, filled with an octet; this is then the first page that was never used.
+    /// Lays this many of the first pages, filled with an octet; the last number is then the first page that was never
+    /// used.
     Lay(u64, u8, u64),
     Fetch(u64),
     Fresh,
@@ -29,7 +30,7 @@ pub(super) enum Step {
     Checkpoint,
 }
 
-/// A transaction over the pool of a journal, with room for so many clean pages. Four pages were used.
+/// A transaction over the pool of a journal, with room for `capacity` clean pages. Four pages were used.
 pub(super) fn begun(
     alloc: Global,
     journal: Journal<MemErase>,
@@ -47,7 +48,7 @@ pub(super) fn opened(alloc: Global, disk: MemErase, capacity: usize) -> Option<T
     begun(alloc, Journal::open(alloc, disk).ok()?, capacity)
 }
 
-/// So many of the first pages, each filled with an octet: the first with this one, the next with the next.
+/// The first `count` pages, each filled with an octet: the first with this one, the next with the next.
 pub(super) fn rising(alloc: Global, count: u64, octet: u8) -> Result<Vec<(u64, Page)>, AllocError>
     ensures { IfOk result (λ v. AreBelow count (pages_of v.items)) }
 {
@@ -60,7 +61,7 @@ pub(super) fn rising(alloc: Global, count: u64, octet: u8) -> Result<Vec<(u64, P
     Ok(images)
 }
 
-/// So many of the first pages, filled with an octet.
+/// The first `count` pages, filled with an octet.
 pub(super) fn numbered(
     alloc: Global,
     homes: u64,
@@ -282,8 +283,8 @@ fn pools_of_each_capacity_show_what_is_written(rt: HostRuntime) {
     }
 }
 
-/// Whether the device fails at the last of these steps, in a pool of this capacity, and at none before. It fails at the n-th
-/// read: an opening reads nine times, the identity page and eight gates.
+/// Whether the device fails at the last of these steps, in a pool of this capacity, and at none before. It fails at the n-th read: an
+/// opening reads nine times, the identity page and eight commit flags.
 fn is_read_last(alloc: Global, capacity: usize, n: u64, steps: &[Step]) -> Option<bool> {
     let disk = scripted(alloc, made(alloc)?, Failure::Read(n))?;
     let mut tx = opened(alloc, disk, capacity)?;
@@ -347,7 +348,7 @@ fn the_clean_pages_that_were_used_last_stay(rt: HostRuntime) {
     );
 }
 
-/// Whether a disk was given so many writes home, and so many calls in all.
+/// Whether a disk was given `homes` writes home, and `all` calls in all.
 fn are_calls(disk: &MemErase, homes: usize, all: usize) -> bool {
     let written = disk.calls().iter().filter(|call| match call {
         Call::Write(written) => written.at() >= 265 * PAGE,

@@ -85,8 +85,8 @@ fn a_run_that_is_stopped_leaves_each_post_whole(rt: HostRuntime) {
     }
 }
 
-/// The n-th of the failures of an opening with three open slots of four images. It reads the identity page, eight gates, and
-/// of each slot its number, its count, its page numbers and its images.
+/// The n-th of the failures of an opening with three open slots of four images. It reads the identity page, eight commit flags, and of
+/// each slot its number, its count, its page numbers and its images.
 fn failure_of_an_opening(alloc: Global, n: u64, kind: u8) -> Option<Failure> {
     Some(match n {
         0..=6 => Failure::Write(n, torn(alloc, kind).ok()?),
@@ -118,7 +118,7 @@ fn an_opening_that_is_stopped_loses_nothing(rt: HostRuntime) {
     }
 }
 
-/// The n-th failure of a creation: it reads the first octet, writes eight gates and the identity page in two pieces, and syncs
+/// The n-th failure of a creation: it reads the first octet, writes eight commit flags and the identity page in two pieces, and syncs
 /// three times.
 fn failure_of_a_creation(n: u64) -> Failure {
     match n {

@@ -61,7 +61,7 @@ fn left_by(alloc: Global, disk: &MemErase, kind: u8) -> Option<[u8; 4]> {
     shown(&mut opened(alloc, left, 2)?).ok()
 }
 
-/// Whether after each crash the pages are shown of so many commits, or with the next one.
+/// Whether after each crash the pages are those of the first `done` commits, or of the next one too.
 fn is_left(alloc: Global, disk: &MemErase, run: &Run, done: usize) -> bool {
     for kind in 0..KINDS {
         let left = left_by(alloc, disk, kind);

@@ -8,14 +8,14 @@ use page_tx::{Pages, Tx};
 use route_model::Moment;
 use std::alloc::Global;
 
-/// What is read: the spelling of the first admission, or the times; or the page that is damaged.
+/// What is read: the encoding of the first admission, or the times; or the page that is damaged.
 type Reading<T> = Result<T, u64>;
 
 /// The times of the two admissions.
 const TIMES: [u32; 2] = [1_704_067_200, 7];
 
-/// The octets of the first spelling that may have any value: the time's last four, the collector, the peer's address and
-/// AS number, the two AS numbers of the path, the next hop, and the address octet of a prefix of eight bits.
+/// The octets of the first encoding that may have any value: the time's last four, the collector, the peer's address
+/// and AS number, the two AS numbers of the path, the next hop, and the address octet of a prefix of eight bits.
 const FREE: [(usize, usize); 8] = [
     (4, 8),
     (10, 11),
@@ -31,7 +31,7 @@ const FREE: [(usize, usize); 8] = [
 /// peer's address and AS number.
 const FREE_OF_ENDS: [(usize, usize); 4] = [(4, 8), (10, 11), (12, 16), (28, 32)];
 
-/// Whether an octet of a spelling is in one of these ranges.
+/// Whether an octet of an encoding is in one of these ranges.
 fn is_free(ranges: &[(usize, usize)], at: usize) -> bool {
     ranges.iter().any(|(low, high)| *low <= at && at < *high)
 }
@@ -47,7 +47,7 @@ fn spoil(alloc: Global, tx: &mut Tx<MemErase>, ring: &Ring, place: u64) -> Optio
     tx.set(number, spoiled).ok()
 }
 
-/// Whether this is read as the first admission's spelling.
+/// Whether this is read as the first admission's encoding.
 fn is_first(alloc: Global, tx: &mut Tx<MemErase>, ring: &Ring, wanted: Reading<&[u8]>) -> bool {
     match front(alloc, tx, ring) {
         Ok(Some(found)) => match wanted {
@@ -76,7 +76,7 @@ fn are_times(alloc: Global, tx: &mut Tx<MemErase>, ring: &Ring, wanted: Reading<
     }
 }
 
-/// The time with one of its last four octets changed, of which the first is the octet 4 of a spelling.
+/// The time with one of its last four octets changed, of which the first is the octet 4 of an encoding.
 fn changed(time: u32, octet: usize) -> u32 {
     match octet {
         4 => time ^ 0x8100_0000,
@@ -86,8 +86,8 @@ fn changed(time: u32, octet: usize) -> u32 {
     }
 }
 
-/// The times where the octet k of the first entry is changed: of the length or of the spelling after it. The entry begins on
-/// this page.
+/// The times where the octet k of the first entry is changed: of the length or of the encoding after it. The entry
+/// begins on this page.
 fn first_changed(k: usize, page: u64) -> Reading<[u32; 2]> {
     match k {
         0..=7 => Err(page),
@@ -113,7 +113,7 @@ fn laid(alloc: Global, tx: &mut Tx<MemErase>, empty: Ring, first: u64) -> Option
     Some(ring)
 }
 
-/// Whether this is read as the first admission's spelling and these as the times.
+/// Whether this is read as the first admission's encoding and these as the times.
 fn is_read(
     alloc: Global,
     tx: &mut Tx<MemErase>,
@@ -138,7 +138,7 @@ fn is_read_changed(
         && spoil(alloc, tx, ring, place).is_some()
 }
 
-/// The first spelling where the octet k of its entry is changed, the length's first of all.
+/// The first encoding where the octet k of its entry is changed, the length's first of all.
 fn spelled_changed(k: usize) -> [u8; 67] {
     let mut spelled = ONE;
     if let Some(octet) = spelled.get_mut(k.wrapping_sub(4)) {
@@ -147,7 +147,7 @@ fn spelled_changed(k: usize) -> [u8; 67] {
     spelled
 }
 
-/// Whether what is read is what is wanted where the octet k of the first entry is changed, which begins on page 4.
+/// Whether what is read is as expected where the octet k of the first entry is changed, which begins on page 4.
 fn is_first_entry_read(alloc: Global, tx: &mut Tx<MemErase>, ring: &Ring, k: usize) -> bool {
     let spelled = spelled_changed(k);
     let first = if k >= 4 && is_free(&FREE, k - 4) {
@@ -207,8 +207,8 @@ fn octets_that_are_not_used_change_nothing(rt: HostRuntime) {
     }
 }
 
-/// Whether just so is read of the times of a ring full of entries of 1,024 octets, at the seconds 0 to 15, where one octet is
-/// changed: this entry has this time; or this page is damaged.
+/// Whether exactly this is read of the times of a ring full of entries of 1,024 octets, at the seconds 0 to 15, where
+/// one octet is changed: this entry has this time; or this page is damaged.
 fn are_seconds(
     alloc: Global,
     tx: &mut Tx<MemErase>,
@@ -248,7 +248,7 @@ fn time_changed(k: u32) -> Reading<(u32, u32)> {
     }
 }
 
-/// Whether the first of a full ring is read as is wanted where the octet k of all is changed, and this is its spelling.
+/// Whether the first of a full ring is read as expected where the octet k of all is changed, and this is its encoding.
 fn is_first_of_full(
     alloc: Global,
     tx: &mut Tx<MemErase>,
@@ -288,7 +288,7 @@ fn full(alloc: Global, tx: &mut Tx<MemErase>) -> Option<Ring> {
     Some(ring)
 }
 
-/// Whether what is read of a full ring is what is wanted where the octet k of all is changed. It is mended then.
+/// Whether what is read of a full ring is as expected where the octet k of all is changed. It is mended then.
 fn is_full_read(
     alloc: Global,
     tx: &mut Tx<MemErase>,
@@ -303,7 +303,7 @@ fn is_full_read(
         && spoil(alloc, tx, ring, place).is_some()
 }
 
-/// The spelling of the first admission of a full ring.
+/// The encoding of the first admission of a full ring.
 fn spelling(alloc: Global) -> Option<Vec<u8>> {
     ends(alloc, 0, 328)?.encode(alloc).ok()
 }

@@ -11,7 +11,8 @@ use page_tx::{PageError, Pages, Tx};
 use route_model::{Admission, Moment};
 use std::alloc::Global;
 
-/// Appends so many admissions of 71 octets. Whether so many octets are used then, and images of so many pages are held.
+/// Appends `count` admissions of 71 octets. Returns whether `used` octets are used then, and images of `images` pages
+/// are held.
 fn fills(
     alloc: Global,
     tx: &mut Tx<MemErase>,
@@ -242,7 +243,7 @@ fn no_more_is_taken_than_is_used(rt: HostRuntime) {
     );
 }
 
-/// Holds images of just so many pages, after a ring of forty.
+/// Holds images of exactly `count` pages, after a ring of forty.
 fn hold(alloc: Global, tx: &mut Tx<MemErase>, count: u64) -> Option<()> {
     tx.commit().ok()?;
     for n in 40..count.saturating_add(40) {

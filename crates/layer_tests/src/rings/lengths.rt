@@ -14,7 +14,7 @@ struct Case(u64, u32, u64, Times);
 /// What is read of the times.
 #[derive(Clone, Copy, PartialEq)]
 enum Times {
-    /// So many.
+    /// This many.
     Read(usize),
     /// None, since this page is damaged.
     Damaged(u64),
@@ -23,8 +23,9 @@ enum Times {
 }
 
 /// An entry of 71 octets and one of 52 stand there. From 49,142 on the first wraps after its length and 6 octets of its
-/// time, and from 49,150 on within its length. By a length of 13 the next entry would begin 17 octets later, where the octets
-/// of the spelling from the 13th on are no length that fits; by one of 119 the first entry would be all there is.
+/// time, and from 49,150 on within its length. By a length of 13 the next entry would begin 17 octets later, where the
+/// octets of the encoding from the 13th on are no length that fits; by one of 119 the first entry would be all there
+/// is.
 const CASES: [Case; 18] = [
     Case(100, 0, 3, Times::Damaged(3)),
     Case(100, 7, 3, Times::Damaged(3)),

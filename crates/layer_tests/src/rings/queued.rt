@@ -40,7 +40,7 @@ struct Both {
     drained: u32,
 }
 
-/// How many changes: mostly few, one time in 64 up to 43,678, whose spelling has 131,070 octets.
+/// How many changes: mostly few, one time in 64 up to 43,678, whose encoding has 131,070 octets.
 fn count(numbers: &mut Numbers) -> usize {
     let most = match numbers.below(64) {
         0 => 43_679,
@@ -80,7 +80,8 @@ fn put_plain(alloc: Global, plain: &mut VecDeque<Admission>, batch: &[Admission]
     Some(())
 }
 
-/// Puts a batch into both, where it fits. Whether the ring took it just where the plain queue's octets leave room.
+/// Puts a batch into both, where it fits. Returns whether the ring took it exactly where the plain queue's octets leave
+/// room.
 fn put(alloc: Global, tx: &mut Tx<MemErase>, both: &mut Both, batch: &[Admission]) -> Option<bool> {
     let octets = octets_of_all(batch);
     let fits = both.octets.saturating_add(octets) <= 147_456;
@@ -110,7 +111,7 @@ fn is_popped(
     Some(pop(tx, ring, found.admission()) && same)
 }
 
-/// Takes one out of both. Whether it was the same, or both had none.
+/// Takes one out of both. Returns whether it was the same, or both were empty.
 fn take(alloc: Global, tx: &mut Tx<MemErase>, both: &mut Both) -> Option<bool> {
     let Some(admission) = both.plain.pop_front() else {
         return Some(matches!(front(alloc, tx, &both.ring), Ok(None)));
@@ -228,7 +229,8 @@ struct Seconds {
     ends: [u32; 44],
 }
 
-/// Puts so many admissions of 43 octets, but no more than fit and than are wanted in all, with one second after another.
+/// Puts `most` admissions of 43 octets, but no more than fit and than are left of the whole number, with one second
+/// after another.
 fn put_seconds(alloc: Global, tx: &mut Tx<MemErase>, queue: &mut Seconds, most: u64) -> Option<()> {
     let fit = free(tx, &queue.ring).unwrap_or(0) / 43;
     let left = 16_384u64.saturating_sub(u64::from(queue.given));
@@ -250,7 +252,7 @@ fn is_second_taken(alloc: Global, tx: &mut Tx<MemErase>, queue: &mut Seconds) ->
     Some(pop(tx, &mut queue.ring, found.admission()) && is_next)
 }
 
-/// Takes up to so many out. Whether they came with one second after another.
+/// Takes up to `most` out. Returns whether they came with one second after another.
 fn take_seconds(alloc: Global, tx: &mut Tx<MemErase>, queue: &mut Seconds, most: u64) -> bool {
     for _ in 0..most {
         match is_second_taken(alloc, tx, queue) {
@@ -310,8 +312,8 @@ fn a_queue_wraps_at_each_octet_of_an_entry(rt: HostRuntime) {
     );
 }
 
-/// Whether an admission of 18 octets comes out as it was put, where so many octets lie after the first one up to the end of
-/// a ring of one page.
+/// Whether an admission of 18 octets comes out as it was put, where `before` octets lie from its first one up to the
+/// end of a ring of one page.
 fn is_wrapped(alloc: Global, tx: &mut Tx<MemErase>, before: u64) -> Option<bool> {
     let mut ring = Ring {
         first: PAGE.saturating_sub(before) % PAGE,
@@ -337,7 +339,7 @@ fn an_entry_wraps_at_each_of_its_octets(rt: HostRuntime) {
     }
 }
 
-/// Puts an admission with so many ends of a session.
+/// Puts an admission with `count` ends of a session.
 fn put_ends(
     alloc: Global,
     tx: &mut Tx<MemErase>,

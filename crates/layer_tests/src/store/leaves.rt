@@ -250,8 +250,8 @@ fn parts_of_a_key(rt: HostRuntime) {
     }
 }
 
-/// So many octets that have to be on the lower side at least, and the key of the split. Below key 4 are three values and an end,
-/// below key 6 two values more.
+/// How many octets have to be on the lower side at least, and the key of the split. Below key 4 are three values and an
+/// end, below key 6 two values more.
 const SPLITS: [(u64, Option<u8>); 5] = [
     (0, Some(2)),
     (239, Some(4)),
@@ -268,7 +268,7 @@ fn octets_of_table(alloc: Global) -> Option<u64> {
     Some(leaf.octets())
 }
 
-/// Whether the table's leaf is split at this key for so many octets.
+/// Whether the table's leaf is split at this key for `least` octets.
 fn is_split_at(alloc: Global, least: u64, key: Option<u8>) -> bool {
     let Ok(leaf) = leaf_of(alloc, TABLE.as_slice()) else {
         return false;
@@ -276,7 +276,8 @@ fn is_split_at(alloc: Global, least: u64, key: Option<u8>) -> bool {
     leaf.split_point(least) == key.map(key_of)
 }
 
-// Worked out by hand: an entry has 40 octets of key, 16 of stamp, 1 that tells a value from an end, 2 of length, and its value.
+// Worked out by hand: an entry has 40 octets of key, 16 of stamp, 1 that marks it as a value or an end, 2 of length,
+// and its value.
 #[test]
 fn sizes(rt: HostRuntime) {
     let octets = octets_of_table(rt.alloc());
@@ -307,7 +308,7 @@ const SIDES: [(u64, usize, usize); 11] = [
     (10, 9, 2),
 ];
 
-/// Whether so many versions are on both sides of a time split.
+/// Whether a time split puts `before` versions on the older side and `count` on the newer one.
 fn are_sides(alloc: Global, leaf: &Leaf, at: u64, before: usize, count: usize) -> Option<bool> {
     let older = older_side(alloc, leaf, at)?;
     let newer = newer_side(alloc, leaf, at)?;
@@ -327,8 +328,8 @@ fn what_goes_on_after_a_time_split(rt: HostRuntime) {
     be(&rt, copy.len() == 9, "a copy");
 }
 
-/// Rows, for how many octets there is room, and how many versions the leaf has; none where there is none, since a leaf has rising
-/// stamps, and at most so many octets: a value of one octet takes 60, an end 59.
+/// Rows, how many octets there is room for, and how many versions their leaf has; none where they make no leaf, since a
+/// leaf has rising stamps, and no more octets than there is room for: a value of one octet takes 60, an end 59.
 const LEAVES: [(&[Row], u64, Option<usize>); 6] = [
     (&[], 0, Some(0)),
     (&[(2, 1, Some(10)), (2, 2, None)], 119, Some(2)),
@@ -347,7 +348,7 @@ fn entries_of(alloc: Global, rows: &[Row]) -> Option<Vec<Entry>> {
     Some(entries)
 }
 
-/// Whether the leaf of these rows has so many versions.
+/// Whether the leaf of these rows has `count` versions.
 fn is_leaf(alloc: Global, rows: &[Row], room: u64, count: Option<usize>) -> Option<bool> {
     Some(match Leaf::of(entries_of(alloc, rows)?, room) {
         Some(leaf) => Some(leaf.len()) == count,

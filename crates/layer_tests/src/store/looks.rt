@@ -1,4 +1,4 @@
-//! Looks into nodes built by hand: which child, which part, which versions.
+//! Lookups in nodes built by hand: which child, which part, which versions.
 
 use super::nodes::{LEAF, key_of, page_of};
 use super::spellings::{COLUMN, COLUMN_BLOCK, KEY_NODE, LEAF_BLOCK, block_of};
@@ -110,7 +110,8 @@ fn parted(
     )
 }
 
-/// Whether these are so many versions, the first of them of this stamp and a value that begins with this octet, or an end.
+/// Whether these are `count` versions, the first of them of this stamp and a value that begins with this octet, or an
+/// end.
 fn are_versions(found: &[Entry], count: usize, time: u64, order: u64, octet: Option<u8>) -> bool {
     let Some(first) = found.first() else {
         return false;
@@ -205,7 +206,7 @@ const RIGHT: [(usize, &[u8]); 8] = [
     (179, &[187]),
 ];
 
-/// Whether a leaf's side, of the bounds of this leaf, is just this leaf. `fresh` is written over.
+/// Whether a leaf's side, of the bounds of this leaf, is exactly this leaf. `fresh` is written over.
 fn is_side(leaf: &Page, fresh: &mut Page, wanted: &Page) -> bool {
     let Some(bounds) = read_leaf(wanted) else {
         return false;

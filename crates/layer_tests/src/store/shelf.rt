@@ -21,7 +21,7 @@ fn opened(alloc: Global, disk: MemOnce, pen: MemPen) -> Option<Shelf<MemOnce>> {
     Shelf::open(Arc::new(alloc, disk).ok()?, pen, 0).ok()
 }
 
-/// A shelf over a disk of so many blank blocks, where these calls fail.
+/// A shelf over a disk of `blocks` blank blocks, where these calls fail.
 fn shelf_of(alloc: Global, blocks: u64, script: Vec<OnceFailure>) -> Option<Shelf<MemOnce>> {
     let (disk, mut pen) = MemOnce::new(alloc, blocks);
     pen.set_script(script);
@@ -41,7 +41,7 @@ fn append<O: OnceDisk + Drop>(
 /// What is read of a block: its first octet.
 type Read = Result<u8, BlockError>;
 
-/// What a reader answers of a block.
+/// What a reader returns for a block.
 fn read_by<O: OnceDisk + Drop>(
     reader: &mut ShelfReader<O>,
     seen: &mut O::Seen,
@@ -53,7 +53,7 @@ fn read_by<O: OnceDisk + Drop>(
     }
 }
 
-/// Whether a reader that keeps so many blocks reads just this of these blocks.
+/// Whether a reader that keeps `capacity` blocks reads exactly this of these blocks.
 fn reads<O: OnceDisk + Drop>(
     alloc: Global,
     shelf: &mut Shelf<O>,
@@ -197,7 +197,7 @@ fn a_look_that_fails_is_made_again(rt: HostRuntime) {
     be(&rt, shelf.seen().is_ok(), "the next look");
 }
 
-/// A shelf that was opened in vain, and then again.
+/// A shelf whose first opening failed, and that was then opened again.
 fn opened_again(alloc: Global) -> Option<Shelf<MemOnce>> {
     let (disk, mut pen) = MemOnce::new(alloc, 4);
     pen.set_script(vec![in alloc; OnceFailure::Blank(0)].ok()?);

@@ -281,7 +281,7 @@ fn blocks_of(alloc: Global, fields: &[(usize, &[u8])]) -> Option<Blocks> {
     })
 }
 
-/// The same of a block: it is none with the digest that it had, and any with one of the changed octets.
+/// The same of a block: it is none with its old digest, and any with one of the changed octets.
 fn is_block_changed(alloc: Global, kind: Kind, way: Way, blocks: &mut Blocks, at: usize) -> bool {
     let Some(was) = blocks.block.octets().get(at).copied() else {
         return false;
@@ -355,8 +355,8 @@ fn put_entry(
     Some(())
 }
 
-/// The page of a node of all keys, of so many entries of one size: each has its number in two octets at a place, and a kind
-/// after sixteen octets but for the last; a kind of 0 is none.
+/// The page of a node of all keys, of `count` entries of one size: each has its number in two octets at a place, and a
+/// kind after sixteen octets but for the last; a kind of 0 is none.
 fn full_page(
     alloc: Global,
     header: [u8; 8],
@@ -394,7 +394,7 @@ fn start(page: &mut Page) {
     start_leaf(page, &bounds);
 }
 
-/// Whether a value of so many octets, at most 3,072, is pushed as of a time.
+/// Whether a value of `length` octets, at most 3,072, is pushed as of a time.
 fn is_pushed(page: &mut Page, time: u64, length: usize) -> bool {
     let octets = [7u8; 3072];
     let Some(value) = octets.get(..length) else {

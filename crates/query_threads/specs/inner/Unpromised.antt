@@ -4,7 +4,7 @@ use Rattle.route_meaning.specs.History.{History, IsHistory, settled}
 use Rattle.board.specs.Past.{count_of}
 
 -- A right history that reaches whatever a word may be: its settled watermark is no less than the last mark, and each of its collectors
--- has as many admissions as a count can tell.
+-- has at least as many admissions as the greatest count.
 pub record ReachesAll (h : History) : Type 0 where
   pub right : IsHistory h
   pub watermark : 4294967296 ≤ settled h

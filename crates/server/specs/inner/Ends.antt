@@ -8,7 +8,7 @@ use Rattle.service.specs.declared.refusal.Refusal.TheVariants as refusals
 use Rattle.server.specs.declared.connection.Ending.{Ending}
 use Rattle.server.specs.declared.connection.Ending.TheVariants as endings
 
--- a line that is too long is told, and a failure isn't
+-- a line that is too long is answered, and a failure isn't
 abbrev pub TellsEnd : LineError → Ending → OutputState → OutputState → Type 0
 TellsEnd errors.TooLong ending was now = (ending ≡ endings.Done) × Tells was now (refusal_line refusals.BadRequest)
 TellsEnd (errors.Failed error) ending was now = (ending ≡ endings.Failed) × (now ≡ was)

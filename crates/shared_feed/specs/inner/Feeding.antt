@@ -75,7 +75,7 @@ pub record IsCounted (feeding : Feeding) : Type 0 where
   pub one : 131076 ≤ feeding.limit.octets
   pub few : feeding.limit.octets ≤ 262144
 
--- the feed came behind these records
+-- the feed got past these records
 pub record IsBehind (promised : Type 0) (c : ℕ) (limit : BatchLimits) (v : View) (records : List Told) (feeding : Feeding) (w : View) (was now : OutputState) : Type 0 where
   pub results : List (Result (Option Admitted) ResolveFault)
   pub collector : feeding.collector ≡ c
@@ -89,7 +89,7 @@ pub record IsBehind (promised : Type 0) (c : ℕ) (limit : BatchLimits) (v : Vie
   pub recorded : feeding.counts.records ≡ capped (length records)
   pub skipped : feeding.counts.skipped ≡ capped (skips records)
 
--- the octets are whole records, behind which the feed came, and this rest
+-- the octets are whole records, which the feed got past, and this rest
 pub record Reads (promised : Type 0) (c : ℕ) (limit : BatchLimits) (v : View) (bytes rest : List ℕ) (feeding : Feeding) (w : View) (was now : OutputState) : Type 0 where
   pub items : List Item
   pub framed : GainsFrames bytes rest [] items
@@ -106,11 +106,11 @@ pub record IsRead (promised : Type 0) (c : ℕ) (limit : BatchLimits) (v : View)
   pub holds : IsHeld held rest goes_on
   pub reads : Reads promised c limit v bytes rest feeding w was now
 
--- all the octets were read, or those behind a Length above the limit are left
+-- all the octets were read, or those after a Length above the limit are left
 abbrev pub IsReadOut : Type 0 → ℕ → BatchLimits → View → List ℕ → List ℕ → Feeding → View → OutputState → OutputState → Type 0
 IsReadOut promised c limit v bytes held feeding w was now = (goes_on : Bool) × IsRead promised c limit v bytes held goes_on feeding w was now
 
--- Some of these turns were made when the feed was given up for this, which isn't told yet.
+-- Some of these turns were made when the feed was given up for this, which isn't written yet.
 pub record GivesUp (promised : Type 0) (c : ℕ) (v : View) (turns : List Turn) (w : View) (was now : OutputState) (why : FeedStop) : Type 0 where
   pub made : List Turn
   pub unmade : List Turn
@@ -121,7 +121,7 @@ pub record GivesUp (promised : Type 0) (c : ℕ) (v : View) (turns : List Turn) 
   pub reason : IsReason promised c unmade last w why
   pub since : Since v w
 
--- the feed was given up at one of the items that came behind these records, or before the first of them
+-- the feed was given up at one of the items that came after these records, or before the first of them
 pub record StopsAmong (promised : Type 0) (c : ℕ) (limit : BatchLimits) (v : View) (records : List Told) (items : List Item) (w : View) (was now : OutputState) (why : FeedStop) : Type 0 where
   pub front : List Item
   pub back : List Item

@@ -1,4 +1,4 @@
-//! What the check tells of a tree that stands, and of others.
+//! What the check returns of a tree that stands, and of others.
 
 use super::older::{checked, lay_column, lay_leaf, lay_zeros, older};
 use crate::memory::IN_USE;

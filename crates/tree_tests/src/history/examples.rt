@@ -63,7 +63,7 @@ fn covering(third: u8) -> Select {
     Select::Covering(Address::V6(wide(third, 1)))
 }
 
-/// A prefix of so many bits, at most 128, that contains an address in 2001:db8::/32.
+/// A prefix of `length` bits, at most 128, that contains an address in 2001:db8::/32.
 fn wide_prefix(third: u8, length: u8) -> Prefix {
     Prefix::containing(Address::V6(wide(third, 0)), length.min(128))
 }
@@ -165,7 +165,7 @@ const EVENTS: [(u32, u32, u64, &str); 6] = [
     (0, 6, 0, "events"),
 ];
 
-/// What the first peer said of 10.0.0.0/16 from one moment to another, but for so many.
+/// What the first peer said of 10.0.0.0/16 from one moment to another, without the first `skip` events.
 fn history_of(from: u32, to: u32, skip: u64) -> EventsQuestion {
     EventsQuestion {
         from: moment_of(from),
@@ -198,7 +198,7 @@ fn the_end_of_a_session_ends_its_routes_and_is_told(rt: HostRuntime) {
     }
 }
 
-/// A store of so many prefixes of one peer.
+/// A store of `count` prefixes of one peer.
 fn table_of(alloc: Global, count: u16) -> Option<Example> {
     let mut example = Example::new(alloc)?;
     for number in 0..count {
@@ -237,7 +237,7 @@ fn ends_with(example: &mut Example, end: &str) -> bool {
     }
 }
 
-/// Whether just this row follows the 256th of a table.
+/// Whether exactly this row follows the 256th of a table.
 fn is_followed(example: &mut Example, wanted: &str) -> bool {
     let question = RowsQuestion {
         moment: moment_of(5),
@@ -290,7 +290,7 @@ fn ends_of(alloc: Global) -> Option<Example> {
     Some(example)
 }
 
-/// Whether the events of the whole history, but for so many, begin and end so.
+/// Whether the events of the whole history, without the first `skip`, begin and end so.
 fn are_from_to(example: &mut Example, skip: u64, start: &str, end: &str) -> bool {
     match example.tells(history_of(0, 256, skip)) {
         Some(text) => text.starts_with(start) && text.ends_with(end),

@@ -132,7 +132,7 @@ fn change_text(alloc: Global, change: &Change) -> Option<String> {
     }
 }
 
-/// Of an event the time, and what was said.
+/// The time of an event, and what the peer said.
 fn event_text(alloc: Global, event: &Event) -> Option<String> {
     let time = event.time.seconds();
     let change = change_text(alloc, &event.change)?;

@@ -14,12 +14,12 @@ use std::alloc::{AllocError, Global};
 use tsb_walk::{Found, KeyVersions, Looked, NodeError, Parted, Reached};
 use version_model::{Bounds, Entry, Part, PartKind, Place, Stamp};
 
-/// Versions in the order of their stamps. Each look is answered by going over all of them.
+/// Versions in the order of their stamps. Each lookup goes over all of them.
 #[derive(Drop)]
 pub(super) struct ListStore {
     alloc: Global,
     entries: Vec<Entry>,
-    /// A look for the next key stops at this key.
+    /// A lookup of the next key stops at this key.
     border: Option<Key>,
     /// Where the versions before a stamp lie.
     past: Option<Place>,
@@ -145,7 +145,7 @@ impl ListStore {
     }
 }
 
-/// Puts what a leaf begins with: its highest key, its end, and how many entries it has, of so many octets.
+/// Puts what a leaf begins with: its highest key, its end, and how many entries it has, of `used` octets.
 fn put_header(block: &mut Block, place: &Place, count: u16, used: u16) -> Option<()> {
     let Some(high) = place.bounds.high else {
         return None;
@@ -227,7 +227,7 @@ pub(super) struct Past {
 }
 
 impl Past {
-    /// A shelf with one block: the versions of a store that lie in a place, read by a reader that keeps so many blocks.
+    /// A shelf with one block: the versions of a store that lie in a place, read by a reader that keeps `capacity` blocks.
     pub(super) fn of(
         alloc: Global,
         store: &ListStore,

@@ -1,4 +1,4 @@
-//! Each look at each border: the keys where children begin, the stamps where parts do, and the start of the current leaf.
+//! Each lookup at each border: the keys where children begin, the stamps where parts do, and the start of the current leaf.
 
 use super::spelling::At;
 use super::tree::{Tree, root, whole_tree};
@@ -36,7 +36,7 @@ pub(super) const EARLY: In = Some((0, (0, 0), Some((100, 0)), Some(8)));
 
 pub(super) const LATE: In = Some((3, (100, 0), Some((200, 5)), Some(8)));
 
-/// How far a look comes.
+/// How far a lookup comes.
 #[derive(Clone, Copy, PartialEq)]
 pub(super) enum Comes {
     /// To a key, which has an octet since then.
@@ -59,10 +59,10 @@ fn reach_of(reached: &Reached) -> Comes {
     }
 }
 
-/// What a look for the next key finds: where in the past it is told, and how far it comes.
+/// What a lookup of the next key finds: where in the past it is, and how far it comes.
 pub(super) type Next = Result<(In, Comes), NodeError>;
 
-/// The next key, by way of the place in the past where it is told.
+/// The next key, by way of the place in the past where it is.
 pub(super) fn next_at(tree: &mut Tree, from: u8, at: At) -> Option<Next> {
     let from = key_of(from);
     let stamp = Stamp::new(at.0, at.1);
@@ -100,7 +100,7 @@ fn is_version(entry: &Entry, at: At, octet: Option<u8>) -> bool {
     at_of(entry.stamp) == at && first == octet
 }
 
-/// Whether entries are just these versions.
+/// Whether entries are exactly these versions.
 pub(super) fn are_versions(entries: &[Entry], versions: &[(At, Option<u8>)]) -> bool {
     entries.len() == versions.len()
         && entries
@@ -193,7 +193,7 @@ pub(super) fn all_of(tree: &mut Tree, key: u8) -> Option<Result<Vec<Entry>, Node
     ))
 }
 
-/// Keys and stamps, and what looks for the next key from there on find.
+/// Keys and stamps, and what lookups of the next key from there on find.
 const NEXT: [(u8, At, In, Comes); 27] = [
     // In the first part of the past.
     (0, (0, 0), EARLY, Comes::Past(8)),
@@ -242,7 +242,7 @@ fn the_next_key_is_told_at_each_border(rt: HostRuntime) {
     }
 }
 
-/// A key, a stamp, the block where they are told, the versions, and up to when they are all.
+/// A key, a stamp, the block where its versions are, the versions, and up to when they are all.
 type Told = (u8, At, Option<u64>, Versions, Option<At>);
 
 const PARTS: [Told; 26] = [
@@ -308,7 +308,7 @@ const PARTS: [Told; 26] = [
     (15, (0, 0), None, &[((30, 0), Some(3))], None),
 ];
 
-/// Whether these versions are told, up to when they are all, and they are in this block.
+/// Whether these versions are returned, up to when they are all, and they are in this block.
 pub(super) fn is_part(
     part: &Part,
     block: Option<u64>,
@@ -323,7 +323,7 @@ pub(super) fn is_part(
     }
 }
 
-/// Whether this is told of the versions of a key from a stamp on.
+/// Whether this is returned of the versions of a key from a stamp on.
 fn is_told(tree: &mut Tree, told: &Told) -> bool {
     let (key, from, block, versions, end) = told;
     match part_at(tree, *key, *from) {
@@ -340,7 +340,7 @@ fn the_versions_of_a_key_are_told_part_by_part(rt: HostRuntime) {
     }
 }
 
-/// Keys and stamps, in which block it is told what the key has, and what.
+/// Keys and stamps, in which block the key's value is found, and what it is.
 const VALUES: [(u8, At, Option<u64>, Since); 21] = [
     // In the past.
     (3, (0, u64::MAX), Some(0), None),

@@ -1,5 +1,5 @@
-//! Pages and blocks that someone damaged: each look answers, or names one that isn't what its place asks. Looks read headers and what they
-//! need of the entries; what they pass over a check finds.
+//! Pages and blocks that someone damaged: each lookup returns, or names one that isn't what its place asks. Lookups read headers and
+//! what they need of the entries; what they pass over a check finds.
 
 use super::answers::{
     Comes, EARLY, In, LATE, Next, Part, Since, Versions, all_of, are_versions, at_of, found_at,
@@ -14,7 +14,7 @@ use crate::memory::key_of;
 use crate::{be, be_at};
 use tsb_walk::{KeyVersions, NodeError};
 
-/// What a key has where the look for the next key from it on tells this, and in which block.
+/// What a key has where the lookup of the next key from it on returns this, and in which block.
 fn had(key: u8, told: &(In, Comes)) -> (Option<u64>, Since) {
     let block = match &told.0 {
         Some(place) => Some(place.0),
@@ -49,7 +49,7 @@ fn are_from(key: u8, at: At, since: &Since, part: &KeyVersions) -> bool {
         }
 }
 
-/// Whether a part of the versions of a key says the same as a look for the next key from it on.
+/// Whether a part of the versions of a key says the same as a lookup of the next key from it on.
 fn is_same_part(part: &Part, key: u8, at: At, block: Option<u64>, since: &Since) -> bool {
     match part {
         Ok((place, told)) => *place == block && are_from(key, at, since, told),
@@ -57,8 +57,8 @@ fn is_same_part(part: &Part, key: u8, at: At, block: Option<u64>, since: &Since)
     }
 }
 
-/// Whether the looks for a key and for its versions tell of it what the look for the next key tells; where that is refused, they
-/// are, for the same reason.
+/// Whether the lookups of a key and of its versions return for it what the lookup of the next key returns; where that fails, they fail
+/// for the same reason.
 fn is_same(tree: &mut Tree, key: u8, at: At, wanted: &Next) -> Option<bool> {
     let found = found_at(tree, key, at)?;
     let part = part_at(tree, key, at)?;
@@ -71,7 +71,7 @@ fn is_same(tree: &mut Tree, key: u8, at: At, wanted: &Next) -> Option<bool> {
     })
 }
 
-/// Whether the look for the next key tells this, and the looks for the key and for its versions the same of it.
+/// Whether the lookup of the next key returns this, and the lookups of the key and of its versions the same of it.
 fn is_told(tree: &mut Tree, key: u8, at: At, wanted: &Next) -> bool {
     next_at(tree, key, at) == Some(*wanted) && is_same(tree, key, at, wanted) == Some(true)
 }
@@ -91,7 +91,7 @@ const WAYS: [(u64, u8, At); 11] = [
     (11, 16, (40, 0)),
 ];
 
-/// Why the looks at a key and a stamp are refused, none where they answer: all of them do, or none.
+/// Why the lookups of a key as of a stamp fail, none where they don't: all of them do, or none.
 fn refusal_at(tree: &mut Tree, key: u8, at: At) -> Option<Option<NodeError>> {
     let refusal = next_at(tree, key, at)?.err();
     let found = found_at(tree, key, at)?.err();
@@ -103,8 +103,8 @@ fn refusal_at(tree: &mut Tree, key: u8, at: At) -> Option<Option<NodeError>> {
     }
 }
 
-/// What looks at a key and a stamp tell of the tree as it was put: where, how far the look for the next key comes, what the key has,
-/// and its versions, up to when they are all.
+/// What lookups of a key as of a stamp return of the tree as it was put: where, how far the lookup of the next key comes, what the key
+/// has, and its versions, up to when they are all.
 #[derive(Clone, Copy)]
 struct Whole {
     place: In,
@@ -122,7 +122,7 @@ fn block_of(place: &In) -> Option<u64> {
     }
 }
 
-/// Whether looks at a key and a stamp tell what they tell of the tree as it was put.
+/// Whether lookups of a key as of a stamp return what they return of the tree as it was put.
 fn is_whole(tree: &mut Tree, key: u8, at: At, whole: &Whole) -> Option<bool> {
     let block = block_of(&whole.place);
     let part = part_at(tree, key, at)?;
@@ -133,7 +133,7 @@ fn is_whole(tree: &mut Tree, key: u8, at: At, whole: &Whole) -> Option<bool> {
     )
 }
 
-/// Whether looks that pass a page or a block of which an octet that leads on is turned tell what they told before, or all name
+/// Whether lookups that pass a page or a block of which an octet that leads on is turned return what they returned before, or all name
 /// one page or block as damaged.
 fn is_whole_or_named(tree: &mut Tree, key: u8, at: At, whole: &Whole) -> Option<bool> {
     match refusal_at(tree, key, at)? {
@@ -143,7 +143,7 @@ fn is_whole_or_named(tree: &mut Tree, key: u8, at: At, whole: &Whole) -> Option<
     }
 }
 
-/// What looks tell by way of each page, in the order of WAYS: eight pages that lead on, and three current leaves.
+/// What lookups return by way of each page, in the order of WAYS: eight pages that lead on, and three current leaves.
 const WHOLE: [Whole; 11] = [
     Whole {
         place: None,
@@ -243,10 +243,10 @@ const AFTER_ENTRIES: [usize; 3] = [16_351, 16_352, 16_383];
 /// The first of the pages that are current leaves.
 const FIRST_LEAF: u64 = 9;
 
-/// What looks do where an octet of a header is turned.
+/// What lookups do where an octet of a header is turned.
 #[derive(Clone, Copy)]
 enum Reading {
-    /// They call the page bad, or the block damaged.
+    /// They report the page as bad, or the block as damaged.
     Refused,
     /// They answer as they did.
     PassedOver,
@@ -254,7 +254,7 @@ enum Reading {
     Count,
 }
 
-/// What looks do with an octet of the header of a page: they look at the kind, the unit, the level, the keys, and at the start of a leaf.
+/// What lookups do with an octet of the header of a page: they check the kind, the unit, the level, the keys, and the start of a leaf.
 fn in_page(n: u64, octet: usize) -> Reading {
     match octet {
         0..=3 | 8..=87 => Reading::Refused,
@@ -270,13 +270,13 @@ fn in_page(n: u64, octet: usize) -> Reading {
     }
 }
 
-/// Whether all looks at a key and a stamp call a page bad.
+/// Whether all lookups of a key as of a stamp report a page as bad.
 fn is_bad(tree: &mut Tree, n: u64, key: u8, at: At) -> Option<bool> {
     let bad = NodeError::BadNode(n);
     Some(is_told(tree, key, at, &Err(bad)) && all_of(tree, key)?.err() == Some(bad))
 }
 
-/// Whether looks at a key and a stamp do what they have to where an octet of a page is turned, and a check calls the page bad.
+/// Whether lookups of a key as of a stamp do what they should where an octet of a page is turned, and a check reports the page as bad.
 fn is_header_read(
     tree: &mut Tree,
     n: u64,
@@ -322,8 +322,8 @@ fn is_found(tree: &mut Tree) -> bool {
     )
 }
 
-/// Whether, with each octet of the entries of a page turned, looks tell what they told before, or name what is damaged, and a check
-/// names something. The page is mended then.
+/// Whether, with each octet of the entries of a page turned, lookups return what they returned before, or name what is damaged, and a
+/// check names something. The page is mended then.
 fn are_octets_read(tree: &mut Tree, n: u64, key: u8, at: At, whole: &Whole) -> Option<bool> {
     if !is_whole(tree, key, at, whole)? {
         return Some(false);
@@ -348,7 +348,7 @@ fn each_octet_of_the_entries_of_a_page_that_leads_on_is_read_or_told(rt: HostRun
     }
 }
 
-/// Whether looks answer, or name just this page or block as damaged.
+/// Whether lookups return, or name exactly this page or block as damaged.
 fn is_named(refusal: Option<NodeError>, leaf: NodeError) -> bool {
     match refusal {
         None => true,
@@ -378,18 +378,18 @@ fn each_octet_of_the_entries_of_a_current_leaf_is_read_or_told(rt: HostRuntime) 
     }
 }
 
-/// A page or a block, an octet of it that is turned, a key and a stamp, and what the look for the next key tells then.
+/// A page or a block, an octet of it that is turned, a key and a stamp, and what the lookup of the next key returns then.
 type Told = (u64, usize, u8, At, Next);
 
 /// The first octet of a number turned: what it adds.
 const FAR: u64 = 72_057_594_037_927_936;
 
-/// Whether this is told of a page of which an octet is turned. It is mended then.
+/// Whether this is returned of a page of which an octet is turned. It is mended then.
 fn is_told_of_page(tree: &mut Tree, n: u64, octet: usize, key: u8, at: At, wanted: &Next) -> bool {
     spoil(tree, n, octet).is_some() && is_told(tree, key, at, wanted) && mend(tree, n).is_some()
 }
 
-/// Whether these are told of pages.
+/// Whether these are returned of pages.
 fn are_told_of_pages(tree: &mut Tree, wanted: &[Told]) -> bool {
     for (n, octet, key, at, answer) in wanted {
         if !is_told_of_page(tree, *n, *octet, *key, *at, answer) {
@@ -399,7 +399,7 @@ fn are_told_of_pages(tree: &mut Tree, wanted: &[Told]) -> bool {
     true
 }
 
-/// The two octets of the count of a page's entries. Where more are counted, looks read zeros, as that page 0 is a child.
+/// The two octets of the count of a page's entries. Where more are counted, lookups read zeros, as that page 0 is a child.
 const COUNTS: [Told; 22] = [
     (1, 4, 0, (300, 0), Err(NodeError::BadNode(0))),
     (1, 5, 0, (300, 0), NOW_170),
@@ -514,7 +514,7 @@ fn a_damaged_child_is_bad_or_leads_to_what_is(rt: HostRuntime) {
     be(&rt, are_told_of_pages(&mut tree, &CHILDREN), "key nodes");
 }
 
-/// What is told of the tree as it was put: of time 1, and of now.
+/// What is returned of the tree as it was put: of time 1, and of now.
 const EARLY_160: Next = Ok((EARLY, Comes::To(3, (1, 0), Some(160))));
 
 const NOW_170: Next = Ok((None, Comes::To(3, (150, 0), Some(170))));
@@ -578,7 +578,7 @@ fn a_damaged_column_is_bad_or_leads_to_what_is(rt: HostRuntime) {
     be(&rt, are_told_of_pages(&mut tree, &COLUMNS), "columns");
 }
 
-/// The same of current leaves, where nothing is told of the past.
+/// The same of current leaves, where nothing is returned of the past.
 const LEAVES: [(u64, usize, u8, At, Result<Comes, NodeError>); 25] = [
     // The first version: its key, its stamp, its tag, its length and its value.
     (9, 120, 0, (200, 5), Ok(Comes::To(6, (199, 0), Some(171)))),
@@ -611,7 +611,7 @@ const LEAVES: [(u64, usize, u8, At, Result<Comes, NodeError>); 25] = [
     (11, 239, 16, (40, 0), Ok(Comes::To(200, (40, 0), Some(5)))),
 ];
 
-/// What a look for the next key tells of now.
+/// What a lookup of the next key returns of now.
 fn told_now(answer: &Result<Comes, NodeError>) -> Next {
     match answer {
         Ok(comes) => Ok((None, *comes)),
@@ -629,7 +629,7 @@ fn a_damaged_leaf_is_bad_or_has_other_versions(rt: HostRuntime) {
     }
 }
 
-/// Whether looks at a key now call a page bad.
+/// Whether lookups of a key now report a page as bad.
 fn is_bad_now(tree: &mut Tree, key: u8, n: u64) -> bool {
     is_told(tree, key, (300, 0), &Err(NodeError::BadNode(n)))
 }
@@ -666,12 +666,12 @@ fn turned_of(block: u64, octet: usize) -> Turned {
     }
 }
 
-/// Whether the tree's looks tell this where an octet of a block is turned.
+/// Whether the tree's lookups return this where an octet of a block is turned.
 fn is_told_of_block(tree: &mut Tree, turned: Turned, key: u8, at: At, wanted: &Next) -> bool {
     spoil_block(tree, turned).is_some() && is_told(tree, key, at, wanted)
 }
 
-/// Whether looks tell these of blocks with a digest of what they are then.
+/// Whether lookups return these of blocks with a digest of what they are then.
 fn are_told_of_blocks(tree: &mut Tree, wanted: &[Told]) -> bool {
     for (n, octet, key, at, answer) in wanted {
         if !is_told_of_block(tree, turned_of(*n, *octet), *key, *at, answer) {
@@ -681,7 +681,7 @@ fn are_told_of_blocks(tree: &mut Tree, wanted: &[Told]) -> bool {
     true
 }
 
-/// Of each block, a key and a stamp whose way comes to it, and what they tell.
+/// Of each block, a key and a stamp whose way comes to it, and what lookups return.
 const BLOCK_WAYS: [(u64, u8, At, Comes, In); 4] = [
     (0, 0, (1, 0), Comes::To(3, (1, 0), Some(160)), EARLY),
     (1, 0, (100, 0), Comes::To(3, (1, 0), Some(160)), LATE),
@@ -689,8 +689,8 @@ const BLOCK_WAYS: [(u64, u8, At, Comes, In); 4] = [
     (3, 0, (200, 4), Comes::To(3, (150, 0), Some(170)), LATE),
 ];
 
-/// What looks do with an octet of the header of a block: they look at the kind, the unit, the level, the low key and the stamps. A block may
-/// have more keys than its place.
+/// What lookups do with an octet of the header of a block: they check the kind, the unit, the level, the low key and the stamps. A
+/// block may have more keys than its place.
 fn in_block(octet: usize) -> Reading {
     match octet {
         0..=3 | 8..=47 | 88..=119 => Reading::Refused,
@@ -707,8 +707,8 @@ fn checked_block(n: u64, octet: usize) -> Result<u64, NodeError> {
     }
 }
 
-/// Whether looks do what they have to where an octet of a block is turned, and answer then as before or call the block damaged; and a check
-/// returns what it has to.
+/// Whether lookups do what they should where an octet of a block is turned, and return then what they did before or report the block as
+/// damaged; and a check returns what it should.
 fn is_block_header_read(
     tree: &mut Tree,
     n: u64,
@@ -771,7 +771,7 @@ fn a_damaged_count_of_a_block_answers_or_is_damaged(rt: HostRuntime) {
     );
 }
 
-/// Whether looks answer, or name just the block of which an octet of the entries is turned.
+/// Whether lookups return, or name exactly the block of which an octet of the entries is turned.
 fn is_block_named(tree: &mut Tree, n: u64, key: u8, at: At) -> Option<bool> {
     let end = block_octets(tree.alloc, n)?.len();
     for octet in 120..end {
@@ -783,7 +783,7 @@ fn is_block_named(tree: &mut Tree, n: u64, key: u8, at: At) -> Option<bool> {
     Some(true)
 }
 
-/// What looks tell by way of the column of the past.
+/// What lookups return by way of the column of the past.
 const LAST: Whole = Whole {
     place: LATE,
     comes: Comes::To(3, (150, 0), Some(170)),
@@ -821,7 +821,7 @@ fn each_octet_of_the_entries_of_a_block_is_read_or_told(rt: HostRuntime) {
 /// Octets of a block that is to have another digest where they are turned.
 const UNSEALED: [usize; 6] = [0, 87, 159, 16_351, 16_352, 16_383];
 
-/// Whether looks call a block damaged of which an octet is turned, whose digest is of what it was.
+/// Whether lookups report a block as damaged of which an octet is turned, whose digest is of what it was.
 fn is_unsealed_told(tree: &mut Tree, n: u64, key: u8, at: At) -> bool {
     for octet in UNSEALED {
         let turned = Turned {
@@ -1001,7 +1001,7 @@ fn a_damaged_column_of_the_past_is_named_or_leads_to_what_is(rt: HostRuntime) {
     );
 }
 
-/// Pages, and an octet of each that no look of these tables refuses, or that leads them to another page: the page isn't a node then.
+/// Pages, and an octet of each that no lookup of these tables refuses, or that leads them to another page: the page isn't a node then.
 const UNREFUSED: [(u64, usize); 23] = [
     (2, 159),
     (2, 168),
@@ -1039,14 +1039,14 @@ const UNREFUSED_BLOCKS: [(u64, usize); 7] = [
     (3, 170),
 ];
 
-/// Whether a check calls a page bad of which an octet is turned. It is mended then.
+/// Whether a check reports a page as bad of which an octet is turned. It is mended then.
 fn is_page_found(tree: &mut Tree, n: u64, octet: usize) -> bool {
     spoil(tree, n, octet).is_some()
         && checked(tree) == Some(Err(NodeError::BadNode(n)))
         && mend(tree, n).is_some()
 }
 
-/// Whether a check calls a block damaged of which an octet is turned.
+/// Whether a check reports a block as damaged of which an octet is turned.
 fn is_block_found(tree: &mut Tree, n: u64, octet: usize) -> bool {
     spoil_block(tree, turned_of(n, octet)).is_some()
         && checked(tree) == Some(Err(NodeError::Damaged(n)))

@@ -1,4 +1,4 @@
-//! Nodes spelled octet by octet, as the formats say, without the writers of tsb_node.
+//! Nodes encoded octet by octet, as the formats say, without the writers of tsb_node.
 
 use crate::octets::{add, add_all};
 use std::alloc::Global;

@@ -31,7 +31,7 @@ fn put_entry(page: &mut Page, at: usize, entry: Entry) -> Option<()> {
     Some(())
 }
 
-/// The page of a column of all keys with so many entries, but for these.
+/// The page of a column of all keys whose header counts `count` entries, which are still to be put.
 fn empty_column(alloc: Global, count: u16) -> Option<Page> {
     let mut page = Page::new(alloc).ok()?;
     page.put(0, &[2, 0, 1, 0]);
@@ -83,7 +83,7 @@ fn row_at(stamp: u64) -> Row {
     }
 }
 
-/// So many rows, one at each stamp.
+/// `count` rows, one at each stamp.
 fn rows_of(alloc: Global, count: u64) -> Option<Vec<Row>> {
     let mut rows = Vec::new(alloc);
     for stamp in 0..count {

@@ -81,7 +81,7 @@ fn is_row(entry: &Entry, row: &Row) -> bool {
     entry.key == key_of(row.0) && entry.stamp == stamp_of(row.1) && value == row.2
 }
 
-/// Whether the leaf which stays has just these rows.
+/// Whether the leaf which stays has exactly these rows.
 fn has_rows(leaf: &Leaf, rows: &[Row]) -> bool {
     leaf.len() == rows.len()
         && leaf
@@ -194,7 +194,7 @@ fn a_leaf_with_copies_is_split_again(rt: HostRuntime) {
     }
 }
 
-/// So many rows of the keys below 8, from a generator: one in five is an end.
+/// `count` rows of the keys below 8, from a generator: one in five is an end.
 fn many_rows(alloc: Global, count: u64) -> Option<Vec<Row>> {
     let mut rows = Vec::new(alloc);
     let mut state = 7u64;

@@ -76,7 +76,7 @@ fn failing(alloc: Global, failure: OnceFailure) -> Option<Shelf<MemOnce>> {
     shelf_of(alloc, 8, vec![in alloc; failure].ok()?)
 }
 
-/// Whether a split fails once where this call does, so many blocks are spent by it, and what is tried again is there.
+/// Whether a split fails once where this call does, `spent` blocks are spent by it, and what is tried again is there.
 fn fails_once(alloc: Global, failure: OnceFailure, spent: u64) -> Option<bool> {
     let mut shelf = failing(alloc, failure)?;
     let page = page_of(alloc, &TABLE, 0)?;

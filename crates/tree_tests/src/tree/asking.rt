@@ -68,7 +68,7 @@ pub(super) fn has(tree: &mut Tree, key: u16, stamp: Stamp, wanted: Since) -> boo
     find(tree, key, stamp) == Some(wanted)
 }
 
-/// How far a look for the next key comes from a key.
+/// How far a lookup of the next key comes from a key.
 fn reached(tree: &mut Tree, from: Key, stamp: Stamp) -> Option<Reached> {
     let root = root_for(tree, from)?;
     let place = match next(&mut tree.tx, tree.alloc, &root, from, stamp).ok()? {
@@ -157,7 +157,7 @@ fn is_before(stamp: Stamp, to: &Option<Stamp>) -> bool {
     }
 }
 
-/// Whether the first part of the versions of a key from a stamp on goes beyond that, and has just those of these rows.
+/// Whether the first part of the versions of a key from a stamp on goes beyond that, and has exactly those of these rows.
 pub(super) fn is_part(tree: &mut Tree, key: u16, from: Stamp, rows: &[Row]) -> bool {
     match part_of(tree, key, from) {
         Some(part) => is_before(from, &part.told) && are_within(&part, from, rows),
@@ -165,7 +165,7 @@ pub(super) fn is_part(tree: &mut Tree, key: u16, from: Stamp, rows: &[Row]) -> b
     }
 }
 
-/// Whether a part has just the versions of these rows that are from a stamp on, and before the part's end.
+/// Whether a part has exactly the versions of these rows that are from a stamp on, and before the part's end.
 fn are_within(part: &KeyVersions, from: Stamp, rows: &[Row]) -> bool {
     let mut n = 0usize;
     for row in rows {

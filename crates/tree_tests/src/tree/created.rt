@@ -49,7 +49,7 @@ fn first_column(alloc: Global) -> Option<Vec<u8>> {
     Some(column)
 }
 
-/// Whether a tree is created with its root in this page, so many pages are used then, and so many images are held.
+/// Whether a tree is created with its root in this page, `next_page` pages are used then, and `images` images are held.
 fn creates(alloc: Global, tx: &mut Tx<MemErase>, root: u64, next_page: u64, images: usize) -> bool {
     match create(tx, alloc) {
         Ok(place) => {
@@ -103,7 +103,7 @@ fn two_pages_are_needed(rt: HostRuntime) {
     );
 }
 
-/// A transaction with images of zeros over so many pages.
+/// A transaction with images of zeros over `count` pages.
 fn filled(alloc: Global, count: u64) -> Option<Tx<MemErase>> {
     let mut tx = begun_from(alloc, 35)?;
     for n in 0..count {

@@ -10,8 +10,8 @@ use page_tx::PageError;
 use std::alloc::Global;
 use tsb_tree::TreeError;
 
-/// So many versions are put, of seven keys in turn. A leaf has room for five: the sixth version splits it by key, the tenth by time, and the
-/// twelfth by both.
+/// How many versions are put, of seven keys in turn. A leaf has room for five: the sixth version splits it by key, the tenth by time,
+/// and the twelfth by both.
 const COUNT: u8 = 14;
 
 fn key_at(n: u8) -> u16 {

@@ -7,13 +7,13 @@ use crate::be;
 use page_tx::Pages;
 use version_model::Stamp;
 
-/// So many versions are put between questions.
+/// How many versions are put between questions.
 const VERSIONS: u64 = 10_000;
 
-/// So many questions follow.
+/// How many questions follow.
 const QUESTIONS: u64 = 200;
 
-/// With so many images beside those of an insert into a tree of four levels, a transaction isn't too full.
+/// With this many images beside those of an insert into a tree of four levels, a transaction isn't too full.
 const IMAGES: usize = 20;
 
 /// Numbers that look random, always the same, and the stamp that they have come to.
@@ -74,7 +74,7 @@ impl Dice {
     }
 }
 
-/// Which keys take versions: any of so many from a first one on, which goes on by a step with every second version, round after round.
+/// Which keys take versions: any of `near` from a first one on, which goes on by a step with every second version, round after round.
 #[derive(Clone, Copy)]
 pub(super) struct Keys {
     pub(super) count: u64,
@@ -130,7 +130,7 @@ fn are_alike(tree: &mut Tree, plain: &Plain, dice: &mut Dice, keys: Keys) -> boo
     true
 }
 
-/// Puts versions into a tree and into plain lists and asks, in turn, so many times.
+/// Puts versions into a tree and into plain lists and asks, in turn, `times` times.
 pub(super) fn run(
     tree: &mut Tree,
     plain: &mut Plain,

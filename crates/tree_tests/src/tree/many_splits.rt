@@ -8,7 +8,7 @@ use version_model::Stamp;
 /// The key that takes versions.
 const KEY: u16 = 7;
 
-/// With the last of so many versions a leaf of five is split by time for the 700th time.
+/// With the last of this many versions a leaf of five is split by time for the 700th time.
 const COUNT: u64 = 3_501;
 
 /// The n-th value: one of the largest size.
@@ -35,7 +35,7 @@ fn are_taken(tree: &mut Tree) -> bool {
     true
 }
 
-/// Whether each version is found after its stamp, and all are told.
+/// Whether each version is found after its stamp, and all are returned.
 fn are_found(tree: &mut Tree) -> bool {
     for n in 1..COUNT + 1 {
         if !has(tree, KEY, Stamp::new(n, 9), Some(value(n))) {

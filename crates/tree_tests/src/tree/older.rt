@@ -125,14 +125,14 @@ fn a_tree_of_the_earlier_form_is_asked(rt: HostRuntime) {
     be(&rt, is_plain(&mut tree, &plain, 23), "what it answers");
 }
 
-/// The version of a time after those of the earlier form: of the largest size, of one of so many keys in turn.
+/// The version of a time after those of the earlier form: of the largest size, of one of `keys` keys in turn.
 fn large_at(time: u64, keys: u64) -> (u16, Row) {
     let key = u16::try_from(time.checked_rem(keys).unwrap_or(0)).unwrap_or(0);
     let octet = u8::try_from(time % 251).unwrap_or(0);
     (key, (Stamp::new(time, 0), Some((3_072, octet))))
 }
 
-/// Puts versions of the largest size into a tree and into plain lists, of so many keys in turn, up to a time.
+/// Puts versions of the largest size into a tree and into plain lists, of `keys` keys in turn, up to a time.
 fn put_large(tree: &mut Tree, plain: &mut Plain, keys: u64, end: u64) -> Option<()> {
     for time in tree.place.least.time().saturating_add(1)..end {
         let (key, row) = large_at(time, keys);

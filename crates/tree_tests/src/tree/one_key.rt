@@ -21,7 +21,7 @@ pub(super) fn row(n: u8) -> Row {
     (stamp, Some(octets))
 }
 
-/// So many of these versions, from the first one on.
+/// The first `count` of these versions.
 fn rows_to(alloc: Global, count: u8) -> Option<Vec<Row>> {
     let mut rows = Vec::new(alloc);
     for n in 0..count {
@@ -30,7 +30,7 @@ fn rows_to(alloc: Global, count: u8) -> Option<Vec<Row>> {
     Some(rows)
 }
 
-/// Whether a key has so many of these versions, and no other one.
+/// Whether a key has the first `count` of these versions, and no other one.
 pub(super) fn has_versions(tree: &mut Tree, key: u16, count: u8) -> bool {
     match rows_to(tree.alloc, count) {
         Some(rows) => are_versions(tree, key, &rows),

@@ -55,7 +55,7 @@ fn a_root_tells_its_level(rt: HostRuntime) {
     be(&rt, place.least == Stamp::new(6, 2), "the least stamp");
 }
 
-/// How far a look for the next key comes in pages.
+/// How far a lookup of the next key comes in pages.
 fn next_in(store: &mut Store, from: u16, stamp: Stamp) -> Option<Reached> {
     match store.next(key_of(from), stamp).ok()? {
         Looked::Here(reached) => Some(reached),
@@ -163,7 +163,7 @@ fn root_with(tx: &mut Tx<MemErase>, alloc: Global, octet: usize) -> Option<Page>
     Some(page)
 }
 
-/// Whether a tree of no version, an octet of whose root is turned, is opened at level 1, or its root is called bad.
+/// Whether a tree of no version, an octet of whose root is turned, is opened at level 1, or its root is reported as bad.
 fn is_opened_or_bad(alloc: Global, octet: usize, is_opened: bool) -> Option<bool> {
     let mut tx = created(alloc)?;
     let page = root_with(&mut tx, alloc, octet)?;

@@ -66,7 +66,7 @@ pub(super) fn is_alike(tree: &mut Tree, plain: &Plain, key: u16, stamp: Stamp) -
         && is_part(tree, key, stamp, plain.rows(key))
 }
 
-/// Whether a tree has just the versions of a key that a plain list has.
+/// Whether a tree has exactly the versions of a key that a plain list has.
 pub(super) fn has_all(tree: &mut Tree, plain: &Plain, key: u16) -> bool {
     are_versions(tree, key, plain.rows(key))
 }

@@ -43,7 +43,7 @@ fn a_third_block_on_a_disk_of_two_is_refused(rt: HostRuntime) {
     );
 }
 
-/// A tree of a version for each of the keys 1 to 5, so that the leaf is full, on so many home pages.
+/// A tree of a version for each of the keys 1 to 5, so that the leaf is full, on `homes` home pages.
 fn tree_of_five(alloc: Global, homes: u64) -> Option<Tree> {
     let mut tree = tree_on(alloc, disks_of(alloc, homes, 4))?;
     for n in 1..6u8 {
@@ -90,7 +90,7 @@ fn with_three_pages_the_column_is_split_by_key(rt: HostRuntime) {
     be(&rt, has_keys(&mut tree, 7), "six keys");
 }
 
-/// Whether a second version of the first key is refused where pages are full, with so many blocks spent.
+/// Whether a second version of the first key is refused where pages are full, with `spent` blocks spent.
 fn spends(tree: &mut Tree, spent: u64) -> bool {
     let before = state_of(tree);
     let full = TreeError::Pages(PageError::PagesFull);
@@ -128,7 +128,7 @@ fn with_three_pages_what_stays_is_split_by_key(rt: HostRuntime) {
     );
 }
 
-/// Sets images of zeros over so many pages besides the two of the tree.
+/// Sets images of zeros over `count` pages besides the two of the tree.
 fn fill(tree: &mut Tree, count: u64) -> Option<()> {
     for n in 8..count.saturating_add(8) {
         set_page(&mut tree.tx, n, Page::new(tree.alloc).ok()?)?;

@@ -1,4 +1,4 @@
--- What is told of one column.
+-- What is returned of one column.
 use Rattle.std.specs.Prelude.{◌≡◌, ℕ, ◌+◌, List, Option}
 use Rattle.tsb_node.specs.declared.column_said.ColumnSaid.{ColumnSaid}
 use Rattle.tsb_walk.specs.declared.page_place.PagePlace.{PagePlace}
@@ -20,14 +20,14 @@ pub record IsColumnAt (shown : List (List ℕ)) (place : PagePlace) : Type 0 whe
   pub current : ℕ
   pub says : Says shown place.page (ColumnNode (keys_at place) parts start current)
 
--- a page says this column at a place, and so many versions are of its keys in its current leaf, from the start on
+-- a page says this column at a place, and n versions are of its keys in its current leaf, from the start on
 pub record HasCurrent (shown : List (List ℕ)) (place : PagePlace) (said : ColumnSaid) (n : ℕ) : Type 0 where
   pub says : Says shown place.page (ColumnNode (keys_at place) said.parts.items said.current.start said.current.page)
   pub versions : List Version
   pub leaf : Says shown said.current.page (CurrentLeaf (keys_at place) said.current.start versions)
   pub is : n ≡ count_in versions (current_range (keys_at place) said.current.start)
 
--- so many versions are told of it
+-- a count of its versions returns n
 pub record TellsColumn (shown : List (List ℕ)) (known : ℕ → Option (List ℕ)) (count : ℕ) (place : PagePlace) (n : ℕ) : Type 0 where
   pub column : IsColumnAt shown place
   pub versions : List Version

@@ -21,7 +21,7 @@ abbrev pub AreLeftBy : List (List ℕ) → PagePlace → List PagePlace → List
 AreLeftBy shown place left left' = ((place.level ≡ 1) × (left' ≡ left))
     ⊎ ((children : List Child) × Says shown place.page (KeyNode place.level (keys_at place) children) × (left' ≡ left ++ places_under place children))
 
--- so many versions are told of a column; none of a key node, whose children's places are left
+-- n versions are counted of a column; none of a key node, whose children's places are left
 abbrev pub IsPlaceTaken : List (List ℕ) → (ℕ → Option (List ℕ)) → ℕ → PagePlace → List PagePlace → List PagePlace → ℕ → Type 0
 IsPlaceTaken shown known count place left left' n = ((place.level ≡ 1) × TellsColumn shown known count place n × (left' ≡ left))
     ⊎ ((children : List Child) × Says shown place.page (KeyNode place.level (keys_at place) children) × (left' ≡ left ++ places_under place children) × (n ≡ 0))

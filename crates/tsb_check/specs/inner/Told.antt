@@ -1,4 +1,4 @@
--- What one block tells, and how much is left to read.
+-- What one block holds for its place, and how much is left to read.
 use Rattle.std.specs.Prelude.{◌≡◌, ℕ, suc, ◌+◌, ◌^◌, ◌≤◌, List, [], ◌∷◌, ◌++◌, length, min}
 use Rattle.version_model.specs.declared.part.Place.{Place}
 use Rattle.version_model.specs.Versions.{Version}
@@ -9,18 +9,18 @@ use Rattle.tsb_check.specs.declared.block.Told.{Told}
 use Rattle.tsb_check.specs.declared.block.Told.TheVariants.{Versions, Parts}
 use Rattle.tsb_check.specs.Counted.{AreLower, places_of}
 
--- the octets are a leaf for the place that has so many versions of its keys and stamps, or a column for it with these parts
+-- the octets are a leaf for the place that has this many versions of its keys and stamps, or a column for it with these parts
 abbrev pub IsToldOf : Place → List ℕ → Told → Type 0
 IsToldOf place octets (Versions n) = (versions : List Version) × IsLeafFor place octets versions × (n ≡ count_in versions (range_of place.bounds))
 IsToldOf place octets (Parts parts) = IsColumnFor place octets parts.items × AreLower place.part.block parts.items × (length parts.items ≤ 649)
 
--- what is told leads on to few parts, in blocks of lower numbers
+-- what the block holds leads on to few parts, in blocks of lower numbers
 abbrev pub GoesLower : Place → Told → Type 0
 GoesLower place (Versions n) = Unit {0}
 GoesLower place (Parts parts) = AreLower place.part.block parts.items × (length parts.items ≤ 649)
 
--- From a count to another one and from places that are left to others, what a block tells of a place is taken: its versions are
--- counted, or the places of its parts are left.
+-- From a count to another one and from places that are left to others, what a block holds for a place is taken: its versions are counted,
+-- or the places of its parts are left.
 abbrev pub IsTaken : Place → Told → List Place → List Place → ℕ → ℕ → Type 0
 IsTaken place (Versions more) left left' n n' = (left' ≡ left) × (n' ≡ min (n + more) 18446744073709551615)
 IsTaken place (Parts parts) left left' n n' = (left' ≡ left ++ places_of place.bounds parts.items) × (n' ≡ n)

@@ -14,7 +14,7 @@ pub record IsSpelled (b : Bounds) (bytes : List ℕ) : Type 0 where
   pub valid : IsVersionOf b (version_in bytes)
   pub spelled : take (59 + value_size bytes) bytes ≡ entry (version_in bytes)
 
--- the octets are so many entries of a leaf of these bounds
+-- the octets are exactly this many entries of a leaf of these bounds
 pub record AreEntries (b : Bounds) (count : ℕ) (bytes : List ℕ) : Type 0 where
   pub versions : List Version
   pub each : AllByRecursion (IsVersionOf b) versions

@@ -12,7 +12,7 @@ use Rattle.version_model.specs.declared.child.Child.{Child}
 unfoldable pub child_in : List ℕ → Child
 child_in bytes = record { low = number_in 40 0 bytes; page = number_in 8 40 bytes }
 
--- so many children, one behind another
+-- n children, one after another
 unfoldable pub children_in : ℕ → List ℕ → List Child
 children_in zero bytes = []
 children_in (suc n) bytes = child_in bytes ∷ children_in n (drop 48 bytes)
@@ -23,7 +23,7 @@ pub record IsChildBefore (count : ℕ) (bytes : List ℕ) (key place : ℕ) : Ty
   pub passed : (number_in 40 (48 * place) bytes ≤ key) ⊎ (place ≡ 0)
   pub next : suc place < count → key < number_in 40 (48 * suc place) bytes
 
--- the octets are just these children, so many, that follow one another from the lowest key on
+-- the octets are exactly these children, `count` of them, which follow one another from the lowest key on
 abbrev pub AreChildrenOf : Bounds → ℕ → List ℕ → List Child → Type 0
 AreChildrenOf b count bytes children = AreRows child_octets (IsChildEntry b) (λ c. c.low) b.low count bytes children
 

@@ -1,4 +1,4 @@
--- What a look for a key that has a value tells.
+-- What a lookup of a key that has a value returns.
 use Rattle.std.specs.Prelude.{ℕ, ◌≤◌, Bool, true, false, List, Option, Some, None}
 use Rattle.version_model.specs.Versions.{Version, Answers, Has}
 use Rattle.version_model.specs.Looks.{IsLive}

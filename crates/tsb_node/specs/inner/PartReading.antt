@@ -25,7 +25,7 @@ pub record IsPartBefore (end : Option ℕ) (p : Part) : Type 0 where
   pub entry : IsPartEntry p
   pub before : IfSome end (λ n. p.start < n)
 
--- the octets are just these parts, so many, that follow one another from a stamp on, all before the end
+-- the octets are exactly these parts, `count` of them, which follow one another from a stamp on, all before the end
 abbrev pub AreParts : ℕ → Option ℕ → ℕ → List ℕ → List Part → Type 0
 AreParts start end count bytes parts = AreRows part_octets (IsPartBefore end) (λ p. p.start) start count bytes parts
 

@@ -19,12 +19,12 @@ version_in bytes = record { key = number_in 40 0 bytes; stamp = number_in 16 40 
 abbrev pub behind_version : List ℕ → List ℕ
 behind_version bytes = drop (59 + value_size bytes) bytes
 
--- so many versions, one behind another
+-- n versions, one after another
 unfoldable pub versions_in : ℕ → List ℕ → List Version
 versions_in zero bytes = []
 versions_in (suc n) bytes = version_in bytes ∷ versions_in n (behind_version bytes)
 
--- what stands behind the first n versions
+-- what follows the first n versions
 unfoldable pub after : ℕ → List ℕ → List ℕ
 after zero bytes = bytes
 after (suc n) bytes = after n (behind_version bytes)

@@ -29,7 +29,7 @@ abbrev pub IsLast : List Version → List ℕ → ℕ → ℕ → ℕ → Option
 IsLast vs bytes key s n None = NoneFrom vs key s 0 n
 IsLast vs bytes key s n (Some found) = IsLastOf vs bytes key s n found
 
--- one of so many versions isn't whole
+-- one of this many versions isn't whole
 pub record IsBroken (bytes : List ℕ) (count : ℕ) : Type 0 where
   pub place : ℕ
   pub below : place < count

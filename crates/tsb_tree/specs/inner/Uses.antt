@@ -1,17 +1,17 @@
--- How many pages that were never used a change uses: just those that are needed.
+-- How many pages that were never used a change uses: exactly those that are needed.
 use Rattle.std.specs.Prelude.{◌≡◌, ℕ, ◌+◌, ◌<◌, ◌≤◌, ◌⊎◌, List, Option, Some, None}
 use Rattle.tsb_walk.specs.declared.page_place.PagePlace.{PagePlace}
 use Rattle.version_model.specs.declared.child.Child.{Child}
 use Rattle.version_model.specs.Versions.{Version}
 use Rattle.tsb_tree.specs.Needs.{BecomesTwo, StaysOne}
 
--- From `next` to `unused` those pages are used that a column with a leaf of so many octets needs: none, or two of a new half where they are more than
--- two thirds of a page.
+-- From `next` to `unused` those pages are used that a column needs whose leaf has this many octets: none, or two of a new half where they
+-- are more than two thirds of a page.
 abbrev pub UsesForLeaf : ℕ → ℕ → ℕ → Option Child → Type 0
 UsesForLeaf size next unused None = (size ≤ 10821) × (unused ≡ next)
 UsesForLeaf size next unused (Some new) = (10821 < size) × (unused ≡ next + 2)
 
--- those that a key node of so many children needs, which takes the new half of one: none, or one of a new half where it has no room
+-- those that a key node of this many children needs, which takes the new half of one: none, or one of a new half where it has no room
 abbrev pub UsesForHalf : ℕ → ℕ → ℕ → Option Child → Type 0
 UsesForHalf children next unused None = (children < 338) × (unused ≡ next)
 UsesForHalf children next unused (Some new) = (children ≡ 338) × (unused ≡ next + 1)

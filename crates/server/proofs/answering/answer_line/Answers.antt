@@ -10,7 +10,7 @@ use Rattle.server.specs.Commands.{IsCommandLine}
 use Rattle.server.specs.Lines.{of_request}
 use Rattle.server.proofs.answering.answer_line.Goals as goal
 
--- what is told of a line that isn't read
+-- what is written about a line that isn't read
 refused : (line : List ℕ) (why : RequestError) (was now : OutputState) → (◌≡◌ {A = Result Command RequestError} (Err why) (Err errors.BadRequest) → (command : Command) → IsCommandLine line command → ⊥) → Tells was now (refusal_line (of_request why))
     → (((command : Command) → IsCommandLine line command → ⊥) × Tells was now (refusal_line refusals.BadRequest)) ⊎ Tells was now (refusal_line refusals.OutOfMemory)
 refused line errors.BadRequest was now none told = inl (none refl, told)

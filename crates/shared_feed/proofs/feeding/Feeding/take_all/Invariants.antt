@@ -1,4 +1,4 @@
--- the feed came behind the records so far
+-- the feed got past the records so far
 use Rattle.std.proofs.Common.{◌++◌, ℕ, List, map, take}
 use Rattle.std.specs.Prelude.{IsSome}
 use Rattle.board.specs.Views.{View}
