@@ -7,6 +7,7 @@ use Rattle.version_model.specs.Versions.{Version}
 use Rattle.route_history.specs.Kept.{AreVersions, timed}
 use Rattle.tsb_tree.specs.NoRoom.{AtRoot}
 use Rattle.tsb_tree.specs.Needs.{NeedsLevel, NeedsPages}
+use Rattle.tsb_tree.specs.Outlived.{LeadsToOutdated}
 use Rattle.archive_pages.specs.Changes.{next_change}
 
 -- This is the version of the history's next change: of the first admission that waits, the change after those that are applied.
@@ -30,3 +31,11 @@ pub record LacksLevel (is : Version → Type 0) (pages : List (List ℕ)) (root 
   pub version : Version
   pub its : is version
   pub needs : AtRoot (NeedsLevel pages version) root 7
+
+-- To take the version of which this is so, the tree with this root on these pages has to split a full leaf by time, which moves versions into
+-- a block.
+pub record LacksBlock (is : Version → Type 0) (pages : List (List ℕ)) (root : ℕ) : Type 0 where
+  pub version : Version
+  pub its : is version
+  pub level : ℕ
+  pub needs : AtRoot (LeadsToOutdated pages version) root level

@@ -31,7 +31,7 @@ use Rattle.disk_archive.specs.declared.stop.Stop.TheVariants as stops
 use Rattle.disk_archive.specs.declared.planning_changes.Front.{Front}
 use Rattle.disk_archive.specs.declared.planning_changes.Plan.{Plan}
 use Rattle.disk_archive.specs.declared.planning_changes.Application.{Application}
-use Rattle.disk_archive.specs.Lacks.{LacksLevel, LacksPages}
+use Rattle.disk_archive.specs.Lacks.{LacksBlock, LacksLevel, LacksPages}
 use Rattle.disk_archive.specs.Mirrors.{Mirrors}
 use Rattle.disk_archive.specs.Trees.{TreeLies}
 use Rattle.disk_archive.specs.Moves.{Moves}
@@ -87,13 +87,13 @@ FrontRefusal down (applies.BadNode page) = ⊤
 FrontRefusal down applies.Fault = ⊤
 FrontRefusal down applies.OutOfMemory = ⊤
 
--- Pages, or a level, are refused only where there are too few for the version of which this is so.
+-- Pages, a level or a block are refused only where the version of which this is so needs more than there are.
 abbrev pub LackRefusal : (Version → Type 0) → List (List ℕ) → ℕ → ℕ → ApplyError → Type 0
 LackRefusal is shown left root applies.NeedsRecovery = ⊤
 LackRefusal is shown left root applies.CounterFull = ⊤
 LackRefusal is shown left root applies.TooHigh = LacksLevel is shown root
 LackRefusal is shown left root applies.PagesFull = LacksPages is shown left root
-LackRefusal is shown left root applies.OnceFull = ⊤
+LackRefusal is shown left root applies.OnceFull = LacksBlock is shown root
 LackRefusal is shown left root (applies.BadNode page) = ⊤
 LackRefusal is shown left root applies.Fault = ⊤
 LackRefusal is shown left root applies.OutOfMemory = ⊤
