@@ -64,7 +64,7 @@ head_reads down n pages.OutOfMemory few r = tt
 
 -- ---- a version isn't taken
 
--- pages, a level and a block alone are to be looked at
+-- only pages, a level and a block are to be looked at
 pub lacks_by : (is : Version → Type 0) (shown : List (List ℕ)) (left root : ℕ) (e : ApplyError) → (e ≡ applies.PagesFull → LacksPages is shown left root) → (e ≡ applies.TooHigh → LacksLevel is shown root)
     → (e ≡ applies.OnceFull → LacksBlock is shown root) → LackRefusal is shown left root e
 lacks_by is shown left root applies.NeedsRecovery full high once = tt

@@ -1,4 +1,4 @@
--- What a step of applying needs, and there isn't.
+-- What a step of applying needs and doesn't have.
 use Rattle.std.specs.Prelude.{◌≡◌, ◌<◌, ℕ, List, [], ◌∷◌, length}
 use Rattle.route_model.specs.Admission.{Admitted}
 use Rattle.route_meaning.specs.Merged.{Placed}
@@ -17,7 +17,7 @@ pub record IsNextVersion (h : History) (v : Version) : Type 0 where
   pub here : waiting h ≡ first ∷ later
   pub version : AreVersions (length (timed (applied h))) (next_change h.some first) (v ∷ [])
 
--- To take the version of which this is so, the tree with this root on these pages needs more pages that were never used than are left.
+-- To take the version of which this holds, the tree with this root on these pages needs more pages that were never used than are left.
 pub record LacksPages (is : Version → Type 0) (pages : List (List ℕ)) (left root : ℕ) : Type 0 where
   pub version : Version
   pub its : is version
@@ -26,14 +26,14 @@ pub record LacksPages (is : Version → Type 0) (pages : List (List ℕ)) (left 
   pub needs : AtRoot (λ place. NeedsPages pages version place needed) root level
   pub above : left < needed
 
--- To take the version of which this is so, the tree with this root on these pages, which is as high as it may be, needs a level more.
+-- To take the version of which this holds, the tree with this root on these pages, which is as high as it may be, needs a level more.
 pub record LacksLevel (is : Version → Type 0) (pages : List (List ℕ)) (root : ℕ) : Type 0 where
   pub version : Version
   pub its : is version
   pub needs : AtRoot (NeedsLevel pages version) root 7
 
--- To take the version of which this is so, the tree with this root on these pages has to split a full leaf by time, which moves versions into
--- a block.
+-- To take the version of which this holds, the tree with this root on these pages has to split a full leaf by time, which moves versions
+-- into a block.
 pub record LacksBlock (is : Version → Type 0) (pages : List (List ℕ)) (root : ℕ) : Type 0 where
   pub version : Version
   pub its : is version

@@ -27,7 +27,7 @@ pub enum Step {
 }
 
 // Begins a transaction without an image, where the archive needn't be opened again. The pages are in use up to the first
-// that the head tells, or all that there are.
+// one that the head calls unused, or all of them are.
 fn begin_from<E: EraseDisk + Drop>(tx: &mut Tx<E>, head: &Head) -> Result<(), NeedsRecovery>
     ensures shown { OnOk result (E.honest (disk_of (journal_of (pool_of tx.old))) → (pages : List (List ℕ)) → Maps E.EraseDisk (pool_of tx.old) pages
         → Shows E.EraseDisk tx.new (record { note = note_of (journal_of (pool_of tx.old)); pages = pages; clock = (E.model (disk_of (journal_of (pool_of tx.old)))).clock }) pages) }
@@ -102,15 +102,15 @@ impl<E: EraseDisk + Drop, O: OnceDisk + Drop> Archive<E, O> {
         Ok(Step::Applied)
     }
 
-    /// Applies the next changes, of the first admission that waits and of those behind it, of whatever collector: as many as surely fit one
+    /// Applies the next changes, of the first admission that waits and of those after it, of any collector: as many as surely fit one
     /// transaction, up to 1,000, and none that isn't below every mark. An admission without changes counts as a change, and is applied at
     /// once. With its last change an admission is wholly applied, and leaves its ring.
     ///
-    /// Blocks that are burnt for it, two a change at most, are settled before a page is written. Where a change is refused behind others,
-    /// these are applied, and the next call meets the refusal. A failure of a device is returned by the call that meets it, at whichever
-    /// change: then none is applied, and the next call plans them anew, in further blocks.
+    /// Blocks that are burnt for it, at most two a change, are settled before a page is written. Where a change after the first one is
+    /// refused, the changes before it are applied, and the refusal is left to the next call. A failure of a device is returned by the call
+    /// in which it occurs, at whichever change: then none is applied, and the next call plans them anew, in further blocks.
     ///
-    /// After a refusal the archive holds the history of before, and nothing is left behind but blocks that are spent; where a write or a
+    /// After a refusal the archive holds the history from before the call, and the call leaves nothing but spent blocks; where a write or a
     /// sync of pages failed, it must be opened again, and the changes are then applied, all of them or none.
     pub fn apply_step(&mut self) -> Result<Step, ApplyError>
         ensures applied { IfOk result (λ step. step ≡ Step.Applied → IsHonest self.old → (h : History) → Holds self.old h → (g : History) × Moves h g × Holds self.new g) }
