@@ -1,4 +1,4 @@
--- What a step of applying answers, over an archive that holds a history.
+-- What a step of applying returns, over an archive that holds a history.
 use Rattle.std.proofs.Common.{◌≡◌, ◌⊎◌, ◌↔◌, inl, inr, ⊎_elim, Bool, true, false, refl, sym, ◌∙◌, subst, Result, Ok, Err, true≢false, ℕ}
 use Rattle.std.specs.Prelude.{OnOk, OnErr, IfOk, IfErr}
 use Rattle.std.specs.List.{AllByRecursion}
@@ -64,7 +64,7 @@ goes_of a z (Err e) ok err g k = (g, Begins-refl g, err g k)
 pub same_or_moved : (h g : History) → IsHistory h → (g ≡ h) ⊎ Moves h g → Begins h g
 same_or_moved h g right either = ⊎_elim (λ same. subst (Begins h) (sym same) (Begins-refl h)) (λ m. begins_moved h g right m) either
 
--- a page is never blamed
+-- a page is never reported as damaged
 pub never_bad : {E O Pen Seen : Type 0} {erase : EraseGhosts E} {once : OnceGhosts O Pen Seen} (a : Archive E O Pen Seen erase once) (r : Result Step ApplyError) → (is_down a ≡ true → r ≡ Err applies.NeedsRecovery) → ((h : History) → Carries a h → (page : ℕ) → r ≡ Err (applies.BadNode page) → ⊥)
     → IsHonest a → (h : History) → Holds a h → (page : ℕ) → r ≡ Err (applies.BadNode page) → ⊥
 never_bad a r told sound honest h held page bad = elim (cases_Bool (is_down a)) [

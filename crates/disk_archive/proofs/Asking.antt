@@ -1,4 +1,4 @@
--- What a question is answered from, and what is told where it isn't.
+-- What a question is answered from, and what is returned where it isn't.
 use Rattle.std.proofs.Common.{◌≡◌, ◌↔◌, ◌≤◌, ⊎_elim, true≢false, ℕ, zero, suc, List, [], ◌∷◌, ◌++◌, take, drop, map, Bool, true, false, Option, Some, refl, sym, ◌∙◌, ap, subst, arith, Result, Ok, Err, IfOk, IfErr, OnOk}
 use Rattle.std.specs.List.{AllByRecursion}
 use Rattle.disk_models.specs.declared.erase.EraseDisk.{Ghosts as EraseGhosts}
@@ -96,7 +96,7 @@ pub kept_reads : {O Pen Seen : Type 0} (device : OnceGhosts O Pen Seen) (reader 
     → (n : ℕ) (block : List ℕ) → IsKept reader n block → o.settled n ≡ Some block
 kept_reads device reader seen o well known n block kept = ap (λ (f : ℕ → Option (List ℕ)). f n) (sym known) ∙ well.kept n block kept
 
--- a call that only looked whether it may go on leaves a reader as it was
+-- a call that only checked whether it may go on leaves a reader as it was
 pub reads_idle : {E O Pen Seen : Type 0} {erase : EraseGhosts E} {once : OnceGhosts O Pen Seen} (a z : Archive E O Pen Seen erase once) (r s : ShelfReader O Pen Seen once) → IsAsBefore a z → s ≡ r → ReadsFrom a r → ReadsFrom z s
 reads_idle {O = O} {Pen = Pen} {Seen = Seen} {once = once} a z r s idle same from = record {
   disk = ap (λ (x : ShelfReader O Pen Seen once). reader_disk x) same ∙ from.disk ∙ sym idle.disk;
@@ -149,7 +149,7 @@ pub if_err : {X E F : Type 0} (f : E → F) (P : E → Type 0) (Q : F → Type 0
 if_err f P Q (Ok x) step p = tt
 if_err f P Q (Err e) step p = step e p
 
--- the watermark that is told is the one that was looked at
+-- the watermark that is returned is the one that was looked at
 pub above_told : {X : Type 0} (r : Result X AskError) (bound last mark : ℕ) → IfErr r (λ e. (e ≡ asks.AboveWatermark bound) × (bound ≤ last)) → r ≡ Err (asks.AboveWatermark mark) → (mark ≡ bound) × (bound ≤ last)
 above_told (Ok x) bound last mark f told = absurd cc
 above_told (Err e) bound last mark f told = let first = f.0 in let same : mark ≡ bound = cc in (same, f.1)

@@ -67,7 +67,7 @@ greatest_more mark xs i x lt e =
     ap (λ (l : List Admitted). greatest mark (map admitted_time l)) (more xs i x lt e)
     ∙ (ap (greatest mark) (map-append admitted_time (take i xs) (x ∷ [])) ∙ greatest-push mark (map admitted_time (take i xs)) (admitted_time x))
 
--- so many octets of the first ones of a batch aren't late, and this is the mark behind them
+-- `count` octets of the first ones of a batch aren't late, and `present` is the mark after them
 pub record AreTimely (mark : ℕ) (xs : List Admitted) (count present : ℕ) : Type 0 where
   pub octets : count ≡ batch_octets (timely admitted_time mark [] xs)
   pub reached : present ≡ greatest mark (map admitted_time xs)

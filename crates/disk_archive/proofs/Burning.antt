@@ -47,7 +47,7 @@ carries_more a z h k disk grows settings head homes note honest maps mirrors = r
   mirrors = mirrors;
 }
 
--- a commit that was refused: the pages of before are kept, or the archive must be opened again
+-- a commit that was refused: the pages from before it are kept, or the archive must be opened again
 pub refused_more : {E O Pen Seen : Type 0} {erase : EraseGhosts E} {once : OnceGhosts O Pen Seen} (a z : Archive E O Pen Seen erase once) (h g : History) (k : Carries a h) (b : Tx E erase) (shown : List (List ℕ)) (next : Contents) → AllSound erase → Ready a h k b shown
     → home_pages (journal_of (pool_of z.tx)) ≡ home_pages (journal_of (pool_of b)) → note_of (journal_of (pool_of z.tx)) ≡ note_of (journal_of (pool_of b))
     → once_of z ≡ once_of a → Grows (once_state a) (once_state z) → z.settings ≡ a.settings → z.head ≡ a.head → IsHonest z → Mirrors z.sequencer h → Begins h g

@@ -79,13 +79,13 @@ written {erase = erase} a z h g k b shown next sound r grows n l = record {
       (leaves_either (site_of a) e (erase_state z) (once_state a) (once_state z) a.head next k.pages shown h g grows (headed_of a h k) n l');
 }
 
--- ---- what an archive holds behind a call
+-- ---- what an archive holds after a call
 
 -- a call that wrote nothing
 pub kept : {E O Pen Seen : Type 0} {erase : EraseGhosts E} {once : OnceGhosts O Pen Seen} (a z : Archive E O Pen Seen erase once) (h : History) (k : Carries a h) (shown : List (List ℕ)) → Ready a h k z.tx shown → once_of z ≡ once_of a → once_state z ≡ once_state a → z.settings ≡ a.settings → z.head ≡ a.head → IsHonest z → Mirrors z.sequencer h → Carries z h
 kept a z h k shown r disk state settings head honest mirrors = carries_same a z h k disk state settings head r.homes r.shows.noted honest r.shows.maps mirrors
 
--- a commit that was refused: the pages of before are kept, or the archive must be opened again
+-- a commit that was refused: the pages from before it are kept, or the archive must be opened again
 pub refused : {E O Pen Seen : Type 0} {erase : EraseGhosts E} {once : OnceGhosts O Pen Seen} (a z : Archive E O Pen Seen erase once) (h g : History) (k : Carries a h) (b : Tx E erase) (shown : List (List ℕ)) (next : Contents) → AllSound erase → Ready a h k b shown
     → home_pages (journal_of (pool_of z.tx)) ≡ home_pages (journal_of (pool_of b)) → note_of (journal_of (pool_of z.tx)) ≡ note_of (journal_of (pool_of b))
     → once_of z ≡ once_of a → once_state z ≡ once_state a → z.settings ≡ a.settings → z.head ≡ a.head → IsHonest z → Mirrors z.sequencer h → Begins h g

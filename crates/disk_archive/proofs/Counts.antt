@@ -47,7 +47,7 @@ changes_are (p ∷ ps) =
     ∙ (ap (λ (n : ℕ). n + length (timed ps)) (length-map p.item.changes (at_time (time_of p)))
     ∙ (ap (λ (n : ℕ). length p.item.changes + n) (changes_are ps) ∙ sym (sum_by-cons count p ps)))
 
--- a number of eight octets is told as it is
+-- a number of eight octets is returned as it is
 pub told_is : (n m k : ℕ) → n ≡ told m → m ≡ k → k < 2 ^ 64 → n ≡ k
 told_is n m k is same few = omega (arith, is, same, few)
 
@@ -90,7 +90,7 @@ root_finds refusal (checks.Damaged block) b bad damaged = subst TreeBlamesNone (
 root_finds refusal checks.Fault b bad damaged = tt
 root_finds refusal checks.OutOfMemory b bad damaged = tt
 
--- a page or block that is told is the one that the look told
+-- a page or block that is reported is the one that the look reported
 pub bad_is : (refusal : NodeError) (page : ℕ) → check_of_node refusal ≡ checks.BadNode page → refusal ≡ nodes.BadNode page
 bad_is (nodes.BadNode page) other is = let same : page ≡ other = cc in ap (λ (n : ℕ). nodes.BadNode n) same
 bad_is (nodes.Damaged block) other is = cc
@@ -107,7 +107,7 @@ damaged_is nodes.OnceFault other is = cc
 damaged_is nodes.NeedsRecovery other is = cc
 damaged_is nodes.OutOfMemory other is = cc
 
--- a refusal that is passed on is the one that was met
+-- a refusal that is passed on is the one that came
 pub passed : {T U : Type 0} (r : Result T CheckError) (s : Result U CheckError) (e : CheckError) (page : ℕ) → IfErr r (λ x. x ≡ e) → s ≡ Err e → r ≡ Err (checks.BadNode page) → s ≡ Err (checks.BadNode page)
 passed {T} {U} r s e page told was is = was ∙ ap (λ (x : CheckError). Err x) (sym (subst (λ (r : Result T CheckError). IfErr r (λ x. x ≡ e)) is told))
 
@@ -117,7 +117,7 @@ passed_node {T} {U} r s e page told was is =
     let same : checks.BadNode page ≡ check_of_node e = subst (λ (r : Result T CheckError). IfErr r (λ x. x ≡ check_of_node e)) is told in
     was ∙ ap (λ (x : NodeError). Err x) (bad_is e page (sym same))
 
--- ---- what an archive tells by what it holds
+-- ---- what an archive reports, by what it holds
 
 -- where it needn't be opened again, the head counts what is applied
 pub counted_of : {E O Pen Seen : Type 0} {erase : EraseGhosts E} {once : OnceGhosts O Pen Seen} (a : Archive E O Pen Seen erase once) (r : Result ℕ CheckError) → OnOk r (is_down a ≡ false) → IfOk r (λ n. n ≡ a.head.applied)
@@ -128,7 +128,7 @@ counted_of a (Ok n) usable counted = λ honest h held. ⊎_elim
     (held honest)
 counted_of a (Err e) usable counted = tt
 
--- what is said of what a reader knows of its disk is said of what is settled there
+-- what holds of the blocks that a reader knows of its disk holds of those that are settled there
 pub at_disk : {O Pen Seen : Type 0} (device : OnceGhosts O Pen Seen) (reader : ShelfReader O Pen Seen device) (seen : Seen) (disk : O) (settled : ℕ → Option (List ℕ)) (P : (ℕ → Option (List ℕ)) → ℕ → Type 0) → reader_disk reader ≡ disk → device.known seen ≡ settled
     → P (device.known seen) (device.block_count (reader_disk reader)) → P settled (device.block_count disk)
 at_disk {O} device reader seen disk settled P same known p =

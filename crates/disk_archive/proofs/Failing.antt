@@ -18,7 +18,7 @@ use Rattle.disk_archive.proofs.Faults.{one_told}
 pub reports_none : (p l : ℕ) (told : Type 0) → (told → ⊥) → ReportsOne p p l l told
 reports_none p l told never = record { quiet = λ _. (refl, refl); counted = λ t. absurd (never t) }
 
--- the first disk alone is asked
+-- only the first disk is asked
 pub reports_first : (x y : Type 0) (p p' l : ℕ) (told : Type 0) → KeepsDevice x y p p' told → ReportsOne p p' l l told
 reports_first x y p p' l told k = record { quiet = λ never. (k.quiet never, refl); counted = λ t. inl (k.counted t, refl) }
 
@@ -52,7 +52,7 @@ no_err (Err y) x is err = absurd cc
 pub tree_apart : trees.Pages pages.Fault ≡ trees.Once appends.Fault → ⊥
 tree_apart is = cc
 
--- of the refusals of a change a failure alone ends the step
+-- of the refusals of a change only a failure ends the step
 pub stop_failed : (e : ApplyError) → stop_of e ≡ stops.Failed → e ≡ applies.Fault
 stop_failed applies.Fault is = refl
 stop_failed applies.NeedsRecovery is = absurd cc
@@ -63,7 +63,7 @@ stop_failed applies.OnceFull is = absurd cc
 stop_failed (applies.BadNode page) is = absurd cc
 stop_failed applies.OutOfMemory is = absurd cc
 
--- of the refusals of a commit a failure alone is reported as one
+-- of the refusals of a commit only a failure is reported as one
 pub apply_fault : (e : UseError) → apply_of_use e ≡ applies.Fault → e ≡ uses.Fault
 apply_fault uses.Fault is = refl
 apply_fault uses.NeedsRecovery is = absurd cc

@@ -40,7 +40,7 @@ keeps_served device old new failed s = record { honest = s.honest; quiet = s.qui
 pub keeps_none : (p : Type 0) (a : ℕ) (told : Type 0) → (told → ⊥) → KeepsDevice p p a a told
 keeps_none p a told never = record { honest = (λ h. h, λ h. h); quiet = λ _. refl; counted = λ t. absurd (never t) }
 
--- a call that told of no failure, and then another one
+-- a call that reported no failure, and then another one
 pub keeps_then : (p q r : Type 0) (a b c : ℕ) (failed : Type 0) → KeepsDevice p q a b ⊥ → KeepsDevice q r b c failed → KeepsDevice p r a c failed
 keeps_then p q r a b c failed one two =
     let same = one.quiet (λ f. f) in
@@ -50,11 +50,11 @@ keeps_then p q r a b c failed one two =
       counted = λ f. two.counted f ∙ ap (λ (n : ℕ). min (n + 1) 18446744073709551615) same;
     }
 
--- a failure that is told by another refusal
+-- a failure that is reported by another refusal
 pub keeps_told : (p q : Type 0) (a b : ℕ) (failed told : Type 0) → (told → failed) → (failed → told) → KeepsDevice p q a b failed → KeepsDevice p q a b told
 keeps_told p q a b failed told fore back k = record { honest = k.honest; quiet = λ never. k.quiet (λ f. never (back f)); counted = λ t. k.counted (fore t) }
 
--- ---- what is told
+-- ---- what is returned
 
 pub told_of : {X E : Type 0} (r : Result X E) (e : E) → IsErrAnd r (λ y. y ≡ e) → r ≡ Err e
 told_of (Ok x) e is = absurd is
@@ -64,7 +64,7 @@ pub told_as : {X E : Type 0} (r : Result X E) (e f : E) → IsErrAnd r (λ y. y 
 told_as (Ok x) e f is told = absurd is
 told_as (Err y) e f is told = let same : y ≡ f = cc in sym is ∙ same
 
--- a batch that can't be taken is told as no failure
+-- a batch that can't be taken isn't reported as a failure
 pub not_taken : (e : AdmitError) → (e ≡ admits.NoCollector) ⊎ (e ≡ admits.BatchTooLarge) ⊎ (e ≡ admits.CounterFull) ⊎ (e ≡ admits.IntakeFull) → e ≡ admits.Fault → ⊥
 not_taken e (inl none) is = cc
 not_taken e (inr (inl large)) is = cc
@@ -88,7 +88,7 @@ pub flush_fault : (e : UseError) → flush_of_use e ≡ flushes.Fault → e ≡ 
 flush_fault uses.Fault is = cc
 flush_fault uses.NeedsRecovery is = absurd cc
 
--- a failure that a look through pages tells is told of the question, and no other
+-- a failure that a look through pages reports is reported for the question, and no other
 pub asked_fault : (down : Bool) (e : NodeError) → PageRefusal down e → ask_of_node e ≡ asks.Fault → e ≡ nodes.Fault
 asked_fault down (nodes.BadNode page) refused is = absurd cc
 asked_fault down (nodes.Damaged block) refused is = absurd refused
@@ -97,12 +97,12 @@ asked_fault down nodes.OnceFault refused is = absurd refused
 asked_fault down nodes.NeedsRecovery refused is = absurd cc
 asked_fault down nodes.OutOfMemory refused is = absurd cc
 
--- what is done isn't told as a failure
+-- what is done isn't reported as a failure
 pub done_not_told : {X E : Type 0} (r : Result X E) (x : X) (e : E) → r ≡ Ok x → r ≡ Err e → ⊥
 done_not_told (Ok y) x e is told = absurd (cc)
 done_not_told (Err y) x e is told = absurd (cc)
 
--- one refusal is told
+-- only one refusal is returned
 pub one_told : {X E : Type 0} (r : Result X E) (d e : E) → r ≡ Err d → r ≡ Err e → d ≡ e
 one_told (Ok y) d e is told = absurd (cc)
 one_told (Err y) d e is told = (let a : y ≡ d = cc in let b : y ≡ e = cc in sym a ∙ b)

@@ -26,21 +26,21 @@ looks_on device looks homes note pages count noted honest maps = record { homes 
 
 -- ---- refusals
 
--- a disk that names an archive isn't told to hold none
+-- a disk that names an archive isn't reported to hold none
 pub none_named : (size : ℕ) (f : ℕ → ℕ) (blocks : ℕ) (e : JournalError) → OpenRefusal size f e → of_opening e ≡ openings.NotAJournal → NamesArchive size f blocks → ⊥
 none_named size f blocks journals.Fault refused told named = cc
 none_named size f blocks journals.OutOfMemory refused told named = cc
 none_named size f blocks (journals.BadNode page) refused told named = cc
 none_named size f blocks journals.NotAJournal refused told named = let low = refused named.homes named.note named.names in let room = named.room in absurd (omega (arith, low, room))
 
--- a disk that holds no journal isn't told as damaged
+-- a disk that holds no journal isn't reported as damaged
 pub none_told : (size : ℕ) (f : ℕ → ℕ) (e : JournalError) → OpenRefusal size f e → HoldsNone f → IsNoneOrWant (of_opening e)
 none_told size f journals.Fault refused none = tt
 none_told size f journals.OutOfMemory refused none = tt
 none_told size f journals.NotAJournal refused none = tt
 none_told size f (journals.BadNode page) refused none = none refused.homes refused.note refused.names
 
--- want of the device or of memory is told as such
+-- a failure of the device and running out of memory are reported as such
 pub only_want_told : (e : JournalError) → IsWanting e → IsWant (of_opening e)
 only_want_told journals.Fault want = tt
 only_want_told journals.OutOfMemory want = tt

@@ -40,7 +40,7 @@ keeps_tree device old new fault full told so l = record {
   none_left = λ h f. l.none_left h (so f);
 }
 
--- what is told of a full disk is told by another refusal
+-- a full disk is reported by another refusal
 pub keeps_told : {O Pen Seen : Type 0} (device : OnceGhosts O Pen Seen) (most : ℕ) (old new : Shelf O Pen Seen) (full told : Type 0) → (told → full) → KeepsBlocks device most old new full → KeepsBlocks device most old new told
 keeps_told device most old new full told so k = record { disk = k.disk; honest = k.honest; forward = k.forward; grows = k.grows; spends = k.spends; none_left = λ h f. k.none_left h (so f) }
 
@@ -72,7 +72,7 @@ spends_then m n a b c one two = record {
   burnt = λ i not. two.burnt i (λ h. not (listed_right i one.spent two.spent h)) ∙ one.burnt i (λ h. not (listed_left i one.spent two.spent h));
 }
 
--- one call after another, of which the second alone may tell of a full disk
+-- one call after another, of which only the second may report a full disk
 pub keeps_then : {O Pen Seen : Type 0} (device : OnceGhosts O Pen Seen) (m n : ℕ) (a b c : Shelf O Pen Seen) (full other : Type 0) → KeepsBlocks device m a b other → KeepsBlocks device n b c full → KeepsBlocks device (m + n) a c full
 keeps_then device m n a b c full other one two = record {
   disk = two.disk ∙ one.disk;

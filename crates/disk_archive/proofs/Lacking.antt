@@ -1,4 +1,4 @@
--- Where a change is refused since there are too few pages, or levels.
+-- Where a change is refused since there are too few pages, levels or blocks.
 use Rattle.std.proofs.Common.{◌≡◌, ◌≢◌, ℕ, Bool, List, [], ◌∷◌, refl, subst, Result, Ok, Err}
 use Rattle.std.specs.Prelude.{IfErr}
 use Rattle.page_tx.specs.declared.error.PageError.{PageError}
@@ -18,7 +18,7 @@ use Rattle.archive_pages.specs.Changes.{next_change}
 use Rattle.archive_pages.specs.Carried.{Bears}
 use Rattle.disk_archive.specs.declared.apply_error.ApplyError.{ApplyError}
 use Rattle.disk_archive.specs.declared.apply_error.ApplyError.TheVariants as applies
-use Rattle.disk_archive.specs.Lacks.{IsNextVersion, LacksLevel, LacksPages}
+use Rattle.disk_archive.specs.Lacks.{IsNextVersion, LacksBlock, LacksLevel, LacksPages}
 use Rattle.disk_archive.specs.Trees.{TreeLies}
 use Rattle.disk_archive.specs.inner.Applications.{ApplyRefusal, FrontRefusal, LackRefusal, LimitRefusal, apply_of_use}
 
@@ -64,16 +64,17 @@ head_reads down n pages.OutOfMemory few r = tt
 
 -- ---- a version isn't taken
 
--- pages and a level alone are to be looked at
-pub lacks_by : (is : Version → Type 0) (shown : List (List ℕ)) (left root : ℕ) (e : ApplyError) → (e ≡ applies.PagesFull → LacksPages is shown left root) → (e ≡ applies.TooHigh → LacksLevel is shown root) → LackRefusal is shown left root e
-lacks_by is shown left root applies.NeedsRecovery full high = tt
-lacks_by is shown left root applies.CounterFull full high = tt
-lacks_by is shown left root applies.TooHigh full high = high refl
-lacks_by is shown left root applies.PagesFull full high = full refl
-lacks_by is shown left root applies.OnceFull full high = tt
-lacks_by is shown left root (applies.BadNode page) full high = tt
-lacks_by is shown left root applies.Fault full high = tt
-lacks_by is shown left root applies.OutOfMemory full high = tt
+-- only pages, a level and a block are to be looked at
+pub lacks_by : (is : Version → Type 0) (shown : List (List ℕ)) (left root : ℕ) (e : ApplyError) → (e ≡ applies.PagesFull → LacksPages is shown left root) → (e ≡ applies.TooHigh → LacksLevel is shown root)
+    → (e ≡ applies.OnceFull → LacksBlock is shown root) → LackRefusal is shown left root e
+lacks_by is shown left root applies.NeedsRecovery full high once = tt
+lacks_by is shown left root applies.CounterFull full high once = tt
+lacks_by is shown left root applies.TooHigh full high once = high refl
+lacks_by is shown left root applies.PagesFull full high once = full refl
+lacks_by is shown left root applies.OnceFull full high once = once refl
+lacks_by is shown left root (applies.BadNode page) full high once = tt
+lacks_by is shown left root applies.Fault full high once = tt
+lacks_by is shown left root applies.OutOfMemory full high once = tt
 
 -- the same of a version of which more is known
 pub lacks_as : (was is : Version → Type 0) (shown : List (List ℕ)) (left root : ℕ) (e : ApplyError) → ((v : Version) → was v → is v) → LackRefusal was shown left root e → LackRefusal is shown left root e
@@ -81,7 +82,7 @@ lacks_as was is shown left root applies.NeedsRecovery more l = tt
 lacks_as was is shown left root applies.CounterFull more l = tt
 lacks_as was is shown left root applies.TooHigh more l = record { version = l.version; its = more l.version l.its; needs = l.needs }
 lacks_as was is shown left root applies.PagesFull more l = record { version = l.version; its = more l.version l.its; level = l.level; needed = l.needed; needs = l.needs; above = l.above }
-lacks_as was is shown left root applies.OnceFull more l = tt
+lacks_as was is shown left root applies.OnceFull more l = record { version = l.version; its = more l.version l.its; level = l.level; needs = l.needs }
 lacks_as was is shown left root (applies.BadNode page) more l = tt
 lacks_as was is shown left root applies.Fault more l = tt
 lacks_as was is shown left root applies.OutOfMemory more l = tt
@@ -116,3 +117,7 @@ lacks_pages is shown left root (Err e) l told = let same : e ≡ applies.PagesFu
 pub lacks_level : {X : Type 0} (is : Version → Type 0) (shown : List (List ℕ)) (left root : ℕ) (r : Result X ApplyError) → IfErr r (LackRefusal is shown left root) → r ≡ Err applies.TooHigh → LacksLevel is shown root
 lacks_level is shown left root (Ok x) l told = absurd cc
 lacks_level is shown left root (Err e) l told = let same : e ≡ applies.TooHigh = cc in subst (LackRefusal is shown left root) same l
+
+pub lacks_block : {X : Type 0} (is : Version → Type 0) (shown : List (List ℕ)) (left root : ℕ) (r : Result X ApplyError) → IfErr r (LackRefusal is shown left root) → r ≡ Err applies.OnceFull → LacksBlock is shown root
+lacks_block is shown left root (Ok x) l told = absurd cc
+lacks_block is shown left root (Err e) l told = let same : e ≡ applies.OnceFull = cc in subst (LackRefusal is shown left root) same l

@@ -19,7 +19,7 @@ use Rattle.disk_archive.proofs.Telling.{waits_same}
 usable_of : {E O Pen Seen : Type 0} {erase : EraseGhosts E} {once : OnceGhosts O Pen Seen} (a : Archive E O Pen Seen erase once) (h : History) → Carries a h → is_down a ≡ false
 usable_of a h k = k.maps.keeps.usable
 
--- after an Ok, which only a usable archive answers
+-- after an Ok, which only a usable archive returns
 pub held_ok : {E O Pen Seen : Type 0} {erase : EraseGhosts E} {once : OnceGhosts O Pen Seen} (a z : Archive E O Pen Seen erase once) (h g : History) → (IsHonest z → IsHonest a) → is_down a ≡ false → (Carries a h → Carries z g) → Holds a h → Holds z g
 held_ok a z h g back usable step held honest = ⊎_elim (λ k. inl (step k)) (λ w. absurd (true≢false (sym w.unusable ∙ usable))) (held (back honest))
 
@@ -76,7 +76,7 @@ lasts_of a z to beg sound honest idle after crash h stands = lasts_by a z sound 
 pub down_still : {E O Pen Seen : Type 0} {erase : EraseGhosts E} {once : OnceGhosts O Pen Seen} (a z : Archive E O Pen Seen erase once) → is_down a ≡ true → IsAsBefore a z → (erase_of z ≡ erase_of a) × (once_state z ≡ once_state a) × (is_down z ≡ true)
 down_still a z down s = (ap (λ j. erase_disk j) s.journal, s.state, ap needs_recovery s.journal ∙ down)
 
--- the erasable disk wasn't written, where the archive carried the history or had to be opened again
+-- the erasable disk wasn't written, where the archive carried the history or needed to be opened again
 pub held_clock : {E O Pen Seen : Type 0} {erase : EraseGhosts E} {once : OnceGhosts O Pen Seen} (a z : Archive E O Pen Seen erase once) (h : History) → (is_down a ≡ true → IsAsBefore a z)
     → (Carries a h → (erase_state z).clock ≡ (erase_state a).clock) → GoesOn a h → (erase_state z).clock ≡ (erase_state a).clock
 held_clock {erase = erase} a z h same carried held = ⊎_elim (λ k. carried k) (λ w. ap (λ j. (erase.model (erase_disk j)).clock) (same w.unusable).journal) held

@@ -1,4 +1,4 @@
--- Why a change is told to be too much.
+-- Why a change is refused as too much.
 use Rattle.std.proofs.Common.{◌≡◌, ◌<◌, ◌+◌, ℕ, min, sym, subst, arith, Result, Ok, Err}
 use Rattle.std.specs.Prelude.{IfErr, IsErrAnd}
 use Rattle.std.proofs.Math.Nat.{min-le_left}
@@ -8,7 +8,7 @@ use Rattle.page_journal.specs.declared.error.UseError.{UseError}
 use Rattle.page_journal.specs.declared.error.UseError.TheVariants as uses
 use Rattle.disk_archive.specs.inner.Applications.{LimitRefusal, apply_of_use}
 
--- what is said of a refusal is said of the result that tells it
+-- what holds of a refusal holds of the result that returns it
 pub on_told : {X E : Type 0} (r : Result X E) (e : E) (P : E → Type 0) → IsErrAnd r (λ y. y ≡ e) → P e → IfErr r P
 on_told (Ok x) e P is p = absurd is
 on_told (Err y) e P is p = subst P (sym is) p
@@ -18,7 +18,7 @@ pub limits_as : (homes homes' next next' count count' : ℕ) (e : ApplyError) �
 limits_as homes homes' next next' count count' e h n c l =
     subst (λ m. LimitRefusal m next count e) h (subst (λ m. LimitRefusal homes' m count e) n (subst (λ m. LimitRefusal homes' next' m e) c l))
 
--- where the first page that was never used is the one that the head tells, or all pages are in use
+-- where the first page that was never used is the one that the head names, or all pages are in use
 pub limits_fresh : (homes fresh count : ℕ) (e : ApplyError) → LimitRefusal homes (min fresh homes) count e → LimitRefusal homes fresh count e
 limits_fresh homes fresh count applies.NeedsRecovery l = tt
 limits_fresh homes fresh count applies.CounterFull l = l
@@ -29,7 +29,7 @@ limits_fresh homes fresh count (applies.BadNode page) l = tt
 limits_fresh homes fresh count applies.Fault l = tt
 limits_fresh homes fresh count applies.OutOfMemory l = tt
 
--- a commit tells of neither
+-- a commit reports neither
 pub limits_commit : (homes next count : ℕ) (e : UseError) → LimitRefusal homes next count (apply_of_use e)
 limits_commit homes next count uses.Fault = tt
 limits_commit homes next count uses.NeedsRecovery = tt

@@ -50,7 +50,7 @@ can_take count s o head shown h c homes lane i batch kept b at here is len fits 
       admitted = omega (arith, fits, offered, admitted, counted, n, m);
     }
 
--- the collector's count is full, as the head tells
+-- the collector's count is full, according to the head
 pub counter_full : (count : ℕ) (s : Settings) (o : OnceState) (head : Contents) (shown : List (List ℕ)) (h : History) (c more : ℕ) (lane : Lane)
     → Bears (TreeLies count) s (settled_in o) head shown h → HasLane head c lane → c < length h.intakes → IsCounterFull h c more ↔ (18446744073709551615 < lane.offered + more)
 counter_full count s o head shown h c more lane b at low =
@@ -60,7 +60,7 @@ counter_full count s o head shown h c more lane b at low =
       λ above. record { intake = i.0; here = i.1; above = omega (arith, offered, above) },
     )
 
--- the ring is full, as the head tells
+-- the ring is full, according to the head
 pub ring_full : (count : ℕ) (s : Settings) (o : OnceState) (head : Contents) (shown : List (List ℕ)) (h : History) (c : ℕ) (batch : List Admitted) (lane : Lane) (i : Intake)
     → Bears (TreeLies count) s (settled_in o) head shown h → HasLane head c lane → slice_get h.intakes c ≡ Some i
     → IsRingFull s h c batch ↔ (16384 * s.ring - lane.used < octets_for (timely admitted_time i.mark [] batch))
@@ -76,7 +76,7 @@ ring_full count s o head shown h c batch lane i b at here =
       λ crowded. record { intake = i; here = here; above = omega (arith, crowded, size, used) },
     )
 
--- a ring isn't full that has room for what isn't late of a batch, as the head and the marks in memory tell
+-- a ring isn't full that, according to the head and the marks in memory, has room for what isn't late of a batch
 pub not_crowded : (count : ℕ) (s : Settings) (o : OnceState) (head : Contents) (lanes : List Waiting) (shown : List (List ℕ)) (h : History) (c : ℕ) (batch : List Admitted)
     → Bears (TreeLies count) s (settled_in o) head shown h → Mirrors lanes h → c < s.collectors
     → ((lane : Lane) (mark : ℕ) → HasLane head c lane → slice_get (marks lanes) c ≡ Some mark → octets_for (timely admitted_time mark [] batch) ≤ 16384 * s.ring - lane.used) → IsRingFull s h c batch → ⊥
@@ -87,9 +87,9 @@ not_crowded count s o head lanes shown h c batch b m low room full =
     let crowded = (ring_full count s o head shown h c batch lane.0 full.intake b lane.1 full.here).0 full in
     absurd (omega (arith, free, crowded))
 
--- ---- what isn't told before a plan
+-- ---- what isn't returned before a plan
 
--- it is none of the refusals that are told before anything is planned
+-- it is none of the refusals that are returned before anything is planned
 pub record IsLater (e : AdmitError) : Type 0 where
   pub recovery : e ≡ admits.NeedsRecovery → ⊥
   pub collector : e ≡ admits.NoCollector → ⊥
@@ -116,7 +116,7 @@ pub commit_later : (down : Bool) (e : UseError) → UseRefusal down e → down �
 commit_later down uses.Fault r usable = record { later = record { recovery = λ e. cc; collector = λ e. cc; large = λ e. cc; counter = λ e. cc; ring = λ e. cc }; page = λ n e. cc }
 commit_later down uses.NeedsRecovery r usable = absurd (true≢false (sym r ∙ usable))
 
--- ---- what is told
+-- ---- what is returned
 
 pub told_err : {X : Type 0} (r : Result X AdmitError) (e : AdmitError) → IsErrAnd r (λ y. y ≡ e) → r ≡ Err e
 told_err (Ok x) e h = absurd h
@@ -142,7 +142,7 @@ no_counter count s o head shown h c octets more r e b is later low fits = (
   λ full. absurd (not_full count s o head shown h c more b low fits full.1),
 )
 
--- A count that is full is told as that, exactly.
+-- Exactly a count that is full is reported as that.
 pub counter_told : (count : ℕ) (s : Settings) (o : OnceState) (head : Contents) (shown : List (List ℕ)) (h : History) (c octets more : ℕ) {X : Type 0} (r : Result X AdmitError) (e : AdmitError) → Bears (TreeLies count) s (settled_in o) head shown h
     → r ≡ Err e → (s.collectors ≤ c → e ≡ admits.NoCollector) → ((lane : Lane) → HasLane head c lane → (e ≡ admits.CounterFull) ↔ ((octets ≤ 262144) × (18446744073709551615 < lane.offered + more)))
     → (r ≡ Err admits.CounterFull) ↔ ((octets ≤ 262144) × IsCounterFull h c more)
@@ -165,12 +165,12 @@ counter_told count s o head shown h c octets more r e b is only iff =
           is ∙ ap (λ z. Err z) ((iff lane.0 lane.1).1 (full.0, (counter_full count s o head shown h c more lane.0 b lane.1 within).0 full.1)),
     )
 
--- no other refusal is told as a full ring
+-- no other refusal is reported as a full ring
 pub no_crowd : {X : Type 0} (octets : ℕ) (s : Settings) (h : History) (c more : ℕ) (batch : List Admitted) (r : Result X AdmitError) (e : AdmitError) → r ≡ Err e → IsLater e → (IsRingFull s h c batch → ⊥)
     → (r ≡ Err admits.IntakeFull) ↔ ((octets ≤ 262144) × (IsCounterFull h c more → ⊥) × IsRingFull s h c batch)
 no_crowd octets s h c more batch r e is later room = (λ told. absurd (later.ring (as_told r e admits.IntakeFull is told)), λ full. absurd (room full.2))
 
--- A ring that is full is told as that, exactly.
+-- Exactly a ring that is full is reported as that.
 pub crowd_told : (count : ℕ) (s : Settings) (o : OnceState) (head : Contents) (lanes : List Waiting) (shown : List (List ℕ)) (h : History) (c octets : ℕ) (batch : List Admitted) {X : Type 0} (r : Result X AdmitError) (e : AdmitError)
     → Bears (TreeLies count) s (settled_in o) head shown h → Mirrors lanes h → r ≡ Err e → (s.collectors ≤ c → e ≡ admits.NoCollector)
     → ((lane : Lane) (mark : ℕ) → HasLane head c lane → slice_get (marks lanes) c ≡ Some mark → (e ≡ admits.IntakeFull) ↔ ((octets ≤ 262144) × (lane.offered + length batch ≤ 18446744073709551615) × (16384 * s.ring - lane.used < octets_for (timely admitted_time mark [] batch))))

@@ -87,7 +87,7 @@ mark_planned count s o old new head next shown h c mark lane b at below low same
 
 -- ---- what is kept in memory
 
--- Where the collector's mark in memory is so and so to the new one, that of the history is.
+-- As the collector's mark in memory compares with the new one, so does that of the history.
 pub above_there : (lanes : List Waiting) (h : History) (c mark : ℕ) → Mirrors lanes h → c < length h.intakes → ((present : ℕ) → slice_get (marks lanes) c ≡ Some present → mark < present) → IsMarkAbove h c mark
 above_there lanes h c mark m low is =
     let i = intake_at c h.intakes low in
@@ -116,7 +116,7 @@ left_marked site h c mark below left either = ⊎_elim (λ was. inl was) (λ is.
 
 -- ---- refusals
 
--- the head is laid over its page where no image is held, but for want of memory
+-- where no image is held, only running out of memory keeps the head from being laid over its page
 pub only_memory : (named : List ℕ) (e : PageError) → named ≡ [] → HeadRefusal (length (joined named (0 ∷ []))) e → e ≡ pages_refusals.OutOfMemory
 only_memory named pages_refusals.Fault none r = absurd r
 only_memory named pages_refusals.NeedsRecovery none r = absurd r
@@ -139,7 +139,7 @@ from_commit down uses.NeedsRecovery r usable = absurd (true≢false (sym r ∙ u
 pub not_both : {X : Type 0} (r : Result X MarkError) → r ≡ Err refusals.NeedsRecovery → r ≡ Err refusals.MarkBack → ⊥
 not_both r down back = let e : Err refusals.NeedsRecovery ≡ Err refusals.MarkBack = sym down ∙ back in cc
 
--- what is told, where it is known what was converted
+-- what is returned, where it is known what was converted
 pub told_err : {X : Type 0} (r : Result X MarkError) (e : MarkError) → IsErrAnd r (λ y. y ≡ e) → r ≡ Err e
 told_err (Ok x) e h = absurd h
 told_err (Err y) e h = ap (λ z. Err z) h
@@ -147,7 +147,7 @@ told_err (Err y) e h = ap (λ z. Err z) h
 pub not_told : {X : Type 0} (r : Result X MarkError) (e f : MarkError) → r ≡ Err e → (e ≡ f → ⊥) → r ≡ Err f → ⊥
 not_told r e f is apart told = apart (let both : Err e ≡ Err f = sym is ∙ told in cc)
 
--- Exactly a mark below the collector's is told as that, of a collector that there is.
+-- Exactly a mark below the collector's is reported as that, for a collector that exists.
 pub back_told : {X : Type 0} (r : Result X MarkError) (e : MarkError) (lanes : List Waiting) (h : History) (n c mark : ℕ) → r ≡ Err e → (e ≡ refusals.NoCollector) ⊎ (e ≡ refusals.MarkBack)
     → (e ≡ refusals.NoCollector → n ≤ c) → (n ≤ c → e ≡ refusals.NoCollector) → (e ≡ refusals.MarkBack → (present : ℕ) → slice_get (marks lanes) c ≡ Some present → mark < present)
     → Mirrors lanes h → length h.intakes ≡ n → (r ≡ Err refusals.MarkBack) ↔ IsMarkAbove h c mark

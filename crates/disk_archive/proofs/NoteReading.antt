@@ -1,4 +1,4 @@
--- What a note tells is the only thing that it tells.
+-- A note has only one reading.
 use Rattle.std.proofs.Common.{◌≡◌, ◌<◌, ℕ, ◌^◌, List, [], ◌∷◌, ◌++◌, slice_index, true, refl, sym, ◌∙◌, ap, arith}
 use Rattle.std.specs.Int.{w64, to_be_bytes}
 use Rattle.std.specs.Str.{bytes_eq}
@@ -19,7 +19,7 @@ note_ring blocks s lt =
     let front : List ℕ = to_be_bytes w64 blocks ++ s.collectors ∷ [] in
     again_two front [] s.ring lt
 
--- one note tells one choice of settings
+-- one note gives one choice of settings
 pub one_settings : (blocks : ℕ) (s t : Settings) → AreSettings s → AreSettings t → note_octets blocks s ≡ note_octets blocks t → s ≡ t
 one_settings blocks s t are those same =
     let c : s.collectors ≡ t.collectors = sym (note_collectors blocks s) ∙ ap (λ (l : List ℕ). slice_index l 8) same ∙ note_collectors blocks t in
@@ -28,7 +28,7 @@ one_settings blocks s t are those same =
     let r : s.ring ≡ t.ring = sym (note_ring blocks s (omega (arith, few))) ∙ ap (number_at 2 9) same ∙ note_ring blocks t (omega (arith, low)) in
     λ i. record { collectors = c i; ring = r i }
 
--- the numbers of a note are those of the settings that it tells
+-- the numbers of a note are those of the settings that it gives
 pub settings_read : (note : List ℕ) (blocks c r : ℕ) (s : Settings) → AreSettings s → note ≡ note_octets blocks s → slice_index note 8 ≡ c → number_at 2 9 note ≡ r → record { collectors = c; ring = r } ≡ s
 settings_read note blocks c r s are told collectors ring =
     let few = are.large in

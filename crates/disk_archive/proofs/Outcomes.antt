@@ -1,4 +1,4 @@
--- By cases on what a call answers.
+-- By cases on what a call returns.
 use Rattle.std.proofs.Common.{◌≡◌, ◌≢◌, ◌⊎◌, inl, inr, Bool, true, false, refl, subst, Result, Ok, Err, Option, Some, None}
 use Rattle.std.specs.Prelude.{OnOk, OnErr, IfOk, IfErr, IfSome, IfNone}
 use Rattle.page_journal.specs.Refusals.{PostRefusal}
@@ -45,17 +45,17 @@ pub err_then : {X E : Type 0} (r : Result X E) (P Q : Type 0) → (P → Q) → 
 err_then (Ok x) P Q f p = tt
 err_then (Err e) P Q f p = f p
 
--- what is said of an Ok's value where it is known why it is one
+-- what holds of an Ok's value where it is known why the result is one
 pub if_ok_as : {X E : Type 0} (r : Result X E) (P : Type 0) (Q : X → Type 0) → OnOk r P → (P → IfOk r Q) → IfOk r Q
 if_ok_as (Ok x) P Q p step = step p
 if_ok_as (Err e) P Q p step = tt
 
--- what is said of a refusal
+-- what holds of a refusal
 pub if_err : {X E : Type 0} (r : Result X E) (P Q : E → Type 0) → ((e : E) → P e → Q e) → IfErr r P → IfErr r Q
 if_err (Ok x) P Q f p = tt
 if_err (Err e) P Q f p = f e p
 
--- what is said of an option where it is known which it is
+-- what holds of an option where it is known which one it is
 pub if_none_at : {X : Type 0} (o : Option X) (P : Type 0) → o ≡ None → IfNone o P → P
 if_none_at None P e p = p
 if_none_at (Some x) P e p = cc

@@ -43,11 +43,11 @@ first_found count s settled head pages lanes h c a low b m next told =
       below = subst (λ (x : Admitted). IsBelowMarks h x.time) same f.below;
     }
 
--- the admission is told again
+-- the admission may be replaced by one that is equal to it
 pub at_hand : (h : History) (front : Front) (a : Admitted) → IsFirst h front → front.admission ≡ a → IsFirst h (record { collector = front.collector; admission = a })
 at_hand h front a f same = subst (λ (x : Admitted). IsFirst h (record { collector = front.collector; admission = x })) same f
 
--- its page isn't blamed
+-- its page isn't reported as damaged
 pub first_sound : (count homes : ℕ) (s : Settings) (settled : ℕ → List ℕ → Type 0) (head : Contents) (pages : List (List ℕ)) (lanes : List Waiting) (h : History) (c : ℕ) (blamed : Type 0) → c < length head.lanes → Bears (TreeLies count) s settled head pages h → Mirrors lanes h → IsNext lanes c → length pages ≡ homes
     → ((lane : Lane) (first : Admitted) (rest : List Admitted) → HasLane head c lane → IsRing homes (ring_of s c lane) → Holds pages (ring_of s c lane) (first ∷ rest) → blamed → ⊥) → blamed → ⊥
 first_sound count homes s settled head pages lanes h c blamed low b m next len never =

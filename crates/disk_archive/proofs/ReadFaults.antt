@@ -1,4 +1,4 @@
--- Whether a call that only reads tells a failure.
+-- Whether a call that only reads reports a failure.
 use Rattle.std.proofs.Common.{◌≡◌, ◌+◌, ◌⊎◌, inl, inr, ℕ, min, refl, sym, ◌∙◌, ap, subst, arith, Result, Ok, Err}
 use Rattle.disk_models.specs.declared.erase.EraseDisk.{Ghosts as EraseGhosts}
 use Rattle.disk_models.specs.declared.once.OnceDisk.{Ghosts as OnceGhosts}
@@ -21,7 +21,7 @@ use Rattle.disk_archive.proofs.Faults.{done_not_told, one_told}
 pub read_then : (p p' p'' l l' : ℕ) (told : Type 0) → p' ≡ p → ReportsOne p' p'' l l' told → ReportsOne p p'' l l' told
 read_then p p' p'' l l' told same t = subst (λ (n : ℕ). ReportsOne n p'' l l' told) same t
 
--- a failed read of a page or of a block is told, each in its way
+-- a failed read of a page or of a block is reported, each in its own way
 read_both : {X : Type 0} (r : Result X NodeError) (told x y : Type 0) (p p' l l' : ℕ) → (told → (r ≡ Err nodes.Fault) ⊎ (r ≡ Err nodes.OnceFault)) → (r ≡ Err nodes.Fault → told) → (r ≡ Err nodes.OnceFault → told)
     → KeepsDevice x y p p' (r ≡ Err nodes.Fault) → ((r ≡ Err nodes.OnceFault → ⊥) → l' ≡ l) → (r ≡ Err nodes.OnceFault → l' ≡ min (l + 1) 18446744073709551615) → ReportsOne p p' l l' told
 read_both r told x y p p' l l' which of_page of_once k quiet counted = reports_both r nodes.Fault nodes.OnceFault told x y p p' l l' (λ is. cc) which of_page of_once k quiet counted
@@ -32,7 +32,7 @@ pub read_done : {X : Type 0} (r : Result X NodeError) (v : X) (told x y : Type 0
 read_done r v told x y p p' l l' is never k quiet counted =
     read_both r told x y p p' l l' (λ t. absurd (never t)) (λ f. absurd (done_not_told r v nodes.Fault is f)) (λ o. absurd (done_not_told r v nodes.OnceFault is o)) k quiet counted
 
--- a refusal of a look is passed on, and both failures are told as one
+-- a refusal of a look is passed on, and both failures are reported as one
 pub read_refused : {X Y F : Type 0} (r : Result X NodeError) (s : Result Y F) (f : NodeError → F) (fault : F) (e : NodeError) (x y : Type 0) (p p' l l' : ℕ)
     → ((d : NodeError) → f d ≡ fault → (d ≡ nodes.Fault) ⊎ (d ≡ nodes.OnceFault)) → f nodes.Fault ≡ fault → f nodes.OnceFault ≡ fault → r ≡ Err e → s ≡ Err (f e)
     → KeepsDevice x y p p' (r ≡ Err nodes.Fault) → ((r ≡ Err nodes.OnceFault → ⊥) → l' ≡ l) → (r ≡ Err nodes.OnceFault → l' ≡ min (l + 1) 18446744073709551615) → ReportsOne p p' l l' (s ≡ Err fault)
@@ -75,7 +75,7 @@ check_memory_no_fault is = cc
 
 -- ---- calls of an archive
 
--- neither disk failed, and no failure is told
+-- neither disk failed, and no failure is reported
 pub fails_none : {E O Pen Seen : Type 0} {erase : EraseGhosts E} {once : OnceGhosts O Pen Seen} (a z : Archive E O Pen Seen erase once) (disk : O) (told : Type 0)
     → erase.fault_count (erase_of z) ≡ erase.fault_count (erase_of a) → once.pen_fault_count (pen_in z) ≡ once.pen_fault_count (pen_in a) → (told → ⊥) → TellsFailure a z disk told
 fails_none a z disk told erase_is pen_is never = record { quiet = λ _. (erase_is, pen_is); counted = λ t. absurd (never t) }

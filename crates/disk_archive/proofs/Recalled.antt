@@ -237,7 +237,7 @@ waits_low h c i right here =
 
 -- ---- what a history says of a collector
 
--- what the head tells of it, and what its ring holds
+-- what the head says of it, and what its ring holds
 pub record Own (s : Settings) (shown : List (List ℕ)) (c : ℕ) (lane : Lane) (h : History) : Type 0 where
   pub intake : Intake
   pub here : slice_get h.intakes c ≡ Some intake
@@ -288,6 +288,6 @@ mirrors_known count s o head shown h lanes known b all knows times =
     parts_long d zero ps = refl
     parts_long d (suc k) ps = ap suc (parts_long (suc d) k ps)
 
--- where there is an answer, the device didn't fail
+-- where the result is an Ok, the device didn't fail
 pub no_fault : {A : Type 0} (r : Result A OpenError) (a : A) → r ≡ Ok a → r ≡ Err openings.Fault → ⊥
 no_fault r a is was = cc

@@ -85,7 +85,7 @@ reads_found site blocks e o left h found count noted k =
       };
     }
 
--- what stood of a history stands
+-- a history that stood still stands
 pub stands_read : {E O Pen Seen : Type 0} {erase : EraseGhosts E} {once : OnceGhosts O Pen Seen} (a : Archive E O Pen Seen erase once) (site : Site) (blocks : ℕ) (e : DiskState) (o : OnceState) (h : History) → Rests site e o h → site.blocks ≡ blocks → IsNoted site → ((g : History) → ReadsAs site blocks e o g → Carries a g) → Stands a h
 stands_read a site blocks e o h rests count noted carries =
     let f = rests (present e o) (present_now e o) in
@@ -117,7 +117,7 @@ after_read site blocks e0 e1 o o1 h r sound same m left now =
 
 -- ---- refusals
 
--- where no page is damaged, the device or memory was wanting
+-- where no page is damaged, the device failed or memory ran out
 pub only_want : (e : OpenError) → RecallRefusal e → ((page : ℕ) → e ≡ openings.BadNode page → ⊥) → IsWant e
 only_want openings.Fault told sound = tt
 only_want openings.OutOfMemory told sound = tt
@@ -125,7 +125,7 @@ only_want openings.NotAJournal told sound = absurd told
 only_want (openings.BadSlot page) told sound = absurd told
 only_want (openings.BadNode page) told sound = absurd (sound page refl)
 
--- no such refusal is told as that of no archive
+-- no such refusal says that there is no archive
 pub never_none : {A : Type 0} (r : Result A OpenError) → IfErr r (λ e. e ≡ openings.Fault) → r ≡ Err openings.NotAJournal → ⊥
 never_none (Ok a) told is = cc
 never_none (Err e) told is = cc

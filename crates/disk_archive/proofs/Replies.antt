@@ -1,4 +1,4 @@
--- What is answered to a batch.
+-- What is returned for a batch.
 use Rattle.std.proofs.Common.{◌≡◌, ℕ, ◌+◌, List, [], length, map, refl, ap, arith}
 use Rattle.route_model.specs.Admission.{Admitted}
 use Rattle.route_meaning.specs.History.{Intake}

@@ -1,4 +1,4 @@
--- Pages that are shown behind an applied change carry the history of then.
+-- Pages that are shown after a change is applied carry the history as it is then.
 use Rattle.std.proofs.Common.{◌≡◌, ◌<◌, ◌≤◌, ◌↔◌, ℕ, zero, suc, ◌+◌, List, [], ◌∷◌, ◌++◌, length, take, drop, map, Bool, true, refl, sym, ◌∙◌, ap, subst, inl, inr, true≢false, arith, Some, append-nil, length-set}
 use Rattle.std.specs.List.{AllByRecursion, slice_get}
 use Rattle.std.proofs.lemmas.Bool.{cases_lt, eq-eqb}
@@ -139,7 +139,7 @@ takes_one count s settled shows head next root fresh block versions v shown are 
   takes = subst (λ (n : ℕ). TreeTakes count settled shows (tree_low s) root fresh block n (versions ++ v ∷ []) shown) (one_stamp head.applied head.last (next_change head.begun next) v are) t;
 }
 
--- what the head keeps behind a change
+-- what the head keeps after a change
 pub record Kept (head after : Contents) (first_page first_block : ℕ) : Type 0 where
   pub fresh : after.fresh ≡ first_page
   pub block : after.block ≡ first_block

@@ -16,11 +16,11 @@ use Rattle.disk_archive.specs.inner.Idle.{IsAsBefore}
 use Rattle.disk_archive.proofs.Calling.{AllSound}
 use Rattle.disk_archive.proofs.Telling.{waits_same}
 
--- what follows of whatever a crash left
+-- what follows from whatever a crash left
 pub crashes_weaker : {E O Pen Seen : Type 0} {erase : EraseGhosts E} {once : OnceGhosts O Pen Seen} (a z : Archive E O Pen Seen erase once) (P Q : Left → Type 0) → ((left : Left) → P left → Q left) → Crashes a z P → Crashes a z Q
 crashes_weaker a z P Q weaker c = record { later = c.later; each = λ left pair. weaker left (c.each left pair) }
 
--- A call that goes on with a history that the one of before begins, in each crash too, and does nothing while the archive must be opened
+-- A call that goes on with a history that the one from before begins, in each crash too, and does nothing while the archive must be opened
 -- again.
 pub lasts_steps : {E O Pen Seen : Type 0} {erase : EraseGhosts E} {once : OnceGhosts O Pen Seen} (a z : Archive E O Pen Seen erase once) → AllSound erase → (IsHonest a → IsHonest z) → (is_down a ≡ true → IsAsBefore a z)
     → ((g : History) → Carries a g → Stands z g) → ((g : History) → Carries a g → Crashes a z (LeftFrom (site_of a) g)) → (h : History) → Stands a h → Lasts a z h

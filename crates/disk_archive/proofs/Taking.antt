@@ -61,7 +61,7 @@ root_there nodes limit blocks next all _ _ _ (key_node level keys page children 
 abbrev pub store_at : Store → ℕ → ℕ → Store
 store_at s limit next = record { nodes = s.nodes; limit = limit; blocks = s.blocks; next = next }
 
--- in so many pages a tree has its own from `low` on, up to where pages are in use
+-- in `homes` pages a tree has its own from `low` on, up to where pages are in use
 pub has_wider : (s : Store) (versions : List Version) (root level least homes next' : ℕ) → ((page : ℕ) (node : PageNode) → s.nodes page ≡ Some node → page < homes) → s.next ≤ next' → TreeHas s versions root level least → TreeHas (store_at s (min s.limit homes) next') versions root level least
 has_wider s versions root level least homes next' shown more has = record {
   stands = record {
@@ -123,7 +123,7 @@ module _ {P : Type 0} (pages : Ghosts P) (held : P) {O Pen Seen : Type 0} (devic
         | inr ge ↦ (let lt = r.0 in omega (arith, ge, lt))
       ]
 
-  -- ---- behind a version
+  -- ---- after a version
 
   pub taken_at : (new : P) (shelf' : Shelf O Pen Seen) (now : TreePlace) (all : List Version) → disk_of shelf' ≡ disk_of shelf → ((after : List (List ℕ)) → pages.shows new start after → length after ≡ pages.homes held)
       → TakenIn pages new device shelf' start shown (store_at t.store (pages.next held) (next_of shelf)) all now

@@ -1,4 +1,4 @@
--- What an archive tells, and what it tells where its disks are as they were.
+-- What an archive reports, and what it reports where its disks are as they were.
 use Rattle.std.proofs.Common.{◌≡◌, inl, inr, ⊎_elim, ℕ, List, length, map, sym, ◌∙◌, ap, subst, arith, Some}
 use Rattle.std.specs.List.{slice_get}
 use Rattle.std.proofs.lemmas.Option.{slice_get_within}

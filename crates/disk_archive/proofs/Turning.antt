@@ -70,7 +70,7 @@ RowsStay = (h g : History) (all new : List Version) (c : RowsCursor) → IsHisto
 abbrev pub EventsStay : Type 0
 EventsStay = (h g : History) (all new : List Version) (c : EventsCursor) → IsHistory h → IsHistory g → Begins h g → c.question.to < settled h → IsPeer c.question.peer → IsPrefix c.question.prefix → Kept (applied h) all → Kept (applied g) new → HasToldSo all (applied h) c → HasToldSo new (applied g) c
 
--- what versions of applied changes tell
+-- what versions of applied changes give
 abbrev pub RowsTell : Type 0
 RowsTell = (ps : List (Placed Admitted)) (all : List Version) (moment : ℕ) → IsRising time_of ps → Kept ps all → Tells all ps moment
 

@@ -58,7 +58,7 @@ IsHonest {erase = erase} {once = once} a = erase.honest (erase_of a) × once.hon
 abbrev pub BearsOn : {E O Pen Seen : Type 0} {erase : EraseGhosts E} {once : OnceGhosts O Pen Seen} → Archive E O Pen Seen erase once → List (List ℕ) → History → Type 0
 BearsOn {once = once} a pages h = Bears (TreeLies (once.block_count (once_of a))) a.settings (settled_in (once_state a)) a.head pages h
 
--- A usable archive carries the history on its disks, whose note tells what it was made with, and has in memory what it answers by.
+-- A usable archive carries the history on its disks, whose note says what it was made with, and has in memory what it answers by.
 pub record Carries {E O Pen Seen : Type 0} {erase : EraseGhosts E} {once : OnceGhosts O Pen Seen} (a : Archive E O Pen Seen erase once) (h : History) : Type 0 where
   pub honest : IsHonest a
   pub noted : IsNoted (site_of a)
@@ -80,11 +80,11 @@ pub record Waits {E O Pen Seen : Type 0} {erase : EraseGhosts E} {once : OnceGho
   pub mirrors : Mirrors a.sequencer h
   pub rests : Rests (site_of a) (erase_state a) (once_state a) h
 
--- it carries the history on, or tells it until it is opened again
+-- it carries the history on, or reports it until it is opened again
 abbrev pub GoesOn : {E O Pen Seen : Type 0} {erase : EraseGhosts E} {once : OnceGhosts O Pen Seen} → Archive E O Pen Seen erase once → History → Type 0
 GoesOn a h = Carries a h ⊎ Waits a h
 
--- The archive holds the history. Where a disk doesn't follow its model nothing is said.
+-- The archive holds the history. Where a disk doesn't follow its model, nothing is claimed.
 abbrev pub Holds : {E O Pen Seen : Type 0} {erase : EraseGhosts E} {once : OnceGhosts O Pen Seen} → Archive E O Pen Seen erase once → History → Type 0
 Holds a h = IsHonest a → GoesOn a h
 

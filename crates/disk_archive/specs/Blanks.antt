@@ -17,6 +17,6 @@ next_block a = next_of a.shelf
 abbrev pub NoneBlank : {E O Pen Seen : Type 0} {erase : EraseGhosts E} {once : OnceGhosts O Pen Seen} → Archive E O Pen Seen erase once → Type 0
 NoneBlank {once = once} a = AllTried (once_state a) (next_of a.shelf) (once.block_count (once_of a))
 
--- how many home pages were never used, as its head tells
+-- how many home pages were never used, according to its head
 abbrev pub unused_pages : {E O Pen Seen : Type 0} {erase : EraseGhosts E} {once : OnceGhosts O Pen Seen} → Archive E O Pen Seen erase once → ℕ
 unused_pages a = home_pages (journal_of (pool_of a.tx)) - a.head.fresh

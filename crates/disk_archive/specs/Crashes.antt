@@ -9,7 +9,7 @@ use Rattle.disk_archive.specs.Sites.{LeftFrom}
 use Rattle.disk_archive.specs.Archives.{erase_state, once_state, site_of, Stands}
 
 -- Whatever a crash inside a call left has P, where the archive was `old` before the call and is `new` after it. It is assumed, and not
--- said by this, that the call burns all that it burns before its first erasable write: the write-once disk was then as it is after the
+-- stated here, that the call burns all that it burns before its first erasable write: the write-once disk was then as it is after the
 -- call. The erasable disk's clock didn't fall: what a crash leaves after the call is left inside it too.
 pub record Crashes {E O Pen Seen : Type 0} {erase : EraseGhosts E} {once : OnceGhosts O Pen Seen} (old new : Archive E O Pen Seen erase once) (P : Left → Type 0) : Type 0 where
   pub later : (erase_state old).clock ≤ (erase_state new).clock

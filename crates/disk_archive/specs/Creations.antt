@@ -8,7 +8,7 @@ use Rattle.archive_pages.specs.Places.{tree_low}
 use Rattle.disk_archive.specs.Notes.{note_octets}
 use Rattle.disk_archive.specs.Sites.{LeftCarries, Site}
 
--- how many home pages a disk of so many octets has room for
+-- how many home pages a disk of `size` octets has room for
 abbrev pub homes_on : ℕ → ℕ
 homes_on size = size / 16384 - 265
 
@@ -16,7 +16,7 @@ homes_on size = size / 16384 - 265
 abbrev pub IsTooSmall : Settings → ℕ → Type 0
 IsTooSmall s size = homes_on size < tree_low s + 2
 
--- the site of an archive of these settings on disks of so many octets and so many blocks
+-- the site of an archive of these settings on disks of `size` octets and `blocks` blocks
 abbrev pub site_on : Settings → ℕ → ℕ → Site
 site_on s size blocks = record { settings = s; homes = homes_on size; note = note_octets blocks s; blocks = blocks }
 
@@ -24,6 +24,6 @@ site_on s size blocks = record { settings = s; homes = homes_on size; note = not
 abbrev pub LeavesNoneOrEmpty : Site → Left → Type 0
 LeavesNoneOrEmpty site left = HoldsNone left.erase ⊎ LeftCarries site (empty site.settings.collectors) left
 
--- one of both disks failed once, and the other didn't: how often they had failed is told before and afterwards
+-- one of both disks failed once, and the other didn't: these are their counts of failures before and afterwards
 abbrev pub CountsOne : ℕ → ℕ → ℕ → ℕ → Type 0
 CountsOne erase erase' once once' = ((erase' ≡ min (erase + 1) 18446744073709551615) × (once' ≡ once)) ⊎ ((erase' ≡ erase) × (once' ≡ min (once + 1) 18446744073709551615))

@@ -21,12 +21,12 @@ abbrev pub walked_to : Cursor → Option ℕ
 walked_to (Rows c) = front_number c.front
 walked_to (Events c) = c.at
 
--- by these versions of what the history has applied, it has gathered just what the range has that its walk has passed, or its whole answer
+-- by these versions of what the history has applied, it has gathered exactly what the range has that its walk has passed, or its whole answer
 abbrev pub HasGathered : List Version → History → Cursor → Type 0
 HasGathered all h (Rows c) = Gathered all (applied h) c
 HasGathered all h (Events c) = HasToldSo all (applied h) c
 
--- What it has gathered is so over this history, and over each right one that this begins, whatever versions stand for what is applied.
+-- What it has gathered is right over this history, and over each right one that this begins, whatever versions stand for what is applied.
 abbrev pub IsGathered : Cursor → History → Type 0
 IsGathered c h = (g : History) → IsHistory g → Begins h g → (all : List Version) → Kept (applied g) all → HasGathered all g c
 

@@ -41,7 +41,7 @@ StandsFor blocks all (Events c) (errands.Events errand) = Stand blocks all c err
 abbrev pub is_known : (ℕ → Option (List ℕ)) → ℕ → List ℕ → Type 0
 is_known known n octets = known n ≡ Some octets
 
--- On a disk of so many blocks, of which these are known to be settled, the errand of the cursor lies: it is the cursor of a question of a
+-- On a disk of `count` blocks, of which these are known to be settled, the errand of the cursor lies: it is the cursor of a question of a
 -- moment that is settled in this history, over which it has gathered so far; and its places stand, by those blocks, for versions of what is
 -- applied.
 pub record Lies (count : ℕ) (known : ℕ → Option (List ℕ)) (errand : Errand) (c : Cursor) (h : History) : Type 0 where
@@ -59,8 +59,8 @@ pub record LiesKnown {O Pen Seen : Type 0} (device : Ghosts O Pen Seen) (reader 
   pub well : ReadsWell device reader seen
   pub lies : Lies (device.block_count (reader_disk reader)) (device.known seen) errand c h
 
--- What a turn over a history tells, from one cursor to the next: the whole answer; or that the walk goes on; or an errand of the next cursor,
--- which lies in these settled blocks of a disk of so many.
+-- What a turn over a history returns, from one cursor to the next: the whole answer; or that the walk goes on; or an errand of the next
+-- cursor, which lies in these settled blocks of a disk of `count` blocks.
 abbrev pub Descends : ℕ → (ℕ → Option (List ℕ)) → History → Cursor → Cursor → Descent → Type 0
 Descends count known h c d (Done answer) = IsAnswered (applied h) (asks c) answer
 Descends count known h c d Again = ⊤

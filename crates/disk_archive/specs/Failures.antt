@@ -12,9 +12,9 @@ pub record ReportsOne (one one' other other' : ℕ) (reported : Type 0) : Type 0
   pub quiet : ¬ reported → (one' ≡ one) × (other' ≡ other)
   pub counted : reported → CountsOne one one' other other'
 
--- Where a call that only reads told a failure, just one came: the erasable disk counted it, or the pen of the write-once disk, or a look by
--- which the call read blocks of this disk, and which ended with it; it is one at this disk, where both disks follow their models and this is
--- the archive's. Where the call told none, both disks counted none; what such a look counted isn't said then.
+-- Where a call that only reads reported a failure, exactly one came: the erasable disk counted it, or the pen of the write-once disk, or a
+-- look by which the call read blocks of this disk, and which ended with the call; it is a look at this disk, where both disks follow their
+-- models and this is the archive's. Where the call reported none, both disks counted none; what such a look counted isn't stated then.
 pub record TellsFailure {E O Pen Seen : Type 0} {erase : EraseGhosts E} {once : OnceGhosts O Pen Seen} (old new : Archive E O Pen Seen erase once) (disk : O) (told : Type 0) : Type 0 where
   pub quiet : ¬ told → (erase.fault_count (erase_of new) ≡ erase.fault_count (erase_of old)) × (once.pen_fault_count (pen_in new) ≡ once.pen_fault_count (pen_in old))
   pub counted : told → CountsOne (erase.fault_count (erase_of old)) (erase.fault_count (erase_of new)) (once.pen_fault_count (pen_in old)) (once.pen_fault_count (pen_in new))

@@ -1,4 +1,4 @@
--- What a step of applying needs, and there isn't.
+-- What a step of applying needs and doesn't have.
 use Rattle.std.specs.Prelude.{◌≡◌, ◌<◌, ℕ, List, [], ◌∷◌, length}
 use Rattle.route_model.specs.Admission.{Admitted}
 use Rattle.route_meaning.specs.Merged.{Placed}
@@ -7,6 +7,7 @@ use Rattle.version_model.specs.Versions.{Version}
 use Rattle.route_history.specs.Kept.{AreVersions, timed}
 use Rattle.tsb_tree.specs.NoRoom.{AtRoot}
 use Rattle.tsb_tree.specs.Needs.{NeedsLevel, NeedsPages}
+use Rattle.tsb_tree.specs.Outlived.{LeadsToOutdated}
 use Rattle.archive_pages.specs.Changes.{next_change}
 
 -- This is the version of the history's next change: of the first admission that waits, the change after those that are applied.
@@ -16,7 +17,7 @@ pub record IsNextVersion (h : History) (v : Version) : Type 0 where
   pub here : waiting h ≡ first ∷ later
   pub version : AreVersions (length (timed (applied h))) (next_change h.some first) (v ∷ [])
 
--- To take the version of which this is so, the tree with this root on these pages needs more pages that were never used than are left.
+-- To take the version of which this holds, the tree with this root on these pages needs more pages that were never used than are left.
 pub record LacksPages (is : Version → Type 0) (pages : List (List ℕ)) (left root : ℕ) : Type 0 where
   pub version : Version
   pub its : is version
@@ -25,8 +26,16 @@ pub record LacksPages (is : Version → Type 0) (pages : List (List ℕ)) (left 
   pub needs : AtRoot (λ place. NeedsPages pages version place needed) root level
   pub above : left < needed
 
--- To take the version of which this is so, the tree with this root on these pages, which is as high as it may be, needs a level more.
+-- To take the version of which this holds, the tree with this root on these pages, which is as high as it may be, needs a level more.
 pub record LacksLevel (is : Version → Type 0) (pages : List (List ℕ)) (root : ℕ) : Type 0 where
   pub version : Version
   pub its : is version
   pub needs : AtRoot (NeedsLevel pages version) root 7
+
+-- To take the version of which this holds, the tree with this root on these pages has to split a full leaf by time, which moves versions
+-- into a block.
+pub record LacksBlock (is : Version → Type 0) (pages : List (List ℕ)) (root : ℕ) : Type 0 where
+  pub version : Version
+  pub its : is version
+  pub level : ℕ
+  pub needs : AtRoot (LeadsToOutdated pages version) root level

@@ -8,13 +8,13 @@ use Rattle.sequencer.specs.Late.{timely}
 use Rattle.intake.specs.Ring.{octets_for}
 use Rattle.archive_pages.specs.declared.settings.Settings.{Settings}
 
--- so many more records can't be counted for the collector
+-- this many more records can't be counted for the collector
 pub record IsCounterFull (h : History) (c more : ℕ) : Type 0 where
   pub intake : Intake
   pub here : slice_get h.intakes c ≡ Some intake
   pub above : 18446744073709551615 < intake.offered + more
 
--- What isn't late of the batch takes more octets than the collector's ring has beside what waits in it.
+-- What isn't late of the batch takes more octets than are free in the collector's ring.
 pub record IsRingFull (s : Settings) (h : History) (c : ℕ) (batch : List Admitted) : Type 0 where
   pub intake : Intake
   pub here : slice_get h.intakes c ≡ Some intake

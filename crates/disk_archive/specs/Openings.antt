@@ -1,4 +1,4 @@
--- What is told and left where an archive is opened.
+-- What is returned and left where an archive is opened.
 use Rattle.std.specs.Prelude.{◌≡◌, ◌≤◌, ℕ, List}
 use Rattle.disk_models.specs.Erase.{DiskState}
 use Rattle.disk_models.specs.Once.{OnceState}
@@ -13,7 +13,7 @@ use Rattle.disk_archive.specs.declared.open_error.OpenError.TheVariants as openi
 use Rattle.disk_archive.specs.Notes.{note_octets}
 use Rattle.disk_archive.specs.Sites.{Site, IsNoted, LeftCarries}
 
--- what both disks read as carries the history, and the note tells the settings and as many blocks as the write-once disk has
+-- what both disks read as carries the history, and the note gives the settings and as many blocks as the write-once disk has
 pub record ReadsAs (site : Site) (blocks : ℕ) (e : DiskState) (o : OnceState) (h : History) : Type 0 where
   pub count : site.blocks ≡ blocks
   pub noted : IsNoted site
@@ -31,7 +31,7 @@ pub record NamesArchive (size : ℕ) (f : ℕ → ℕ) (blocks : ℕ) : Type 0 w
   pub noted : note ≡ note_octets blocks settings
   pub rings : tree_low settings ≤ homes
 
--- there is no archive, or want of the device or of memory
+-- there is no archive, or the device failed, or memory ran out
 abbrev pub IsNoneOrWant : OpenError → Type 0
 IsNoneOrWant openings.Fault = Unit {0}
 IsNoneOrWant openings.OutOfMemory = Unit {0}
@@ -39,7 +39,7 @@ IsNoneOrWant openings.NotAJournal = Unit {0}
 IsNoneOrWant (openings.BadSlot page) = ⊥
 IsNoneOrWant (openings.BadNode page) = ⊥
 
--- want of the device or of memory, and no other reason
+-- the device failed, or memory ran out, and no other reason
 abbrev pub IsWant : OpenError → Type 0
 IsWant openings.Fault = Unit {0}
 IsWant openings.OutOfMemory = Unit {0}

@@ -19,7 +19,7 @@ pub record Site : Type 0 where
   pub note : List ℕ
   pub blocks : ℕ
 
--- The note tells what is there: the settings, which are within their limits, and how many blocks there are.
+-- The note says what is there: the settings, which are within their limits, and how many blocks there are.
 pub record IsNoted (site : Site) : Type 0 where
   pub settings : AreSettings site.settings
   pub note : site.note ≡ note_octets site.blocks site.settings

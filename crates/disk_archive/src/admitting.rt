@@ -27,7 +27,7 @@ use route_model::{Admission, Mark};
 use sequencer::Sequencer;
 use std::alloc::Global;
 
-// Whether what isn't late of a batch takes more octets than the collector's ring has beside what waits in it.
+// Whether what isn't late of a batch takes more octets than are free in the collector's ring.
 fn is_crowded(settings: Settings, lane: Lane, mark: Mark, batch: &[Admission]) -> bool
     requires octets { sum_by entry_octets batch.now ≤ 262144 }
     ensures crowded { IsTrue result ↔ (16384 * settings.ring - lane.used < octets_for (timely admitted_time mark [] batch.now)) }
@@ -155,11 +155,11 @@ impl<E: EraseDisk + Drop, O: OnceDisk + Drop> Archive<E, O> {
     }
 
     /// Admits the records of a collector, in their order, but for those that come late: whose time is below the collector's mark or
-    /// below an earlier time of the batch. Each of these is told. The mark is raised to the greatest of these times. A batch without a
-    /// record changes nothing, and nothing is written for it.
+    /// below an earlier time of the batch. Each late record is reported. The mark is raised to the greatest of these times. A batch without
+    /// a record changes nothing, and nothing is written for it.
     ///
-    /// From an Ok on each crash leaves a history with the batch. After a refusal the archive holds the history of before; where a write
-    /// or a sync failed, it must be opened again, and the batch is then in the history whole or not at all.
+    /// From an Ok on each crash leaves a history with the batch. After a refusal the archive holds the history from before the call; where
+    /// a write or a sync failed, it must be opened again, and the batch is then in the history whole or not at all.
     pub fn admit(&mut self, collector: u8, batch: &[Admission]) -> Result<BatchReply, AdmitError>
         ensures ok { OnOk result ((h : History) → Holds self.old h → Holds self.new (given h collector batch.now)) }
         ensures reply { IsHonest self.old → (h : History) → Holds self.old h → (i : Intake) → slice_get h.intakes collector ≡ Some i → IfOk result (IsReply i collector batch.now) }

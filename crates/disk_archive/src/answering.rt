@@ -161,9 +161,9 @@ impl<E: EraseDisk + Drop, O: OnceDisk + Drop> Archive<E, O> {
     /// Answers a question over what is applied, where its last moment is below the settled watermark: the rows of a moment, or the
     /// events of a span, the first 256 and whether more follow.
     ///
-    /// It looks from key to key, or from stamp to stamp, until all is told. Nothing is written; pages and blocks are read, of which the
-    /// pages are kept in the archive's cache and at most 64 blocks for the time of the call. `Fault` is told just where a read, or the look
-    /// at what is settled, failed. After each outcome the archive holds the history that it held.
+    /// It looks from key to key, or from stamp to stamp, until the answer is complete. Nothing is written; pages and blocks are read, of
+    /// which the pages are kept in the archive's cache, and at most 64 blocks for the time of the call. `Fault` is returned exactly where a
+    /// read, or the look at what is settled, failed. After each outcome the archive holds the same history as before.
     pub fn answer(&mut self, query: Query) -> Result<Answer, AskError>
         ensures answered { IfOk result (λ answer. IsHonest self.old → (h : History) → Holds self.old h → IsAnswered (applied h) query answer) }
         ensures below { OnOk result (IsHonest self.old → (h : History) → Holds self.old h → last_moment query < settled h) }

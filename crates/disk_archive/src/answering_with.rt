@@ -70,8 +70,8 @@ impl<E: EraseDisk + Drop, O: OnceDisk + Drop> Archive<E, O> {
     /// Answers a question as `answer` does, by a reader of the archive's blocks that goes on keeping what it read: questions that come to
     /// the same blocks read each of them once.
     ///
-    /// The reader was got from this archive, however many calls ago, and is used for its blocks alone: what is settled never changes.
-    /// `Fault` is told just where a read, or the look at what is settled, failed.
+    /// The reader was obtained from this archive, however many calls ago, and is used only for its blocks: what is settled never changes.
+    /// `Fault` is returned exactly where a read, or the look at what is settled, failed.
     pub fn answer_with(
         &mut self,
         reader: &mut ShelfReader<O>,

@@ -22,7 +22,7 @@ pub enum ApplyError {
     /// An earlier write or sync failed, and the archive wasn't opened again since.
     #[error("the archive must be opened again")]
     NeedsRecovery,
-    /// So many changes can't be counted.
+    /// This many changes can't be counted.
     #[error("the count of applied changes is full")]
     CounterFull,
     /// The tree would need a seventh level of key nodes.
@@ -34,7 +34,7 @@ pub enum ApplyError {
     /// The tree needs a block, and no blank one is left.
     #[error("the write-once disk is full")]
     OnceFull,
-    /// What the home page of this number told isn't what an archive tells.
+    /// The content read from the home page of this number isn't valid in an archive.
     #[error("page {0} is damaged")]
     BadNode(u64),
     /// A device failed. After a write or a sync of pages the archive must be opened again.

@@ -27,7 +27,7 @@ pub enum Step {
 }
 
 // Begins a transaction without an image, where the archive needn't be opened again. The pages are in use up to the first
-// that the head tells, or all that there are.
+// one that the head calls unused, or all of them are.
 fn begin_from<E: EraseDisk + Drop>(tx: &mut Tx<E>, head: &Head) -> Result<(), NeedsRecovery>
     ensures shown { OnOk result (E.honest (disk_of (journal_of (pool_of tx.old))) → (pages : List (List ℕ)) → Maps E.EraseDisk (pool_of tx.old) pages
         → Shows E.EraseDisk tx.new (record { note = note_of (journal_of (pool_of tx.old)); pages = pages; clock = (E.model (disk_of (journal_of (pool_of tx.old)))).clock }) pages) }
@@ -49,7 +49,7 @@ impl<E: EraseDisk + Drop, O: OnceDisk + Drop> Archive<E, O> {
     ghost use Rattle.disk_archive.specs.Blanks.{NoneBlank, unused_pages};
     ghost use Rattle.disk_archive.specs.Checks.{HasPages, root_in};
     ghost use Rattle.disk_archive.specs.Failures.{ReportsOne};
-    ghost use Rattle.disk_archive.specs.Lacks.{IsNextVersion, LacksLevel, LacksPages};
+    ghost use Rattle.disk_archive.specs.Lacks.{IsNextVersion, LacksBlock, LacksLevel, LacksPages};
     ghost use Rattle.tsb_tree.specs.Opened.{HasRootLevel};
     ghost use Rattle.tsb_tree.specs.Shelves.{SpendsAtMost};
     ghost use Rattle.disk_archive.specs.Sites.{LeftEither};
@@ -102,15 +102,15 @@ impl<E: EraseDisk + Drop, O: OnceDisk + Drop> Archive<E, O> {
         Ok(Step::Applied)
     }
 
-    /// Applies the next changes, of the first admission that waits and of those behind it, of whatever collector: as many as surely fit one
+    /// Applies the next changes, of the first admission that waits and of those after it, of any collector: as many as surely fit one
     /// transaction, up to 1,000, and none that isn't below every mark. An admission without changes counts as a change, and is applied at
     /// once. With its last change an admission is wholly applied, and leaves its ring.
     ///
-    /// Blocks that are burnt for it, two a change at most, are settled before a page is written. Where a change is refused behind others,
-    /// these are applied, and the next call meets the refusal. A failure of a device is returned by the call that meets it, at whichever
-    /// change: then none is applied, and the next call plans them anew, in further blocks.
+    /// Blocks that are burnt for it, at most two a change, are settled before a page is written. Where a change after the first one is
+    /// refused, the changes before it are applied, and the refusal is left to the next call. A failure of a device is returned by the call
+    /// in which it occurs, at whichever change: then none is applied, and the next call plans them anew, in further blocks.
     ///
-    /// After a refusal the archive holds the history of before, and nothing is left behind but blocks that are spent; where a write or a
+    /// After a refusal the archive holds the history from before the call, and the call leaves nothing but spent blocks; where a write or a
     /// sync of pages failed, it must be opened again, and the changes are then applied, all of them or none.
     pub fn apply_step(&mut self) -> Result<Step, ApplyError>
         ensures applied { IfOk result (λ step. step ≡ Step.Applied → IsHonest self.old → (h : History) → Holds self.old h → (g : History) × Moves h g × Holds self.new g) }
@@ -134,6 +134,7 @@ impl<E: EraseDisk + Drop, O: OnceDisk + Drop> Archive<E, O> {
         ensures too_high { IsHonest self.old → (pages : List (List ℕ)) → HasPages self.old pages → result ≡ Err ApplyError.TooHigh → HasRootLevel pages (root_in self.old) 7 }
         ensures level_needed { IsHonest self.old → (h : History) → Holds self.old h → result ≡ Err ApplyError.TooHigh → (pages : List (List ℕ)) × HasPages self.old pages × LacksLevel (IsNextVersion h) pages (root_in self.old) }
         ensures full { IsHonest self.old → result ≡ Err ApplyError.OnceFull → NoneBlank self.new }
+        ensures block_needed { IsHonest self.old → (h : History) → Holds self.old h → result ≡ Err ApplyError.OnceFull → (pages : List (List ℕ)) × HasPages self.old pages × LacksBlock (IsNextVersion h) pages (root_in self.old) }
         ensures spends { IsHonest self.old → SpendsAtMost 2000 (once_state self.old) (once_state self.new) }
         ensures sound { IsHonest self.old → (h : History) → Holds self.old h → (page : ℕ) → result ≡ Err (ApplyError.BadNode page) → ⊥ }
         ensures honest { IsHonest self.old ↔ IsHonest self.new }

@@ -1,4 +1,4 @@
-//! The archive, and what it tells.
+//! The archive, and what it reports.
 
 ghost use Rattle.std.specs.Prelude.{◌≡◌, ◌↔◌, ◌<◌, ◌≤◌, ℕ, List, length, map, sum_by, Some, IfOk, slice_get};
 ghost use Rattle.page_journal.specs.Journal.{home_pages};
@@ -34,7 +34,7 @@ pub struct Archive<E: EraseDisk + Drop, O: OnceDisk + Drop> {
     pub(crate) head: Head,
     pub(crate) sequencer: Sequencer,
     // The admission of which changes were applied last. It is no part of what the archive holds: the ring is read each time, and this one
-    // is used where its octets are those that stand there.
+    // is used where its octets are those that are in the ring.
     pub(crate) kept: Option<Encoded>,
     ghost some: { 1 ≤ settings.collectors },
     ghost few: { settings.collectors ≤ 16 },
@@ -65,15 +65,15 @@ impl<E: EraseDisk + Drop, O: OnceDisk + Drop> Archive<E, O> {
         self.settings.ring
     }
 
-    /// The settled watermark: a question of a moment below it is answered. An archive that must be opened again tells that of before
-    /// the call that failed.
+    /// The settled watermark: a question of a moment below it is answered. An archive that must be opened again returns the value from
+    /// before the call that failed.
     pub fn settled(&self) -> Mark
         ensures settled { IsHonest self.now → (h : History) → Holds self.now h → result ≡ settled h }
     {
         self.sequencer.settled()
     }
 
-    /// Where the collector goes on. An archive that must be opened again tells that of before the call that failed.
+    /// Where the collector goes on. An archive that must be opened again returns the value from before the call that failed.
     pub fn resume(&self, collector: u8) -> Resume
         requires collector { collector < (settings_of self.now).collectors }
         ensures resume { IsHonest self.now → (h : History) → Holds self.now h → slice_get (map resume_of h.intakes) collector ≡ Some result }
@@ -86,8 +86,8 @@ impl<E: EraseDisk + Drop, O: OnceDisk + Drop> Archive<E, O> {
         }
     }
 
-    /// How many changes are applied, as the head tells it. An archive that must be opened again tells that of before the call that
-    /// failed.
+    /// How many changes are applied, according to the head. An archive that must be opened again returns the value from before the call
+    /// that failed.
     pub fn applied(&self) -> u64
         ensures head { result ≡ applied_in self.now }
         ensures counted { IsHonest self.now → (h : History) → Holds self.now h → result ≡ sum_by (λ p. length p.item.changes) (applied h) }

@@ -14,19 +14,19 @@ use thiserror::Error;
 use tsb_tree::TreeError;
 use tsb_walk::NodeError;
 
-/// Why a question isn't answered. The first of the first two that holds is told.
+/// Why a question isn't answered. Of the first two reasons, the first one that holds is returned.
 #[derive(Clone, Copy, Debug, PartialEq, Eq, Error)]
 pub enum AskError {
     /// An earlier write or sync failed, and the archive wasn't opened again since.
     #[error("the archive must be opened again")]
     NeedsRecovery,
-    /// The last moment of the question isn't below the settled watermark, which this is.
+    /// The last moment of the question isn't below the settled watermark, which is given here.
     #[error("the moment isn't below the settled watermark")]
     AboveWatermark(Mark),
-    /// What the home page of this number told isn't what an archive tells.
+    /// The content read from the home page of this number isn't valid in an archive.
     #[error("page {0} is damaged")]
     BadNode(u64),
-    /// What the block of this number told isn't what an archive tells.
+    /// The content read from the block of this number isn't valid in an archive.
     #[error("block {0} is damaged")]
     Damaged(u64),
     /// A device failed. Nothing was written.

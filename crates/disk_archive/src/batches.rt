@@ -16,7 +16,7 @@ use route_model::{Admission, Mark};
 use sequencer::{Sequencer, Sieved, timely_of, times_of};
 use std::alloc::{AllocError, Global};
 
-/// The most octets of a batch: for each admission the octets of its spelling, and 4 more.
+/// The maximum length of a batch in octets: for each admission the octets of its encoding, and 4 more.
 pub const MAX_BATCH_LEN: usize = 262_144;
 
 /// A batch, sifted: what is kept of it, and what the sequencer takes in.

@@ -24,11 +24,11 @@ use tsb_tree::first_images;
 pub(crate) struct Empty {
     pub(crate) head: Head,
     pub(crate) sequencer: Sequencer,
-    /// Images of the pages that aren't as the disk had them: two of the tree, and the head's.
+    /// Images of the pages that aren't as they were on the disk: two of the tree, and the head's.
     pub(crate) images: Vec<(u64, Page)>,
 }
 
-// What the head keeps of so many collectors that gave nothing.
+// What the head keeps of `collectors` collectors that gave nothing.
 fn make_lanes(alloc: Global, collectors: u8) -> Result<Vec<Lane>, AllocError>
     ensures lanes { IfOk result (λ lanes. lanes.items ≡ replicate collectors bare_lane) }
 {

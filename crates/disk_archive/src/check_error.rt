@@ -19,10 +19,10 @@ pub enum CheckError {
     /// An earlier write or sync failed, and the archive wasn't opened again since.
     #[error("the archive must be opened again")]
     NeedsRecovery,
-    /// What the home page of this number told isn't what an archive tells.
+    /// The content read from the home page of this number isn't valid in an archive.
     #[error("page {0} is damaged")]
     BadNode(u64),
-    /// What the block of this number told isn't what an archive tells.
+    /// The content read from the block of this number isn't valid in an archive.
     #[error("block {0} is damaged")]
     Damaged(u64),
     /// A device failed. Nothing was written.

@@ -187,12 +187,12 @@ impl<E: EraseDisk + Drop, O: OnceDisk + Drop> Archive<E, O> {
     }
 
     /// Reads all that waits in the rings, and every page and every block that the tree leads to, and returns how many changes are applied:
-    /// as many as the tree has versions. The error names the first page or block that isn't what it is to be: the page of a ring on which no
+    /// as many as the tree has versions. The error names the first page or block that isn't what it has to be: the page of a ring on which no
     /// admission begins where one has to; page 0, where the head has another number, or calls a page or a block unused that the tree uses;
     /// the page of a column that names a block which was never burnt.
     ///
     /// Nothing is written. Pages come through the archive's cache, and at most 64 blocks are kept, for the time of the call. `Fault` is returned
-    /// only where a read, or the look at what is settled, failed. After each outcome the archive holds the history that it held.
+    /// only where a read, or the look at what is settled, failed. After each outcome the archive holds the same history as before.
     pub fn check(&mut self) -> Result<u64, CheckError>
         ensures counted { IfOk result (λ n. IsHonest self.old → (h : History) → Holds self.old h → n ≡ sum_by (λ p. length p.item.changes) (applied h)) }
         ensures head { IfOk result (λ n. n ≡ applied_in self.old) }

@@ -30,7 +30,7 @@ fn refusal(error: PostError) -> UseError
     }
 }
 
-// Sees to it that a slot of the journal is closed.
+// Ensures that a slot of the journal is closed.
 fn make_room<E: EraseDisk + Drop>(tx: &mut Tx<E>) -> Result<(), UseError>
     ensures crash { (start : Start) (shown : List (List ℕ)) → Shows E.EraseDisk tx.old start shown
         → Leaves (E.model (disk_of (journal_of (pool_of tx.old)))) (E.model (disk_of (journal_of (pool_of tx.new)))) (λ c. Recovers (home_pages (journal_of (pool_of tx.old))) start.note c start.pages) }
@@ -70,7 +70,8 @@ pub(crate) fn commit<E: EraseDisk + Drop>(tx: &mut Tx<E>) -> Result<(), UseError
     }
 }
 
-/// Begins a transaction without an image, where the archive needn't be opened again. To commit no image does nothing, and tells.
+/// Begins a transaction without an image, where the archive needn't be opened again. A commit of no image does nothing, and returns
+/// whether it must be.
 pub(crate) fn begin<E: EraseDisk + Drop>(tx: &mut Tx<E>) -> Result<(), NeedsRecovery>
     ensures shown { OnOk result (E.honest (disk_of (journal_of (pool_of tx.old))) → (pages : List (List ℕ)) → Maps E.EraseDisk (pool_of tx.old) pages
         → Shows E.EraseDisk tx.new (record { note = note_of (journal_of (pool_of tx.old)); pages = pages; clock = (E.model (disk_of (journal_of (pool_of tx.old)))).clock }) pages) }

@@ -1,4 +1,4 @@
-//! An archive is created: the disk names its journal only once all that an archive begins with stands on it.
+//! An archive is created: the disk names its journal only once all that an archive begins with is on it.
 
 ghost use Rattle.std.specs.Prelude.{◌≡◌, ◌≢◌, ◌↔◌, ◌<◌, ◌≤◌, ◌+◌, ◌⊎◌, ℕ, List, IfOk, IfErr, Err};
 ghost use Rattle.disk_models.specs.Erase.{Leaves};
@@ -32,7 +32,7 @@ use std::sync::Arc;
 // The pages of an erasable disk before its home pages.
 const JOURNAL_PAGES: u64 = 265;
 
-// How many home pages a disk of so many octets has room for.
+// How many home pages a disk of `size` octets has room for.
 fn home_count(size: u64) -> u64
     ensures count { result ≡ homes_on size }
     ensures room { 0 < result → home_place result ≤ size }
@@ -69,7 +69,7 @@ fn make_pages<E: EraseDisk + Drop>(
     ensures large { told result ≢ Err CreateError.PagesFull }
     ensures serves { Serves E.EraseDisk erase (disk_left result) (told result ≡ Err CreateError.Fault) }
 
-    // For want of memory the disk is handed back as it was, or with all these pages.
+    // Where memory runs out the disk is handed back as it was, or with all these pages.
     ensures memory { E.honest erase → IfErr result (λ refused. refused.error ≡ CreateError.OutOfMemory
         → (refused.disk ≡ erase) ⊎ Means homes note (E.model refused.disk) (laid images.now (homes_from (E.model erase).octet 0 homes))) }
     ensures crash { E.honest erase → Leaves (E.model erase) (E.model (disk_left result)) (NoneOrJournal homes note (laid images.now (homes_from (E.model erase).octet 0 homes))) }
@@ -162,8 +162,8 @@ impl<E: EraseDisk + Drop, O: OnceDisk + Drop> Archive<E, O> {
 
     /// Creates an archive of these settings, to which nothing was given, on both disks.
     ///
-    /// All pages behind the journal of the erasable disk become home pages. What it held is lost, and blocks of the write-once disk
-    /// that aren't blank are passed over. The erasable disk names its journal only once all that the archive begins with stands on it.
+    /// All pages after the journal of the erasable disk become home pages. What that disk held is lost, and blocks of the write-once disk
+    /// that aren't blank are passed over. The erasable disk names its journal only once all that the archive begins with is on it.
     pub fn create(
         alloc: Global,
         erase: E,
@@ -180,22 +180,22 @@ impl<E: EraseDisk + Drop, O: OnceDisk + Drop> Archive<E, O> {
         ensures note { IfOk result (λ archive. (site_of archive).note ≡ note_octets (O.block_count once.value) settings) }
         ensures next { O.honest once.value pen → IfOk result (λ archive. IsFirstBlank (O.model pen) (O.block_count once.value) 0 (next_block archive)) }
 
-        // A disk that is too small is refused before anything else, and no other one is called so.
+        // A disk that is too small is refused before anything else, and no other one is refused as too small.
         ensures full { (outcome result ≡ Err CreateError.PagesFull) ↔ IsTooSmall settings (E.octet_count erase) }
         ensures untouched { IsTooSmall settings (E.octet_count erase) → (erase_after result ≡ erase) × (pen_after result ≡ pen) }
 
-        // For want of memory the erasable disk is handed back as it was, or as that of an archive to which nothing was given.
+        // Where memory runs out the erasable disk is handed back as it was, or as that of an archive to which nothing was given.
         ensures memory { E.honest erase → O.honest once.value pen → IfErr result (λ refused. refused.error ≡ CreateError.OutOfMemory → (refused.erase ≡ erase)
             ⊎ Rests (site_on settings (E.octet_count erase) (O.block_count once.value)) (E.model refused.erase) (O.model refused.pen) (empty settings.collectors)) }
 
-        // What a crash inside the call leaves, or one after it, could be left before the call; or the disk holds no journal then; or it is an
+        // What a crash during the call or after it leaves could also be left before the call; or the disk holds no journal then; or it is an
         // archive to which nothing was given.
         ensures inside { E.honest erase → O.honest once.value pen → (left : Left) → CrashPair (E.model erase) (E.model (erase_after result)) (O.model pen) (O.model pen) (O.model (pen_after result)) left
             → LeftNow (E.model erase) (O.model pen) left ⊎ LeavesNoneOrEmpty (site_on settings (E.octet_count erase) (O.block_count once.value)) left }
         ensures after { E.honest erase → O.honest once.value pen → (left : Left) → LeftNow (E.model (erase_after result)) (O.model (pen_after result)) left
             → LeftNow (E.model erase) (O.model pen) left ⊎ LeavesNoneOrEmpty (site_on settings (E.octet_count erase) (O.block_count once.value)) left }
 
-        // Both disks are the archive's, or handed back. Of them one failed where that is told, and none elsewhere.
+        // Both disks are the archive's, or handed back. One of them failed where `Fault` is returned, and otherwise none did.
         ensures size { E.octet_count (erase_after result) ≡ E.octet_count erase }
         ensures erase { E.honest erase ↔ E.honest (erase_after result) }
         ensures disk { once_after result ≡ once.value }

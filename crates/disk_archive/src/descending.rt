@@ -1,4 +1,4 @@
-//! Turns of questions over what is applied. A turn reads pages alone, and no block.
+//! Turns of questions over what is applied. A turn reads only pages, and no block.
 
 ghost use Rattle.std.specs.Prelude.{◌≡◌, ◌↔◌, ◌<◌, ◌≤◌, ℕ, List, Option, IfOk, IfErr, OnOk, Err, true, false, ◌≢◌, ◌+◌, min};
 ghost use Rattle.page_tx.specs.Device.{KeepsDevice};
@@ -152,11 +152,11 @@ impl<E: EraseDisk + Drop, O: OnceDisk + Drop> Archive<E, O> {
     /// A turn of a question over what is applied, where its last moment is below the settled watermark: the answer; or the walk has come
     /// further, to a higher key or a later stamp, and the question goes on with its next turn; or settled blocks are to be read for it,
     /// which the errand does without the archive. The answer is that of what is applied now, and of each later history. Where a column
-    /// names a block that was never burnt, its page is called bad, and no errand is given.
+    /// names a block that was never burnt, its page is reported as bad, and no errand is returned.
     ///
-    /// What the question had gathered stays so whatever was called since its last turn. A turn looks at one key or one stamp, reads pages
-    /// alone, which are kept in the archive's cache, and writes nothing. After each outcome the archive holds the history that it held, and
-    /// the question has gathered what is so over it.
+    /// What the question has gathered so far stays right, whatever was called since its last turn. A turn looks at one key or one stamp,
+    /// reads only pages, which are kept in the archive's cache, and writes nothing. After each outcome the archive holds the same history
+    /// as before, and what the question has gathered is right over it.
     pub fn descend(&mut self, cursor: &mut Cursor) -> Result<Descent, AskError>
         ensures descends { IfOk result (λ descent. IsHonest self.old → (h : History) → Holds self.old h → IsGathered cursor.old h → Descends (O.block_count (once_of self.old)) (once_state self.old).settled h cursor.old cursor.new descent) }
         ensures further { IfOk result (GoesFurther cursor.old cursor.new) }

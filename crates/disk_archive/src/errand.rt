@@ -27,9 +27,9 @@ impl Errand {
     /// Reads the blocks, and finishes the turn: the cursor, which is as its turn left it, has then gathered what comes next, and has come
     /// further.
     ///
-    /// It needs no archive, takes no lock, and waits for nothing but the disk. `seen` was got with the errand or later. Only a block that
-    /// isn't what its place asks is called damaged, and a fault is told only where a read failed. It takes memory for rows or events, and
-    /// for blocks that the reader keeps. After a refusal the cursor says what it said.
+    /// It needs no archive, takes no lock, and waits for nothing but the disk. `seen` was obtained with the errand or later. Only a block
+    /// that isn't what its place requires is reported as damaged, and a fault is returned only where a read failed. It takes memory for rows
+    /// or events, and for blocks that the reader keeps. After a refusal the cursor says the same as before.
     pub fn finish<O: OnceDisk + Drop>(
         self,
         alloc: Global,

@@ -11,7 +11,7 @@ use thiserror::Error;
 #[derive(Clone, Copy, Debug, PartialEq, Eq)]
 pub(crate) struct NeedsRecovery;
 
-/// Why a batch isn't taken. The first of these that holds is told, but for a failure, and memory.
+/// Why a batch isn't taken. The first of these that holds is returned, except for a failure of a device and running out of memory.
 #[derive(Clone, Copy, Debug, PartialEq, Eq, Error)]
 pub enum AdmitError {
     /// An earlier write or sync failed, and the archive wasn't opened again since.
@@ -23,13 +23,13 @@ pub enum AdmitError {
     /// The batch has more than [`crate::MAX_BATCH_LEN`] octets.
     #[error("the batch has more than 262144 octets")]
     BatchTooLarge,
-    /// So many records can't be counted.
+    /// This many records can't be counted.
     #[error("the count of offered records is full")]
     CounterFull,
     /// The collector's ring has too few free octets.
     #[error("the intake is full")]
     IntakeFull,
-    /// What the home page of this number told isn't what an archive tells.
+    /// The content read from the home page of this number isn't valid in an archive.
     #[error("page {0} is damaged")]
     BadNode(u64),
     /// A device failed. After a write or a sync the archive must be opened again.

@@ -7,7 +7,7 @@ ghost use Rattle.disk_archive.specs.declared.errand.Errand.{Errand};
 ghost use Rattle.disk_archive.specs.Cursors.{IsGathered};
 ghost use Rattle.disk_archive.specs.Descents.{Lies};
 
-/// What a question has gathered over a history is so over each later one.
+/// What a question has gathered over a history is right over each later one.
 pub fn gathered_stays()
     ensures { (c : Cursor) (h g : History) → Begins h g → IsGathered c h → IsGathered c g }
 {}

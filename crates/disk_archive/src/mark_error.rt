@@ -8,7 +8,7 @@ use page_journal::UseError;
 use std::alloc::AllocError;
 use thiserror::Error;
 
-/// Why a mark isn't taken. The first of these that holds is told, but for a failure, and memory.
+/// Why a mark isn't taken. The first of these that holds is returned, except for a failure of a device and running out of memory.
 #[derive(Clone, Copy, Debug, PartialEq, Eq, Error)]
 pub enum MarkError {
     /// An earlier write or sync failed, and the archive wasn't opened again since.

@@ -75,7 +75,7 @@ fn of_head(error: PageError) -> MarkError
     }
 }
 
-// Shows the head with a collector's mark, and answers it.
+// Shows the head with a collector's mark, and returns it.
 fn plan_mark<P: Pages>(
     alloc: Global,
     pages: &mut P,
@@ -151,8 +151,8 @@ impl<E: EraseDisk + Drop, O: OnceDisk + Drop> Archive<E, O> {
     /// Raises the mark of a collector: what it gives from now on isn't earlier. The present mark may be given again, and then
     /// nothing is written.
     ///
-    /// From an Ok on each crash leaves a history with the mark. After a refusal the archive holds the history of before; where a write
-    /// or a sync failed, it must be opened again, and the collector has then the mark of before, or this one.
+    /// From an Ok on each crash leaves a history with the mark. After a refusal the archive holds the history from before the call; where
+    /// a write or a sync failed, it must be opened again, and the collector then has its mark from before the call, or this one.
     pub fn mark(&mut self, collector: u8, mark: Mark) -> Result<(), MarkError>
         ensures ok { OnOk result ((h : History) → Holds self.old h → Holds self.new (marked h collector mark)) }
         ensures err { OnErr result ((h : History) → Holds self.old h → Holds self.new h) }

@@ -1,11 +1,11 @@
-//! The note of an archive's journal: what tells, before any other page is read, how the archive was made.
+//! The note of an archive's journal: it says how the archive was made, before any other page is read.
 
 ghost use Rattle.std.specs.Prelude.{◌≡◌};
 ghost use Rattle.disk_archive.specs.Notes.{note_octets};
 
 use archive_pages::Settings;
 
-/// The note of an archive that was made with these settings, and a write-once disk of so many blocks.
+/// The note of an archive that was made with these settings, and a write-once disk of `blocks` blocks.
 #[tactic(auto, unfolding(crate::specs::Notes::note_octets))]
 pub(crate) fn note_for(blocks: u64, settings: Settings) -> [u8; 11]
     ensures note { result ≡ note_octets blocks settings }

@@ -166,7 +166,7 @@ impl<E: EraseDisk + Drop, O: OnceDisk + Drop> Archive<E, O> {
         }
     }
 
-    // Opens both disks, where nothing is said of what they were before.
+    // Opens both disks, without an assumption about what they were before.
     fn reopen<B: Before>(
         alloc: Global,
         erase: E,
@@ -224,28 +224,29 @@ impl<E: EraseDisk + Drop, O: OnceDisk + Drop> Archive<E, O> {
         once: Arc<O>,
         pen: O::Pen,
     ) -> Result<Self, Refused<E, O, OpenError>>
-        // What the disks read as is what the archive carries; so it carries what a crash left that they are found after.
+        // The archive carries what the disks read as; so, where they are found after a crash, it carries what the crash left.
         ensures opened { E.honest erase → O.honest once.value pen → IfOk result (λ archive. (site : Site) (h : History) → ReadsAs site (O.block_count once.value) (E.model erase) (O.model pen) h → Carries archive h) }
         ensures found { E.honest erase → O.honest once.value pen → IfOk result (λ archive. (left : Left) (site : Site) (h : History) → IsFound (E.model erase) (O.model pen) left → site.blocks ≡ O.block_count once.value → IsNoted site → LeftCarries site h left → Carries archive h) }
         ensures site { E.honest erase → IfOk result (λ archive. (site : Site) (h : History) → ReadsAs site (O.block_count once.value) (E.model erase) (O.model pen) h → site_of archive ≡ site) }
         ensures noted { E.honest erase → IfOk result (λ archive. IsNoted (site_of archive)) }
 
-        // Disks of an archive that had to be opened again: what stood of its history stands.
+        // Where the disks are those of an archive that needs to be opened again, a history that stood there still stands.
         ensures stands { E.honest erase → O.honest once.value pen → IfOk result (λ archive. (site : Site) (h : History) → Rests site (E.model erase) (O.model pen) h → site.blocks ≡ O.block_count once.value → IsNoted site → Stands archive h) }
 
-        // What a crash inside the call leaves, or one after it, could be left before the call, or carries what the disks read as.
+        // What a crash during the call or after it leaves could also be left before the call, or carries what the disks read as.
         ensures inside { E.honest erase → O.honest once.value pen → (site : Site) (h : History) → ReadsAs site (O.block_count once.value) (E.model erase) (O.model pen) h
             → (left : Left) → CrashPair (E.model erase) (E.model (erase_after result)) (O.model pen) (O.model pen) (O.model (pen_after result)) left → LeftNow (E.model erase) (O.model pen) left ⊎ LeftCarries site h left }
         ensures after { E.honest erase → O.honest once.value pen → (site : Site) (h : History) → ReadsAs site (O.block_count once.value) (E.model erase) (O.model pen) h
             → (left : Left) → LeftNow (E.model (erase_after result)) (O.model (pen_after result)) left → LeftNow (E.model erase) (O.model pen) left ⊎ LeftCarries site h left }
 
-        // Disks that carry a history are refused for want of a device or of memory alone, and those that name no archive are not opened.
+        // Disks that carry a history are refused only where a device fails or memory runs out, and those that name no archive aren't opened.
         ensures undamaged { E.honest erase → (site : Site) (h : History) → ReadsAs site (O.block_count once.value) (E.model erase) (O.model pen) h → home_place site.homes ≤ E.octet_count erase → IfErr (outcome result) IsWant }
         ensures named { E.honest erase → OnOk result (NamesArchive (E.octet_count erase) (E.model erase).octet (O.block_count once.value)) }
         ensures unnamed { E.honest erase → outcome result ≡ Err OpenError.NotAJournal → NamesArchive (E.octet_count erase) (E.model erase).octet (O.block_count once.value) → ⊥ }
         ensures none { E.honest erase → HoldsNone (E.model erase).octet → IfErr (outcome result) IsNoneOrWant }
 
-        // Both disks are the archive's, or handed back, and nothing was burnt. Of them one failed where that is told, and none elsewhere.
+        // Both disks are the archive's, or handed back, and nothing was burnt. One of them failed where `Fault` is returned, and otherwise
+        // none did.
         ensures erase { E.honest erase ↔ E.honest (erase_after result) }
         ensures disk { once_after result ≡ once.value }
         ensures once { O.honest once.value pen ↔ O.honest once.value (pen_after result) }

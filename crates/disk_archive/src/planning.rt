@@ -56,7 +56,7 @@ fn of_intake(error: IntakeError) -> AdmitError
     }
 }
 
-/// Shows the pages behind a collector's batch, for which its ring has room, and answers their head.
+/// Shows the pages as they are after a collector's batch, for which its ring has room, and returns their head.
 pub(crate) fn plan_batch<P: Pages>(
     alloc: Global,
     pages: &mut P,

@@ -43,7 +43,7 @@ use std::alloc::{AllocError, Global};
 use tsb_tree::{insert, open};
 use version_model::{Entry, Stamp};
 
-/// The first admission that waits of a collector. One that is kept of a read before isn't decoded again.
+/// The first admission that waits of a collector. One that is kept from an earlier read isn't decoded again.
 pub(crate) fn front_of<P: Pages>(
     alloc: Global,
     pages: &mut P,
@@ -101,7 +101,7 @@ fn next_version(
     Ok(Some(entry))
 }
 
-// The tree takes a version. Tells where it lies then. A root of a higher level than it may be is damaged.
+// Inserts a version into the tree. Returns where the tree lies then. A root of a level above `most_level` is reported as damaged.
 fn take_version<P: Pages, O: OnceDisk + Drop>(
     alloc: Global,
     pages: &mut P,
@@ -160,7 +160,7 @@ fn take_version<P: Pages, O: OnceDisk + Drop>(
     }
 }
 
-// The tree takes the version of the next change of the admission, where it has one. Tells where the tree lies then.
+// Inserts the version of the next change of the admission, where it has one, into the tree. Returns where the tree lies then.
 fn take_next<P: Pages, O: OnceDisk + Drop>(
     alloc: Global,
     pages: &mut P,
@@ -210,9 +210,9 @@ fn take_next<P: Pages, O: OnceDisk + Drop>(
     }
 }
 
-/// Applies the next change of an admission, the first that waits of its collector, or passes over it where it has no other. Tells whether
-/// the admission is wholly applied then. After a refusal the head is as it was, and the same pages are shown. A root of a level above
-/// the highest that it may have is told as damage.
+/// Applies the next change of an admission, the first that waits of its collector, or passes over it where it has no other. Returns
+/// whether the admission is wholly applied then. After a refusal the head is as it was, and the same pages are shown. A root of a level
+/// above `most_level` is reported as damaged.
 pub(crate) fn plan_change<P: Pages, O: OnceDisk + Drop>(
     alloc: Global,
     pages: &mut P,

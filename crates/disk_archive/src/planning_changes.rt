@@ -32,13 +32,13 @@ use std::alloc::Global;
 use tsb_tree::open;
 use version_model::Stamp;
 
-// Of how many pages a transaction may hold images but for the head's.
+// Of how many pages, without the head's, a transaction may hold images.
 const MOST_IMAGES: usize = 30;
 
 // The highest level of a root.
 const HIGHEST_LEVEL: u8 = 7;
 
-// How many changes are applied at most behind the first one of a transaction.
+// How many changes are applied at most after the first one of a transaction.
 const MORE_CHANGES: u32 = 999;
 
 /// An admission that waits, and its collector.
@@ -177,7 +177,7 @@ fn plan_step<P: Pages, O: OnceDisk + Drop>(
     Ok(())
 }
 
-// Sees to it that an admission is at hand that isn't wholly applied, where another one may be.
+// Ensures that an admission is at hand that isn't wholly applied, where another one may be.
 fn find_front<P: Pages>(
     alloc: Global,
     pages: &mut P,
@@ -308,9 +308,9 @@ fn plan_more<P: Pages, O: OnceDisk + Drop>(
     Ok(())
 }
 
-/// Shows the pages behind the next change and as many further ones as fit, and answers their head, and which admissions are wholly
-/// applied. A refusal of the first change is returned, and each failure of a device; where a later change is refused for another reason,
-/// what was planned before it is returned.
+/// Shows the pages as they are after the next change and as many further ones as fit, and returns their head, and which admissions are
+/// wholly applied. A refusal of the first change is returned, and each failure of a device; where a later change is refused for another
+/// reason, what was planned before it is returned.
 pub(crate) fn plan_changes<P: Pages, O: OnceDisk + Drop>(
     alloc: Global,
     pages: &mut P,

@@ -46,7 +46,7 @@ fn of_pages(error: PageError) -> OpenError
     }
 }
 
-/// The head of so many collectors that stands on the first page.
+/// Reads the head, with `collectors` collectors, from the first page.
 pub(crate) fn read_head<P: Pages>(
     alloc: Global,
     pages: &mut P,

@@ -25,7 +25,7 @@ use page_journal::{Journal, OpenError as JournalError, Refused as Handed};
 use route_model::octets::u16_at;
 use std::alloc::Global;
 
-/// What the journal of an archive has: its pages, and the settings that its note tells.
+/// What the journal of an archive has: its pages, and the settings in its note.
 #[derive(Drop)]
 pub(crate) struct Restored<E: EraseDisk + Drop> {
     pub(crate) looks: Looks<E>,
@@ -44,7 +44,7 @@ fn of_journal(error: JournalError) -> OpenError
     }
 }
 
-// The settings that a note tells, where they are within their limits and it tells so many blocks.
+// The settings in a note, where they are within their limits and the note gives this number of blocks.
 fn settings_in(note: &[u8; 11], blocks: u64) -> Option<Settings>
     ensures note { IfSome result (λ s. note.now ≡ note_octets blocks s) }
     ensures within { IfSome result (λ s. AreSettings s) }
@@ -63,7 +63,7 @@ fn settings_in(note: &[u8; 11], blocks: u64) -> Option<Settings>
     Some(settings)
 }
 
-// The settings of a journal of so many home pages, where head and rings lie on these.
+// The settings of a journal of `homes` home pages, where head and rings lie on these pages.
 fn settings_of(note: &[u8; 11], homes: u64, blocks: u64) -> Option<Settings>
     ensures note { IfSome result (λ s. note.now ≡ note_octets blocks s) }
     ensures within { IfSome result (λ s. AreSettings s) }
@@ -79,7 +79,7 @@ fn settings_of(note: &[u8; 11], homes: u64, blocks: u64) -> Option<Settings>
     Some(settings)
 }
 
-// The pages of a journal, to be looked at. For want of memory the disk is handed back.
+// The pages of a journal, to be looked at. Where memory runs out the disk is handed back.
 fn look_at<E: EraseDisk + Drop>(alloc: Global, journal: Journal<E>) -> Result<Looks<E>, E>
     ensures maps { IfOk result (λ looks. (pages : List (List ℕ)) → Keeps E.EraseDisk journal pages → Maps E.EraseDisk looks.pool pages) }
     ensures journal { IfOk result (λ looks. journal_of looks.pool ≡ journal) }
@@ -94,7 +94,7 @@ fn look_at<E: EraseDisk + Drop>(alloc: Global, journal: Journal<E>) -> Result<Lo
     }
 }
 
-/// Opens the journal of a disk, where its note tells an archive's settings and so many blocks.
+/// Opens the journal of a disk, where its note gives an archive's settings and this number of blocks.
 pub(crate) fn restore<E: EraseDisk + Drop>(
     alloc: Global,
     erase: E,

@@ -21,8 +21,9 @@ use std::net::{Net, OpenStream, SocketAddr, TcpListener, TcpStream};
 use std::sync::Wait;
 use std::time::Clock;
 
-/// How many blocks a worker keeps.
-const BLOCKS: usize = 64;
+/// How many blocks a worker keeps in memory, 16 MiB in all: a question in the past reads the same few blocks again and again, and each that isn't kept
+/// is read and its digest computed anew.
+const BLOCKS: usize = 1_024;
 
 /// What one thread of a server does, beside the one that takes connections.
 #[derive(Drop)]

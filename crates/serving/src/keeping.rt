@@ -13,6 +13,10 @@ use std::time::{Clock, Duration};
 /// How many milliseconds a thread rests that finds nothing to do.
 const REST: u64 = 10;
 
+/// How many microseconds pass between two steps of applying, in which questions take the archive's lock: a thread that lets it go and takes it at once
+/// again gets it before those that wait for it are awake.
+const GAP: u64 = 50;
+
 /// Why a call on a device failed, in words, if no such call was warned of since the archive was opened. Of the calls that break nothing,
 /// as a read for a question, the archive keeps the first one.
 fn unnoted_failure<A: Store, N: Named + OnDisk<A::Disk>, G: Gate + Drop>(
@@ -88,6 +92,7 @@ pub(crate) fn keep_applying<
             return;
         }
         if !outage.takes_rest() && apply_next(rt, alloc, shared, pass, &mut outage, log) {
+            thread::sleep(rt, Duration::from_micros(GAP));
             continue;
         }
         thread::sleep(rt, Duration::from_millis(REST));

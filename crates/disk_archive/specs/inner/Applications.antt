@@ -31,13 +31,13 @@ use Rattle.disk_archive.specs.declared.stop.Stop.TheVariants as stops
 use Rattle.disk_archive.specs.declared.planning_changes.Front.{Front}
 use Rattle.disk_archive.specs.declared.planning_changes.Plan.{Plan}
 use Rattle.disk_archive.specs.declared.planning_changes.Application.{Application}
-use Rattle.disk_archive.specs.Lacks.{LacksLevel, LacksPages}
+use Rattle.disk_archive.specs.Lacks.{LacksBlock, LacksLevel, LacksPages}
 use Rattle.disk_archive.specs.Mirrors.{Mirrors}
 use Rattle.disk_archive.specs.Trees.{TreeLies}
 use Rattle.disk_archive.specs.Moves.{Moves}
 use Rattle.disk_archive.specs.inner.Planning.{Planned}
 
--- a refusal of the commit, told of a change
+-- a refusal of the commit, as it is reported for a change
 abbrev pub apply_of_use : UseError → ApplyError
 apply_of_use uses.Fault = applies.Fault
 apply_of_use uses.NeedsRecovery = applies.NeedsRecovery
@@ -53,7 +53,7 @@ stop_of applies.OnceFull = stops.Enough
 stop_of (applies.BadNode page) = stops.Enough
 stop_of applies.OutOfMemory = stops.Enough
 
--- that the archive must be opened again is told only where it must
+-- that the archive must be opened again is reported only where it must
 abbrev pub ApplyRefusal : Bool → ApplyError → Type 0
 ApplyRefusal down applies.NeedsRecovery = down ≡ true
 ApplyRefusal down applies.CounterFull = ⊤
@@ -64,8 +64,8 @@ ApplyRefusal down (applies.BadNode page) = ⊤
 ApplyRefusal down applies.Fault = ⊤
 ApplyRefusal down applies.OutOfMemory = ⊤
 
--- A count or the pages are called full only where they are: so many changes are the most that can be counted, and fewer pages were never
--- used than a tree of the highest level may want for a version, where of so many home pages this one is the first of them.
+-- A count is reported as full only where `count` changes are the most that can be counted, and the pages only where fewer were never used
+-- than a tree of the highest level may need for a version; `next` is the first of those among `homes` home pages.
 abbrev pub LimitRefusal : ℕ → ℕ → ℕ → ApplyError → Type 0
 LimitRefusal homes next count applies.NeedsRecovery = ⊤
 LimitRefusal homes next count applies.CounterFull = count ≡ 18446744073709551615
@@ -87,19 +87,19 @@ FrontRefusal down (applies.BadNode page) = ⊤
 FrontRefusal down applies.Fault = ⊤
 FrontRefusal down applies.OutOfMemory = ⊤
 
--- Pages, or a level, are refused only where there are too few for the version of which this is so.
+-- Pages, a level or a block are refused only where the version of which this holds needs more than there are.
 abbrev pub LackRefusal : (Version → Type 0) → List (List ℕ) → ℕ → ℕ → ApplyError → Type 0
 LackRefusal is shown left root applies.NeedsRecovery = ⊤
 LackRefusal is shown left root applies.CounterFull = ⊤
 LackRefusal is shown left root applies.TooHigh = LacksLevel is shown root
 LackRefusal is shown left root applies.PagesFull = LacksPages is shown left root
-LackRefusal is shown left root applies.OnceFull = ⊤
+LackRefusal is shown left root applies.OnceFull = LacksBlock is shown root
 LackRefusal is shown left root (applies.BadNode page) = ⊤
 LackRefusal is shown left root applies.Fault = ⊤
 LackRefusal is shown left root applies.OutOfMemory = ⊤
 
--- The shelf has its disk still, which follows its model as before; what is tried or settled stays so, at most so many blocks are spent, and
--- the next number doesn't fall. Where the disk is told to be full, no blank block is left.
+-- The shelf still has its disk, which follows its model as before; what is tried or settled stays so, at most `most` blocks are spent, and
+-- the next number doesn't fall. Where the disk is reported to be full, no blank block is left.
 pub record KeepsBlocks {O Pen Seen : Type 0} (device : OnceGhosts O Pen Seen) (most : ℕ) (old new : Shelf O Pen Seen) (full : Type 0) : Type 0 where
   pub disk : disk_of new ≡ disk_of old
   pub honest : device.honest (disk_of old) (pen_of old) ↔ device.honest (disk_of new) (pen_of new)
@@ -121,8 +121,8 @@ pub record TakesNext (count : ℕ) (s : Settings) (settled : ℕ → List ℕ �
   pub versions : AreVersions head.applied (next_change head.begun next) more
   pub takes : TreeTakes count settled shows (tree_low s) root fresh block (stamp_of (last_time head.last (next_change head.begun next)) (head.applied + length (next_change head.begun next))) (before ++ more) old
 
--- The history moves on: pages are shown that carry it then, and it is told whether the first admission that waited is wholly applied. Until
--- then no other one is begun.
+-- The history moves on: pages are shown that carry it then, and `whole` says whether the first admission that waited is wholly applied.
+-- Until then no other one is begun.
 pub record MovesOn (count : ℕ) (s : Settings) (settled : ℕ → List ℕ → Type 0) (shows : List (List ℕ) → Type 0) (head : Contents) (whole : Bool) (h : History) : Type 0 where
   pub after : History
   pub moves : Moves h after
@@ -146,8 +146,8 @@ pub record IsFirst (h : History) (front : Front) : Type 0 where
   pub here : waiting h ≡ placed front.collector front.admission ∷ later
   pub below : IsBelowMarks h front.admission.time
 
--- What is planned goes with so many pages, of which this one was the first that was never used, with the next block, and with these lanes:
--- its admission is at hand, where that isn't wholly applied.
+-- What is planned goes with `homes` home pages, of which `unused` was the first that was never used, with the next block, and with these
+-- lanes: its admission is at hand, where that isn't wholly applied.
 pub record IsPlan (s : Settings) (homes unused block : ℕ) (waits : List Waiting) (plan : Plan) : Type 0 where
   pub pages : unused ≡ min plan.head.fresh homes
   pub blocks : plan.head.block ≤ block
@@ -155,7 +155,7 @@ pub record IsPlan (s : Settings) (homes unused block : ℕ) (waits : List Waitin
   pub count : length plan.ahead ≡ length waits
   pub hand : plan.whole ≡ false → IsAtHand s plan.head (behind plan.ahead waits) plan.front
 
--- Pages are shown that carry the history with the head of what is planned. The lanes, behind what it passes over, are those of the history,
+-- Pages are shown that carry the history with the head of what is planned. The lanes, after what it passes over, are those of the history,
 -- and the admission at hand is the first that waits, where it isn't wholly applied.
 pub record Reached (count : ℕ) (s : Settings) (settled : ℕ → List ℕ → Type 0) (shows : List (List ℕ) → Type 0) (lanes : List Waiting) (plan : Plan) (h : History) : Type 0 where
   pub pages : List (List ℕ)
@@ -176,7 +176,7 @@ pub record Reaches (count : ℕ) (s : Settings) (settled : ℕ → List ℕ → 
   pub is : (after ≡ h) ⊎ Moves h after
   pub reached : Reached count s settled shows lanes plan after
 
--- The history moves on: pages are shown that carry it then, with the head on its page, and the lanes behind what is passed over are its own.
+-- The history moves on: pages are shown that carry it then, with the head on its page, and the lanes after what is passed over are its own.
 pub record PlansMove (count : ℕ) (s : Settings) (settled : ℕ → List ℕ → Type 0) (shows : List (List ℕ) → Type 0) (lanes : List Waiting) (plan : Application) (h : History) : Type 0 where
   pub after : History
   pub moves : Moves h after

@@ -17,7 +17,7 @@ use Rattle.disk_archive.specs.declared.ask_error.AskError.{AskError}
 use Rattle.disk_archive.specs.declared.ask_error.AskError.TheVariants as asks
 use Rattle.disk_archive.specs.Trees.{TreeLies}
 
--- a refusal of a look, told of a question
+-- a refusal of a look, as it is reported for a question
 abbrev pub ask_of_node : NodeError → AskError
 ask_of_node (nodes.BadNode page) = asks.BadNode page
 ask_of_node (nodes.Damaged block) = asks.Damaged block
@@ -26,7 +26,7 @@ ask_of_node nodes.OnceFault = asks.Fault
 ask_of_node nodes.NeedsRecovery = asks.NeedsRecovery
 ask_of_node nodes.OutOfMemory = asks.OutOfMemory
 
--- that the archive must be opened again is told only where it must; of the watermark no look tells
+-- that the archive must be opened again is reported only where it must; no look reports the watermark
 abbrev pub LookRefusal : Bool → AskError → Type 0
 LookRefusal down asks.NeedsRecovery = down ≡ true
 LookRefusal down (asks.AboveWatermark mark) = ⊥
@@ -35,7 +35,7 @@ LookRefusal down (asks.Damaged block) = ⊤
 LookRefusal down asks.Fault = ⊤
 LookRefusal down asks.OutOfMemory = ⊤
 
--- no page and no block is called damaged
+-- no page and no block is reported as damaged
 abbrev pub BlamesNone : AskError → Type 0
 BlamesNone asks.NeedsRecovery = ⊤
 BlamesNone (asks.AboveWatermark mark) = ⊤

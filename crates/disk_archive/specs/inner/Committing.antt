@@ -5,12 +5,12 @@ use Rattle.page_journal.specs.declared.error.UseError.TheVariants as uses
 use Rattle.disk_archive.specs.declared.error.AdmitError.{AdmitError}
 use Rattle.disk_archive.specs.declared.error.AdmitError.TheVariants as admits
 
--- a refusal of the commit, told of a batch
+-- a refusal of the commit, as it is reported for a batch
 abbrev pub admit_of_use : UseError → AdmitError
 admit_of_use uses.Fault = admits.Fault
 admit_of_use uses.NeedsRecovery = admits.NeedsRecovery
 
--- the reasons for which no pages are shown behind a batch, over a journal that must be opened again or needn't
+-- the reasons for which the pages after a batch aren't shown, over a journal that must be opened again or needn't
 abbrev pub PlanRefusal : Bool → AdmitError → Type 0
 PlanRefusal down admits.NeedsRecovery = down ≡ true
 PlanRefusal down admits.NoCollector = ⊥

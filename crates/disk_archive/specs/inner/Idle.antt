@@ -1,4 +1,4 @@
--- A call that only looked whether it may go on.
+-- A call that only checked whether it may go on.
 use Rattle.std.specs.Prelude.{◌≡◌}
 use Rattle.disk_models.specs.declared.erase.EraseDisk.{Ghosts as EraseGhosts}
 use Rattle.disk_models.specs.declared.once.OnceDisk.{Ghosts as OnceGhosts}

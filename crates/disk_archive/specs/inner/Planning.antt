@@ -7,7 +7,7 @@ use Rattle.archive_pages.specs.declared.settings.Settings.{Settings}
 use Rattle.archive_pages.specs.Carried.{Bears}
 use Rattle.disk_archive.specs.Trees.{TreeLies}
 
--- these pages carry the history with this head, which stands on the first of them
+-- these pages carry the history with this head, which is on the first of them
 pub record Headed (count : ℕ) (s : Settings) (settled : ℕ → List ℕ → Type 0) (head : Contents) (pages : List (List ℕ)) (h : History) : Type 0 where
   pub valid : IsHead head
   pub first : page_at pages 0 ≡ head_octets head

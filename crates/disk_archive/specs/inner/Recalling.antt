@@ -29,7 +29,7 @@ pub record IsUnknown (lanes : List Waiting) (c : ℕ) : Type 0 where
   pub mark : slice_get (marks lanes) c ≡ Some 0
   pub times : slice_get (waiting_times lanes) c ≡ Some []
 
--- Of as many collectors as the head tells the marks of the first ones are those of the head, and nothing is known of the others.
+-- Of as many collectors as the head has, the first ones have the marks that the head gives, and nothing is known of the others.
 pub record KnowsMarks (told : List Lane) (lanes : List Waiting) (known : ℕ) : Type 0 where
   pub count : length lanes ≡ length told
   pub marks : (c : ℕ) (lane : Lane) → c < known → slice_get told c ≡ Some lane → slice_get (marks lanes) c ≡ Some lane.mark

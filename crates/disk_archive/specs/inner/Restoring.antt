@@ -12,7 +12,7 @@ use Rattle.disk_archive.specs.declared.open_error.OpenError.TheVariants as openi
 use Rattle.disk_archive.specs.declared.restoring.Restored.{Restored}
 use Rattle.disk_archive.specs.inner.Looking.{LooksAt}
 
--- a refusal of the journal, told of an archive
+-- a refusal of the journal, as it is reported for an archive
 abbrev pub of_opening : JournalError → OpenError
 of_opening journals.Fault = openings.Fault
 of_opening journals.NotAJournal = openings.NotAJournal

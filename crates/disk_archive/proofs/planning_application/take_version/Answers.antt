@@ -17,6 +17,7 @@ use Rattle.disk_archive.specs.inner.Applications.{TreeTakes}
 use Rattle.disk_archive.proofs.Failing.{reports_both, reports_first, reports_none, reports_then, reports_as, tree_apart}
 use Rattle.disk_archive.proofs.Faults.{done_not_told, one_told}
 use Rattle.disk_archive.proofs.Keeping.{joined_few}
+use Rattle.tsb_tree.specs.Outlived.{LeadsToOutdated}
 use Rattle.disk_archive.proofs.Lacking.{lacks_by}
 use Rattle.disk_archive.proofs.Taking.{shown_at, taken_at}
 use Rattle.disk_archive.proofs.planning_application.take_version.Goals as goal
@@ -105,7 +106,7 @@ returns-in-Err-insert-clause-high g c start shown shows told =
 
 pub returns-in-Err-clause-lacks : goal.returns-in-Err-clause-lacks
 returns-in-Err-clause-lacks g c start shown low versions shows honest t =
-    lacks_by _ shown _ _ c.of_tree.result (λ full. absurd (subst (ReadRefusal _) (c.of_tree.ensures.full full) c.in-Err.ensures.refused)) (λ high. absurd (subst (ReadRefusal _) (c.of_tree.ensures.high high) c.in-Err.ensures.refused))
+    lacks_by _ shown _ _ c.of_tree.result (λ full. absurd (subst (ReadRefusal _) (c.of_tree.ensures.full full) c.in-Err.ensures.refused)) (λ high. absurd (subst (ReadRefusal _) (c.of_tree.ensures.high high) c.in-Err.ensures.refused)) (λ once. absurd (subst (ReadRefusal _) (c.of_tree.ensures.once once) c.in-Err.ensures.refused))
 
 pub returns-in-Err-insert-clause-lacks : goal.returns-in-Err-insert-clause-lacks
 returns-in-Err-insert-clause-lacks g c start shown low versions shows honest t =
@@ -146,6 +147,12 @@ returns-in-Err-insert-clause-lacks g c start shown low versions shows honest t =
       version = v;
       its = refl;
       needs = subst (λ (n : ℕ). AtRoot (NeedsLevel shown v) h.root n) seven (subst (λ (r : ℕ). AtRoot (NeedsLevel shown v) r c.in-Ok.place.level) here (c.in-Err-insert.ensures.high start shown versions tree (ap Err (e.high high))));
+    })
+    (λ once. record {
+      version = v;
+      its = refl;
+      level = c.in-Ok.place.level;
+      needs = subst (λ (r : ℕ). AtRoot (LeadsToOutdated shown v) r c.in-Ok.place.level) here (c.in-Err-insert.ensures.once start shown versions tree _ (ap Err (e.once once)));
     })
 
 -- ---- how often both disks failed

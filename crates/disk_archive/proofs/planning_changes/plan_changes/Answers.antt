@@ -152,7 +152,7 @@ returns-in_err-plan_step-clause-limits g c =
 pub returns-in-Err-clause-limits : goal.returns-in-Err-clause-limits
 returns-in-Err-clause-limits g c = c.of_pages.ensures.limits _ _ _ (λ e. absurd (subst (HeadRefusal _) e c.in-Err.ensures.refused))
 
--- ---- a device failed behind the first change
+-- ---- a device failed after the first change
 
 pub returns-in_err-plan_more-clause-sound : goal.returns-in_err-plan_more-clause-sound
 returns-in_err-plan_more-clause-sound g c start shown h shows honest b m page bad = absurd (search (rules, bad))

@@ -7,7 +7,7 @@ use Rattle.route_meaning.specs.History.{applied}
 use Rattle.disk_archive.proofs.Counts.{changes_are}
 use Rattle.disk_archive.specs.declared.apply_error.ApplyError.TheVariants as applies
 use Rattle.disk_archive.proofs.Faults.{one_told}
-use Rattle.disk_archive.proofs.Lacking.{lacks_level, lacks_pages}
+use Rattle.disk_archive.proofs.Lacking.{lacks_block, lacks_level, lacks_pages}
 use Rattle.disk_archive.proofs.Limited.{counter_of, pages_of}
 use Rattle.disk_archive.proofs.Telling.{borne_of}
 use Rattle.disk_archive.proofs.archive.Archive.apply_step.Goals as goal
@@ -86,4 +86,10 @@ pub returns-clause-level_needed : goal.returns-clause-level_needed
 returns-clause-level_needed g c honest h held told = ⊎_elim
     (λ k. (k.pages, k.maps, lacks_level _ k.pages _ _ c.try_apply.result (c.try_apply.ensures.lacks h k) told))
     (λ w. absurd (let other : applies.NeedsRecovery ≡ applies.TooHigh = one_told c.try_apply.result applies.NeedsRecovery applies.TooHigh (c.try_apply.ensures.told w.unusable) told in cc))
+    (held honest)
+
+pub returns-clause-block_needed : goal.returns-clause-block_needed
+returns-clause-block_needed g c honest h held told = ⊎_elim
+    (λ k. (k.pages, k.maps, lacks_block _ k.pages _ _ c.try_apply.result (c.try_apply.ensures.lacks h k) told))
+    (λ w. absurd (let other : applies.NeedsRecovery ≡ applies.OnceFull = one_told c.try_apply.result applies.NeedsRecovery applies.OnceFull (c.try_apply.ensures.told w.unusable) told in cc))
     (held honest)

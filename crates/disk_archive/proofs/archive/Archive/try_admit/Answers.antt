@@ -274,7 +274,7 @@ returns-clause-reply g c h k i here =
     let after = one_there (slice_get c.in_ok-next.next.lanes c.args.collector) c.lane_of-after.result _ c.lane_of-after.ensures.lane (c.in_ok-next.ensures.lane c.lane_of-before.result c.lane_of-before.ensures.lane) in
     reply_is c.lane_of-before.result c.lane_of-after.result i c.args.collector c.args.batch.now _ c.in_ok-kept.field-0.sieved own.offered own.admitted (c.in_ok-kept.ensures.kept i.mark at) after (c.in_ok-kept.ensures.sieved i.mark at)
 
--- ---- what is told: a batch is too much
+-- ---- what is returned: a batch is too much
 
 pub returns-in_err-may_take-clause-counter_full : goal.returns-in_err-may_take-clause-counter_full
 returns-in_err-may_take-clause-counter_full g c h k =

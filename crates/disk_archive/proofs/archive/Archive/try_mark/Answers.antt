@@ -149,7 +149,7 @@ returns-clause-ok g c h k =
     let mirrors = mirror_marked a.sequencer c.raise.new.sequencer h c.args.collector c.args.mark k.mirrors c.raise.ensures.raised in
     done a _ w plan.pages refl refl refl k.noted (c.commit.ensures.journal.homes ∙ c.plan_mark.ensures.homes ∙ ap home_pages c.begin.ensures.same) (c.commit.ensures.journal.note ∙ plan.shown.noted) (c.commit.ensures.journal.serves.honest.0 plan.shown.honest, k.honest.1) (c.in_ok-commit.ensures.ok start plan.pages plan.shown) mirrors plan.headed
 
--- ---- what is told
+-- ---- what is returned
 
 pub returns-in_err-raised-clause-mark_back : goal.returns-in_err-raised-clause-mark_back
 returns-in_err-raised-clause-mark_back g c h k =
