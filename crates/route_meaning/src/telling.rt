@@ -88,6 +88,7 @@ pub fn events_of(
 ) -> Result<Vec<Event>, AllocError>
     ensures events { IfOk result (λ told. told.items ≡ events list.now question.now) }
 {
+    // All of them are gathered before the skip and the cut: the span bounds them.
     let mut told = all_told(alloc, list, question)?;
     skip(&mut told, question.skip);
     Ok(told)
