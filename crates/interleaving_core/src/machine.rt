@@ -106,6 +106,7 @@ impl Machine {
     }
 
     /// Applies the next change, where its admission is below every mark. Returns whether it did.
+    // "Nothing may be applied" is said of each admission that waits; those after the first are no earlier, so one look is enough.
     fn apply_one(&mut self) -> Result<bool, AllocError>
         ensures applied { IfOk result (λ did. did ≡ true → (g : History) × Applies self.old.history g × (self.new ≡ with_history self.old g)) }
         ensures idle { IfOk result (λ did. did ≡ false → NothingToApply self.old.history × (self.new ≡ self.old)) }

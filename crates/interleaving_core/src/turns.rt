@@ -123,7 +123,8 @@ fn add_rows(
     Ok(())
 }
 
-/// The rows so far and those that the turn adds.
+/// The rows so far and those that the turn adds. They are copies, whose routes are shared: a turn that is refused memory leaves its
+/// question as it was.
 fn rows_behind(
     alloc: Global,
     applied: &[PlacedAdmission],

@@ -23,6 +23,8 @@ use thiserror::Error;
 pub struct MarkBack;
 
 /// For each collector its mark, and the times of its admitted records that wait to be applied.
+///
+/// Calls require a number of a collector that there is: an archive, which meets others, refuses them by name.
 #[derive(Drop)]
 pub struct Sequencer {
     lanes: Vec<Lane>,
