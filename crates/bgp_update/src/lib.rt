@@ -1,5 +1,27 @@
 //! BGP messages: what an UPDATE withdraws and announces, and what a list of path attributes reads as
 //! (RFC 4271, RFC 4760, RFC 6793).
+//!
+//! A list of attributes reads as a value by type ([`PathAttributes`]), in which MP_REACH_NLRI and MP_UNREACH_NLRI are
+//! as they came, since messages and RIB entries write the first in two ways. Route and entry are functions of that
+//! value and of a next hop: a list that was read is malformed where that function has no value. AS4_PATH is laid over
+//! AS_PATH by a relation, `Joined`, with a law that it equals the function that the code follows.
+//!
+//! An UPDATE returns its prefixes by the four places where they are, since the order of changes, and the rule on a
+//! prefix that is in two places, belong to the crate resolve:
+//!
+//!     octets   2       n          2       m                                         to the end
+//!     field    length  withdrawn  length  attributes                                NLRI
+//!     place            withdrawn          reachable (type 14), unreachable (15)     announced
+//!
+//! One route is made for the prefixes that share it; if NLRI and MP_REACH_NLRI both announce, the attributes are read
+//! twice, since a route owns its path. Only announced routes are measured, so an UPDATE with a path that is too long
+//! and no prefix is no fault.
+//!
+//! No list of attributes costs more than its length: which types were seen is noted in 256 places, and if the
+//! attributes that are kept unread don't ascend, they are taken type by type from a table of where each is. Memory is
+//! taken once for the list of attributes (again if it has more than 16), and once for each list that the result owns
+//! and that isn't empty: each is made with its room counted. A sequence that AS4_PATH cuts is copied, since numbers
+//! can't be taken out of a segment. `entry_route` takes the reading apart and allocates nothing.
 #![tactic(auto)]
 
 mod announcing;
