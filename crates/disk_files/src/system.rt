@@ -11,7 +11,8 @@ use std::os::fd::AsRawFd;
 use std::os::unix::fs::{FileExt, MetadataExt};
 
 /// What is on the device alone may be read: pages of the system's cache may count as clean and never have got there,
-/// after a sync that failed.
+/// after a sync that failed. Dropping them is advice: dirty pages that a file system couldn't write and keeps stay unsynced, but then
+/// the sync before it has failed.
 fn forget_cached(file: &File) -> io::Result<()> {
     match libc::posix_fadvise(file.as_raw_fd(), 0, 0, libc::POSIX_FADV_DONTNEED) {
         0 => Ok(()),
