@@ -1,7 +1,8 @@
 //! Where the parts of a journal stand on its disk, and how large they are. Places are octets from 0 on.
 //!
 //! The disk's first page says what it holds. It is followed by eight slots, each of a page for its gate (the commit flag),
-//! one for its header and 31 for images, and then by the home pages.
+//! one for its header and 31 for images, and then by the home pages. These are constants, so that code and definitions compute
+//! to the same number.
 
 /// The octets of a page of the disk.
 pub const PAGE: u64 = 16_384;
