@@ -1,4 +1,21 @@
 //! The head of an archive: what the archive keeps of itself on its first home page, besides its rings and its tree.
+//!
+//! Each number has 8 octets. After the last collector all is zero:
+//!
+//!     0        8     16     24     32     40    48
+//!     applied  last  begun  fresh  block  root  16 zeros
+//!
+//!     64 + 64 c  72 + 64 c  80 + 64 c  88 + 64 c  96 + 64 c  104 + 64 c
+//!     offered    admitted   mark       first      used       24 zeros      (of collector c)
+//!
+//! No greatest stamp is stored: order numbers begin with 0, and the time of the last applied change together with the
+//! next order number is the least stamp that a version to come may have. How many collectors there are isn't stored
+//! here but in the journal's note, and is given to the reader: a head of two collectors is none of one, since what
+//! follows the last one must be zero.
+//!
+//! What was read is encoded again and compared. A time or a mark above its limit is no head. Whether the pages and
+//! the places in rings that a head names are there is tested when the archive is opened, which knows how large the
+//! disk is.
 #![tactic(auto)]
 
 mod head;

@@ -87,7 +87,7 @@ fn time_at<P: Pages>(
         return Err(damaged);
     };
     if len < 8 {
-        return Err(damaged);
+        return Err(damaged); // no room for a time
     }
     if u64::from(len) > (ring.used - at - 4).min(MAX_ADMISSION_LEN as u64) {
         return Err(damaged);
