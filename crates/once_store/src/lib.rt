@@ -1,5 +1,20 @@
 //! Blocks with digests on a write-once disk. Once the number of a block is returned, its octets are settled there for
 //! good, and whoever reads it can distinguish damage from data.
+//!
+//!     0     16,352             16,384
+//!     body  SHA-256 of it
+//!
+//! `append` burns and settles, and then returns the number; it doesn't look at the digest, which `seal` puts there. A
+//! block whose burn or settle failed is spent: nobody knows what became of it, so the next one gets a higher number.
+//! An opening asks about each block from the given number up to the first blank one: a number that is too low costs
+//! time, one that is too high costs blocks, and neither costs data. So a block is passed over that a crash left burnt
+//! without a commit.
+//!
+//! A reader fetches, and then lends: `fetch` may refuse and needs the reader for itself, `block` lends what is kept
+//! to as many as like. A full reader drops the block that was asked for longest ago, also if the new one is then
+//! refused, since its octets are read into: so it never holds more than its capacity. A number beyond the disk is
+//! damage with that number: whoever wrote it meant a block. A kept block is answered without a read, and without its
+//! digest being computed again.
 #![tactic(auto)]
 
 mod digest;

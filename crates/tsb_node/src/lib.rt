@@ -1,4 +1,22 @@
 //! Nodes of the tree in the octets of pages and blocks: leaves, columns and key nodes.
+//!
+//!     0     1     2      3  4      6     8        48        88     104  120      120 + used  16,352
+//!     kind  unit  level  0  count  used  low key  high key  start  end  entries  zeros       zeros in a page, SHA-256 in a block
+//!
+//!     leaf entry       key 40, stamp 16, tag 1 (0 end, 1 value), length 2, value
+//!     column entry     start 16, kind 1 (1 leaf block, 2 column block; in a page last of all 0, the current leaf's page), number 8
+//!     key node entry   low key 40, page 8
+//!
+//! All nodes are read through this one frame, and entries of one size by one set of laws. A column's page says from when on its
+//! current leaf is, so a look into the past reads one page less. Looks work on the octets themselves (`find`, `next`, `push`,
+//! `part_for`, ..) and take no memory; `next` looks each candidate key up, and costs a look at all entries only if keys fall as
+//! stamps rise (at most 275 entries, of 59 octets at least).
+//!
+//! Readers look at all octets before they take memory, so a lack of memory is reported of nodes alone, and no count takes room. They
+//! refuse what the tree couldn't go on from: low keys and starts that aren't below high keys and ends, stamps that don't rise
+//! strictly, keys outside the node's, an end with octets, columns and key nodes without entries or whose first entry isn't where the
+//! node begins, a page with an end and a block without one. Writers ask for what types don't say, and no more. A leaf is split by
+//! time by way of its owned entries, and by key by copying entries from page to page, at a fifth of the cost.
 #![tactic(auto)]
 
 mod column;
