@@ -38,6 +38,7 @@ pub trait RouteArchive {
         ensures settled { (h : History) → carries self.now h → result ≡ settled h };
 
     /// Where the collector goes on, if there is one of this number.
+    // No `requires` forbids another number: where an archive carries no history, no clause says how many there are.
     fn resume(&self, collector: u8) -> Option<Resume>
         ensures resume { (h : History) → carries self.now h → result ≡ slice_get (map resume_of h.intakes) collector };
 

@@ -28,7 +28,7 @@ const KEPT_BLOCKS: usize = 1_024;
 /// An archive on disks over the files of a folder, with how many octets a batch of it may have, and with the blocks that its questions
 /// read: at most 1,024, 16 MiB, so that each is read and checked once for many questions.
 ///
-/// It is a type of its own, since the archive on any two disks can't be one that feeds and questions use: docs/DECISIONS.md
+/// It is a type of its own, since the archive on any two disks can't be one that feeds and questions use: the head of the crate
 /// says why.
 #[derive(Drop)]
 pub struct FileArchive {
