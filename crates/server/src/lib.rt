@@ -1,4 +1,13 @@
 //! An archive that serves lines: what the lines of a connection ask, and what they are replied.
+//!
+//! A reply is stated over what the pass has seen once it is written: the answer is that of what is applied there, and
+//! the lines are those of service, so a client gets what `ask` would print of that history. `watermark` and `durable`
+//! return the board's numbers, which no lock delays. `mark` replies after the last step of applying, so its watermark
+//! counts what others applied. What is promised of an archive is an argument of the relations (`promised`): lines are
+//! written in the same way over files, of which nothing is promised, so one theorem on a connection serves both.
+//!
+//! A connection is a theorem on octets: those that came are lines, each answered before the next, and what follows
+//! them. So replies can be neither lost nor mixed up, wherever the stream was cut.
 #![tactic(auto)]
 
 mod answering;

@@ -127,6 +127,7 @@ fn work<A: Store, N: Named + OnDisk<A::Disk>, G: Gate + Drop, R: Wait + Clock + 
             return;
         };
         let _ = stream.set_nodelay(true);
+        // None of a connection that was reset while it waited.
         let address = stream.peer_addr().ok();
         let lapse = Cell::new(None);
         let closing = serve_stream(desk, shared, pass, &mut reader, &stream, &lapse);

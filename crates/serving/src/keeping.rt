@@ -42,6 +42,7 @@ fn apply_next<A: Store, N: Named + OnDisk<A::Disk>, G: Gate + Drop, R: Wait + Cl
     log: &L,
 ) -> bool {
     // It is looked for before the step: the step fails where this one broke a disk, so that it isn't warned of twice.
+    // A read that fails in the step opens the archive again too: a device's error doesn't say whether its call broke a disk.
     let failure = unnoted_failure(rt, alloc, shared, outage);
     match shared.apply(rt, pass) {
         Err(Trouble::Fault | Trouble::NeedsRecovery) => {

@@ -79,6 +79,7 @@ fn start_threads<
     shared: &'s Shared<A, N, G>,
     jobs: Vec<Job<'s, N>>,
 ) -> Result<(), ServeError> {
+    // A scope's `spawn` reports that a thread can't be made; `map_vec` would then run the jobs one after another.
     for job in jobs {
         if scope.spawn(move || run_job(desk, shared, job)).is_err() {
             return Err(ServeError::Threads);
@@ -202,6 +203,7 @@ pub fn serve<
     let Ok(mut passes) = Vec::with_capacity(alloc, 1) else {
         return (shared.close(Vec::new(alloc)), Err(ServeError::OutOfMemory));
     };
+    // `first` stays aside: by it the archive that is handed back goes on from the one that was handed in.
     let mut pass = shared.split(&mut first);
     let signals = Signals::new();
     let desk = Desk {

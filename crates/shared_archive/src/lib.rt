@@ -1,4 +1,18 @@
 //! The archive on two disks, as threads share it.
+//!
+//!     Held::Open   -- a reopening takes the disks -->   Held::Shut, disks away   -- opened -->       Held::Open
+//!                                                                                -- not opened -->   Held::Shut, with its disks
+//!
+//! The archive meets `Store` as two types, over disks in memory and over files, by the same functions over any two
+//! disks: the prover takes no block of a trait's methods that is generic in a disk whose pen has to be `Send`.
+//!
+//! An archive that couldn't be opened again is a value of its own ([`Shut`]): its disks, and a copy of what it
+//! reported, the watermark and counts. `Archive::open` takes the disks and hands them back if it fails; while it runs
+//! the disks are away, and a reader that reads nothing names the write-once disk in contracts. A new reader is
+//! refused meanwhile, as if there were no memory: a worker takes its reader when it begins. Before an opening the
+//! erasable disk is synced, though opening its journal begins with that: once nothing is unsynced, what
+//! `Archive::open` leaves after a refusal is known by its own contract. Files are renewed in place, so the lock is
+//! never released.
 #![tactic(auto)]
 
 mod calls;

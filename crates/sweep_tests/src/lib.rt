@@ -1,6 +1,16 @@
 //! A whole life of an archive on two disks in memory is cut off at each call that writes, and so is each opening after it. What a crash
 //! leaves then is compared with the pure machine, and the life goes on from there. In other runs one call of a disk fails, memory is
 //! refused once, or what the disks hold is damaged.
+//!
+//! Two lives are stopped at each write, sync, burn and settle in five ways: by a crash that leaves each unsynced range as it was, as it
+//! was to be, half of it, or A5 in every octet, and by the program's end alone. Then the archive is opened, and each such opening is
+//! cut off at each of its own calls too. What is left answers all questions as the pure machine does, and goes on to the same end.
+//!
+//! Then each call of a disk in these lives fails once, alone: the call of the archive that met it returns `Fault`, `NeedsRecovery`
+//! follows if it was a write or a sync, what was answered stays, the next burn is of the next block, and the life goes on to the same
+//! end. Octets of pages and blocks are changed: each question returns, and an opening is refused by name. The tests compare the counts
+//! (docs/BENCHMARKS.md). Memory is refused by tools/refuse-memory, which runs a test here once for each allocation, with another
+//! malloc.
 #![tactic(auto)]
 
 #[cfg(test)]
