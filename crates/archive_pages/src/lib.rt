@@ -8,8 +8,8 @@
 //!
 //! What pages carry is said of a head as a value (`Bears`), apart from what page 0 holds: a transaction changes the head in
 //! memory and the pages of rings and tree in any order, keeps this relation throughout, and writes page 0 last
-//! (`Represents`). So a transaction of one step and one of many are the same argument. Of the tree it asks only that it is
-//! the same wherever its own pages are the same, and where more blocks are settled.
+//! (`Represents`). So a transaction of one step and one of many are the same argument. Of the tree it asks only that it stays
+//! the tree where its own pages stay the same, and where more blocks are settled.
 #![tactic(auto)]
 
 mod giving;

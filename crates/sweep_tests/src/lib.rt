@@ -3,8 +3,9 @@
 //! refused once, or what the disks hold is damaged.
 //!
 //! Two lives are stopped at each write, sync, burn and settle in five ways: by a crash that leaves each unsynced range as it was, as it
-//! was to be, half of it, or A5 in every octet, and by the program's end alone. Then the archive is opened, and each such opening is
-//! cut off at each of its own calls too. What is left answers all questions as the pure machine does, and goes on to the same end.
+//! was to be, half of it, or A5 in every octet, and by the program's end alone. What is left answers all questions as the pure machine
+//! does, and goes on to the same end. The opening after each stop is cut off at each of its own writes and syncs too; after that one
+//! question in turn is asked, and all of now.
 //!
 //! Then each call of a disk in these lives fails once, alone: the call of the archive that met it returns `Fault`, `NeedsRecovery`
 //! follows if it was a write or a sync, what was answered stays, the next burn is of the next block, and the life goes on to the same
