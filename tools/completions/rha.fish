@@ -26,7 +26,7 @@ complete -c rha -s h -l help -d 'Show help'
 
 complete -c rha -n __fish_is_first_arg -s V -l version -d 'Show the version'
 complete -c rha -n __fish_is_first_arg -a create -d 'Make a folder with an empty archive'
-complete -c rha -n __fish_is_first_arg -a load -d "Load a file of MRT records as a collector's"
+complete -c rha -n __fish_is_first_arg -a load -d "Load files of MRT records as a collector's"
 complete -c rha -n __fish_is_first_arg -a ask -d 'Answer a request line'
 complete -c rha -n __fish_is_first_arg -a serve -d 'Serve an archive on a socket'
 complete -c rha -n __fish_is_first_arg -a check -d 'Read through an archive'
@@ -44,8 +44,9 @@ end
 
 complete -c rha -n '__rha_is load' -x -l collector -d 'The collector, 0 to 15'
 complete -c rha -n '__rha_is load' -x -l batch -d 'The most records of a batch, 1 to 1000'
-complete -c rha -n '__rha_is load' -x -l mark -d "The collector's mark once the file is loaded"
+complete -c rha -n '__rha_is load' -x -l mark -d "The collector's mark once the last file is loaded"
 complete -c rha -n '__rha_is load' -l resume -d 'Leave out the records that were offered before'
+complete -c rha -n '__rha_is load' -l strict -d 'End at a file that gives cause for doubt'
 complete -c rha -n '__rha_is load' -F
 
 complete -c rha -n '__rha_is serve' -x -l listen -d 'IPv4 address and port'

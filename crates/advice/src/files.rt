@@ -2,12 +2,11 @@
 
 ghost use Rattle.std.specs.Prelude.{◌≡◌};
 
-use crate::feeds::doubts_of;
 use crate::packed::Packing;
 use crate::saying::advise;
 use archive_facts::Date;
 use route_model::Mark;
-use service::{FeedCounts, Output};
+use service::{FeedCounts, Output, doubts_of};
 use std::alloc::Global;
 use std::fmt;
 use std::io::Write;
@@ -25,6 +24,10 @@ pub enum FileAdvice<'a> {
     },
     /// It has no record.
     Empty {
+        file: &'a str,
+    },
+    /// It ends inside a record.
+    Cut {
         file: &'a str,
     },
     /// None of its records is kept, since they are older than the collector's mark.
@@ -48,14 +51,18 @@ impl fmt::Display for FileAdvice<'_> {
             FileAdvice::Packed { file, packing } => match packing.command() {
                 Some(command) if *file == STDIN => write!(
                     f,
-                    "{file}: {packing} data: {command} | rha load .. -"
+                    "{file}: {packing} data: {command} > u.mrt && rha load .. u.mrt"
                 ),
                 Some(command) => write!(
                     f,
-                    "{file}: {packing} data: {command} {file} | rha load .. -"
+                    "{file}: {packing} data: {command} {file} > u.mrt && rha load .. u.mrt"
                 ),
                 None => write!(f, "{file}: text, and no MRT records"),
             },
+            FileAdvice::Cut { file } => write!(
+                f,
+                "{file}: it ends inside a record, or goes on with what is none: fetch or expand it again; what came before is kept"
+            ),
             FileAdvice::Empty { file } => write!(f, "{file}: there is no record in it"),
             FileAdvice::Late {
                 file,

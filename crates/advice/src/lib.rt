@@ -1,7 +1,6 @@
 //! Words for people on standard error, after the first lines, which programs read: what is wrong with a file or a text, and what helps.
 #![tactic(auto)]
 
-mod feeds;
 mod files;
 mod forms;
 mod limits;
@@ -14,8 +13,8 @@ mod questions;
 mod requests;
 mod saying;
 mod unnamed;
+mod unread;
 
-pub use feeds::{FeedDoubt, doubts_of};
 pub use files::{FileAdvice, STDIN, advise_file};
 pub use forms::Form;
 pub use limits::LimitAdvice;
@@ -28,3 +27,4 @@ pub use questions::advise_question;
 pub use requests::{Misread, first_misread};
 pub use saying::advise;
 pub use unnamed::{Found, NoArchive};
+pub use unread::Unread;

@@ -49,7 +49,7 @@ impl fmt::Display for LimitAdvice {
         match self {
             LimitAdvice::FewPages { pages, needed } => write!(
                 f,
-                "--pages {pages}: the rings need {needed}, and the tree one for each 50 routes besides",
+                "--pages {pages}: the rings need {needed}, and the tree one for each 25 routes besides",
             ),
             LimitAdvice::LargeFiles => {
                 f.write_str(

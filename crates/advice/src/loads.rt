@@ -1,6 +1,6 @@
 //! What is said of a load.
 
-use crate::files::advise_file;
+use crate::files::{FileAdvice, advise_file};
 use crate::limits::LimitAdvice;
 use crate::marks::MarkAdvice;
 use crate::packed::Packing;
@@ -8,7 +8,7 @@ use crate::saying::advise;
 use archive_calls::RouteArchive;
 use archive_facts::Sizes;
 use route_model::Mark;
-use service::{LoadReport, Output, Refusal};
+use service::{LoadReport, Output, Refusal, is_far};
 use std::alloc::Global;
 use std::io::Write;
 
@@ -19,8 +19,8 @@ pub struct Loaded<'a> {
     /// What the file is, if it isn't MRT.
     pub packing: Option<Packing>,
     pub collector: u8,
-    /// The collector's mark before it, where there is that collector.
-    pub before: Option<Mark>,
+    /// The mark that was to be set after it.
+    pub mark: Option<Mark>,
     pub report: LoadReport,
     /// None where they can't be read.
     pub sizes: Option<Sizes>,
@@ -87,8 +87,45 @@ fn advise_refused<A: RouteArchive, E: Write>(
     }
 }
 
-/// Says of a load what a person may not expect: that the file isn't MRT, that nothing of it, or little, was taken; and what helps where it
-/// was refused.
+/// Says that a file ends inside a record, where it does and nothing else is known of it.
+fn advise_cut<E: Write>(alloc: Global, loaded: &Loaded<'_>, err: &mut Output<E>) {
+    let LoadReport {
+        present,
+        refusal,
+        ..
+    } = loaded.report;
+    if let (None, None, None) = (present, refusal, loaded.packing) {
+        advise(alloc, &FileAdvice::Cut { file: loaded.file }, err);
+    }
+}
+
+/// Says that a mark lies far ahead, where it was set or held back, and that a load that is strict was held back.
+fn advise_held<E: Write>(alloc: Global, loaded: &Loaded<'_>, err: &mut Output<E>) {
+    let LoadReport {
+        present,
+        is_held,
+        ..
+    } = loaded.report;
+    if let (Some(mark), Some(present), None) = (loaded.mark, present, loaded.report.refusal) {
+        if is_far(Some(mark), present) {
+            advise(
+                alloc,
+                &MarkAdvice::Far {
+                    mark,
+                    present,
+                    is_held,
+                },
+                err,
+            );
+        }
+    }
+    if is_held {
+        advise(alloc, &MarkAdvice::Held, err);
+    }
+}
+
+/// Says of the load of a file what a person may not expect: that the file isn't MRT, that nothing of it, or little, was taken, that the mark lies
+/// far ahead; and what helps where it was refused.
 pub fn advise_load<A: RouteArchive, E: Write>(
     alloc: Global,
     archive: &A,
@@ -101,9 +138,11 @@ pub fn advise_load<A: RouteArchive, E: Write>(
             loaded.file,
             loaded.packing,
             counts,
-            loaded.before,
+            loaded.report.before,
             err,
         );
+        advise_cut(alloc, loaded, err);
+        advise_held(alloc, loaded, err);
     }
     if let Some(refusal) = loaded.report.refusal {
         advise_refused(alloc, archive, refusal, loaded, err);

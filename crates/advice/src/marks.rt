@@ -3,7 +3,7 @@
 use crate::saying::advise;
 use archive_facts::Date;
 use route_model::Mark;
-use service::{CommandError, Output};
+use service::{CommandError, DAY, Output};
 use std::alloc::Global;
 use std::fmt;
 use std::io::Write;
@@ -14,9 +14,44 @@ pub enum MarkAdvice {
     /// A question has to be of a moment below this one.
     Settled(Mark),
     /// The collector's mark is this one already.
-    Present { collector: u8, mark: Mark },
+    Present {
+        collector: u8,
+        mark: Mark,
+    },
     /// There are so many collectors.
     Collectors(u8),
+    /// The mark lies more than a day after the collector's last record, or after the last mark that it got, `present` in seconds. It is set, or isn't
+    /// since the load is strict.
+    Far {
+        mark: Mark,
+        present: u64,
+        is_held: bool,
+    },
+    /// The mark isn't set, since the load is strict.
+    Held,
+}
+
+/// Writes how far a mark lies ahead, and what that means.
+fn write_far<W: fmt::Write>(
+    f: &mut fmt::Formatter<W>,
+    mark: u64,
+    present: u64,
+    is_held: bool,
+) -> fmt::Result {
+    let (date, last) = (Date(mark), Date(present));
+    let days = mark.saturating_sub(present) / DAY;
+    match present {
+        0 => write!(f, "--mark: {date}, and the collector gave no record yet: ")?,
+        _ => write!(
+            f,
+            "--mark: {date} is {days} days after the collector's last record or mark, {last}: "
+        )?,
+    }
+    f.write_str(if is_held {
+        "it isn't set"
+    } else {
+        "it is set, and can't be set back; records of the time between come late from now on"
+    })
 }
 
 impl fmt::Display for MarkAdvice {
@@ -36,6 +71,12 @@ impl fmt::Display for MarkAdvice {
                     "the mark of collector {collector} is {date} already, and can't be set back"
                 )
             }
+            MarkAdvice::Far {
+                mark,
+                present,
+                is_held,
+            } => write_far(f, mark.seconds(), *present, *is_held),
+            MarkAdvice::Held => f.write_str("--strict: the load ends here, and no mark is set"),
             MarkAdvice::Collectors(1) => f.write_str("the archive has one collector, 0"),
             MarkAdvice::Collectors(count) => {
                 let last = count.saturating_sub(1);

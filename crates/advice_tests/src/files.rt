@@ -69,7 +69,7 @@ const SAID: [Said; 8] = [
             refused: 0,
             skipped: 0,
         },
-        text: "rha: a.mrt: bzip2 data: bzcat a.mrt | rha load .. -\n",
+        text: "rha: a.mrt: bzip2 data: bzcat a.mrt > u.mrt && rha load .. u.mrt\n",
     },
     Said {
         packing: Some(Packing::Text),

@@ -7,6 +7,8 @@ mod files;
 mod lines;
 #[cfg(test)]
 mod locks;
+#[cfg(test)]
+mod marks;
 
 #[cfg(test)]
 use std::process::Abort;

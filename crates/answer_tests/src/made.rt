@@ -6,7 +6,7 @@ use disk_memory::{MemErase, MemOnce};
 use memory_archive::MemArchive;
 use once_store::ShelfReader;
 use route_model::Mark;
-use service::{Input, LoadReport, LoadSettings, Output, Status, load};
+use service::{FeedSettings, FileLoad, LoadSettings, Output, Status, load};
 use std::alloc::Global;
 use std::sync::Arc;
 
@@ -48,26 +48,20 @@ pub(crate) fn reader_of(archive: &Made, blocks: usize) -> Option<Reader> {
 
 fn load_into(alloc: Global, archive: &mut MemArchive, octets: &[u8]) -> Status {
     let how = LoadSettings {
-        collector: 0,
-        limit: 1000,
+        feed: FeedSettings {
+            collector: 0,
+            limit: 1000,
+        },
         mark: Mark::new(1_704_067_201),
         resume: false,
+        strict: false,
     };
     let mut out: Vec<u8> = Vec::new(alloc);
     let mut err: Vec<u8> = Vec::new(alloc);
     let mut lines = Output::new(&mut out);
     let mut refusals = Output::new(&mut err);
-    let mut file = Input::new(octets);
-    let mut report = LoadReport::new();
-    load(
-        alloc,
-        archive,
-        how,
-        &mut file,
-        &mut lines,
-        &mut refusals,
-        &mut report,
-    )
+    let mut files = [FileLoad::new(octets)];
+    load(alloc, archive, how, &mut files, &mut lines, &mut refusals)
 }
 
 /// An archive of one collector into which these octets are loaded, with the mark 1704067201.

@@ -8,7 +8,7 @@ use std::alloc::Global;
 
 /// Words, with lines between them, and what they ask for: the folder a, and each further thing that they say, or what takes its
 /// place where they don't.
-const ACCEPTED: [(&str, &str); 36] = [
+const ACCEPTED: [(&str, &str); 38] = [
     // What isn't chosen.
     ("rha|create|a", "create a 1 4096 10000000 100000000"),
     (
@@ -60,6 +60,15 @@ const ACCEPTED: [(&str, &str); 36] = [
     (
         "rha|load|--resume|a|a.mrt|--batch=1000|--collector=0",
         "load a 0 1000 none resumed a.mrt",
+    ),
+    // Several files, with options between them.
+    (
+        "rha|load|a|--collector=0|u1|-|--strict|u3",
+        "load a 0 1000 none whole strict u1 - u3",
+    ),
+    (
+        "rha|load|--strict|--resume|--collector=0|--|a|--mark|u2",
+        "load a 0 1000 none resumed strict --mark u2",
     ),
     (
         "rha|ask|a|at|1704067200|prefix|10.0.0.0/8",
@@ -202,7 +211,12 @@ impl Line {
             None => self.word("none"),
         }
         self.word(if asked.resume { "resumed" } else { "whole" });
-        self.word(asked.file);
+        if asked.strict {
+            self.word("strict");
+        }
+        for file in asked.files.as_slice() {
+            self.word(file);
+        }
         self.waits(asked.wait);
     }
 

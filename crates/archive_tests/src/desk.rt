@@ -3,7 +3,7 @@
 use crate::pure::Pure;
 use crate::samples::stream;
 use route_model::Mark;
-use service::{End, Input, LoadReport, LoadSettings, Output, Status, ask, feed, load};
+use service::{End, FeedSettings, FileLoad, Input, LoadSettings, Output, Status, ask, feed, load};
 use std::alloc::Global;
 use std::io::{Read, Write};
 
@@ -11,10 +11,13 @@ use std::io::{Read, Write};
 /// that is above all their times.
 pub(crate) fn plainly() -> LoadSettings {
     LoadSettings {
-        collector: 0,
-        limit: 1000,
+        feed: FeedSettings {
+            collector: 0,
+            limit: 1000,
+        },
         mark: Mark::new(1_704_067_201),
         resume: false,
+        strict: false,
     }
 }
 
@@ -27,18 +30,9 @@ pub(crate) fn load_to<W: Write>(
     out: &mut Output<W>,
     err: &mut Vec<u8>,
 ) -> Status {
-    let mut file = Input::new(octets);
+    let mut files = [FileLoad::new(octets)];
     let mut refusals = Output::new(err);
-    let mut report = LoadReport::new();
-    load(
-        alloc,
-        archive,
-        how,
-        &mut file,
-        out,
-        &mut refusals,
-        &mut report,
-    )
+    load(alloc, archive, how, &mut files, out, &mut refusals)
 }
 
 /// Asks a line, which is answered on both writers.
@@ -61,7 +55,11 @@ pub(crate) fn feed_to<R: Read, W: Write>(
     reader: &mut Input<R>,
     out: &mut Output<W>,
 ) -> End {
-    feed(alloc, archive, collector, 2, false, reader, out, &mut None)
+    let how = FeedSettings {
+        collector,
+        limit: 2,
+    };
+    feed(alloc, archive, how, &mut 0, reader, out, &mut None)
 }
 
 /// Whether a load of the octets writes these lines, and ends so.

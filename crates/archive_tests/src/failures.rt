@@ -5,7 +5,9 @@ use crate::desk::{ask_to, feed_to, load_to, loaded_of};
 use crate::feeds::QUESTION;
 use crate::pure::Pure;
 use crate::samples::{LONG_PREFIX, UPDATE, stream};
-use service::{End, FeedStop, Input, LoadSettings, Output, Status, tell_lost, tell_outside};
+use service::{
+    End, FeedSettings, FeedStop, Input, LoadSettings, Output, Status, tell_lost, tell_outside,
+};
 use std::alloc::Global;
 use std::io::{Error, ErrorKind, Read, Write};
 
@@ -123,10 +125,13 @@ fn fails_all<W: Write>(
 ) -> bool {
     let end = feed_to(alloc, archive, 0, &mut Input::new(octets), full);
     let how = LoadSettings {
-        collector: 0,
-        limit: 1000,
+        feed: FeedSettings {
+            collector: 0,
+            limit: 1000,
+        },
         mark: None,
         resume: false,
+        strict: false,
     };
     let mut shown: Vec<u8> = Vec::new(alloc);
     let loaded = load_to(alloc, archive, how, &[], full, &mut shown);

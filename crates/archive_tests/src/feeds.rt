@@ -6,7 +6,7 @@ use crate::pure::{Pure, Rings};
 use crate::samples::{
     EARLIER, EMPTY, LONG_PREFIX, UPDATE, cut_stream, many_updates, stream, two_tables,
 };
-use service::{End, FeedStop, LoadSettings, Status};
+use service::{End, FeedSettings, FeedStop, LoadSettings, Status};
 use std::alloc::Global;
 
 pub(crate) const QUESTION: &str = "at 1704067200 prefix 10.0.0.0/8";
@@ -15,10 +15,13 @@ pub(crate) const QUESTION: &str = "at 1704067200 prefix 10.0.0.0/8";
 fn fits_as(alloc: Global, octets: Option<Vec<u8>>, lines: &str) -> Option<bool> {
     let mut archive = Pure::new(alloc, 1)?;
     let how = LoadSettings {
-        collector: 0,
-        limit: 100_000,
+        feed: FeedSettings {
+            collector: 0,
+            limit: 100_000,
+        },
         mark: None,
         resume: false,
+        strict: false,
     };
     Some(loads_as(alloc, &mut archive, how, &octets?, lines, "", Status::Done))
 }

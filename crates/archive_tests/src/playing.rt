@@ -10,13 +10,13 @@ use crate::scripts::full::FULL;
 use crate::scripts::loads::LOADS;
 use crate::scripts::marks::MARKS;
 use crate::scripts::questions::QUESTIONS;
+use crate::scripts::several::SEVERAL;
 use crate::scripts::tables::TABLES;
 use crate::scripts::updates::UPDATES;
 use crate::{be, be_at};
 use memory_archive::MemArchive;
 use service::{
-    Input, Invocation, LoadReport, Loading, Output, Question, ask_line, check_archive, command,
-    load_file,
+    FileLoad, Invocation, Loading, Output, Question, ask_line, check_archive, command, load_files,
 };
 use std::alloc::Global;
 use std::io::Read;
@@ -47,7 +47,16 @@ pub(crate) struct Ran {
     pub(crate) code: u8,
 }
 
-/// Loads the file that a command line names: the exit status. None where there is no such file.
+/// What is in the files of these names. None where there is no such file.
+fn octets_of(alloc: Global, names: &[&str]) -> Option<Vec<Vec<u8>>> {
+    let mut all = Vec::new(alloc);
+    for name in names {
+        all.push(file_of(alloc, name)?).ok()?;
+    }
+    Some(all)
+}
+
+/// Loads the files that a command line names: the exit status. None where there is no such file.
 fn load(
     alloc: Global,
     archive: &mut MemArchive,
@@ -56,22 +65,21 @@ fn load(
     out: &mut Vec<u8>,
     err: &mut Vec<u8>,
 ) -> Option<u8> {
-    let octets = file_of(alloc, asked.file)?;
-    let mut file = Input::new(Pieces {
-        octets: &octets,
-        most,
-    });
+    let octets = octets_of(alloc, asked.files.as_slice())?;
+    let mut files = Vec::new(alloc);
+    for octets in octets.as_slice() {
+        let pieces = Pieces { octets, most };
+        files.push(FileLoad::new(pieces)).ok()?;
+    }
     let mut lines = Output::new(out);
     let mut refusals = Output::new(err);
-    let mut report = LoadReport::new();
-    Some(load_file(
+    Some(load_files(
         alloc,
         archive,
         asked,
-        &mut file,
+        files.as_mut_slice(),
         &mut lines,
         &mut refusals,
-        &mut report,
     ))
 }
 
@@ -266,6 +274,16 @@ fn marks_are_played(rt: HostRuntime) {
 fn loads_are_played(rt: HostRuntime) {
     let count = play_all(&rt, rt.alloc(), &LOADS, WHOLE);
     be(&rt, count.scripts == 12 && count.commands == 33, "loads");
+}
+
+#[test]
+fn loads_of_several_files_are_played(rt: HostRuntime) {
+    let count = play_all(&rt, rt.alloc(), &SEVERAL, WHOLE);
+    be(
+        &rt,
+        count.scripts == 9 && count.commands == 16,
+        "several files",
+    );
 }
 
 #[test]

@@ -4,7 +4,9 @@ use crate::be;
 use crate::pure::Pure;
 use crate::samples::{EARLIER, LONG_PREFIX, UPDATE, stream};
 use route_model::Mark;
-use service::{FeedCounts, Input, LoadReport, LoadSettings, Output, Refusal, load};
+use service::{
+    FeedCounts, FeedSettings, FileLoad, LoadReport, LoadSettings, Output, Refusal, load,
+};
 use std::alloc::Global;
 
 /// Records that are loaded into an archive of one collector, and what is reported.
@@ -64,35 +66,39 @@ const REPORTS: [Reported; 4] = [
 fn report_of(alloc: Global, it: &Reported) -> Option<LoadReport> {
     let mut archive = Pure::new(alloc, 1)?;
     let how = LoadSettings {
-        collector: it.collector,
-        limit: 1000,
+        feed: FeedSettings {
+            collector: it.collector,
+            limit: 1000,
+        },
         mark: Mark::new(it.mark),
         resume: false,
+        strict: false,
     };
     let octets = stream(alloc, it.records)?;
-    let mut file = Input::new(octets.as_slice());
+    let mut files = [FileLoad::new(octets.as_slice())];
     let mut out: Vec<u8> = Vec::new(alloc);
     let mut err: Vec<u8> = Vec::new(alloc);
     let mut lines = Output::new(&mut out);
     let mut refusals = Output::new(&mut err);
-    let mut report = LoadReport::new();
     let _ = load(
         alloc,
         &mut archive,
         how,
-        &mut file,
+        &mut files,
         &mut lines,
         &mut refusals,
-        &mut report,
     );
-    Some(report)
+    let [file] = files;
+    Some(file.report)
 }
 
 /// Whether a load of the records reports this.
 fn is_reported(alloc: Global, it: &Reported) -> bool {
     let counts = it.counts.map(counted);
-    let refusal = it.refusal;
-    report_of(alloc, it) == Some(LoadReport { counts, refusal })
+    match report_of(alloc, it) {
+        Some(report) => report.counts == counts && report.refusal == it.refusal,
+        None => false,
+    }
 }
 
 #[test]

@@ -7,24 +7,27 @@ use crate::pure::Pure;
 use crate::samples::{EARLIER, LONG_PREFIX, UPDATE, stream};
 use route_model::Mark;
 use service::{
-    Creation, Input, LoadReport, Loading, Output, Question, Refusal, ask_line, load_file,
-    tell_created, tell_listening, tell_refusal,
+    Creation, FileLoad, Loading, Output, Question, Refusal, ask_line, load_files, tell_created,
+    tell_listening, tell_refusal,
 };
 use std::alloc::Global;
 use std::io::{BufWriter, Write};
 use std::net::{Ipv4Addr, SocketAddrV4};
 
 /// How records are loaded: in batches of two, with a mark that is above their times.
-fn loading() -> Loading<'static> {
-    Loading {
+fn loading(alloc: Global) -> Option<Loading<'static>> {
+    let mut files = Vec::new(alloc);
+    files.push("a.mrt").ok()?;
+    Some(Loading {
         wait: 0,
         folder: "a",
         collector: 0,
         batch: 2,
         mark: Mark::new(1_704_067_201),
         resume: false,
-        file: "a.mrt",
-    }
+        strict: false,
+        files,
+    })
 }
 
 /// Loads octets as a collector's, in batches of two, with the mark 1704067201: the exit status.
@@ -36,16 +39,14 @@ fn load_to<W: Write + Drop>(
     out: &mut Output<W>,
     err: &mut Vec<u8>,
 ) -> u8 {
-    let mut file = Input::new(octets);
-    let mut report = LoadReport::new();
-    load_file(
+    let mut files = [FileLoad::new(octets)];
+    load_files(
         alloc,
         archive,
         asked,
-        &mut file,
+        &mut files,
         out,
         &mut Output::new(err),
-        &mut report,
     )
 }
 
@@ -96,7 +97,7 @@ fn is_written_out(alloc: Global) -> Option<bool> {
     let mut out: Vec<u8> = Vec::new(alloc);
     let mut err: Vec<u8> = Vec::new(alloc);
     let mut lines = Output::new(Marking { octets: &mut out });
-    let asked = loading();
+    let asked = loading(alloc)?;
     let code = load_to(alloc, &mut archive, &asked, &octets, &mut lines, &mut err);
     drop(lines);
     Some(code == 0 && err.is_empty() && out.as_slice() == WRITTEN_OUT.as_bytes())
@@ -115,7 +116,7 @@ fn is_load_unwritten(alloc: Global, octets: &[u8]) -> Option<bool> {
     let full: &mut [u8] = &mut small;
     let mut out = Output::new(BufWriter::new(alloc, full).ok()?);
     let mut err: Vec<u8> = Vec::new(alloc);
-    let asked = loading();
+    let asked = loading(alloc)?;
     let code = load_to(alloc, &mut archive, &asked, octets, &mut out, &mut err);
     Some(code == 1 && err.as_slice() == UNBUFFERED.as_bytes())
 }

@@ -6,6 +6,7 @@ pub(crate) mod full;
 pub(crate) mod loads;
 pub(crate) mod marks;
 pub(crate) mod questions;
+pub(crate) mod several;
 pub(crate) mod tables;
 pub(crate) mod updates;
 

@@ -22,7 +22,7 @@ Usage: rha <COMMAND>
 
 Commands:
   create  Makes the folder DIR, which isn't there yet, with an empty archive
-  load    Loads a file of MRT records as a collector's
+  load    Loads files of MRT records as a collector's
   ask     Answers a request line
   serve   Serves an archive on a socket, until a client asks it to stop
   check   Reads through an archive, and tells the first damage
@@ -74,40 +74,48 @@ Exit status: 0 where the archive is made; 1 where it is refused, told on standar
 `rha: NUMBER NAME`; 2 where the command line isn't accepted.
 ";
 
-const LOAD_HELP: &str = "Loads a file of MRT records as a collector's
+const LOAD_HELP: &str = "Loads files of MRT records as a collector's
 
-Usage: rha load [OPTIONS] --collector <C> <DIR> <FILE>
+Usage: rha load [OPTIONS] --collector <C> <DIR> <FILE>...
 
 Arguments:
-  <DIR>   The folder of the archive
-  <FILE>  The MRT file to load
+  <DIR>      The folder of the archive
+  <FILE>...  The MRT files to load, in their order; - is standard input
 
 Options:
       --wait <SECONDS>  How many seconds to wait for the archive while it is in use, 0 to 1000000 [default: 0]
       --collector <C>   The collector's number, 0 to 15
       --batch <N>       The most records of a batch, 1 to 1000 [default: 1000]
-      --mark <M>        The collector's mark once the file is loaded
-      --resume          Goes on behind the records that were offered before
+      --mark <M>        The collector's mark once the last FILE is loaded
+      --resume          Goes on after the records that were offered before
+      --strict          Ends at a FILE that gives cause for doubt, and sets no mark then
   -h, --help            Print help
 
-M is seconds since 1970, 0 to 4294967296, or a timestamp as 2024-01-01T00:00:00Z. It is set where FILE was
-read to its end: what the collector gives later isn't of earlier moments. FILE may be a pipe; - is standard input.
-With --resume, FILE is all that the collector ever gave, from its beginning: as many of its first records as
-were offered before are left out, so a load that was broken off goes on.
+M is seconds since 1970, 0 to 4294967296, or a timestamp as 2024-01-01T00:00:00Z. It is set once the last FILE was
+read to its end: what the collector gives later isn't of earlier moments. After a table of the moment T it is a
+second after T. A mark can't be set back. A FILE may be a pipe; - is standard input.
+Each FILE is a feed of its own, with its own lines. One that can't be read or ends inside a record ends the load, as
+other refusals do: no mark is set, and standard error shows which FILEs were not read.
+With --strict the load ends so, too, at a FILE without a record, one whose records came late and none is kept, or one
+of which more than one record in a hundred is refused; and a mark isn't set that is more than a day after the
+collector's last record. Without it standard error warns of these.
+With --resume, the FILEs are all that the collector ever gave, from its beginning, in this order: as many of their
+first records as were offered before are left out, so a load that was broken off goes on.
 
-Prints, as soon as each is true:
+Prints of each FILE, as soon as each is true:
   B|FROM|TO|OFFERED          a batch is kept: its records have the numbers FROM to below TO
-  L|INDEX|TIME|MARK          behind it: the record at this place of the batch came late
+  L|INDEX|TIME|MARK          after it: the record at this place of the batch came late
   X|NUMBER|NAME|RECORD       a record is refused, or the file ends in one
   F|RECORDS|ADMITTED|LATE|REFUSED|SKIPPED
   S|SETTLED                  questions of moments below this one are answered
 
-Example:
+Examples:
   rha load a --collector 0 --mark 2024-01-01T00:15:00Z updates.mrt
+  rha load a --collector 0 --strict --mark 2024-01-02T00:00:00Z updates.20240101.*.mrt
 
-Exit status: 0 where FILE was read to its end, also where records of it were late or refused; 1 where it ends
-inside a record, or something else was refused or couldn't be written (told on standard error as
-`rha: NUMBER NAME` where it has no line of its own); 2 where the command line isn't accepted.
+Exit status: 0 where each FILE was read to its end, also where records of it were late or refused; 1 where one
+ends inside a record, where --strict ends the load, or something else was refused or couldn't be written (shown on
+standard error as `rha: NUMBER NAME` where it has no line of its own); 2 where the command line isn't accepted.
 ";
 
 const ASK_HELP: &str = "Answers a request line
@@ -230,7 +238,7 @@ const USAGE_END: &str = "\n\nUsage: rha <COMMAND>\n\nFor more information, try '
 const CREATE_END: &str = "\n\nUsage: rha create <DIR>\n\nFor more information, try '--help'.\n";
 
 const LOAD_END: &str =
-    "\n\nUsage: rha load [OPTIONS] --collector <C> <DIR> <FILE>\n\nFor more information, try '--help'.\n";
+    "\n\nUsage: rha load [OPTIONS] --collector <C> <DIR> <FILE>...\n\nFor more information, try '--help'.\n";
 
 const ASK_END: &str = "\n\nUsage: rha ask <DIR> <WORD>...\n\nFor more information, try '--help'.\n";
 
@@ -349,14 +357,14 @@ const WRONG: [Shown; 15] = [
         kind: ErrorKind::MissingRequiredArgument,
         code: 2,
         text: "error: the following required arguments were not provided:\n  --collector <C>",
-        end: "\n\nUsage: rha load --collector <C> <DIR> <FILE>\n\nFor more information, try '--help'.\n",
+        end: "\n\nUsage: rha load --collector <C> <DIR> <FILE>...\n\nFor more information, try '--help'.\n",
     },
     Shown {
         words: "rha|load|a|--collector|0",
         kind: ErrorKind::MissingRequiredArgument,
         code: 2,
-        text: "error: the following required arguments were not provided:\n  <FILE>",
-        end: "\n\nUsage: rha load --collector <C> <DIR> <FILE>\n\nFor more information, try '--help'.\n",
+        text: "error: the following required arguments were not provided:\n  <FILE>...",
+        end: "\n\nUsage: rha load --collector <C> <DIR> <FILE>...\n\nFor more information, try '--help'.\n",
     },
     Shown {
         words: "rha|ask|a",
@@ -419,7 +427,7 @@ const WRONG: [Shown; 15] = [
         kind: ErrorKind::TooManyValues,
         code: 2,
         text: "error: unexpected value 'no' for '--resume' found; no more were expected",
-        end: "\n\nUsage: rha load --collector <C> --resume <DIR> <FILE>\n\nFor more information, try '--help'.\n",
+        end: "\n\nUsage: rha load --collector <C> --resume <DIR> <FILE>...\n\nFor more information, try '--help'.\n",
     },
 ];
 

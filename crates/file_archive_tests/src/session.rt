@@ -8,7 +8,7 @@ use archive_pages::Settings;
 use file_archive::FileArchive;
 use load_progress::{Counts, Meter, WatchedArchive};
 use route_model::Mark;
-use service::{Input, LoadReport, LoadSettings, Output, Status, ask, check, load};
+use service::{FeedSettings, FileLoad, LoadSettings, Output, Status, ask, check, load};
 use std::alloc::Global;
 use test_octets::octets;
 
@@ -85,26 +85,20 @@ fn give<A: RouteArchive>(
     out: &mut Vec<u8>,
 ) -> Option<Status> {
     let how = LoadSettings {
-        collector,
-        limit: 1000,
+        feed: FeedSettings {
+            collector,
+            limit: 1000,
+        },
         mark: Mark::new(1_704_068_100),
         resume: false,
+        strict: false,
     };
     let feed = octets(alloc, feed).ok()?;
-    let mut file = Input::new(feed.as_slice());
+    let mut files = [FileLoad::new(feed.as_slice())];
     let mut err = Vec::new(alloc);
     let mut lines = Output::new(out);
     let mut refusals = Output::new(&mut err);
-    let mut report = LoadReport::new();
-    Some(load(
-        alloc,
-        archive,
-        how,
-        &mut file,
-        &mut lines,
-        &mut refusals,
-        &mut report,
-    ))
+    Some(load(alloc, archive, how, &mut files, &mut lines, &mut refusals))
 }
 
 /// Runs a command over an archive, whose lines go to `out`. What goes to standard error is left out.

@@ -1,90 +1,150 @@
-//! The command `load`: a file is loaded into the archive of a folder.
+//! The command `load`: files are loaded into the archive of a folder, one after another.
 
 use crate::opening::open_disks;
 use crate::refusals::tell_unopened;
 use crate::sizes::sizes_of;
-use advice::{FirstOctets, Loaded, NotedReader, STDIN, advise_load};
+use crate::sources::Source;
+use advice::{FirstOctets, Loaded, NotedReader, Unread, advise, advise_load};
 use archive_calls::RouteArchive;
 use file_archive::FileArchive;
 use load_progress::{ClearedWriter, Meter, WatchedArchive, WatchedReader};
-use route_model::Mark;
 use service::{
-    Input, LoadReport, Loading, Output, load_file, tell_lost, tell_out_of_memory, tell_outside,
+    FileLoad, Input, Loading, Output, load_files, tell_lost, tell_out_of_memory, tell_outside,
 };
-use std::fs::File;
-use std::io;
-use std::io::{BufWriter, IsTerminal, Read, Stdin, Write};
+use std::cell::Cell;
+use std::io::{BufWriter, IsTerminal, Read, Write};
 
-/// What is loaded. Standard input isn't opened by a name: where it is a socket, it has none.
+/// What is known of a file besides its records: its first octets, and whether it was opened.
 #[derive(Drop)]
-enum Source {
-    File(File),
-    Stdin(Stdin),
+struct Noted {
+    first: FirstOctets,
+    is_open: Cell<bool>,
 }
 
-impl Read for Source {
-    fn read(&mut self, buf: &mut [u8]) -> io::Result<usize> {
-        match self {
-            Source::File(file) => file.read(buf),
-            Source::Stdin(stdin) => stdin.read(buf),
+impl Noted {
+    fn new() -> Noted {
+        Noted {
+            first: FirstOctets::new(),
+            is_open: Cell::new(false),
         }
     }
 }
 
-impl Source {
-    /// The file of this name, or standard input.
-    fn open(rt: &HostRuntime, name: &str) -> io::Result<Source> {
-        if name == STDIN {
-            return Ok(Source::Stdin(rt.stdin()));
-        }
-        Ok(Source::File(File::open(rt, name)?))
+/// Nothing yet of each of `count` files. None where there is no memory.
+fn noted_of(rt: &HostRuntime, count: usize) -> Option<Vec<Noted>> {
+    let mut noted = Vec::new(rt.alloc());
+    for _ in 0..count {
+        noted.push(Noted::new()).ok()?;
     }
+    Some(noted)
 }
 
-/// Loads a file into the archive of a folder. The folder's files are opened before it, and what is in them is read after it.
+/// The files of these names. None where there is no memory.
+fn sources_of<'a>(
+    rt: &'a HostRuntime,
+    names: &[&'a str],
+    noted: &'a [Noted],
+) -> Option<Vec<Source<'a>>> {
+    let mut sources = Vec::new(rt.alloc());
+    for (name, it) in names.iter().zip(noted) {
+        sources.push(Source::new(rt, *name, &it.is_open)).ok()?;
+    }
+    Some(sources)
+}
+
+/// Loads files into the archive of a folder. The folder's files are opened before the first of them, and what is in these is read after it; each
+/// further one is opened when the load comes to it.
 pub(crate) fn load<E: Write>(rt: &HostRuntime, asked: &Loading<'_>, err: &mut Output<E>) -> u8 {
     let alloc = rt.alloc();
+    let names = asked.files.as_slice();
     let Some(disks) = open_disks(rt, asked.folder, asked.wait, err) else {
         return 1;
     };
-    let file = match Source::open(rt, asked.file) {
-        Ok(file) => file,
-        Err(why) => return tell_outside(alloc, err, asked.file, "open", &why),
+    let Some(noted) = noted_of(rt, names.len()) else {
+        return tell_out_of_memory(err);
     };
+    let Some(mut sources) = sources_of(rt, names, &noted) else {
+        return tell_out_of_memory(err);
+    };
+    if let (Some(first), Some(name)) = (sources.first_mut(), names.first()) {
+        if let Err(why) = first.open() {
+            let code = tell_outside(alloc, err, name, "open", &why);
+            advise_unread(rt, names.get(1..).unwrap_or(&[]), err);
+            return code;
+        }
+    }
     match FileArchive::on(alloc, disks) {
-        Ok(archive) => load_into(rt, archive, asked, file, err),
+        Ok(archive) => load_into(rt, archive, asked, sources, &noted, err),
         Err(fault) => tell_unopened(rt, asked.folder, fault, err),
     }
 }
 
-/// Says what a person may not expect of a load.
-fn advise_loaded<A: RouteArchive, E: Write>(
+/// Prints why a file couldn't be opened or read, if it couldn't.
+fn tell_failed<R: Read, E: Write>(
+    rt: &HostRuntime,
+    name: &str,
+    is_open: bool,
+    input: &Input<R>,
+    err: &mut Output<E>,
+) {
+    if is_open {
+        return tell_lost(rt.alloc(), name, input, err);
+    }
+    if let Some(why) = input.failure() {
+        tell_outside(rt.alloc(), err, name, "open", why);
+    }
+}
+
+/// Says which files weren't read, if there are such.
+fn advise_unread<E: Write>(rt: &HostRuntime, files: &[&str], err: &mut Output<E>) {
+    if !files.is_empty() {
+        advise(rt.alloc(), &Unread { files }, err);
+    }
+}
+
+/// Says of each file that was loaded why it couldn't be read, if so, and what a person may not expect; and which files weren't read.
+fn advise_loaded<A: RouteArchive, R: Read, E: Write>(
     rt: &HostRuntime,
     archive: &A,
     asked: &Loading<'_>,
-    before: Option<Mark>,
-    report: LoadReport,
-    first: &FirstOctets,
+    files: &[FileLoad<R>],
+    noted: &[Noted],
     err: &mut Output<E>,
 ) {
-    let loaded = Loaded {
-        file: asked.file,
-        packing: first.packing(),
-        collector: asked.collector,
-        before,
-        report,
-        sizes: sizes_of(rt, asked.folder),
-    };
-    advise_load(rt.alloc(), archive, &loaded, err);
+    let names = asked.files.as_slice();
+    let mut begun = 0usize;
+    for ((file, it), name) in files.iter().zip(noted).zip(names) {
+        if !file.report.is_begun {
+            break;
+        }
+        begun += 1;
+        tell_failed(rt, name, it.is_open.get(), &file.input, err);
+        let mark = if begun == names.len() {
+            asked.mark
+        } else {
+            None
+        };
+        let loaded = Loaded {
+            file: name,
+            packing: it.first.packing(),
+            collector: asked.collector,
+            mark,
+            report: file.report,
+            sizes: sizes_of(rt, asked.folder),
+        };
+        advise_load(rt.alloc(), archive, &loaded, err);
+    }
+    advise_unread(rt, names.get(begun..).unwrap_or(&[]), err);
 }
 
-/// Loads a file into an archive that is open. Where standard error is a terminal, one line there says how far it has come, and is gone
+/// Loads files into an archive that is open. Where standard error is a terminal, one line there says how far it has come, and is gone
 /// before anything else is printed.
 fn load_into<E: Write>(
     rt: &HostRuntime,
     archive: FileArchive,
     asked: &Loading<'_>,
-    file: Source,
+    sources: Vec<Source<'_>>,
+    noted: &[Noted],
     err: &mut Output<E>,
 ) -> u8 {
     let alloc = rt.alloc();
@@ -93,24 +153,25 @@ fn load_into<E: Write>(
     let Ok(buffer) = BufWriter::new(alloc, ClearedWriter::new(rt.stdout(), &meter)) else {
         return tell_out_of_memory(err);
     };
+    let mut files = Vec::new(alloc);
+    for (source, it) in sources.into_iter().zip(noted) {
+        let reader = NotedReader::new(WatchedReader::new(source, &meter), &it.first);
+        if files.push(FileLoad::new(reader)).is_err() {
+            return tell_out_of_memory(err);
+        }
+    }
     let mut archive = WatchedArchive::new(archive, &meter);
-    let before = archive.resume(asked.collector).map(|it| it.mark);
-    let first = FirstOctets::new();
-    let mut file = Input::new(NotedReader::new(WatchedReader::new(file, &meter), &first));
     let mut out = Output::new(buffer);
     let mut told = Output::new(ClearedWriter::new(rt.stderr(), &meter));
-    let mut report = LoadReport::new();
-    let code = load_file(
+    let code = load_files(
         alloc,
         &mut archive,
         asked,
-        &mut file,
+        files.as_mut_slice(),
         &mut out,
         &mut told,
-        &mut report,
     );
     meter.clear();
-    tell_lost(alloc, asked.file, &file, err);
-    advise_loaded(rt, &archive, asked, before, report, &first, err);
+    advise_loaded(rt, &archive, asked, files.as_slice(), noted, err);
     code
 }

@@ -10,6 +10,7 @@ mod opening;
 mod refusals;
 mod served;
 mod sizes;
+mod sources;
 mod streams;
 
 use crate::commands::{ask, check, create};

@@ -75,3 +75,9 @@ offered_none (i ∷ intakes) (suc c) e = offered_none intakes c e
 pub dropped_none : (resume : Bool) (intakes : List Intake) (c : ℕ) → slice_get (map resume_of intakes) c ≡ None → 0 ≡ dropped_where resume (intake_in intakes c)
 dropped_none true intakes c e = sym (offered_none intakes c e)
 dropped_none false intakes c e = refl
+
+-- and it has no mark
+pub marked_none : (intakes : List Intake) (c : ℕ) → slice_get (map resume_of intakes) c ≡ None → 0 ≡ (intake_in intakes c).mark
+marked_none [] c e = refl
+marked_none (i ∷ intakes) zero e = absurd cc
+marked_none (i ∷ intakes) (suc c) e = marked_none intakes c e

@@ -9,6 +9,7 @@ pub mod GivingUp
 pub mod Streams
 pub mod Applying
 pub mod Unloading
+pub mod Files
 pub mod Batching
 pub mod ListenTexts
 pub mod CommandLines

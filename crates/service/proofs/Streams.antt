@@ -14,7 +14,7 @@ use Rattle.mrt_records.specs.declared.item.Item.{Item}
 use Rattle.mrt_records.proofs.api.Pieces.{frames_then}
 use Rattle.mrt_records.proofs.api.Streams.{frames_none, part_begins_none, over_begins_none, over-append}
 use Rattle.interleaving_core.specs.Steps.{given}
-use Rattle.service.specs.Feeds.{IsCut, IsFed, IsReason, MayGive}
+use Rattle.service.specs.Feeds.{IsCut, IsFed, IsReason, IsSummed, MayGive}
 use Rattle.service.specs.Turns.{Turn, turns_for, last_turns, feed_turns}
 use Rattle.service.specs.FeedTexts.{intake_in, cut_line, counts_of}
 use Rattle.service.specs.FeedLines.{counts_line}
@@ -247,4 +247,21 @@ all_fed c dropped limit h bytes held cut old new archive later was mid then now 
       wrote =
           Tells-trans was then now _ _ done.wrote
           (subst (λ (t : List ℕ). Tells then now t) (λ k. cut_line cut ((same.records ∙ b.recorded) k) ++ counts_line (counted k)) told_);
+    }
+
+-- what it says of itself
+pub all_summed : (c dropped : ℕ) (limit : BatchLimits) (h : History) (bytes held : List ℕ) (cut : Option FeedCut) (old new : Feeding) (archive later : Carried) (was mid then now : OutputState)
+    → (out : IsReadOut c dropped limit h bytes held old archive was mid) → (is : IsCut held cut) → (same : IsSameFeed old new)
+    → (rest : (turns : List Turn) → old.collector ≡ c → HasDone c h turns old.counts archive was mid → HasDone c h (turns ++ last_turns old.gathered.items) new.counts later was then)
+    → (told_ : Tells then now (cut_line cut new.counts.records ++ counts_line new.counts))
+    → IsSummed c dropped limit h (all_fed c dropped limit h bytes held cut old new archive later was mid then now out is same rest told_).records (all_fed c dropped limit h bytes held cut old new archive later was mid then now out is same rest told_).results (all_fed c dropped limit h bytes held cut old new archive later was mid then now out is same rest told_).feed.means.meanings (Some new.counts) new.dropping
+unfolding all_fed
+all_summed c dropped limit h bytes held cut old new archive later was mid then now out is same rest told_ =
+    let b = out.1.reads.behind in
+    let d = rest _ b.collector b.done in
+    let turns : turns_for limit 0 [] b.results ++ last_turns old.gathered.items ≡ feed_turns limit b.results = ap (λ (t : List Admitted). turns_for limit 0 [] b.results ++ last_turns t) b.waits in
+    let done = subst (λ (t : List Turn). HasDone c h t new.counts later was then) turns d in
+    record {
+      counted = λ k. Some (record { records = (same.records ∙ b.recorded) k; admitted = done.admitted k; late = done.late k; refused = done.refused k; skipped = (same.skipped ∙ b.skipped) k });
+      drops = same.dropping ∙ b.drops;
     }

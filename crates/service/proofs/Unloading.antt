@@ -1,5 +1,5 @@
 -- How a load ends.
-use Rattle.std.proofs.Common.{◌≡◌, ◌∙◌, ℕ, Bool, true, false, List, length, Option, Some, None, arith, inl, inr, refl, ap, sym, subst, ◌⊎◌}
+use Rattle.std.proofs.Common.{◌≡◌, ◌∙◌, ℕ, Bool, true, false, List, length, Option, Some, None, arith, inl, inr, refl, ap, sym, subst, ◌⊎◌, ◌↔◌, IsTrue}
 use Rattle.std.specs.List.{slice_get}
 use Rattle.service.specs.Outputs.{OutputState, Tells}
 use Rattle.service.proofs.Outputs.{Tells-trans, still_failed}
@@ -9,7 +9,12 @@ use Rattle.interleaving_core.specs.Steps.{changed, given, with_batch, with_mark,
 use Rattle.service.specs.FeedLines.{settled_line}
 use Rattle.service.specs.Turns.{offered, admissions_of}
 use Rattle.service.specs.Faults.{of_load}
-use Rattle.service.specs.Feeds.{FitsFailures, IsEnd, IsFed, IsFeed, IsGivenUp, as_told}
+use Rattle.service.specs.Feeds.{FitsFailures, IsEnd, IsFed, IsFeed, IsGivenUp, IsSummedEnd, as_told, limits_for}
+use Rattle.service.specs.FeedTexts.{intake_in}
+use Rattle.service.specs.Doubts.{IsHeld}
+use Rattle.service.specs.FileLoads.{IsHeldEnd, IsWeighed, mark_unless, refused_if}
+use Rattle.service.specs.declared.feed_lines.FeedCounts.{FeedCounts}
+use Rattle.service.specs.declared.settings.LoadSettings.{LoadSettings}
 use Rattle.service.specs.Loads.{IsLoaded, IsLoadEnd, IsGivenUpLoad, IsPartLoaded, IsSettled, IsUnloaded, marked_if}
 use Rattle.service.specs.Refusals.{TellsError, TellsFailure}
 use Rattle.service.specs.inner.Loading.{HasNotSettled, first_of, mark_after, status_after, told_as}
@@ -208,18 +213,45 @@ reader_lost lost mid sound (inr other) = absurd cc
 same_stop : (why : FeedStop) → ◌≡◌ {A = End} (ends.Refused why) (ends.Refused reasons.Outside) → why ≡ reasons.Outside
 same_stop why e = cc
 
+-- what is weighed of a feed that ended so
+abbrev pub IsWeighedEnd : (how : LoadSettings) (held : Bool) (most dropped left : ℕ) (h : History) (bytes : List ℕ) (end : End) (fed : Carried) (was mid : OutputState) → IsEnd how.feed.collector dropped (limits_for how.feed most) h bytes end fed was mid → Type 0
+IsWeighedEnd how held most dropped left h bytes ends.Well fed was mid f = IsWeighed how held most dropped left h f.records f.results f.feed.means.meanings
+IsWeighedEnd how held most dropped left h bytes ends.Cut fed was mid f = Unit {0}
+IsWeighedEnd how held most dropped left h bytes (ends.Refused why) fed was mid g = Unit {0}
+
+-- it is weighed by the counts and by the collector's mark
+pub weighed : (end : End) (how : LoadSettings) (held : Bool) (most dropped left : ℕ) (h : History) (bytes : List ℕ) (counts : Option FeedCounts) (fed : Carried) (was mid : OutputState)
+    → (e : IsEnd how.feed.collector dropped (limits_for how.feed most) h bytes end fed was mid) → IsSummedEnd how.feed.collector dropped (limits_for how.feed most) h bytes end fed was mid e counts left
+    → ((g : History) → fed g → IsTrue held ↔ IsHeld how.strict how.mark counts (intake_in g.intakes how.feed.collector).mark) → IsWeighedEnd how held most dropped left h bytes end fed was mid e
+weighed ends.Well how held most dropped left h bytes counts fed was mid f s holds =
+    let w = f.carried in
+    let c = how.feed.collector in
+    record {
+      drops = s.drops;
+      is_held =
+          subst (λ (t : Option FeedCounts). IsTrue held ↔ IsHeld how.strict how.mark t (intake_in (given h c (admissions_of f.results)).intakes c).mark) s.counted
+          (subst (λ (is : List Intake). IsTrue held ↔ IsHeld how.strict how.mark counts (intake_in is c).mark) w.are (holds w.now w.carried));
+    }
+weighed ends.Cut how held most dropped left h bytes counts fed was mid f s holds = tt
+weighed (ends.Refused why) how held most dropped left h bytes counts fed was mid g s holds = tt
+
 -- a load came to its end, and all was told
-whole_load : (end : End) (c dropped : ℕ) (limit : BatchLimits) (mark : Option ℕ) (h : History) (bytes : List ℕ) (lost_was lost : Bool) (fed archive : Carried) (was mid now err_was : OutputState)
-    → IsCollector h c → IsEnd c dropped limit h bytes end fed was mid → mid.failed ≡ false → now.failed ≡ false → err_was.failed ≡ false → FitsFailures end lost_was lost mid.failed
-    → ((g : History) → fed g → IsSettled (marked_if c (mark_after end mark) g).intakes archive)
+whole_load : (end : End) (how : LoadSettings) (held : Bool) (most dropped left : ℕ) (h : History) (bytes : List ℕ) (lost_was lost : Bool) (fed archive : Carried) (was mid now err_was : OutputState)
+    → IsCollector h how.feed.collector → (e : IsEnd how.feed.collector dropped (limits_for how.feed most) h bytes end fed was mid) → IsWeighedEnd how held most dropped left h bytes end fed was mid e
+    → mid.failed ≡ false → now.failed ≡ false → err_was.failed ≡ false → FitsFailures end lost_was lost mid.failed
+    → ((g : History) → fed g → IsSettled (marked_if how.feed.collector (mark_after end (mark_unless held how.mark)) g).intakes archive)
     → ((g : History) → archive g → Tells mid now (settled_line (settled g)))
-    → IsLoadEnd c dropped limit mark h bytes lost_was lost (status_after end) archive was now err_was err_was
-unfolding given_up_whatever
-whole_load ends.Well c dropped limit mark h bytes lost_was lost fed archive was mid now err_was here f first sound err_sound l settles tells =
-    (here, loaded c dropped limit mark mark h bytes None fed archive was mid now refl f settles tells, sound, err_sound, refl, l.inside (λ e. absurd cc))
-whole_load ends.Cut c dropped limit mark h bytes lost_was lost fed archive was mid now err_was here f first sound err_sound l settles tells =
-    (inl (f.0, loaded c dropped limit None None h bytes (Some f.0) fed archive was mid now refl f.1 settles tells, refl, l.inside (λ e. absurd cc)), sound, err_sound)
-whole_load (ends.Refused why) c dropped limit mark h bytes lost_was lost fed archive was mid now err_was here g first sound err_sound l settles tells =
+    → IsHeldEnd how held most dropped left h bytes lost_was lost (status_after end) archive was now err_was err_was
+unfolding given_up_whatever loaded
+whole_load ends.Well how held most dropped left h bytes lost_was lost fed archive was mid now err_was here f w first sound err_sound l settles tells = (
+  (here, loaded how.feed.collector dropped (limits_for how.feed most) (mark_unless held how.mark) (mark_unless held how.mark) h bytes None fed archive was mid now refl f settles tells, sound, err_sound, refl, l.inside (λ e. absurd cc)),
+  record { drops = w.drops; is_held = w.is_held },
+)
+whole_load ends.Cut how held most dropped left h bytes lost_was lost fed archive was mid now err_was here f w first sound err_sound l settles tells =
+    (inl (f.0, loaded how.feed.collector dropped (limits_for how.feed most) None None h bytes (Some f.0) fed archive was mid now refl f.1 settles tells, refl, l.inside (λ e. absurd cc)), sound, err_sound)
+whole_load (ends.Refused why) how held most dropped left h bytes lost_was lost fed archive was mid now err_was here g w first sound err_sound l settles tells =
+    let c = how.feed.collector in
+    let limit = limits_for how.feed most in
     let stands = settles_all c None (given h c (offered g.made)) fed archive g.carried settles in
     let up : IsGivenUpLoad c dropped limit h bytes lost_was lost archive was now = record { why = why; outside = λ e. reader_lost lost mid first (l.outside (ap (λ (t : FeedStop). ends.Refused t) e)); inside = λ other. l.inside (λ e. other (same_stop why e)); between = mid; given_up = given_up_whatever c dropped limit h bytes why fed was mid g; applied = stands; wrote = tells stands.now stands.carried } in
     (inr (inl (up, refl)), sound, err_sound)
@@ -230,35 +262,53 @@ sound_before true was now text failed t sound = let e = (t.stays failed).0 in ab
 sound_before false was now text failed t sound = failed
 
 -- a load came to its end
-ends_by : (out_failed err_failed : Bool) (end : End) (result : Status) (c dropped : ℕ) (limit : BatchLimits) (mark : Option ℕ) (h : History) (bytes : List ℕ) (lost_was lost : Bool) (fed archive : Carried) (was mid now err_was err_now : OutputState)
-    → now.failed ≡ out_failed → err_was.failed ≡ err_failed → IsCollector h c → IsEnd c dropped limit h bytes end fed was mid → FitsFailures end lost_was lost mid.failed
-    → ((g : History) → fed g → IsSettled (marked_if c (mark_after (as_told mid.failed end) mark) g).intakes archive)
+ends_by : (out_failed err_failed : Bool) (end : End) (result : Status) (how : LoadSettings) (held : Bool) (most dropped left : ℕ) (h : History) (bytes : List ℕ) (lost_was lost : Bool) (fed archive : Carried) (was mid now err_was err_now : OutputState)
+    → now.failed ≡ out_failed → err_was.failed ≡ err_failed → IsCollector h how.feed.collector → (e : IsEnd how.feed.collector dropped (limits_for how.feed most) h bytes end fed was mid) → IsWeighedEnd how held most dropped left h bytes end fed was mid e
+    → FitsFailures end lost_was lost mid.failed
+    → ((g : History) → fed g → IsSettled (marked_if how.feed.collector (mark_after (as_told mid.failed end) (mark_unless held how.mark)) g).intakes archive)
     → ((g : History) → archive g → Tells mid now (settled_line (settled g)))
     → result ≡ told_as out_failed err_failed (status_after (as_told mid.failed end)) → TellsFailure now.failed err_was err_now
-    → IsLoadEnd c dropped limit mark h bytes lost_was lost result archive was now err_was err_now
-ends_by true err_failed end result c dropped limit mark h bytes lost_was lost fed archive was mid now err_was err_now o e here is_end l settles tells is of_out =
-    let p = part_loaded mid.failed end c dropped limit mark h bytes lost_was lost fed archive was mid refl is_end l settles in
-    subst (λ (t : Status). IsLoadEnd c dropped limit mark h bytes lost_was lost t archive was now err_was err_now) (sym is) (inl (mid, p.0, p.1, p.2, p.3, tells p.0 p.1, of_out), inl o)
-ends_by false true end result c dropped limit mark h bytes lost_was lost fed archive was mid now err_was err_now o e here is_end l settles tells is of_out =
-    let p = part_loaded mid.failed end c dropped limit mark h bytes lost_was lost fed archive was mid refl is_end l settles in
-    subst (λ (t : Status). IsLoadEnd c dropped limit mark h bytes lost_was lost t archive was now err_was err_now) (sym is)
+    → IsHeldEnd how held most dropped left h bytes lost_was lost result archive was now err_was err_now
+ends_by true err_failed end result how held most dropped left h bytes lost_was lost fed archive was mid now err_was err_now o e here is_end w l settles tells is of_out =
+    let p = part_loaded mid.failed end how.feed.collector dropped (limits_for how.feed most) (mark_unless held how.mark) h bytes lost_was lost fed archive was mid refl is_end l settles in
+    subst (λ (t : Status). IsHeldEnd how held most dropped left h bytes lost_was lost t archive was now err_was err_now) (sym is) (inl (mid, p.0, p.1, p.2, p.3, tells p.0 p.1, of_out), inl o)
+ends_by false true end result how held most dropped left h bytes lost_was lost fed archive was mid now err_was err_now o e here is_end w l settles tells is of_out =
+    let p = part_loaded mid.failed end how.feed.collector dropped (limits_for how.feed most) (mark_unless held how.mark) h bytes lost_was lost fed archive was mid refl is_end l settles in
+    subst (λ (t : Status). IsHeldEnd how held most dropped left h bytes lost_was lost t archive was now err_was err_now) (sym is)
     (inl (mid, p.0, p.1, p.2, p.3, tells p.0 p.1, of_out), inr (still_failed now.failed true err_was err_now o e of_out))
-ends_by false false end result c dropped limit mark h bytes lost_was lost fed archive was mid now err_was err_now o e here is_end l settles tells is of_out =
-    let p = part_loaded mid.failed end c dropped limit mark h bytes lost_was lost fed archive was mid refl is_end l settles in
+ends_by false false end result how held most dropped left h bytes lost_was lost fed archive was mid now err_was err_now o e here is_end w l settles tells is of_out =
+    let p = part_loaded mid.failed end how.feed.collector dropped (limits_for how.feed most) (mark_unless held how.mark) h bytes lost_was lost fed archive was mid refl is_end l settles in
     let sound = sound_before mid.failed mid now (settled_line (settled p.0)) refl (tells p.0 p.1) o in
     let same : as_told mid.failed end ≡ end = ap (λ (t : Bool). as_told t end) sound in
-    subst (λ (t : Status). IsLoadEnd c dropped limit mark h bytes lost_was lost t archive was now err_was err_now) (sym (is ∙ ap status_after same))
-    (subst (λ (t : OutputState). IsLoadEnd c dropped limit mark h bytes lost_was lost (status_after end) archive was now err_was t) (sym (of_out.quiet o))
-    (whole_load end c dropped limit mark h bytes lost_was lost fed archive was mid now err_was here is_end sound o e l (subst (λ (t : End). (g : History) → fed g → IsSettled (marked_if c (mark_after t mark) g).intakes archive) same settles) tells))
+    subst (λ (t : Status). IsHeldEnd how held most dropped left h bytes lost_was lost t archive was now err_was err_now) (sym (is ∙ ap status_after same))
+    (subst (λ (t : OutputState). IsHeldEnd how held most dropped left h bytes lost_was lost (status_after end) archive was now err_was t) (sym (of_out.quiet o))
+    (whole_load end how held most dropped left h bytes lost_was lost fed archive was mid now err_was here is_end w sound o e l
+    (subst (λ (t : End). (g : History) → fed g → IsSettled (marked_if how.feed.collector (mark_after t (mark_unless held how.mark)) g).intakes archive) same settles) tells))
 
-pub load_ends : (end : End) (result : Status) (c dropped : ℕ) (limit : BatchLimits) (mark : Option ℕ) (h : History) (bytes : List ℕ) (lost_was lost : Bool) (fed archive : Carried) (was mid now err_was err_now : OutputState)
-    → IsCollector h c → IsEnd c dropped limit h bytes end fed was mid → FitsFailures end lost_was lost mid.failed
-    → ((g : History) → fed g → IsSettled (marked_if c (mark_after (as_told mid.failed end) mark) g).intakes archive)
+pub load_ends : (end : End) (result : Status) (how : LoadSettings) (held : Bool) (most dropped left : ℕ) (h : History) (bytes : List ℕ) (lost_was lost : Bool) (fed archive : Carried) (was mid now err_was err_now : OutputState)
+    → IsCollector h how.feed.collector → (e : IsEnd how.feed.collector dropped (limits_for how.feed most) h bytes end fed was mid) → IsWeighedEnd how held most dropped left h bytes end fed was mid e
+    → FitsFailures end lost_was lost mid.failed
+    → ((g : History) → fed g → IsSettled (marked_if how.feed.collector (mark_after (as_told mid.failed end) (mark_unless held how.mark)) g).intakes archive)
     → ((g : History) → archive g → Tells mid now (settled_line (settled g)))
     → result ≡ told_as now.failed err_was.failed (status_after (as_told mid.failed end)) → TellsFailure now.failed err_was err_now
-    → IsLoadEnd c dropped limit mark h bytes lost_was lost result archive was now err_was err_now
-load_ends end result c dropped limit mark h bytes lost_was lost fed archive was mid now err_was err_now here e l settles tells is of_out =
-    ends_by now.failed err_was.failed end result c dropped limit mark h bytes lost_was lost fed archive was mid now err_was err_now refl refl here e l settles tells is of_out
+    → IsHeldEnd how held most dropped left h bytes lost_was lost result archive was now err_was err_now
+load_ends end result how held most dropped left h bytes lost_was lost fed archive was mid now err_was err_now here e w l settles tells is of_out =
+    ends_by now.failed err_was.failed end result how held most dropped left h bytes lost_was lost fed archive was mid now err_was err_now refl refl here e w l settles tells is of_out
+
+-- a load that isn't done ended so, held back or not
+pub undone : (plain : Status) (how : LoadSettings) (held : Bool) (most dropped left : ℕ) (h : History) (bytes : List ℕ) (lost_was lost : Bool) (archive : Carried) (was now err_was err_now : OutputState)
+    → (plain ≡ statuses.Done → ⊥) → IsLoadEnd how.feed.collector dropped (limits_for how.feed most) (mark_unless held how.mark) h bytes lost_was lost plain archive was now err_was err_now
+    → IsHeldEnd how held most dropped left h bytes lost_was lost plain archive was now err_was err_now
+undone statuses.Done how held most dropped left h bytes lost_was lost archive was now err_was err_now none e = absurd (none refl)
+undone statuses.Refused how held most dropped left h bytes lost_was lost archive was now err_was err_now none e = e
+undone statuses.Failed how held most dropped left h bytes lost_was lost archive was now err_was err_now none e = e
+
+-- a load that is done isn't held back
+pub done_plain : (held : Bool) (plain status : Status) → status ≡ refused_if held plain → status ≡ statuses.Done → plain ≡ statuses.Done
+done_plain true statuses.Done status is done = absurd cc
+done_plain true statuses.Refused status is done = absurd cc
+done_plain true statuses.Failed status is done = absurd cc
+done_plain false plain status is done = sym is ∙ done
 
 -- a load that is done has no feed that was given up for what is outside
 pub done_inside : (out_failed err_failed : Bool) (end : End) → told_as out_failed err_failed (status_after end) ≡ statuses.Done → end ≡ ends.Refused reasons.Outside → ⊥

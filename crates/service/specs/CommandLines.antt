@@ -1,5 +1,5 @@
 -- The command line of the program: what clap reads of it, and what that asks for.
-use Rattle.std.specs.Prelude.{◌≡◌, ◌≤◌, ⊤, ℕ, Bool, true, false, List, [], ◌∷◌, Option, Some, None, codes, string_bytes, unwrap_or}
+use Rattle.std.specs.Prelude.{◌≡◌, ◌≤◌, ⊤, ℕ, Bool, true, false, List, [], ◌∷◌, Option, Some, None, codes, map, string_bytes, unwrap_or}
 use Rattle.std.specs.Str.Parse.{digits_value, without_leading_plus}
 use Rattle.std.specs.List.{join_by}
 use Rattle.clap.specs.Lexer.{usize_max}
@@ -52,6 +52,18 @@ mark_rule = record (new_rule (codes "mark")) { long = Some (codes "mark"); value
 abbrev pub resume_rule : Rule
 resume_rule = record (new_rule (codes "resume")) { long = Some (codes "resume"); action = Some SetTrue }
 
+-- --strict
+abbrev pub strict_rule : Rule
+strict_rule = record (new_rule (codes "strict")) { long = Some (codes "strict"); action = Some SetTrue }
+
+-- FILE..: one file at least
+abbrev pub files_rule : Rule
+files_rule = record (new_rule (codes "FILE")) {
+  action = Some Append;
+  range = Some (record { start_inclusive = 1; end_inclusive = usize_max });
+  required = true;
+}
+
 -- --json
 abbrev pub json_rule : Rule
 json_rule = record (new_rule (codes "json")) { long = Some (codes "json"); action = Some SetTrue }
@@ -89,9 +101,13 @@ creation = with_rule (with_rule creation_of_rings (number_or_rule (codes "pages"
 abbrev pub loading_of_batches : App
 loading_of_batches = with_rule (with_rule (of_archive (codes "load")) (number_rule (codes "collector") 0 15)) (number_or_rule (codes "batch") 1 1000 (codes "1000"))
 
--- load DIR --collector C [--batch N] [--mark M] [--resume] FILE
+-- load DIR --collector C [--batch N] [--mark M] [--resume]
+abbrev pub loading_to_mark : App
+loading_to_mark = with_rule (with_rule loading_of_batches mark_rule) resume_rule
+
+-- load DIR --collector C [--batch N] [--mark M] [--resume] [--strict] FILE..
 abbrev pub loading : App
-loading = with_rule (with_rule (with_rule loading_of_batches mark_rule) resume_rule) (word_rule (codes "FILE"))
+loading = with_rule (with_rule loading_to_mark strict_rule) files_rule
 
 -- ask DIR [--wait SECONDS] WORD..
 abbrev pub question : App
@@ -165,7 +181,8 @@ pub record IsLoading (rows : List Row) (l : Loading) : Type 0 where
   pub wait : IsNumber 0 1000000 (first_of (codes "wait") rows) l.wait
   pub mark : IsMarkIf (first_of (codes "mark") rows) l.mark
   pub resume : IsThere (one_of (codes "resume") rows) l.resume
-  pub file : l.file.now ≡ word_in (codes "FILE") rows
+  pub strict : IsThere (one_of (codes "strict") rows) l.strict
+  pub files : map (λ f. f.now) l.files.items ≡ unwrap_or (all_of (codes "FILE") rows) []
 
 -- what is read of the arguments of `ask`
 pub record IsQuestion (rows : List Row) (q : Question) : Type 0 where

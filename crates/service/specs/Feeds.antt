@@ -1,7 +1,7 @@
 -- What a feed of MRT records is, and what an archive carries once it took it in.
 use Rattle.std.specs.Prelude.{◌≡◌, ◌⊎◌, Bool, true, false, ℕ, map, length, List, [], ◌∷◌, ◌++◌, Option, Some, None, Result}
 use Rattle.service.specs.Carried.{Carried, HasIntakes}
-use Rattle.service.specs.Resuming.{MeansFrom}
+use Rattle.service.specs.Resuming.{MeansFrom, left_behind}
 use Rattle.service.specs.Outputs.{OutputState, Tells}
 use Rattle.route_model.specs.Admission.{Admitted}
 use Rattle.route_meaning.specs.History.{History}
@@ -13,16 +13,22 @@ use Rattle.resolve.specs.declared.fault.ResolveFault.{ResolveFault}
 use Rattle.interleaving_core.specs.Steps.{given, IsCollector, NothingToApply}
 use Rattle.archive_calls.specs.Limits.{IsCounterFull}
 use Rattle.service.specs.Turns.{Turn, Offer, offered, admissions_of, feed_turns}
-use Rattle.service.specs.FeedTexts.{intake_in, turns_text, feed_text}
+use Rattle.service.specs.FeedTexts.{intake_in, turns_text, feed_text, counts_of}
 use Rattle.service.specs.Refusals.{refusal_line}
 use Rattle.service.specs.Faults.{of_stop}
 use Rattle.service.specs.declared.limits.BatchLimits.{BatchLimits}
+use Rattle.service.specs.declared.settings.FeedSettings.{FeedSettings}
+use Rattle.service.specs.declared.feed_lines.FeedCounts.{FeedCounts}
 use Rattle.service.specs.declared.faults.FeedCut.{FeedCut}
 use Rattle.service.specs.declared.faults.FeedCut.TheVariants as cuts
 use Rattle.service.specs.declared.faults.FeedStop.{FeedStop}
 use Rattle.service.specs.declared.faults.FeedStop.TheVariants as stops
 use Rattle.service.specs.declared.intake.End.{End}
 use Rattle.service.specs.declared.intake.End.TheVariants as ends
+
+-- what a batch may have, by its number of admissions as the feed's settings say, and by its octets as the archive takes them
+abbrev pub limits_for : FeedSettings → ℕ → BatchLimits
+limits_for how most = record { records = how.limit; octets = most }
 
 -- the octets are these whole records, of which this is taken where so many of their first admissions are dropped, and then a rest at whose front no whole record stands
 pub record IsFeed (c dropped : ℕ) (bytes rest : List ℕ) (records : List Told) (results : List (Result (Option Admitted) ResolveFault)) : Type 0 where
@@ -97,3 +103,15 @@ as_told false end = end
 pub record FitsFailures (end : End) (lost_was lost failed : Bool) : Type 0 where
   pub outside : end ≡ ends.Refused stops.Outside → (lost ≡ true) ⊎ (failed ≡ true)
   pub inside : (end ≡ ends.Refused stops.Outside → ⊥) → lost ≡ lost_was
+
+-- What a feed of these records, of which this was taken, says of itself once it came to its end: the counts of what became of them, and how
+-- many admissions are dropped of the next feed, where it goes on.
+pub record IsSummed (c dropped : ℕ) (limit : BatchLimits) (h : History) (records : List Told) (results meanings : List (Result (Option Admitted) ResolveFault)) (counts : Option FeedCounts) (left : ℕ) : Type 0 where
+  pub counted : counts ≡ Some (counts_of (intake_in h.intakes c) records (feed_turns limit results))
+  pub drops : left ≡ left_behind dropped meanings
+
+-- the same by how the feed ended; one that was given up says nothing
+abbrev pub IsSummedEnd : (c dropped : ℕ) (limit : BatchLimits) (h : History) (bytes : List ℕ) (end : End) (archive : Carried) (was now : OutputState) → IsEnd c dropped limit h bytes end archive was now → Option FeedCounts → ℕ → Type 0
+IsSummedEnd c dropped limit h bytes ends.Well archive was now f counts left = IsSummed c dropped limit h f.records f.results f.feed.means.meanings counts left
+IsSummedEnd c dropped limit h bytes ends.Cut archive was now f counts left = IsSummed c dropped limit h f.1.records f.1.results f.1.feed.means.meanings counts left
+IsSummedEnd c dropped limit h bytes (ends.Refused why) archive was now g counts left = Unit {0}

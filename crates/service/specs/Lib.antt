@@ -12,6 +12,8 @@ pub mod Carried
 pub mod Resuming
 pub mod Feeds
 pub mod Loads
+pub mod Doubts
+pub mod FileLoads
 pub mod Listening
 pub mod CommandLines
 pub mod RequestLaws

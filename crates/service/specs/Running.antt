@@ -3,16 +3,14 @@ use Rattle.std.specs.Prelude.{◌≡◌, ℕ, Bool, true, false, Option, List, [
 use Rattle.route_meaning.specs.History.{History}
 use Rattle.service.specs.Carried.{Carried}
 use Rattle.service.specs.Checks.{IsCheckEnd}
-use Rattle.service.specs.Feeds.{MayGive}
-use Rattle.service.specs.FeedTexts.{intake_in}
-use Rattle.service.specs.Loads.{IsLoadEnd}
-use Rattle.service.specs.Outputs.{OutputState, Tells}
+use Rattle.service.specs.FileLoads.{AreLoaded}
+use Rattle.service.specs.Outputs.{InputState, OutputState, Tells}
 use Rattle.service.specs.Refusals.{TellsFailure, line_end}
 use Rattle.service.specs.Replies.{IsAskEnd}
-use Rattle.service.specs.Resuming.{dropped_where}
 use Rattle.service.specs.Statuses.{code_of}
 use Rattle.service.specs.declared.invocation.Creation.{Creation}
 use Rattle.service.specs.declared.invocation.Loading.{Loading}
+use Rattle.service.specs.declared.settings.LoadSettings.{LoadSettings}
 use Rattle.service.specs.declared.status.Status.{Status}
 
 -- A command ended so, and then what was buffered was written out. The exit status is that of the command, and 1 where not all could be
@@ -24,15 +22,17 @@ pub record IsWrittenOut (ended : Status) (code : ℕ) (was now err_was err_now :
   pub quiet : was.failed ≡ true → err_now ≡ err_was
   pub told : was.failed ≡ false → TellsFailure now.failed err_was err_now
 
--- The file was loaded as it was asked for, into an archive that carried h and takes so many octets a batch, and what was buffered was
--- written out.
-pub record IsFileLoaded (asked : Loading) (most : ℕ) (h : History) (known : Option (List ℕ)) (lost_was lost : Bool) (code : ℕ) (archive : Carried) (was now err_was err_now : OutputState) : Type 0 where
-  pub bytes : List ℕ
-  pub given : MayGive known bytes
+-- how files are loaded as the command line asks
+abbrev pub settings_of : Loading → LoadSettings
+settings_of asked = record { feed = record { collector = asked.collector; limit = asked.batch }; mark = asked.mark; resume = asked.resume; strict = asked.strict }
+
+-- The files were loaded as they were asked for, into an archive that carried h and takes batches of at most `most` octets, and what was buffered
+-- was written out.
+pub record AreFilesLoaded (asked : Loading) (most : ℕ) (h : History) (files files_now : List InputState) (code : ℕ) (archive : Carried) (was now err_was err_now : OutputState) : Type 0 where
   pub loaded : Status
   pub loaded_to : OutputState
   pub loaded_err : OutputState
-  pub load : IsLoadEnd asked.collector (dropped_where asked.resume (intake_in h.intakes asked.collector)) (record { records = asked.batch; octets = most }) asked.mark h bytes lost_was lost loaded archive was loaded_to err_was loaded_err
+  pub load : AreLoaded (settings_of asked) most h files files_now loaded archive was loaded_to err_was loaded_err
   pub written : IsWrittenOut loaded code loaded_to now loaded_err err_now
 
 -- the line was answered by an archive that carries h, and what was buffered was written out

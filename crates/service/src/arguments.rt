@@ -4,7 +4,7 @@ ghost use Rattle.std.specs.Prelude.{◌≡◌, IfOk, false, codes};
 ghost use Rattle.clap.specs.Simple.{app_of};
 ghost use Rattle.clap.specs.Walk.{rule_of};
 ghost use Rattle.clap.specs.declared.builder.command.Command.TheViews.{out-Command};
-ghost use Rattle.service.specs.CommandLines.{mark_rule, resume_rule, listen_rule, words_rule, word_rule, number_rule, number_or_rule, of_folder, of_archive, creation_of_rings, creation, loading_of_batches, loading, question, serving, checking, examining, json_rule, bare_program, program};
+ghost use Rattle.service.specs.CommandLines.{mark_rule, resume_rule, strict_rule, listen_rule, files_rule, words_rule, word_rule, number_rule, number_or_rule, of_folder, of_archive, creation_of_rings, creation, loading_of_batches, loading_to_mark, loading, question, serving, checking, examining, json_rule, bare_program, program};
 
 use crate::help;
 use clap::builder::ValueParser;
@@ -99,7 +99,7 @@ fn mark<'a>(alloc: Global) -> Arg<'a>
     Arg::new(alloc, "mark")
         .long("mark")
         .value_name("M")
-        .help("The collector's mark once the file is loaded")
+        .help("The collector's mark once the last FILE is loaded")
         .action(ArgAction::Set)
 }
 
@@ -109,8 +109,29 @@ fn resume<'a>(alloc: Global) -> Arg<'a>
 {
     Arg::new(alloc, "resume")
         .long("resume")
-        .help("Goes on behind the records that were offered before")
+        .help("Goes on after the records that were offered before")
         .action(ArgAction::SetTrue)
+}
+
+fn strict<'a>(alloc: Global) -> Arg<'a>
+    ensures rule { rule_of result ≡ strict_rule }
+    ensures own { result.global ≡ false }
+{
+    Arg::new(alloc, "strict")
+        .long("strict")
+        .help("Ends at a FILE that gives cause for doubt, and sets no mark then")
+        .action(ArgAction::SetTrue)
+}
+
+fn files<'a>(alloc: Global) -> Arg<'a>
+    ensures rule { rule_of result ≡ files_rule }
+    ensures own { result.global ≡ false }
+{
+    Arg::new(alloc, "FILE")
+        .help("The MRT files to load, in their order; - is standard input")
+        .required(true)
+        .num_args(1..)
+        .action(ArgAction::Append)
 }
 
 /// `--listen ADDRESS:PORT`, which has to be there.
@@ -200,7 +221,7 @@ fn loading_of_batches<'a>(alloc: Global) -> Result<Command<'a>, AllocError>
     ensures app { IfOk result (λ c. app_of c ≡ loading_of_batches) }
     ensures own { IfOk result (λ c. (out-Command c).has_globals ≡ false) }
 {
-    let about = "Loads a file of MRT records as a collector's";
+    let about = "Loads files of MRT records as a collector's";
     let collector = "The collector's number, 0 to 15";
     let batch = "The most records of a batch, 1 to 1000";
     of_archive(alloc, "load", about, help::LOAD)?
@@ -208,15 +229,24 @@ fn loading_of_batches<'a>(alloc: Global) -> Result<Command<'a>, AllocError>
         .arg(number_or(alloc, "batch", "N", batch, 1, MAX_BATCH, "1000"))
 }
 
-/// `load DIR --collector C [--batch N] [--mark M] [--resume] FILE`
-fn loading<'a>(alloc: Global) -> Result<Command<'a>, AllocError>
-    ensures app { IfOk result (λ c. app_of c ≡ loading) }
+/// `load DIR --collector C [--batch N] [--mark M] [--resume]`
+fn loading_to_mark<'a>(alloc: Global) -> Result<Command<'a>, AllocError>
+    ensures app { IfOk result (λ c. app_of c ≡ loading_to_mark) }
     ensures own { IfOk result (λ c. (out-Command c).has_globals ≡ false) }
 {
     loading_of_batches(alloc)?
         .arg(mark(alloc))?
-        .arg(resume(alloc))?
-        .arg(word(alloc, "FILE", "The MRT file to load"))
+        .arg(resume(alloc))
+}
+
+/// `load DIR --collector C [--batch N] [--mark M] [--resume] [--strict] FILE..`
+fn loading<'a>(alloc: Global) -> Result<Command<'a>, AllocError>
+    ensures app { IfOk result (λ c. app_of c ≡ loading) }
+    ensures own { IfOk result (λ c. (out-Command c).has_globals ≡ false) }
+{
+    loading_to_mark(alloc)?
+        .arg(strict(alloc))?
+        .arg(files(alloc))
 }
 
 /// `ask DIR [--wait SECONDS] WORD..`

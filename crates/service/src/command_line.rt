@@ -1,11 +1,11 @@
 //! The command line of the program.
 
-ghost use Rattle.std.specs.Prelude.{◌≡◌, ◌≤◌, ◌⊎◌, ℕ, List, Option, Some, IfOk, OnErr, map, option_map, codes, string_bytes};
+ghost use Rattle.std.specs.Prelude.{◌≡◌, ◌≤◌, ◌⊎◌, ℕ, List, Option, Some, IfOk, OnErr, map, option_map, unwrap_or, [], codes, string_bytes};
 ghost use Rattle.clap.specs.Kinds.{IsAmong};
 ghost use Rattle.clap.specs.Faults.{fault_of};
 ghost use Rattle.clap.specs.Matches.{found_of, subcommand_name_of};
 ghost use Rattle.clap.specs.Simple.{subcommand_rows_of};
-ghost use Rattle.clap.specs.Walk.{Row, rows_of, first_of, one_of};
+ghost use Rattle.clap.specs.Walk.{Row, rows_of, first_of, one_of, all_of};
 ghost use Rattle.clap.specs.Values.{kind_of};
 ghost use Rattle.clap.specs.declared.error.Error.{Error};
 ghost use Rattle.service.specs.CommandLines.{program, spaced, word_in, IsMarkIf, IsNoMark, IsNumber, IsThere, IsCreation, IsLoading, IsQuestion, IsServing, IsChecking, IsExamining, IsInvocation, HasBadMark, HasBadListen};
@@ -95,8 +95,16 @@ fn creation_of<'a>(matches: &ArgMatches<'a>) -> Creation<'a>
     }
 }
 
-/// What the arguments of `load` say.
-fn loading_of<'a>(matches: &ArgMatches<'a>) -> Result<Loading<'a>, BadText>
+/// The files that `load` is given. No clause of `clap`'s says that there is one.
+fn files_of<'a>(alloc: Global, matches: &ArgMatches<'a>) -> Result<Vec<&'a str>, AllocError>
+    ensures files { IfOk result (λ files. map (λ f. f.now) files.items ≡ unwrap_or (all_of (codes "FILE") (rows_of (found_of matches.now))) []) }
+{
+    matches.get_strs("FILE").unwrap_or(&[]).to_vec(alloc)
+}
+
+/// What the arguments of `load` say, whose files are these.
+fn loading_of<'a>(matches: &ArgMatches<'a>, files: Vec<&'a str>) -> Result<Loading<'a>, BadText>
+    requires files { map (λ f. f.now) files.items ≡ unwrap_or (all_of (codes "FILE") (rows_of (found_of matches.now))) [] }
     ensures found { IfOk result (IsLoading (rows_of (found_of matches.now))) }
     ensures none { OnErr result (IsNoMark (first_of (codes "mark") (rows_of (found_of matches.now)))) }
 {
@@ -108,7 +116,8 @@ fn loading_of<'a>(matches: &ArgMatches<'a>) -> Result<Loading<'a>, BadText>
         wait: number_of(matches, "wait", 0, MAX_WAIT),
         mark,
         resume: is_there(matches, "resume"),
-        file: word_of(matches, "FILE"),
+        strict: is_there(matches, "strict"),
+        files,
     })
 }
 
@@ -174,7 +183,10 @@ fn invocation_of<'a>(
         return Ok(Invocation::Create(creation_of(matches)));
     }
     if let Some(matches) = matches.subcommand_matches("load") {
-        return match loading_of(matches) {
+        let Ok(files) = files_of(alloc, matches) else {
+            return Err(CommandError::OutOfMemory);
+        };
+        return match loading_of(matches, files) {
             Ok(loading) => Ok(Invocation::Load(loading)),
             Err(BadText) => Err(CommandError::BadMark),
         };
@@ -214,7 +226,7 @@ fn usage(error: clap::Error) -> CommandError
 /// What the words of the command line ask for, the first of them being the program's name:
 ///
 /// - `rha create DIR [--collectors N] [--ring P] [--pages N] [--blocks N]`
-/// - `rha load DIR --collector C [--batch N] [--mark M] [--resume] FILE`
+/// - `rha load DIR --collector C [--batch N] [--mark M] [--resume] [--strict] FILE..`
 /// - `rha ask DIR WORD..`
 /// - `rha serve DIR --listen ADDRESS:PORT --workers N`
 /// - `rha check DIR`

@@ -5,7 +5,7 @@ ghost use Rattle.route_meaning.specs.History.{History};
 ghost use Rattle.mrt_records.specs.Values.{Told, told};
 ghost use Rattle.service.specs.Turns.{Turn, Offer, Refuse, offer_where, wait_unless, is_full, turns_at, waits_after, last_turns};
 ghost use Rattle.service.specs.FeedTexts.{capped, intake_in};
-ghost use Rattle.service.specs.Resuming.{dropped_where};
+ghost use Rattle.service.specs.Feeds.{limits_for};
 ghost use Rattle.service.specs.declared.limits.BatchLimits.{BatchLimits};
 ghost use Rattle.service.specs.FeedLines.{admitted_text};
 ghost use Rattle.service.specs.Outputs.{OutputState, Tells};
@@ -19,7 +19,8 @@ use crate::limits::BatchLimits;
 use crate::making_room::admit_with_room;
 use crate::output::Output;
 use crate::refusal::{Refusal, write_refused_record};
-use crate::resuming::{dropped_where, read_next};
+use crate::resuming::read_next;
+use crate::settings::FeedSettings;
 use archive_calls::{RouteArchive, Trouble};
 use interleaving_core::BatchReply;
 use mrt_records::Item;
@@ -69,26 +70,23 @@ pub fn tell_refused<W: Write>(out: &mut Output<W>, fault: ResolveFault, place: u
 }
 
 impl Feeding {
-    /// The beginning of a feed of the collector into the archive, whose batches have at most so many admissions. Where it
-    /// goes on, the admissions that were offered of the collector until now are dropped.
+    /// The beginning of a feed into the archive, whose first admissions are dropped, as many as `dropping` has.
     pub(crate) fn new<A: RouteArchive>(
         alloc: Global,
         archive: &A,
-        collector: u8,
-        limit: usize,
-        resume: bool,
+        how: FeedSettings,
+        dropping: u64,
     ) -> Feeding
-        ensures begins { (h : History) (was : OutputState) → A.carries archive.now h → IsBehind collector (dropped_where resume (intake_in h.intakes collector)) (record { records = limit; octets = A.most archive.now }) h [] result (A.carries archive.now) was was }
+        ensures begins { (h : History) (was : OutputState) → A.carries archive.now h → IsBehind how.collector dropping (limits_for how (A.most archive.now)) h [] result (A.carries archive.now) was was }
     {
         let limit = BatchLimits {
-            records: limit,
+            records: how.limit,
             octets: archive.batch_limit(),
         };
-        let dropping = dropped_where(archive, collector, resume);
         Feeding {
-            collector,
+            collector: how.collector,
             limit,
-            resolver: Resolver::new(collector),
+            resolver: Resolver::new(how.collector),
             dropping,
             gathered: Vec::new(alloc),
             octets: 0,
@@ -112,6 +110,7 @@ impl Feeding {
         ensures gathered { OnOk result (self.new.gathered.items ≡ []) }
         ensures octets { OnOk result (self.new.octets ≡ 0) }
         ensures done { (c : ℕ) (h : History) (turns : List Turn) (was : OutputState) → self.old.collector ≡ c → HasDone c h turns self.old.counts (A.carries archive.old) was out.old → OnOk result (HasDone c h (turns ++ Offer self.old.gathered.items ∷ []) self.new.counts (A.carries archive.new) was out.new) }
+        ensures most { A.most archive.new ≡ A.most archive.old }
         ensures inside { result ≡ Err FeedStop.Outside → ⊥ }
         ensures given_up { (c : ℕ) (h : History) (turns : List Turn) (was : OutputState) → self.old.collector ≡ c → IsCounted self.old → HasDone c h turns self.old.counts (A.carries archive.old) was out.old → IfErr result (GivesUp c h (turns ++ Offer self.old.gathered.items ∷ []) (A.carries archive.new) was out.new) }
     {
@@ -137,6 +136,7 @@ impl Feeding {
         ensures gathered { OnOk result (self.new.gathered.items ≡ wait_unless (ltb self.old.limit.octets (self.old.octets + octets)) self.old.gathered.items) }
         ensures counted { IsCounted self.old → OnOk result (IsCounted self.new) }
         ensures done { (c : ℕ) (h : History) (turns : List Turn) (was : OutputState) → self.old.collector ≡ c → HasDone c h turns self.old.counts (A.carries archive.old) was out.old → OnOk result (HasDone c h (turns ++ offer_where (ltb self.old.limit.octets (self.old.octets + octets)) self.old.gathered.items) self.new.counts (A.carries archive.new) was out.new) }
+        ensures most { A.most archive.new ≡ A.most archive.old }
         ensures inside { result ≡ Err FeedStop.Outside → ⊥ }
         ensures given_up { (c : ℕ) (h : History) (turns : List Turn) (was : OutputState) → self.old.collector ≡ c → IsCounted self.old → HasDone c h turns self.old.counts (A.carries archive.old) was out.old → IfErr result (GivesUp c h (turns ++ offer_where (ltb self.old.limit.octets (self.old.octets + octets)) self.old.gathered.items) (A.carries archive.new) was out.new) }
     {
@@ -156,6 +156,7 @@ impl Feeding {
         ensures gathered { OnOk result (self.new.gathered.items ≡ wait_unless (is_full self.old.limit self.old.gathered.items) self.old.gathered.items) }
         ensures counted { IsCounted self.old → OnOk result (IsCounted self.new) }
         ensures done { (c : ℕ) (h : History) (turns : List Turn) (was : OutputState) → self.old.collector ≡ c → HasDone c h turns self.old.counts (A.carries archive.old) was out.old → OnOk result (HasDone c h (turns ++ offer_where (is_full self.old.limit self.old.gathered.items) self.old.gathered.items) self.new.counts (A.carries archive.new) was out.new) }
+        ensures most { A.most archive.new ≡ A.most archive.old }
         ensures inside { result ≡ Err FeedStop.Outside → ⊥ }
         ensures given_up { (c : ℕ) (h : History) (turns : List Turn) (was : OutputState) → self.old.collector ≡ c → IsCounted self.old → HasDone c h turns self.old.counts (A.carries archive.old) was out.old → IfErr result (GivesUp c h (turns ++ offer_where (is_full self.old.limit self.old.gathered.items) self.old.gathered.items) (A.carries archive.new) was out.new) }
     {
@@ -173,6 +174,7 @@ impl Feeding {
     ) -> Result<(), FeedStop>
         ensures same { IsSameFeed self.old self.new }
         ensures done { (c : ℕ) (h : History) (turns : List Turn) (was : OutputState) → self.old.collector ≡ c → HasDone c h turns self.old.counts (A.carries archive.old) was out.old → OnOk result (HasDone c h (turns ++ last_turns self.old.gathered.items) self.new.counts (A.carries archive.new) was out.new) }
+        ensures most { A.most archive.new ≡ A.most archive.old }
         ensures inside { result ≡ Err FeedStop.Outside → ⊥ }
         ensures given_up { (c : ℕ) (h : History) (turns : List Turn) (was : OutputState) → self.old.collector ≡ c → IsCounted self.old → HasDone c h turns self.old.counts (A.carries archive.old) was out.old → IfErr result (GivesUp c h (turns ++ last_turns self.old.gathered.items) (A.carries archive.new) was out.new) }
     {
@@ -206,6 +208,7 @@ impl Feeding {
         ensures gathered { IsCounted self.old → OnOk result (self.new.gathered.items ≡ waits_after self.old.limit self.old.gathered.items (Ok (Some admission))) }
         ensures counted { IsCounted self.old → OnOk result (IsCounted self.new) }
         ensures done { (c : ℕ) (h : History) (turns : List Turn) (was : OutputState) (place : ℕ) → IsCounted self.old → self.old.collector ≡ c → HasDone c h turns self.old.counts (A.carries archive.old) was out.old → OnOk result (HasDone c h (turns ++ turns_at self.old.limit place self.old.gathered.items (Ok (Some admission))) self.new.counts (A.carries archive.new) was out.new) }
+        ensures most { A.most archive.new ≡ A.most archive.old }
         ensures inside { result ≡ Err FeedStop.Outside → ⊥ }
         ensures given_up { (c : ℕ) (h : History) (turns : List Turn) (was : OutputState) (place : ℕ) → self.old.collector ≡ c → IsCounted self.old → HasDone c h turns self.old.counts (A.carries archive.old) was out.old → IfErr result (GivesUp c h (turns ++ turns_at self.old.limit place self.old.gathered.items (Ok (Some admission))) (A.carries archive.new) was out.new) }
     {
@@ -253,6 +256,7 @@ impl Feeding {
         out: &mut Output<W>,
     ) -> Result<(), FeedStop>
         ensures behind { (c dropped : ℕ) (limit : BatchLimits) (h : History) (records : List Told) (was : OutputState) → IsBehind c dropped limit h records self.old (A.carries archive.old) was out.old → OnOk result (IsBehind c dropped limit h (records ++ told item.now ∷ []) self.new (A.carries archive.new) was out.new) }
+        ensures most { A.most archive.new ≡ A.most archive.old }
         ensures inside { result ≡ Err FeedStop.Outside → ⊥ }
         ensures given_up { (c dropped : ℕ) (limit : BatchLimits) (h : History) (records : List Told) (was : OutputState) → IsBehind c dropped limit h records self.old (A.carries archive.old) was out.old → IfErr result (StopsAmong c dropped limit h records (item.now ∷ []) (A.carries archive.new) was out.new) }
     {
@@ -274,6 +278,7 @@ impl Feeding {
         out: &mut Output<W>,
     ) -> Result<(), FeedStop>
         ensures behind { (c dropped : ℕ) (limit : BatchLimits) (h : History) (records : List Told) (was : OutputState) → IsBehind c dropped limit h records self.old (A.carries archive.old) was out.old → OnOk result (IsBehind c dropped limit h (records ++ map told items.now) self.new (A.carries archive.new) was out.new) }
+        ensures most { A.most archive.new ≡ A.most archive.old }
         ensures inside { result ≡ Err FeedStop.Outside → ⊥ }
         ensures given_up { (c dropped : ℕ) (limit : BatchLimits) (h : History) (records : List Told) (was : OutputState) → IsBehind c dropped limit h records self.old (A.carries archive.old) was out.old → IfErr result (StopsAmong c dropped limit h records items.now (A.carries archive.new) was out.new) }
     {

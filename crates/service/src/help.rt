@@ -31,24 +31,31 @@ Exit status: 0 where the archive is made; 1 where it is refused, told on standar
 
 /// Of `load`.
 pub(crate) const LOAD: &str =
-    "M is seconds since 1970, 0 to 4294967296, or a timestamp as 2024-01-01T00:00:00Z. It is set where FILE was
-read to its end: what the collector gives later isn't of earlier moments. FILE may be a pipe; - is standard input.
-With --resume, FILE is all that the collector ever gave, from its beginning: as many of its first records as
-were offered before are left out, so a load that was broken off goes on.
+    "M is seconds since 1970, 0 to 4294967296, or a timestamp as 2024-01-01T00:00:00Z. It is set once the last FILE was
+read to its end: what the collector gives later isn't of earlier moments. After a table of the moment T it is a
+second after T. A mark can't be set back. A FILE may be a pipe; - is standard input.
+Each FILE is a feed of its own, with its own lines. One that can't be read or ends inside a record ends the load, as
+other refusals do: no mark is set, and standard error shows which FILEs were not read.
+With --strict the load ends so, too, at a FILE without a record, one whose records came late and none is kept, or one
+of which more than one record in a hundred is refused; and a mark isn't set that is more than a day after the
+collector's last record. Without it standard error warns of these.
+With --resume, the FILEs are all that the collector ever gave, from its beginning, in this order: as many of their
+first records as were offered before are left out, so a load that was broken off goes on.
 
-Prints, as soon as each is true:
+Prints of each FILE, as soon as each is true:
   B|FROM|TO|OFFERED          a batch is kept: its records have the numbers FROM to below TO
-  L|INDEX|TIME|MARK          behind it: the record at this place of the batch came late
+  L|INDEX|TIME|MARK          after it: the record at this place of the batch came late
   X|NUMBER|NAME|RECORD       a record is refused, or the file ends in one
   F|RECORDS|ADMITTED|LATE|REFUSED|SKIPPED
   S|SETTLED                  questions of moments below this one are answered
 
-Example:
+Examples:
   rha load a --collector 0 --mark 2024-01-01T00:15:00Z updates.mrt
+  rha load a --collector 0 --strict --mark 2024-01-02T00:00:00Z updates.20240101.*.mrt
 
-Exit status: 0 where FILE was read to its end, also where records of it were late or refused; 1 where it ends
-inside a record, or something else was refused or couldn't be written (told on standard error as
-`rha: NUMBER NAME` where it has no line of its own); 2 where the command line isn't accepted.";
+Exit status: 0 where each FILE was read to its end, also where records of it were late or refused; 1 where one
+ends inside a record, where --strict ends the load, or something else was refused or couldn't be written (shown on
+standard error as `rha: NUMBER NAME` where it has no line of its own); 2 where the command line isn't accepted.";
 
 /// Of `ask`.
 pub(crate) const ASK: &str = "The words are one request line:

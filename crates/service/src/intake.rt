@@ -5,8 +5,7 @@ ghost use Rattle.route_meaning.specs.History.{History};
 ghost use Rattle.service.specs.FeedLines.{counts_line};
 ghost use Rattle.service.specs.Faults.{of_stop};
 ghost use Rattle.service.specs.FeedTexts.{cut_line, intake_in};
-ghost use Rattle.service.specs.Resuming.{dropped_where};
-ghost use Rattle.service.specs.Feeds.{FitsFailures, IsCut, IsEnd, IsFed, MayGive, as_told};
+ghost use Rattle.service.specs.Feeds.{FitsFailures, IsCut, IsEnd, IsFed, IsSummed, IsSummedEnd, MayGive, as_told, limits_for};
 ghost use Rattle.service.specs.declared.limits.BatchLimits.{BatchLimits};
 ghost use Rattle.service.specs.Outputs.{OutputState, Tells};
 ghost use Rattle.service.specs.Refusals.{refusal_line};
@@ -18,6 +17,7 @@ use crate::feed_lines::{FeedCounts, write_counts};
 use crate::feeding::Feeding;
 use crate::output::{Input, Output};
 use crate::refusal::{Refusal, write_refusal, write_refused_record};
+use crate::settings::FeedSettings;
 use archive_calls::{RouteArchive, Trouble};
 use mrt_records::{FrameError, Framer};
 use std::alloc::Global;
@@ -48,6 +48,7 @@ impl Feeding {
         out: &mut Output<W>,
     ) -> Result<bool, FeedStop>
         ensures read { (c dropped : ℕ) (limit : BatchLimits) (h : History) (bytes : List ℕ) (was : OutputState) → Reads c dropped limit h bytes framer.old self.old (A.carries archive.old) was out.old → IfOk result (λ goes_on. IsRead c dropped limit h (bytes ++ piece.now) framer.new goes_on self.new (A.carries archive.new) was out.new) }
+        ensures most { A.most archive.new ≡ A.most archive.old }
         ensures inside { result ≡ Err FeedStop.Outside → ⊥ }
         ensures given_up { (c dropped : ℕ) (limit : BatchLimits) (h : History) (bytes : List ℕ) (was : OutputState) → Reads c dropped limit h bytes framer.old self.old (A.carries archive.old) was out.old → IfErr result (StopsWithin c dropped limit h (bytes ++ piece.now) (A.carries archive.new) was out.new) }
     {
@@ -72,6 +73,7 @@ impl Feeding {
     ) -> Result<(), FeedStop>
         ensures read { (c dropped : ℕ) (limit : BatchLimits) (h : History) (bytes : List ℕ) (was : OutputState) → Reads c dropped limit h bytes framer.old self.old (A.carries archive.old) was out.old → OnOk result ((more : List ℕ) × MayGive reader.old.left more × IsReadOut c dropped limit h (bytes ++ more) framer.new self.new (A.carries archive.new) was out.new) }
         ensures given_up { (c dropped : ℕ) (limit : BatchLimits) (h : History) (bytes : List ℕ) (was : OutputState) → Reads c dropped limit h bytes framer.old self.old (A.carries archive.old) was out.old → IfErr result (λ why. (more : List ℕ) × MayGive reader.old.left more × StopsWithin c dropped limit h (bytes ++ more) (A.carries archive.new) was out.new why) }
+        ensures most { A.most archive.new ≡ A.most archive.old }
         ensures outside { result ≡ Err FeedStop.Outside → (reader.new.failed ≡ true) ⊎ (out.new.failed ≡ true) }
         ensures sound { (result ≡ Err FeedStop.Outside → ⊥) → reader.new.failed ≡ reader.old.failed }
     {
@@ -134,29 +136,31 @@ pub fn tell_stop<W: Write>(why: FeedStop, out: &mut Output<W>)
     out.flush();
 }
 
-/// Takes a feed in to its end. Answers why it is cut short, if it is; `counts` are those that were written then.
+/// Takes a feed in to its end. Answers why it is cut short, if it is; `counts` are those that were written then, and `dropping` is how many
+/// admissions are still to be dropped.
 fn take_in<A: RouteArchive, R: Read, W: Write>(
     alloc: Global,
     archive: &mut A,
-    collector: u8,
-    limit: usize,
-    resume: bool,
+    how: FeedSettings,
+    dropping: &mut u64,
     reader: &mut Input<R>,
     out: &mut Output<W>,
     counts: &mut Option<FeedCounts>,
 ) -> Result<Option<FeedCut>, FeedStop>
-    ensures fed { (h : History) → A.carries archive.old h → IfOk result (λ cut. (bytes : List ℕ) × MayGive reader.old.left bytes × IsFed collector (dropped_where resume (intake_in h.intakes collector)) (record { records = limit; octets = A.most archive.old }) h bytes cut (A.carries archive.new) out.old out.new) }
-    ensures given_up { (h : History) → A.carries archive.old h → IfErr result (λ why. (bytes : List ℕ) × MayGive reader.old.left bytes × StopsWithin collector (dropped_where resume (intake_in h.intakes collector)) (record { records = limit; octets = A.most archive.old }) h bytes (A.carries archive.new) out.old out.new why) }
+    ensures fed { (h : History) → A.carries archive.old h → IfOk result (λ cut. (bytes : List ℕ) × MayGive reader.old.left bytes × (f : IsFed how.collector dropping.old (limits_for how (A.most archive.old)) h bytes cut (A.carries archive.new) out.old out.new) × IsSummed how.collector dropping.old (limits_for how (A.most archive.old)) h f.records f.results f.feed.means.meanings counts.new dropping.new) }
+    ensures given_up { (h : History) → A.carries archive.old h → IfErr result (λ why. (bytes : List ℕ) × MayGive reader.old.left bytes × StopsWithin how.collector dropping.old (limits_for how (A.most archive.old)) h bytes (A.carries archive.new) out.old out.new why) }
+    ensures most { A.most archive.new ≡ A.most archive.old }
     ensures outside { result ≡ Err FeedStop.Outside → (reader.new.failed ≡ true) ⊎ (out.new.failed ≡ true) }
     ensures sound { (result ≡ Err FeedStop.Outside → ⊥) → reader.new.failed ≡ reader.old.failed }
 {
-    let mut feeding = Feeding::new(alloc, archive, collector, limit, resume);
+    let mut feeding = Feeding::new(alloc, archive, how, *dropping);
     let mut framer = Framer::new(alloc);
     feeding.take_stream(alloc, &mut framer, reader, archive, out)?;
     feeding.offer_rest(archive, out)?;
     let cut = cut_of(&framer);
     tell_end(&cut, &feeding.counts, out);
     *counts = Some(feeding.counts);
+    *dropping = feeding.dropping;
     Ok(cut)
 }
 
@@ -172,9 +176,8 @@ fn as_told<W: Write>(end: End, out: &Output<W>) -> End
     end
 }
 
-/// Takes a feed of a collector in. Where it is to `resume`, as many of its first admissions as were offered of the
-/// collector until now are dropped: it is the whole feed of the collector, of which a front was taken in before. A record
-/// of a dropped admission counts as a record and as nothing else. The other admissions are offered in batches, as soon as one has `limit` admissions, before
+/// Takes a feed of a collector in. As many of its first admissions as `dropping` has are dropped, and it becomes how many are still to be dropped
+/// where the feed came to its end. A record of a dropped admission counts as a record and as nothing else. The other admissions are offered in batches, as soon as one has `limit` admissions, before
 /// it would have more octets than the archive takes, and at the end. Where the collector's ring is too full for one, what
 /// may be applied is applied, and the batch offered once more. A refused record writes its line when it
 /// is met, each batch what became of it, and the end the counts of the feed; where the feed ends inside a record or
@@ -184,20 +187,18 @@ fn as_told<W: Write>(end: End, out: &Output<W>) -> End
 pub fn feed<A: RouteArchive, R: Read, W: Write>(
     alloc: Global,
     archive: &mut A,
-    collector: u8,
-    limit: usize,
-    resume: bool,
+    how: FeedSettings,
+    dropping: &mut u64,
     reader: &mut Input<R>,
     out: &mut Output<W>,
     counts: &mut Option<FeedCounts>,
 ) -> End
-    ensures ended { (h : History) → A.carries archive.old h → (bytes : List ℕ) × MayGive reader.old.left bytes × (end : End) × (result ≡ as_told out.new.failed end) × IsEnd collector (dropped_where resume (intake_in h.intakes collector)) (record { records = limit; octets = A.most archive.old }) h bytes end (A.carries archive.new) out.old out.new × FitsFailures end reader.old.failed reader.new.failed out.new.failed }
+    ensures ended { (h : History) → A.carries archive.old h → (bytes : List ℕ) × MayGive reader.old.left bytes × (end : End) × (result ≡ as_told out.new.failed end) × (e : IsEnd how.collector dropping.old (limits_for how (A.most archive.old)) h bytes end (A.carries archive.new) out.old out.new) × FitsFailures end reader.old.failed reader.new.failed out.new.failed × IsSummedEnd how.collector dropping.old (limits_for how (A.most archive.old)) h bytes end (A.carries archive.new) out.old out.new e counts.new dropping.new }
+    ensures most { A.most archive.new ≡ A.most archive.old }
     ensures outside { result ≡ End.Refused FeedStop.Outside → (reader.new.failed ≡ true) ⊎ (out.new.failed ≡ true) }
     ensures sound { (result ≡ End.Refused FeedStop.Outside → ⊥) → reader.new.failed ≡ reader.old.failed }
 {
-    match take_in(
-        alloc, archive, collector, limit, resume, reader, out, counts,
-    ) {
+    match take_in(alloc, archive, how, dropping, reader, out, counts) {
         Ok(None) => as_told(End::Well, out),
         Ok(Some(_)) => as_told(End::Cut, out),
         Err(why) => {

@@ -35,12 +35,14 @@ pub struct Loading<'a> {
     pub collector: u8,
     /// The most admissions of a batch, 1 to 1000.
     pub batch: usize,
-    /// The collector's mark once the file is loaded.
+    /// The collector's mark once the last file is loaded.
     pub mark: Option<Mark>,
-    /// Whether as many of the file's first admissions are dropped as were offered of the collector until now.
+    /// Whether as many of the files' first admissions are dropped as were offered of the collector until now.
     pub resume: bool,
-    /// The file to load.
-    pub file: &'a str,
+    /// Whether a feed that gives cause for doubt ends the load, and a mark far ahead isn't set.
+    pub strict: bool,
+    /// The files to load, in their order.
+    pub files: Vec<&'a str>,
 }
 
 /// What `ask` is given.
@@ -92,7 +94,7 @@ pub struct Examining<'a> {
 pub enum Invocation<'a> {
     /// An archive is made in a new folder.
     Create(Creation<'a>),
-    /// A file is loaded into an archive.
+    /// Files are loaded into an archive.
     Load(Loading<'a>),
     /// A request line is answered by an archive.
     Ask(Question<'a>),

@@ -6,6 +6,7 @@ mod arguments;
 mod asking;
 mod checking;
 mod command_line;
+mod doubts;
 mod event_lines;
 mod events_request;
 mod faults;
@@ -29,6 +30,7 @@ mod request_words;
 mod resuming;
 mod rows_request;
 mod running;
+mod settings;
 mod status;
 mod telling;
 
@@ -37,6 +39,7 @@ pub use arguments::VERSION;
 pub use asking::ask;
 pub use checking::check;
 pub use command_line::command;
+pub use doubts::{DAY, FeedDoubt, doubts_of, is_far};
 pub use event_lines::write_events;
 pub use faults::{FeedCut, FeedStop, LoadStop, Unanswered};
 pub use feed_lines::{FeedCounts, write_admitted, write_counts, write_settled};
@@ -48,17 +51,18 @@ pub use invocation::{
 pub use laws::{batches_share_a_feed, resumed_feeds_drop_the_first};
 pub use limits::BatchLimits;
 pub use listening::tell_listening;
-pub use loading::{LoadSettings, load};
+pub use loading::load;
 pub use output::{Input, Output, read_through};
 pub use refusal::{
     Refusal, write_error, write_outside, write_reason, write_refusal, write_refused_record,
 };
 pub use replying::{answer_text, reply, skip_of};
-pub use report::LoadReport;
+pub use report::{FileLoad, LoadReport};
 pub use request::{Request, RequestError, read_request, words_of};
 pub use request_laws::lines_are_one_request;
 pub use request_words::{LAST_COLLECTOR, words_behind};
-pub use running::{ask_line, check_archive, finish, load_file, tell_created};
+pub use running::{ask_line, check_archive, finish, load_files, tell_created};
+pub use settings::{FeedSettings, LoadSettings};
 pub use status::Status;
 pub use telling::{
     tell_lost, tell_out_of_memory, tell_outside, tell_refusal, tell_usage, tell_with,

@@ -1,40 +1,29 @@
 //! Files that are loaded: fed, marked and applied.
 
-ghost use Rattle.std.specs.Prelude.{◌≡◌, ℕ, List, OnOk, OnErr, IfErr};
+ghost use Rattle.std.specs.Prelude.{◌≡◌, ℕ, true, false, List, Option, None, OnOk, OnErr, IfErr, map};
 ghost use Rattle.route_meaning.specs.History.{History};
 ghost use Rattle.service.specs.Feeds.{MayGive};
 ghost use Rattle.service.specs.FeedTexts.{intake_in};
-ghost use Rattle.service.specs.Resuming.{dropped_where};
-ghost use Rattle.service.specs.Loads.{IsLoadEnd, IsSettled, marked_if};
+ghost use Rattle.service.specs.FileLoads.{AreLoaded, IsFileEnd, mark_unless, refused_if};
+ghost use Rattle.service.specs.Loads.{IsSettled, marked_if};
 ghost use Rattle.service.specs.inner.Loading.{HasNotSettled, first_of, mark_after, status_after};
 
+use crate::doubts::is_held;
 use crate::faults::{FeedStop, LoadStop};
 use crate::feed_lines::write_settled;
 use crate::intake::{End, feed};
 use crate::making_room::apply_all;
 use crate::output::{Input, Output};
 use crate::refusal::{Refusal, write_error};
-use crate::report::LoadReport;
+use crate::report::{FileLoad, LoadReport};
+use crate::resuming::dropped_where;
+use crate::settings::LoadSettings;
 use crate::status::{Status, told};
 use crate::telling::tell_trouble;
 use archive_calls::{Flush, MarkError, RouteArchive, Trouble};
 use route_model::Mark;
 use std::alloc::Global;
 use std::io::{Read, Write};
-
-/// How a file is loaded.
-#[derive(Clone, Copy, Debug, PartialEq, Eq)]
-pub struct LoadSettings {
-    /// Whose feed the file is.
-    pub collector: u8,
-    /// The most admissions of a batch; 0 counts as 1.
-    pub limit: usize,
-    /// The mark that is set once the feed has ended well.
-    pub mark: Option<Mark>,
-    /// Whether as many of the file's first admissions are dropped as were offered of the collector until now: for a file
-    /// that is the collector's whole feed from its beginning.
-    pub resume: bool,
-}
 
 /// Sets the mark of a collector, if there is one to set.
 fn set_mark<A: RouteArchive>(
@@ -44,6 +33,7 @@ fn set_mark<A: RouteArchive>(
 ) -> Result<(), LoadStop>
     ensures marked { (h : History) → A.carries archive.old h → OnOk result (A.carries archive.new (marked_if collector mark h)) }
     ensures unmarked { (h : History) → A.carries archive.old h → IfErr result (HasNotSettled collector mark h (A.carries archive.new)) }
+    ensures most { A.most archive.new ≡ A.most archive.old }
 {
     let Some(mark) = mark else {
         return Ok(());
@@ -59,6 +49,7 @@ fn set_mark<A: RouteArchive>(
 /// Flushes until no page waits to go home.
 fn flush_all<A: RouteArchive>(archive: &mut A) -> Result<(), Trouble>
     ensures same { (h : History) → A.carries archive.old h → A.carries archive.new h }
+    ensures most { A.most archive.new ≡ A.most archive.old }
 {
     for _ in 0..u64::MAX {
         match archive.flush_step() {
@@ -78,6 +69,7 @@ fn settle<A: RouteArchive>(
 ) -> Result<(), LoadStop>
     ensures settled { (h : History) → A.carries archive.old h → OnOk result (IsSettled (marked_if collector mark h).intakes (A.carries archive.new)) }
     ensures unsettled { (h : History) → A.carries archive.old h → IfErr result (HasNotSettled collector mark h (A.carries archive.new)) }
+    ensures most { A.most archive.new ≡ A.most archive.old }
 {
     set_mark(archive, collector, mark)?;
     apply_all(archive)?;
@@ -125,47 +117,175 @@ fn refusal_of(end: End) -> Option<Refusal> {
     }
 }
 
-/// Loads a file: takes it in as a feed, sets the mark where the feed ended well, applies what may be applied, flushes,
-/// and writes the settled watermark. A refusal outside the feed is told to `err` and ends the load. `report` has what became
-/// of it.
-pub fn load<A: RouteArchive, R: Read, W: Write, E: Write>(
+/// The mark of a collector, in seconds: 0 where there is no such collector.
+fn present_mark<A: RouteArchive>(archive: &A, collector: u8) -> u64
+    ensures present { (h : History) → A.carries archive.now h → result ≡ (intake_in h.intakes collector).mark }
+{
+    match archive.resume(collector) {
+        Some(place) => place.mark.seconds(),
+        None => 0,
+    }
+}
+
+/// The collector's mark after a feed that ended so, as a report has it.
+fn present_after(end: End, present: u64) -> Option<u64> {
+    (end == End::Well).then_some(present)
+}
+
+/// The mark that a load sets, unless it is held back.
+fn mark_unless(is_held: bool, mark: Option<Mark>) -> Option<Mark>
+    ensures mark { result ≡ mark_unless is_held mark }
+{
+    if is_held { None } else { mark }
+}
+
+/// The status of a load: one that is held back isn't done.
+fn refused_if(is_held: bool, status: Status) -> Status
+    ensures status { result ≡ refused_if is_held status }
+{
+    match status {
+        Status::Done if is_held => Status::Refused,
+        status => status,
+    }
+}
+
+/// Loads a file: takes it in as a feed, sets the mark where the feed ended well and the load isn't held back, applies what may be applied,
+/// flushes, and writes the settled watermark. A refusal outside the feed is written to `err` and ends the load.
+fn load_one<A: RouteArchive, R: Read, W: Write, E: Write>(
     alloc: Global,
     archive: &mut A,
     how: LoadSettings,
+    dropping: &mut u64,
     reader: &mut Input<R>,
+    report: &mut LoadReport,
     out: &mut Output<W>,
     err: &mut Output<E>,
-    report: &mut LoadReport,
 ) -> Status
-    ensures ended { (h : History) → A.carries archive.old h → (bytes : List ℕ) × MayGive reader.old.left bytes × IsLoadEnd how.collector (dropped_where how.resume (intake_in h.intakes how.collector)) (record { records = how.limit; octets = A.most archive.old }) how.mark h bytes reader.old.failed reader.new.failed result (A.carries archive.new) out.old out.new err.old err.new }
+    ensures ended { (h : History) → A.carries archive.old h → (bytes : List ℕ) × MayGive reader.old.left bytes × IsFileEnd how (A.most archive.old) dropping.old dropping.new h bytes reader.old.failed reader.new.failed result (A.carries archive.new) out.old out.new err.old err.new }
+    ensures most { A.most archive.new ≡ A.most archive.old }
     ensures sound { result ≡ Status.Done → reader.new.failed ≡ reader.old.failed }
 {
-    if how.collector >= archive.collectors() {
+    let collector = how.feed.collector;
+    report.is_begun = true;
+    if collector >= archive.collectors() {
         report.refusal = Some(Refusal::NoCollector);
         write_error(err, &Refusal::from(LoadStop::NoCollector));
         return told(alloc, Status::Refused, out, err);
     }
+    report.before = archive.resume(collector).map(|it| it.mark);
     let end = feed(
         alloc,
         archive,
-        how.collector,
-        how.limit,
-        how.resume,
+        how.feed,
+        dropping,
         reader,
         out,
         &mut report.counts,
     );
     report.refusal = refusal_of(end);
-    match settle(archive, how.collector, mark_after(end, how.mark)) {
+    let present = present_mark(archive, collector);
+    report.present = present_after(end, present);
+    let held = is_held(how.strict, how.mark, &report.counts, present);
+    report.is_held = held;
+    let mark = mark_unless(held, how.mark);
+    match settle(archive, collector, mark_after(end, mark)) {
         Ok(()) => {
             write_settled(out, archive.settled());
-            told(alloc, status_after(end), out, err)
+            refused_if(held, told(alloc, status_after(end), out, err))
         }
         Err(why) => {
             let refusal = Refusal::from(first_of(end, why));
             report.refusal = Some(refusal);
             tell_trouble(alloc, archive, &refusal, err);
-            told(alloc, Status::Refused, out, err)
+            refused_if(held, told(alloc, Status::Refused, out, err))
         }
     }
+}
+
+/// The same of the next of several files, with its report.
+fn load_next<A: RouteArchive, R: Read, W: Write, E: Write>(
+    alloc: Global,
+    archive: &mut A,
+    how: LoadSettings,
+    dropping: &mut u64,
+    file: &mut FileLoad<R>,
+    out: &mut Output<W>,
+    err: &mut Output<E>,
+) -> Status
+    ensures ended { (h : History) → A.carries archive.old h → (bytes : List ℕ) × MayGive file.old.input.left bytes × IsFileEnd how (A.most archive.old) dropping.old dropping.new h bytes file.old.input.failed file.new.input.failed result (A.carries archive.new) out.old out.new err.old err.new }
+    ensures most { A.most archive.new ≡ A.most archive.old }
+    ensures sound { result ≡ Status.Done → file.new.input.failed ≡ file.old.input.failed }
+{
+    let mut report = LoadReport::new();
+    let status = load_one(
+        alloc,
+        archive,
+        how,
+        dropping,
+        &mut file.input,
+        &mut report,
+        out,
+        err,
+    );
+    file.report = report;
+    status
+}
+
+/// Whether a load goes on after one of its files, whose load ended so.
+fn goes_on(is_last: bool, status: Status) -> bool
+    ensures on { result ≡ true → (is_last ≡ false) × (status ≡ Status.Done) }
+    ensures ends { result ≡ false → status ≡ Status.Done → is_last ≡ true }
+{
+    match status {
+        Status::Done => !is_last,
+        Status::Refused | Status::Failed => false,
+    }
+}
+
+/// How one of several files is loaded: the mark is set with the last one alone.
+fn with_mark_if(is_last: bool, how: &LoadSettings) -> LoadSettings
+    ensures last { is_last ≡ true → result ≡ how.now }
+    ensures other { is_last ≡ false → result ≡ record how.now { mark = None } }
+{
+    LoadSettings {
+        feed: how.feed,
+        mark: if is_last { how.mark } else { None },
+        resume: how.resume,
+        strict: how.strict,
+    }
+}
+
+/// Loads files one after another, each as a feed of its own with its own lines: its records are taken in, what may be applied is applied, and the
+/// settled watermark is written. The mark is set once the last feed has ended well. The first file whose load isn't done ends the load: its
+/// feed was cut or given up, or something is in doubt of a load that is strict, or something was refused outside the feed, which is
+/// written to `err`. Those after it aren't read. Each file has a report of what became of it.
+pub fn load<A: RouteArchive, R: Read, W: Write, E: Write>(
+    alloc: Global,
+    archive: &mut A,
+    how: LoadSettings,
+    files: &mut [FileLoad<R>],
+    out: &mut Output<W>,
+    err: &mut Output<E>,
+) -> Status
+    ensures ended { (h : History) → A.carries archive.old h → AreLoaded how (A.most archive.old) h (map (λ f. f.input) files.old) (map (λ f. f.input) files.new) result (A.carries archive.new) out.old out.new err.old err.new }
+    ensures sound { result ≡ Status.Done → map (λ f. f.input.failed) files.new ≡ map (λ f. f.input.failed) files.old }
+{
+    let mut dropping = dropped_where(archive, how.feed.collector, how.resume);
+    let count = files.len();
+    for (place, file) in files.iter_mut().enumerate() {
+        let is_last = place + 1 == count;
+        let status = load_next(
+            alloc,
+            archive,
+            with_mark_if(is_last, &how),
+            &mut dropping,
+            file,
+            out,
+            err,
+        );
+        if !goes_on(is_last, status) {
+            return status;
+        }
+    }
+    Status::Done
 }

@@ -1,13 +1,24 @@
 //! What is known of a load besides its lines and its status.
 
 use crate::feed_lines::FeedCounts;
+use crate::output::Input;
 use crate::refusal::Refusal;
+use route_model::Mark;
+use std::io::Read;
 
-/// What became of a load, for words to a person: the lines and the status say it too, but for programs.
+/// What became of the load of a file, for words to a person: the lines and the status say it too, but for programs.
 #[derive(Clone, Copy, Debug, PartialEq, Eq)]
 pub struct LoadReport {
+    /// Whether the load came to this file.
+    pub is_begun: bool,
+    /// The collector's mark before, where there is that collector.
+    pub before: Option<Mark>,
     /// What became of the records, where the feed wrote its counts.
     pub counts: Option<FeedCounts>,
+    /// The collector's mark after the feed, in seconds, from which `--mark` would raise it; where the feed ended well.
+    pub present: Option<u64>,
+    /// Whether the load was held back: it is strict, and the feed or the mark is in doubt.
+    pub is_held: bool,
     /// Why the feed was given up, or the load ended outside its feed.
     pub refusal: Option<Refusal>,
 }
@@ -16,8 +27,29 @@ impl LoadReport {
     /// The report of a load that hasn't begun.
     pub fn new() -> LoadReport {
         LoadReport {
+            is_begun: false,
+            before: None,
             counts: None,
+            present: None,
+            is_held: false,
             refusal: None,
+        }
+    }
+}
+
+/// A file to load, and what becomes of it.
+#[derive(Drop)]
+pub struct FileLoad<R: Read> {
+    pub input: Input<R>,
+    pub report: LoadReport,
+}
+
+impl<R: Read> FileLoad<R> {
+    /// A file that isn't loaded yet.
+    pub fn new(reader: R) -> FileLoad<R> {
+        FileLoad {
+            input: Input::new(reader),
+            report: LoadReport::new(),
         }
     }
 }

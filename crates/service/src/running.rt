@@ -1,17 +1,18 @@
 //! What the program does of a command, once its archive is made or open.
 
-ghost use Rattle.std.specs.Prelude.{◌≡◌, true, false, [], string_bytes};
+ghost use Rattle.std.specs.Prelude.{◌≡◌, true, false, [], map, string_bytes};
 ghost use Rattle.route_meaning.specs.History.{History};
 ghost use Rattle.service.specs.Outputs.{Tells};
 ghost use Rattle.service.specs.Refusals.{TellsFailure};
-ghost use Rattle.service.specs.Running.{created_line, IsWrittenOut, IsFileLoaded, IsLineAsked, IsArchiveChecked, IsCreationTold};
+ghost use Rattle.service.specs.Running.{created_line, settings_of, IsWrittenOut, AreFilesLoaded, IsLineAsked, IsArchiveChecked, IsCreationTold};
 
 use crate::asking::ask;
 use crate::checking::check;
 use crate::invocation::{Creation, Loading, Question};
-use crate::loading::{LoadSettings, load};
-use crate::output::{Input, Output};
-use crate::report::LoadReport;
+use crate::loading::load;
+use crate::output::Output;
+use crate::report::FileLoad;
+use crate::settings::{FeedSettings, LoadSettings};
 use crate::status::Status;
 use crate::telling::tell_unwritten;
 use archive_calls::RouteArchive;
@@ -51,27 +52,35 @@ pub fn finish<W: Write, E: Write>(
     ended.code().max(written.code())
 }
 
-/// Loads the file as the command line asks, and writes out what is buffered. The exit status of the program is that of
-/// the load, and 1 where not all lines could be written. `report` has what became of the load.
-pub fn load_file<A: RouteArchive, R: Read, W: Write, E: Write>(
+/// How files are loaded as the command line asks.
+fn settings_of(asked: &Loading<'_>) -> LoadSettings
+    ensures settings { result ≡ settings_of asked.now }
+{
+    LoadSettings {
+        feed: FeedSettings {
+            collector: asked.collector,
+            limit: asked.batch,
+        },
+        mark: asked.mark,
+        resume: asked.resume,
+        strict: asked.strict,
+    }
+}
+
+/// Loads the files as the command line asks, and writes out what is buffered. The exit status of the program is that of
+/// the load, and 1 where not all lines could be written. Each file has a report of what became of it.
+pub fn load_files<A: RouteArchive, R: Read, W: Write, E: Write>(
     alloc: Global,
     archive: &mut A,
     asked: &Loading<'_>,
-    file: &mut Input<R>,
+    files: &mut [FileLoad<R>],
     out: &mut Output<W>,
     err: &mut Output<E>,
-    report: &mut LoadReport,
 ) -> u8
-    ensures ended { (h : History) → A.carries archive.old h → IsFileLoaded asked.now (A.most archive.old) h file.old.left file.old.failed file.new.failed result (A.carries archive.new) out.old out.new err.old err.new }
-    ensures sound { result ≡ 0 → file.new.failed ≡ file.old.failed }
+    ensures ended { (h : History) → A.carries archive.old h → AreFilesLoaded asked.now (A.most archive.old) h (map (λ f. f.input) files.old) (map (λ f. f.input) files.new) result (A.carries archive.new) out.old out.new err.old err.new }
+    ensures sound { result ≡ 0 → map (λ f. f.input.failed) files.new ≡ map (λ f. f.input.failed) files.old }
 {
-    let how = LoadSettings {
-        collector: asked.collector,
-        limit: asked.batch,
-        mark: asked.mark,
-        resume: asked.resume,
-    };
-    let loaded = load(alloc, archive, how, file, out, err, report);
+    let loaded = load(alloc, archive, settings_of(asked), files, out, err);
     finish(alloc, loaded, out, err)
 }
 

@@ -1,12 +1,10 @@
 use Rattle.std.proofs.Common.{◌≡◌, ◌∙◌, Bool, true, false, Option, Result, Err, inl, inr, ap, refl, ⊎_elim}
 use Rattle.service.specs.declared.intake.End.{End}
 use Rattle.service.specs.declared.intake.End.TheVariants.{Well, Cut, Refused}
-use Rattle.service.specs.Feeds.{as_told}
+use Rattle.service.specs.Feeds.{as_told, limits_for}
 use Rattle.service.specs.declared.faults.FeedCut.{FeedCut}
 use Rattle.service.specs.declared.faults.FeedStop.{FeedStop}
 use Rattle.service.specs.declared.faults.FeedStop.TheVariants.{Outside}
-use Rattle.service.specs.FeedTexts.{intake_in}
-use Rattle.service.specs.Resuming.{dropped_where}
 use Rattle.service.proofs.GivingUp.{given_up_told}
 use Rattle.service.proofs.intake.feed.Goals as goal
 
@@ -29,14 +27,16 @@ not_cut e = absurd cc
 
 pub returns-in-Ok-None : goal.returns-in-Ok-None
 returns-in-Ok-None g c = record {
-  ended = λ h carried. let fed = rw c.in-Ok-None.field-0-is at (c.in-Ok-None.ensures.fed h carried) in (fed.0, fed.1, Well, c.as_told.ensures.told, fed.2, record { outside = λ e. absurd (not_well e); inside = λ none. c.in-Ok-None.ensures.sound (λ e. absurd cc) });
+  ended = λ h carried. let fed = rw c.in-Ok-None.field-0-is at (c.in-Ok-None.ensures.fed h carried) in (fed.0, fed.1, Well, c.as_told.ensures.told, fed.2, record { outside = λ e. absurd (not_well e); inside = λ none. c.in-Ok-None.ensures.sound (λ e. absurd cc) }, fed.3);
+  most = c.in-Ok-None.ensures.most;
   outside = λ e. ⊎_elim (λ failed. inr failed) (λ same. absurd (not_well same)) (c.as_told.ensures.outside e);
   sound = λ none. c.in-Ok-None.ensures.sound (λ e. absurd cc);
 }
 
 pub returns-in-Ok-Some : goal.returns-in-Ok-Some
 returns-in-Ok-Some g c = record {
-  ended = λ h carried. let fed = rw c.in-Ok-Some.field-0-is at (c.in-Ok-Some.ensures.fed h carried) in (fed.0, fed.1, Cut, c.as_told-in-Ok-Some.ensures.told, (_, fed.2), record { outside = λ e. absurd (not_cut e); inside = λ none. c.in-Ok-Some.ensures.sound (λ e. absurd cc) });
+  ended = λ h carried. let fed = rw c.in-Ok-Some.field-0-is at (c.in-Ok-Some.ensures.fed h carried) in (fed.0, fed.1, Cut, c.as_told-in-Ok-Some.ensures.told, (_, fed.2), record { outside = λ e. absurd (not_cut e); inside = λ none. c.in-Ok-Some.ensures.sound (λ e. absurd cc) }, fed.3);
+  most = c.in-Ok-Some.ensures.most;
   outside = λ e. ⊎_elim (λ failed. inr failed) (λ same. absurd (not_cut same)) (c.as_told-in-Ok-Some.ensures.outside e);
   sound = λ none. c.in-Ok-Some.ensures.sound (λ e. absurd cc);
 }
@@ -49,12 +49,14 @@ returns-in-Err g c = record {
         up.1,
         Refused c.in-Err.why,
         c.as_told-in-Err.ensures.told,
-        given_up_told c.args.collector (dropped_where c.args.resume (intake_in h.intakes c.args.collector)) (record { records = c.args.limit; octets = g.A.RouteArchive.most c.args.archive.now }) h up.0 (g.A.RouteArchive.carries c.take_in.new.archive) _ _ _ c.in-Err.why up.2 c.tell_stop.ensures.told,
+        given_up_told c.args.how.collector c.args.dropping.now (limits_for c.args.how (g.A.RouteArchive.most c.args.archive.now)) h up.0 (g.A.RouteArchive.carries c.take_in.new.archive) _ _ _ c.in-Err.why up.2 c.tell_stop.ensures.told,
         record {
           outside = λ e. ⊎_elim (λ failed. inl failed) (λ failed. inr (c.tell_stop.ensures.told.stays failed).0) (c.in-Err.ensures.outside (ap Err (same_stop c.in-Err.why e)));
           inside = λ none. c.in-Err.ensures.sound (λ e. none (ap (λ (t : FeedStop). Refused t) (err_is c.in-Err.why e)));
         },
+        tt,
       );
+  most = c.in-Err.ensures.most;
   outside = λ e.
       ⊎_elim (λ failed. inr failed)
       (λ same. ⊎_elim (λ failed. inl failed) (λ failed. inr (c.tell_stop.ensures.told.stays failed).0) (c.in-Err.ensures.outside (ap Err (same_stop c.in-Err.why same))))

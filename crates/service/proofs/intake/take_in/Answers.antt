@@ -1,19 +1,18 @@
-use Rattle.std.proofs.Common.{[]}
+use Rattle.std.proofs.Common.{[], ◌∙◌}
 use Rattle.std.proofs.lemmas.Result.{err_from_is_err_and}
 use Rattle.service.specs.Turns.{turns_for}
-use Rattle.service.specs.FeedTexts.{intake_in}
-use Rattle.service.specs.Resuming.{dropped_where}
+use Rattle.service.specs.Feeds.{limits_for}
 use Rattle.service.proofs.GivingUp.{stops_last}
-use Rattle.service.proofs.Streams.{reads_none, all_fed}
+use Rattle.service.proofs.Streams.{reads_none, all_fed, all_summed}
 use Rattle.service.specs.declared.limits.BatchLimits.{BatchLimits}
 use Rattle.service.proofs.intake.take_in.Goals as goal
 
 pub returns : goal.returns
 returns g c = record {
   fed = λ h carried.
-      let k = c.args.collector in
-      let dropped = dropped_where c.args.resume (intake_in h.intakes k) in
-      let limit : BatchLimits = record { records = c.args.limit; octets = g.A.RouteArchive.most c.args.archive.now } in
+      let k = c.args.how.collector in
+      let dropped = c.args.dropping.now in
+      let limit : BatchLimits = limits_for c.args.how (g.A.RouteArchive.most c.args.archive.now) in
       let was = c.args.out.now in
       let begun = reads_none k dropped limit h c.new-framer.result c.new-feeding.result (g.A.RouteArchive.carries c.args.archive.now) was c.new-framer.ensures.empty (c.new-feeding.ensures.begins h was carried) in
       let read = c.in_ok-take_stream.ensures.read k dropped limit h [] was begun in (
@@ -21,8 +20,11 @@ returns g c = record {
         read.1,
         all_fed k dropped limit h read.0 c.take_stream.new.framer c.cut_of-cut.result c.take_stream.new.self c.offer_rest.new.self (g.A.RouteArchive.carries c.take_stream.new.archive) (g.A.RouteArchive.carries c.offer_rest.new.archive) was _ _ _
             read.2 c.cut_of-cut.ensures.cut c.offer_rest.ensures.same (λ turns same d. c.in_ok-offer_rest.ensures.done k h turns was same d) c.tell_end.ensures.told,
+        all_summed k dropped limit h read.0 c.take_stream.new.framer c.cut_of-cut.result c.take_stream.new.self c.offer_rest.new.self (g.A.RouteArchive.carries c.take_stream.new.archive) (g.A.RouteArchive.carries c.offer_rest.new.archive) was _ _ _
+            read.2 c.cut_of-cut.ensures.cut c.offer_rest.ensures.same (λ turns same d. c.in_ok-offer_rest.ensures.done k h turns was same d) c.tell_end.ensures.told,
       );
   given_up = λ h carried. tt;
+  most = c.in_ok-offer_rest.ensures.most ∙ c.in_ok-take_stream.ensures.most;
   outside = λ e. absurd cc;
   sound = λ none. c.in_ok-take_stream.ensures.sound (λ e. absurd cc);
 }
@@ -30,9 +32,9 @@ returns g c = record {
 pub returns-in_err-take_stream-clause-given_up : goal.returns-in_err-take_stream-clause-given_up
 returns-in_err-take_stream-clause-given_up g c = λ h carried.
     let p = err_from_is_err_and c.from_residual.result c.from_residual.ensures.1 in
-    let k = c.args.collector in
-    let dropped = dropped_where c.args.resume (intake_in h.intakes k) in
-    let limit : BatchLimits = record { records = c.args.limit; octets = g.A.RouteArchive.most c.args.archive.now } in
+    let k = c.args.how.collector in
+    let dropped = c.args.dropping.now in
+    let limit : BatchLimits = limits_for c.args.how (g.A.RouteArchive.most c.args.archive.now) in
     let was = c.args.out.now in
     let begun = reads_none k dropped limit h c.new-framer.result c.new-feeding.result (g.A.RouteArchive.carries c.args.archive.now) was c.new-framer.ensures.empty (c.new-feeding.ensures.begins h was carried) in
     rw p.1 (rw p.2 (c.in_err-take_stream.ensures.given_up k dropped limit h [] was begun))
@@ -40,9 +42,9 @@ returns-in_err-take_stream-clause-given_up g c = λ h carried.
 pub returns-in_err-offer_rest-clause-given_up : goal.returns-in_err-offer_rest-clause-given_up
 returns-in_err-offer_rest-clause-given_up g c = λ h carried.
     let p = err_from_is_err_and c.from_residual-in_err-offer_rest.result c.from_residual-in_err-offer_rest.ensures.1 in
-    let k = c.args.collector in
-    let dropped = dropped_where c.args.resume (intake_in h.intakes k) in
-    let limit : BatchLimits = record { records = c.args.limit; octets = g.A.RouteArchive.most c.args.archive.now } in
+    let k = c.args.how.collector in
+    let dropped = c.args.dropping.now in
+    let limit : BatchLimits = limits_for c.args.how (g.A.RouteArchive.most c.args.archive.now) in
     let was = c.args.out.now in
     let begun = reads_none k dropped limit h c.new-framer.result c.new-feeding.result (g.A.RouteArchive.carries c.args.archive.now) was c.new-framer.ensures.empty (c.new-feeding.ensures.begins h was carried) in
     let read = c.in_ok-take_stream.ensures.read k dropped limit h [] was begun in

@@ -1,5 +1,9 @@
+use Rattle.std.proofs.Common.{◌≡◌}
 use Rattle.route_meaning.specs.History.{History}
 use Rattle.service.proofs.loading.flush_all.Given as goal
 
 abbrev pub invariant-loop : goal.invariant-loop
-invariant-loop g l = (h : History) → g.A.RouteArchive.carries l.initial.archive h → g.A.RouteArchive.carries l.archive h
+invariant-loop g l = record {
+  same : (h : History) → g.A.RouteArchive.carries l.initial.archive h → g.A.RouteArchive.carries l.archive h;
+  most : g.A.RouteArchive.most l.archive ≡ g.A.RouteArchive.most l.initial.archive;
+}

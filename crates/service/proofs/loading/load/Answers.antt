@@ -1,69 +1,83 @@
-use Rattle.std.proofs.Common.{◌∙◌, ℕ, Option, arith, inl, subst, sym, ap, refl}
-use Rattle.route_meaning.specs.History.{History}
-use Rattle.interleaving_core.specs.Steps.{IsCollector}
-use Rattle.service.specs.Loads.{IsSettled, marked_if}
+use Rattle.std.proofs.Common.{◌≡◌, ◌∙◌, ◌<◌, ◌+◌, ◌≢◌, ℕ, nat_eq, List, [], ◌∷◌, length, drop, set, get_or, map, arith, refl, sym, ap, subst, inl, inr}
+use Rattle.std.proofs.lemmas.List.{length-map, length-set, map-set, nil_from_length}
+use Rattle.std.proofs.Math.Seq.{map-set_same}
+use Rattle.std.proofs.lemmas.Bool.{eqb-true, eqb-false}
 use Rattle.service.specs.FeedTexts.{intake_in}
+use Rattle.service.specs.FileLoads.{IsLoadedTo, with_mark_at}
+use Rattle.service.specs.Outputs.{InputState}
 use Rattle.service.specs.Resuming.{dropped_where}
-use Rattle.service.specs.Outputs.{Tells}
-use Rattle.service.specs.FeedLines.{settled_line}
-use Rattle.service.specs.declared.intake.End.{End}
-use Rattle.service.specs.Faults.{of_load}
-use Rattle.service.specs.Refusals.{TellsError}
-use Rattle.service.specs.inner.Loading.{HasNotSettled, first_of, mark_after, status_after, told_as}
-use Rattle.service.specs.declared.refusal.Refusal.{Refusal}
-use Rattle.service.proofs.Streams.{some_given}
-use Rattle.service.proofs.Unloading.{done_inside, first_unsettled, load_ends, load_stops, load_nowhere, refused_undone}
+use Rattle.service.specs.declared.status.Status.TheVariants as statuses
+use Rattle.service.proofs.Files.{IsAt, at_first, at_next, done_next, ended_at, file_at, marked_by, next_file, no_files, none_after, none_loaded}
 use Rattle.service.proofs.loading.load.Goals as goal
 
-pub returns-then-how-collectors : goal.returns-then-how-collectors
-returns-then-how-collectors g c = record {
-  ended = λ h carried.
-      let how = c.args.how in
-      let count = c.collectors.ensures.count h carried in
-      let few = c.if-how-collectors.true in
-      let given = some_given c.args.reader.now.left in (
-        given.0,
-        given.1,
-        load_nowhere c.told.result how.collector (dropped_where how.resume (intake_in h.intakes how.collector)) (record { records = how.limit; octets = g.A.RouteArchive.most c.args.archive.now }) how.mark h given.0 c.args.reader.now.failed (g.A.RouteArchive.carries c.args.archive.now) c.args.out.now c.args.err.now c.write_error.new.out c.told.new.err (λ here. absurd (omega (arith, here, count, few))) carried c.told.ensures.status (record { told = c.told.ensures.told; quiet = c.told.ensures.quiet })
-            (inl (rw c.from.ensures at c.write_error.ensures.line)),
-      );
-  sound = λ done. refl;
+pub loop-place-init : goal.loop-place-init
+loop-place-init g c = record {
+  goes = λ some. some;
+  as_many = refl;
+  reads = refl;
+  most = refl;
+  stands = λ h carried.
+      subst (λ (n : ℕ). IsAt c.args.how (g.A.RouteArchive.most c.args.archive.now) (dropped_where c.args.how.resume (intake_in h.intakes c.args.how.feed.collector)) n h (map (λ f. f.input) c.args.files.now) (map (λ f. f.input) c.args.files.now) 0 (g.A.RouteArchive.carries c.args.archive.now) c.args.out.now c.args.out.now c.args.err.now c.args.err.now)
+      (sym (c.dropped_where-dropping.ensures.dropped h carried)) (at_first _ _ _ h _ _ _ _ carried);
 }
 
-pub returns-in-Ok : goal.returns-in-Ok
-returns-in-Ok g c = record {
-  ended = λ h carried.
-      let how = c.args.how in
-      let count = c.collectors.ensures.count h carried in
-      let some = c.if-how-collectors.false in
-      let here : IsCollector h how.collector = omega (arith, count, some) in
-      let fed = c.feed-end.ensures.ended h carried in (
-        fed.0,
-        fed.1,
-        load_ends fed.2 c.told-in-Ok.result how.collector (dropped_where how.resume (intake_in h.intakes how.collector)) (record { records = how.limit; octets = g.A.RouteArchive.most c.args.archive.now }) how.mark h fed.0 c.args.reader.now.failed c.feed-end.new.reader.failed (g.A.RouteArchive.carries c.feed-end.new.archive) (g.A.RouteArchive.carries c.settle.new.archive) c.args.out.now c.feed-end.new.out c.write_settled.new.out c.args.err.now c.told-in-Ok.new.err here fed.4 fed.5
-            (subst (λ (m : Option ℕ). (past : History) → g.A.RouteArchive.carries c.feed-end.new.archive past → IsSettled (marked_if how.collector m past).intakes (g.A.RouteArchive.carries c.settle.new.archive))
-            (c.mark_after.ensures.mark ∙ ap (λ (e : End). mark_after e how.mark) fed.3) c.in-Ok.ensures.settled)
-            (λ past stands. subst (λ (n : ℕ). Tells c.feed-end.new.out c.write_settled.new.out (settled_line n)) (c.settled.ensures.settled past stands) c.write_settled.ensures.line)
-            (c.told-in-Ok.ensures.status ∙ ap (told_as c.write_settled.new.out.failed c.args.err.now.failed) (c.status_after.ensures.status ∙ ap status_after fed.3)) (record { told = c.told-in-Ok.ensures.told; quiet = c.told-in-Ok.ensures.quiet }),
-      );
-  sound = λ done. c.feed-end.ensures.sound (λ up. done_inside _ _ c.feed-end.result (ap (told_as c.write_settled.new.out.failed c.args.err.now.failed) (sym c.status_after.ensures.status) ∙ sym c.told-in-Ok.ensures.status ∙ done) up);
-}
+pub returns-then-not-goes_on-clause-ended : goal.returns-then-not-goes_on-clause-ended
+returns-then-not-goes_on-clause-ended g c = λ h carried.
+    let inv = c.loop-place.invariant in
+    let k = c.loop-place.place in
+    let files : List InputState = map (λ f. f.input) c.args.files.now in
+    let a = inv.stands h carried in
+    let counted : length files ≡ length c.args.files.now = length-map c.args.files.now (λ f. f.input) in
+    let test = c.loop-place-test.true in
+    let lt : k < length files = omega (arith, test, counted) in
+    let there = next_file _ _ _ _ h files _ k _ _ _ _ _ _ _ a lt (file_at (λ f. f.input) c.loop-place.files k c.index-files-place.result) in
+    let marked = marked_by (nat_eq (k + 1) (length c.args.files.now)) c.args.how c.with_mark_if.result k files c.with_mark_if.ensures.last c.with_mark_if.ensures.other
+    (λ e. eqb-true (k + 1) (length c.args.files.now) e ∙ sym counted) (λ e. let other = eqb-false (k + 1) (length c.args.files.now) e in omega (arith, other, counted, test)) in
+    let last : c.load_next-status.result ≡ statuses.Done → drop (k + 1) files ≡ [] = λ done. none_after k files (eqb-true (k + 1) (length c.args.files.now) (c.goes_on.ensures.ends c.if-not-goes_on.true done) ∙ sym counted) in
+    inr
+    (subst (λ (t : List InputState). IsLoadedTo c.args.how (g.A.RouteArchive.most c.args.archive.now) (dropped_where c.args.how.resume (intake_in h.intakes c.args.how.feed.collector)) h files t c.load_next-status.result (g.A.RouteArchive.carries c.load_next-status.new.archive) c.args.out.now c.load_next-status.new.out c.args.err.now c.load_next-status.new.err)
+    (sym (map-set (λ f. f.input) c.loop-place.files k c.load_next-status.new.file))
+    (ended_at c.args.how c.with_mark_if.result _ _ _ _ _ h files _ k _ _ c.load_next-status.result _ _ _ _ _ _ _ _ a there marked inv.most last (c.load_next-status.ensures.ended a.next a.carried)))
 
-pub returns-in-Err : goal.returns-in-Err
-returns-in-Err g c = record {
-  ended = λ h carried.
-      let how = c.args.how in
-      let count = c.collectors.ensures.count h carried in
-      let some = c.if-how-collectors.false in
-      let here : IsCollector h how.collector = omega (arith, count, some) in
-      let fed = c.feed-end.ensures.ended h carried in (
-        fed.0,
-        fed.1,
-        load_stops fed.2 c.told-in-Err.result how.collector (dropped_where how.resume (intake_in h.intakes how.collector)) (record { records = how.limit; octets = g.A.RouteArchive.most c.args.archive.now }) how.mark h fed.0 c.args.reader.now.failed c.feed-end.new.reader.failed (g.A.RouteArchive.carries c.feed-end.new.archive) (g.A.RouteArchive.carries c.settle.new.archive) c.args.out.now c.feed-end.new.out c.args.err.now c.tell_trouble.new.err c.told-in-Err.new.err (first_of c.feed-end.result c.in-Err.why) here fed.4 fed.5
-            (subst (λ (m : Option ℕ). (past : History) → g.A.RouteArchive.carries c.feed-end.new.archive past → HasNotSettled how.collector m past (g.A.RouteArchive.carries c.settle.new.archive) (first_of c.feed-end.result c.in-Err.why))
-            (c.mark_after.ensures.mark ∙ ap (λ (e : End). mark_after e how.mark) fed.3) (λ past stands. first_unsettled c.feed-end.result c.in-Err.why _ _ _ _ (c.in-Err.ensures.unsettled past stands)))
-            c.told-in-Err.ensures.status (record { told = c.told-in-Err.ensures.told; quiet = c.told-in-Err.ensures.quiet })
-            (subst (λ (r : Refusal). TellsError r c.args.err.now c.tell_trouble.new.err) (c.from-refusal.ensures ∙ ap of_load c.first_of.ensures.first) c.tell_trouble.ensures.told),
-      );
-  sound = λ done. absurd (refused_undone _ _ (sym c.told-in-Err.ensures.status ∙ done));
-}
+pub returns-then-not-goes_on-clause-sound : goal.returns-then-not-goes_on-clause-sound
+returns-then-not-goes_on-clause-sound g c = λ done.
+    map-set_same (λ f. f.input.failed) c.loop-place.files c.loop-place.place c.load_next-status.new.file c.index-files-place.result (c.load_next-status.ensures.sound done) ∙ c.loop-place.invariant.reads
+
+pub loop-place-preserved : goal.loop-place-preserved
+loop-place-preserved g c =
+    let inv = c.loop-place.invariant in
+    let k = c.loop-place.place in
+    let files : List InputState = map (λ f. f.input) c.args.files.now in
+    let counted : length files ≡ length c.args.files.now = length-map c.args.files.now (λ f. f.input) in
+    let test = c.loop-place-test.true in
+    let on = c.goes_on.ensures.on c.if-not-goes_on.false in
+    let other : k + 1 ≢ length c.args.files.now = eqb-false (k + 1) (length c.args.files.now) on.0 in
+    let done = on.1 in
+    record {
+      goes = λ some. omega (arith, test, other);
+      as_many = length-set c.loop-place.files k c.load_next-status.new.file ∙ inv.as_many;
+      reads = map-set_same (λ f. f.input.failed) c.loop-place.files k c.load_next-status.new.file c.index-files-place.result (c.load_next-status.ensures.sound done) ∙ inv.reads;
+      most = c.load_next-status.ensures.most ∙ inv.most;
+      stands = λ h carried.
+          let a = inv.stands h carried in
+          let lt : k < length files = omega (arith, test, counted) in
+          let there = next_file _ _ _ _ h files _ k _ _ _ _ _ _ _ a lt (file_at (λ f. f.input) c.loop-place.files k c.index-files-place.result) in
+          let e = c.load_next-status.ensures.ended a.next a.carried in
+          subst (λ (t : List InputState). IsAt c.args.how (g.A.RouteArchive.most c.args.archive.now) (dropped_where c.args.how.resume (intake_in h.intakes c.args.how.feed.collector)) c.load_next-status.new.dropping h files t (k + 1) (g.A.RouteArchive.carries c.load_next-status.new.archive) c.args.out.now c.load_next-status.new.out c.args.err.now c.load_next-status.new.err)
+          (sym (map-set (λ f. f.input) c.loop-place.files k c.load_next-status.new.file))
+          (at_next c.args.how _ _ _ _ h files _ k _ _ _ _ _ _ _ _ _ _ a lt there (e.0, e.1, done_next c.load_next-status.result c.args.how c.with_mark_if.result _ _ _ _ _ _ _ _ _ _ _ _ _ (c.with_mark_if.ensures.other on.0) inv.most done e.2));
+    }
+
+pub returns-clause-ended : goal.returns-clause-ended
+returns-clause-ended g c = λ h carried.
+    let inv = c.loop-place.invariant in
+    let files : List InputState = map (λ f. f.input) c.args.files.now in
+    let counted : length files ≡ length c.args.files.now = length-map c.args.files.now (λ f. f.input) in
+    let ended = c.loop-place-test.false in
+    let empty = no_files (length c.args.files.now) c.loop-place.place inv.goes (omega (arith, ended)) in
+    let none : files ≡ [] = nil_from_length files (counted ∙ empty) in
+    let a = none_loaded _ _ _ _ h files _ _ _ _ _ _ _ none (inv.stands h carried) in
+    inl (none, refl, a.0, a.1, a.2)
+
+pub returns-clause-sound : goal.returns-clause-sound
+returns-clause-sound g c = λ done. c.loop-place.invariant.reads

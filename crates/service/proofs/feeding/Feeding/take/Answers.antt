@@ -22,6 +22,7 @@ returns-in-Ok-Some g c = record {
       (done_counted k h (turns_for limit 0 [] b.results) c.args.self.now.counts c.count_record.new.self (g.A.RouteArchive.carries c.args.archive.now) was _ counts.admitted counts.late counts.refused b.done))
       (same.records ∙ counts.records) (same.skipped ∙ counts.skipped);
   inside = c.gather.ensures.inside;
+  most = c.gather.ensures.most;
   given_up = λ k dropped limit h records was b.
       let counts = c.count_record.ensures in
       let takes = rw c.in-Ok-Some.field-0-is at c.in-Ok-Some.ensures.takes in
@@ -43,6 +44,7 @@ returns-in-Ok-None g c = record {
       (done_counted k h (turns_for limit 0 [] b.results) c.args.self.now.counts c.count_record.new.self (g.A.RouteArchive.carries c.args.archive.now) was _ counts.admitted counts.late counts.refused b.done))
       counts.records counts.skipped;
   inside = λ e. absurd cc;
+  most = refl;
   given_up = λ k dropped limit h records was b. tt;
 }
 
@@ -60,6 +62,7 @@ returns-in-Err g c = record {
       (λ both. done_refuse k h (turns_for limit 0 [] b.results) c.args.self.now.counts c.refuse.new.self.counts (g.A.RouteArchive.carries c.args.archive.now) was _ _ c.args.self.now.counts.records (length b.results) c.in-Err.fault
       (place_of k dropped limit h records c.args.self.now (g.A.RouteArchive.carries c.args.archive.now) was _ b) both.1 (c.refuse.ensures.admitted ∙ counts.admitted) (c.refuse.ensures.late ∙ counts.late) (both.0 ∙ ap (λ (n : ℕ). capped (n + 1)) counts.refused) b.done))
       (same.records ∙ counts.records) (same.skipped ∙ counts.skipped);
+  most = refl;
   inside = λ e. never_outside c.refuse.result c.refuse.ensures.wanting e;
   given_up = λ k dropped limit h records was b.
       stops_before c.refuse.result k dropped limit h records c.args.item.now c.args.self.now (g.A.RouteArchive.carries c.args.archive.now) (g.A.RouteArchive.carries c.args.archive.now) was _ _ b

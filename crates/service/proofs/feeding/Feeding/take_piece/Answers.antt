@@ -1,4 +1,4 @@
-use Rattle.std.proofs.Common.{ℕ, List, [], ◌++◌, map}
+use Rattle.std.proofs.Common.{ℕ, List, [], ◌++◌, map, refl}
 use Rattle.std.proofs.lemmas.Result.{err_from_is_err_and}
 use Rattle.mrt_records.specs.Values.{told}
 use Rattle.mrt_records.specs.Streams.{GainsFrames}
@@ -21,6 +21,7 @@ returns g c = record {
             (rw w.in-Err-TooLong.field-0-is at w.in-Err-TooLong.ensures.fed) (λ records b. c.in_ok-take_all.ensures.behind k dropped limit h records was b) r
       ];
   inside = λ e. absurd cc;
+  most = c.in_ok-take_all.ensures.most;
   given_up = λ k dropped limit h bytes was r. tt;
 }
 
@@ -28,6 +29,7 @@ pub returns-in-Err : goal.returns-in-Err
 returns-in-Err g c = record {
   read = λ k dropped limit h bytes was r. tt;
   inside = λ e. absurd cc;
+  most = refl;
   given_up = λ k dropped limit h bytes was r.
       within_more k dropped limit h bytes c.args.piece.now (g.A.RouteArchive.carries c.args.archive.now) was _ (stops.Trouble troubles.OutOfMemory) (stops_behind k dropped limit h bytes c.args.framer.now c.args.self.now (g.A.RouteArchive.carries c.args.archive.now) was _ (stops.Trouble troubles.OutOfMemory) (λ made. tt) r);
 }

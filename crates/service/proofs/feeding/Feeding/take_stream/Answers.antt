@@ -9,6 +9,7 @@ use Rattle.archive_calls.specs.declared.refusal.Trouble.TheVariants as troubles
 pub loop-init : goal.loop-init
 loop-init g c = record {
   room = refl;
+  most = refl;
   sound = refl;
   taken = λ k dropped limit h bytes was r. taken_first k dropped limit h bytes _ _ _ _ _ _ r;
 }
@@ -17,6 +18,7 @@ pub loop-preserved : goal.loop-preserved
 loop-preserved g c =
     record {
       room = c.read.auto.piece ∙ c.loop.invariant.room;
+      most = c.in_ok-goes_on.ensures.most ∙ c.loop.invariant.most;
       sound = c.in-Some.ensures.sound ∙ c.loop.invariant.sound;
       taken = λ k dropped limit h bytes was r.
           taken_more k dropped limit h bytes _ _ _ _ _ _ _ _ _ _ was _ _ _ c.if-not-goes_on.false c.in-Some.ensures.read (c.loop.invariant.taken k dropped limit h bytes was r)
@@ -33,6 +35,7 @@ returns-then-count-eq0 g c = record {
       (c.in-Some.ensures.end room (ap Some none))
       (c.loop.invariant.taken k dropped limit h bytes was r);
   given_up = λ k dropped limit h bytes was r. tt;
+  most = c.loop.invariant.most;
   outside = λ e. absurd cc;
   sound = λ none. c.in-Some.ensures.sound ∙ c.loop.invariant.sound;
 }
@@ -43,6 +46,7 @@ returns-then-not-goes_on g c = record {
       taken_stops k dropped limit h bytes _ _ _ _ _ _ _ _ _ _ was _ _ _ c.if-not-goes_on.true c.in-Some.ensures.read (c.loop.invariant.taken k dropped limit h bytes was r)
       (λ seen s. c.in_ok-goes_on.ensures.read k dropped limit h seen was s);
   given_up = λ k dropped limit h bytes was r. tt;
+  most = c.in_ok-goes_on.ensures.most ∙ c.loop.invariant.most;
   outside = λ e. absurd cc;
   sound = λ none. c.in-Some.ensures.sound ∙ c.loop.invariant.sound;
 }

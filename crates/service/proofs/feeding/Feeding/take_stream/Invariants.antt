@@ -9,6 +9,7 @@ use Rattle.service.specs.declared.limits.BatchLimits.{BatchLimits}
 abbrev pub invariant-loop : goal.invariant-loop
 invariant-loop g l = record {
   room : length l.piece ≡ 65536;
+  most : g.A.RouteArchive.most l.archive ≡ g.A.RouteArchive.most l.initial.archive;
   sound : l.reader.failed ≡ l.initial.reader.failed;
   taken : (c dropped : ℕ) (limit : BatchLimits) (h : History) (bytes : List ℕ) (was : OutputState) → Reads c dropped limit h bytes l.initial.framer l.initial.self (g.A.RouteArchive.carries l.initial.archive) was l.initial.out
       → Taken c dropped limit h bytes l.initial.reader.left l.reader.left l.framer l.self (g.A.RouteArchive.carries l.archive) was l.out;

@@ -1,0 +1,84 @@
+//! What is said of marks that lie far ahead, of loads that are strict, and of files that weren't read.
+
+use crate::be;
+use advice::{FileAdvice, MarkAdvice, Unread, advise};
+use route_model::Mark;
+use service::Output;
+use std::alloc::Global;
+use std::fmt::Display;
+
+/// What is said of something.
+fn said<D: Display>(alloc: Global, words: &D) -> Vec<u8> {
+    let mut text: Vec<u8> = Vec::new(alloc);
+    advise(alloc, words, &mut Output::new(&mut text));
+    text
+}
+
+/// A mark far ahead of a collector's, whether it was set, and what is said of it.
+const FAR: [(u64, bool, &str); 3] = [
+    (
+        1_704_067_200,
+        false,
+        "rha: --mark: 2042-01-01T00:00:00Z (2272147200) is 6575 days after the collector's last record or mark, 2024-01-01T00:00:00Z (1704067200): it is set, and can't be set back; records of the time between come late from now on\n",
+    ),
+    (
+        1_704_067_200,
+        true,
+        "rha: --mark: 2042-01-01T00:00:00Z (2272147200) is 6575 days after the collector's last record or mark, 2024-01-01T00:00:00Z (1704067200): it isn't set\n",
+    ),
+    (
+        0,
+        true,
+        "rha: --mark: 2042-01-01T00:00:00Z (2272147200), and the collector gave no record yet: it isn't set\n",
+    ),
+];
+
+/// Whether this is said of the mark of the beginning of 2042.
+fn is_said(alloc: Global, present: u64, is_held: bool, wanted: &str) -> Option<bool> {
+    let mark = Mark::new(2_272_147_200)?;
+    let text = said(
+        alloc,
+        &MarkAdvice::Far {
+            mark,
+            present,
+            is_held,
+        },
+    );
+    Some(text.as_slice() == wanted.as_bytes())
+}
+
+#[test]
+fn marks_that_lie_far_ahead_are_warned_of(rt: HostRuntime) {
+    for (present, is_held, wanted) in &FAR {
+        be(
+            &rt,
+            is_said(rt.alloc(), *present, *is_held, wanted) == Some(true),
+            wanted,
+        );
+    }
+}
+
+#[test]
+fn the_end_of_a_load_is_said(rt: HostRuntime) {
+    let alloc = rt.alloc();
+    let held = said(alloc, &MarkAdvice::Held);
+    be(
+        &rt,
+        held.as_slice() == b"rha: --strict: the load ends here, and no mark is set\n",
+        "a load that is held back",
+    );
+    let unread = said(
+        alloc,
+        &Unread {
+            files: &["u2", "u3"],
+        },
+    );
+    be(&rt, unread.as_slice() == b"rha: not read: u2 u3\n", "files");
+    let cut = said(alloc, &FileAdvice::Cut { file: "u2" });
+    be(
+        &rt,
+        cut.as_slice()
+            == b"rha: u2: it ends inside a record, or goes on with what is none: fetch or expand it again; what came before is kept\n",
+        "a file that is cut",
+    );
+}

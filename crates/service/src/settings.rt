@@ -1,0 +1,26 @@
+//! How feeds and files are taken in.
+
+use route_model::Mark;
+
+/// How a feed is taken in.
+#[derive(Clone, Copy, Debug, PartialEq, Eq)]
+pub struct FeedSettings {
+    /// Whose feed it is.
+    pub collector: u8,
+    /// The most admissions of a batch; 0 counts as 1.
+    pub limit: usize,
+}
+
+/// How files are loaded.
+#[derive(Clone, Copy, Debug, PartialEq, Eq)]
+pub struct LoadSettings {
+    /// How the feed of each file is taken in.
+    pub feed: FeedSettings,
+    /// The mark that is set once the feed of the last file has ended well.
+    pub mark: Option<Mark>,
+    /// Whether as many of the files' first admissions are dropped as were offered of the collector until now: for files that together are
+    /// the collector's whole feed from its beginning.
+    pub resume: bool,
+    /// Whether a file whose feed gives cause for doubt ends the load, and no mark is set then, nor one that is in doubt itself.
+    pub strict: bool,
+}
