@@ -154,9 +154,9 @@ impl<E: EraseDisk + Drop, O: OnceDisk + Drop> Archive<E, O> {
     /// which the errand does without the archive. The answer is that of what is applied now, and of each later history. Where a column
     /// names a block that was never burnt, its page is called bad, and no errand is given.
     ///
-    /// What the question had gathered stays so whatever was called since its last turn. A turn looks at one key or one stamp, reads pages
-    /// alone, which are kept in the archive's cache, and writes nothing. After each outcome the archive holds the history that it held, and
-    /// the question has gathered what is so over it.
+    /// What the question had gathered stays so whatever was called since its last turn. A turn looks at one key and what follows in its
+    /// leaf, or at one stamp, reads pages alone, which are kept in the archive's cache, and writes nothing. After each outcome the archive
+    /// holds the history that it held, and the question has gathered what is so over it.
     pub fn descend(&mut self, cursor: &mut Cursor) -> Result<Descent, AskError>
         ensures descends { IfOk result (λ descent. IsHonest self.old → (h : History) → Holds self.old h → IsGathered cursor.old h → Descends (O.block_count (once_of self.old)) (once_state self.old).settled h cursor.old cursor.new descent) }
         ensures further { IfOk result (GoesFurther cursor.old cursor.new) }
