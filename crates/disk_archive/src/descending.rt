@@ -154,9 +154,9 @@ impl<E: EraseDisk + Drop, O: OnceDisk + Drop> Archive<E, O> {
     /// which the errand does without the archive. The answer is that of what is applied now, and of each later history. Where a column
     /// names a block that was never burnt, its page is reported as bad, and no errand is returned.
     ///
-    /// What the question has gathered so far stays right, whatever was called since its last turn. A turn looks at one key or one stamp,
-    /// reads only pages, which are kept in the archive's cache, and writes nothing. After each outcome the archive holds the same history
-    /// as before, and what the question has gathered is right over it.
+    /// What the question has gathered so far stays right, whatever was called since its last turn. A turn looks at one key and what follows
+    /// in its leaf, or at one stamp, reads only pages, which are kept in the archive's cache, and writes nothing. After each outcome the
+    /// archive holds the same history as before, and what the question has gathered is right over it.
     pub fn descend(&mut self, cursor: &mut Cursor) -> Result<Descent, AskError>
         ensures descends { IfOk result (λ descent. IsHonest self.old → (h : History) → Holds self.old h → IsGathered cursor.old h → Descends (O.block_count (once_of self.old)) (once_state self.old).settled h cursor.old cursor.new descent) }
         ensures further { IfOk result (GoesFurther cursor.old cursor.new) }

@@ -1,3 +1,4 @@
 mod Reading
 mod Going
 mod Turned
+mod Onward

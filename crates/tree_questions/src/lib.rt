@@ -8,6 +8,8 @@ mod looks;
 mod naming;
 mod rows_turns;
 mod rows_walk;
+mod runs;
+mod taking;
 
 pub use events_turns::events_turn;
 pub use events_walk::events;

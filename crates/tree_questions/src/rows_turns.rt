@@ -1,4 +1,4 @@
-//! Turns of a question of a moment over current pages alone: one look each. What lies in the past is left to an errand.
+//! Turns of a question of a moment over current pages alone: one leaf each, or one look. What lies in the past is left to an errand.
 
 ghost use Rattle.std.specs.Prelude.{◌≡◌, ◌≤◌, ℕ, List, IfOk, IfErr, Err, None};
 ghost use Rattle.route_model.specs.Admission.{Admitted};
@@ -14,6 +14,8 @@ ghost use Rattle.tree_questions.specs.Turning.{ShowsTree, TurnsRows, GoesOnRows,
 ghost use Rattle.tree_questions.specs.inner.Telling.{KeepsRows, ToldRows};
 
 use crate::naming::next_named;
+use crate::runs::run_from;
+use crate::taking::take_rows;
 use page_tx::Pages;
 use route_history::{RowsCursor, RowsErrand, RowsTurn};
 use route_meaning::RowsAnswer;
@@ -45,8 +47,9 @@ fn tell(alloc: Global, cursor: &mut RowsCursor) -> RowsTurn
     }
 }
 
-/// One turn of a question of a moment over the tree whose root is at this place: one look for the next key that it asks for. Where that
-/// leads into the past, the errand goes on there without the pages.
+/// One turn of a question of a moment over the tree whose root is at this place: one look for the next key that it asks for, and,
+/// where it asks for keys one after another, the keys that follow in its leaf. Where the look leads into the past, the errand goes on
+/// there without the pages.
 ///
 /// Each turn passes a key, but for one that leaves an errand, which passes it when it is finished. Pages are only read, and called damaged
 /// only where they aren't what the tree asks of them, or name a block from `burnt` on, the first that was never burnt. After each outcome the cursor has gathered what the range has that its walk has passed;
@@ -78,7 +81,8 @@ pub fn rows_turn<P: Pages>(
     let looked = next_named(pages, alloc, root, burnt, from, stamp)?;
     match looked {
         Looked::Here(reached) => {
-            cursor.take_reached(alloc, reached)?;
+            let run = run_from(pages, alloc, root, cursor, from, stamp)?;
+            take_rows(alloc, cursor, reached, run)?;
             Ok(tell(alloc, cursor))
         }
         Looked::InBlock(place) => Ok(RowsTurn::Historical(RowsErrand { from, place })),

@@ -16,6 +16,8 @@ ghost use Rattle.route_history.specs.Walks.{Tells, Gathered, left_of};
 ghost use Rattle.tree_questions.specs.Reading.{ReadsTree};
 
 use crate::looks::next_key;
+use crate::runs::run_from;
+use crate::taking::take_rows;
 use disk_models::OnceDisk;
 use once_store::ShelfReader;
 use page_tx::Pages;
@@ -59,7 +61,8 @@ fn take_look<P: Pages, O: OnceDisk + Drop>(
     let stamp = look.stamp;
     key_fits(from);
     let reached = next_key(pages, reader, seen, alloc, root, burnt, from, stamp)?;
-    cursor.take_reached(alloc, reached)?;
+    let run = run_from(pages, alloc, root, cursor, from, stamp)?;
+    take_rows(alloc, cursor, reached, run)?;
     Ok(true)
 }
 

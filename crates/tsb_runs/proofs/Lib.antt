@@ -1,0 +1,4 @@
+pub mod LiveKeys
+pub mod Latest
+pub mod Standing
+pub mod Steps
