@@ -64,7 +64,7 @@ fn the_end_of_a_load_is_said(rt: HostRuntime) {
     let held = said(alloc, &MarkAdvice::Held);
     be(
         &rt,
-        held.as_slice() == b"rha: --strict: the load ends here, and no mark is set\n",
+        held.as_slice() == "rha: --strict: the load ends here, and no mark is set\n".as_bytes(),
         "a load that is held back",
     );
     let unread = said(
@@ -73,12 +73,16 @@ fn the_end_of_a_load_is_said(rt: HostRuntime) {
             files: &["u2", "u3"],
         },
     );
-    be(&rt, unread.as_slice() == b"rha: not read: u2 u3\n", "files");
+    be(
+        &rt,
+        unread.as_slice() == "rha: not read: u2 u3\n".as_bytes(),
+        "files",
+    );
     let cut = said(alloc, &FileAdvice::Cut { file: "u2" });
     be(
         &rt,
         cut.as_slice()
-            == b"rha: u2: it ends inside a record, or goes on with what is none: fetch or expand it again; what came before is kept\n",
+            == "rha: u2: it ends inside a record, or goes on with what is none: fetch or expand it again; what came before is kept\n".as_bytes(),
         "a file that is cut",
     );
 }
