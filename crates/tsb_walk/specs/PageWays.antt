@@ -16,8 +16,8 @@ pub record IsLower (shown : List (List ℕ)) (key : ℕ) (place next : PagePlace
   pub level : suc next.level ≡ place.level
   pub has : HasKey next key
 
--- Where the page says a key node of its level and its keys, the other place is its child that has the key. Of other pages it is said only
--- that the next place is one level below, and is to have the key.
+-- Where the page says a key node of its level and its keys, the other place is its child that has the key. Of other pages it is known
+-- only that the next place is one level below, and is to have the key.
 pub record IsLed (shown : List (List ℕ)) (key : ℕ) (place next : PagePlace) : Type 0 where
   pub lower : (children : List Child) → Says shown place.page (KeyNode place.level (keys_at place) children) → IsLower shown key place next
   pub above : 1 < place.level
