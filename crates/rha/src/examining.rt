@@ -39,7 +39,7 @@ fn open_slots(file: &File) -> io::Result<u64> {
     Ok(open)
 }
 
-/// What the file of an archive's pages says, where no slot is open any more.
+/// What the file of an archive's pages says, once no slot is open any more.
 fn facts_in(
     alloc: Global,
     file: &File,

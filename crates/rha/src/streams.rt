@@ -4,13 +4,13 @@ use std::fs::File;
 use std::io;
 use std::os::fd::{AsRawFd, IntoRawFd};
 
-/// Has nothing to be read, and drops what is written.
+/// Reads as empty, and drops what is written.
 pub(crate) const DEV_NULL: &str = "/dev/null";
 
 /// The descriptors of standard input, output and error.
 const STREAMS: [i32; 3] = [libc::STDIN_FILENO, libc::STDOUT_FILENO, libc::STDERR_FILENO];
 
-/// Whether a standard stream is closed: advice about a file changes nothing, but wants an open descriptor.
+/// Whether a standard stream is closed: `posix_fadvise` changes nothing, but needs an open descriptor.
 fn is_any_closed() -> bool {
     STREAMS.iter().any(|fd| libc::posix_fadvise(*fd, 0, 0, libc::POSIX_FADV_NORMAL) == libc::EBADF)
 }
