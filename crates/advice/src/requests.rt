@@ -95,7 +95,7 @@ fn after_select(word: &str) -> Option<Part> {
     }
 }
 
-/// What stands after this word of the grammar, where one of this form may stand.
+/// What stands after this word of the grammar, if one of this form may stand there.
 fn part_after(form: Form, word: &str) -> Option<Part> {
     match (form, word) {
         (Form::Command, _) => after_command(word),

@@ -1,5 +1,5 @@
-//! Why no archive is made or opened, as standard error shows it: `rha: NUMBER NAME`, and where a file failed, then on the same line
-//! which one, at which call, and why; where the files hold no archive, which of them, and why. The exit status is 1.
+//! Why no archive is made or opened, as standard error shows it: `rha: NUMBER NAME`, and if a file failed, then on the same line
+//! which one, at which call, and why; if the files hold no archive, which of them, and why. The exit status is 1.
 
 ghost use Rattle.std.specs.Prelude.{◌≡◌, codes};
 ghost use Rattle.service.specs.Outputs.{Tells};
@@ -22,7 +22,7 @@ use serving::ServeError;
 use std::alloc::Global;
 use std::io::Write;
 
-/// What helps where a server's threads can't be made.
+/// What helps if a server's threads can't be made.
 const FEW_THREADS: &str =
     ": a thread can't be made for each: choose fewer, or raise the limits on processes and memory (ulimit -u, ulimit -v)";
 

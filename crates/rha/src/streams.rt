@@ -16,7 +16,7 @@ fn is_any_closed() -> bool {
 }
 
 /// Opens `/dev/null` for each standard stream that is closed, as Rust's own runtime does before `main`. It must be done before
-/// the program opens anything: the system gives a file the lowest descriptor that is free, so where a stream is closed
+/// the program opens anything: the system gives a file the lowest descriptor that is free, so if a stream is closed
 /// (`rha ask .. >&-`), the archive's first file would take its number, and what is printed would be written over its first page.
 pub(crate) fn open_closed_streams(rt: &HostRuntime) -> io::Result<()> {
     for _ in STREAMS {

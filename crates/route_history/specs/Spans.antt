@@ -136,7 +136,7 @@ pub record IsSameTelling (c d : EventsCursor) : Type 0 where
   pub told : d.told.items ≡ c.told.items
   pub more : d.more ≡ c.more
 
--- the versions with later ones, where the events of the span are the same
+-- the versions with later ones, if the events of the span are the same
 pub record EventsGoOn (all new : List Version) (ps qs : List (Placed Admitted)) (q : EventsQuestion) : Type 0 where
   pub more : List Version
   pub added : new ≡ all ++ more

@@ -196,7 +196,7 @@ abbrev pub least_or : ℕ → Option ℕ → ℕ
 least_or key None = key
 least_or key (Some least) = cond (nat_lt key least) key least
 
--- the same key and stamp, and an end where the other is one
+-- the same key and stamp, and an end if the other is one
 pub record IsSameVersion (v w : Version) : Type 0 where
   pub key : v.key ≡ w.key
   pub stamp : v.stamp ≡ w.stamp
