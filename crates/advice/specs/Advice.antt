@@ -1,4 +1,4 @@
--- What is said to a person.
+-- Advice that is printed for a person.
 use Rattle.std.specs.Prelude.{◌≡◌, ◌⊎◌, ℕ, List, ◌++◌, codes}
 use Rattle.service.specs.Outputs.{OutputState, Tells}
 use Rattle.service.specs.Refusals.{line_end}
@@ -7,6 +7,6 @@ use Rattle.service.specs.Refusals.{line_end}
 abbrev pub advice_line : List ℕ → List ℕ
 advice_line words = codes "rha: " ++ words ++ line_end
 
--- some words were written as a line, or none, where there was no memory for them
+-- some words were written as a line, or none, if there was no memory for them
 abbrev pub MaySay : OutputState → OutputState → Type 0
 MaySay was now = (now ≡ was) ⊎ ((words : List ℕ) × Tells was now (advice_line words))

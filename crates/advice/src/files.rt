@@ -1,4 +1,4 @@
-//! What is said of a file that was loaded.
+//! Advice about a file that was loaded.
 
 ghost use Rattle.std.specs.Prelude.{◌≡◌};
 
@@ -14,7 +14,7 @@ use std::io::Write;
 /// What stands for standard input on the command line.
 pub const STDIN: &str = "-";
 
-/// What is said of a file that was loaded.
+/// Advice about a file that was loaded.
 #[derive(Clone, Copy, Debug, PartialEq, Eq)]
 pub enum FileAdvice<'a> {
     /// It isn't MRT but this.
@@ -88,7 +88,7 @@ impl fmt::Display for FileAdvice<'_> {
     }
 }
 
-/// Says what a person may not expect of a file whose feed had these counts, where the collector's mark was this one before: that it isn't
+/// Prints what a person may not expect of a file whose feed has these counts, if the collector's mark was this one before: that it isn't
 /// MRT, or that nothing of it, or little, was taken.
 pub fn advise_file<E: Write>(
     alloc: Global,

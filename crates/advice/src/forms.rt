@@ -26,7 +26,7 @@ pub enum Form {
 }
 
 impl Form {
-    /// Whether the word has this form, where it isn't a word of the grammar itself.
+    /// Whether the word has this form, if it isn't a word of the grammar itself.
     pub(crate) fn fits(self, word: &str) -> bool {
         match self {
             Form::Moment => read_moment(word).is_ok(),

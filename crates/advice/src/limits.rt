@@ -1,4 +1,4 @@
-//! What is said where an archive has no room left.
+//! Advice for an archive that has no room left.
 
 use std::fmt;
 
@@ -14,7 +14,7 @@ pub enum LimitAdvice {
     LargeFiles,
     Pages(u64),
     Blocks(u64),
-    /// The ring of a collector, one of so many, in pages.
+    /// The ring of a collector, one of `collectors`, in pages.
     Ring {
         collector: u8,
         collectors: u8,

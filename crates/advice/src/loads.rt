@@ -1,4 +1,4 @@
-//! What is said of a load.
+//! Advice about a load.
 
 use crate::files::{FileAdvice, advise_file};
 use crate::limits::LimitAdvice;
@@ -22,11 +22,11 @@ pub struct Loaded<'a> {
     /// The mark that was to be set after it.
     pub mark: Option<Mark>,
     pub report: LoadReport,
-    /// None where they can't be read.
+    /// None if they can't be read.
     pub sizes: Option<Sizes>,
 }
 
-/// Says of a full archive how large it is, and what helps.
+/// Prints how large a full archive is, and what helps.
 fn advise_full<E: Write>(
     alloc: Global,
     refusal: Refusal,
@@ -54,7 +54,7 @@ fn advise_full<E: Write>(
     }
 }
 
-/// Says what the mark of a collector is, which can't be set back.
+/// Prints what the mark of a collector is, which can't be set back.
 fn advise_back<A: RouteArchive, E: Write>(
     alloc: Global,
     archive: &A,
@@ -67,7 +67,7 @@ fn advise_back<A: RouteArchive, E: Write>(
     }
 }
 
-/// Says what helps where a load was refused.
+/// Prints what helps if a load was refused.
 fn advise_refused<A: RouteArchive, E: Write>(
     alloc: Global,
     archive: &A,
@@ -87,7 +87,7 @@ fn advise_refused<A: RouteArchive, E: Write>(
     }
 }
 
-/// Says that a file ends inside a record, where it does and nothing else is known of it.
+/// Prints that a file ends inside a record, if it does and nothing else is known of it.
 fn advise_cut<E: Write>(alloc: Global, loaded: &Loaded<'_>, err: &mut Output<E>) {
     let LoadReport {
         present,
@@ -99,7 +99,7 @@ fn advise_cut<E: Write>(alloc: Global, loaded: &Loaded<'_>, err: &mut Output<E>)
     }
 }
 
-/// Says that a mark lies far ahead, where it was set or held back, and that a load that is strict was held back.
+/// Prints that a mark lies far ahead, if it was set or held back, and that a load that is strict was held back.
 fn advise_held<E: Write>(alloc: Global, loaded: &Loaded<'_>, err: &mut Output<E>) {
     let LoadReport {
         present,
@@ -124,8 +124,8 @@ fn advise_held<E: Write>(alloc: Global, loaded: &Loaded<'_>, err: &mut Output<E>
     }
 }
 
-/// Says of the load of a file what a person may not expect: that the file isn't MRT, that nothing of it, or little, was taken, that the mark lies
-/// far ahead; and what helps where it was refused.
+/// Prints what a person may not expect of the load of a file: that the file isn't MRT, that nothing of it, or little, was taken, that
+/// the mark lies far ahead; and what helps if it was refused.
 pub fn advise_load<A: RouteArchive, E: Write>(
     alloc: Global,
     archive: &A,

@@ -57,7 +57,7 @@ fn process_in(line: &str, device: u64, inode: u64) -> Option<u32> {
     process.parse().ok()
 }
 
-/// The first process that has locked the file of this device and inode, by the lines of `/proc/locks`; none where they name none.
+/// The first process that has locked the file of this device and inode, by the lines of `/proc/locks`; None if they name none.
 pub fn holder_of(locks: &str, device: u64, inode: u64) -> Option<u32> {
     for line in locks.lines() {
         if let Some(process) = process_in(line, device, inode) {

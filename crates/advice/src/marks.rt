@@ -1,4 +1,4 @@
-//! What is said of marks, and of texts of the command line.
+//! Advice about marks, and about texts of the command line.
 
 use crate::saying::advise;
 use archive_facts::Date;
@@ -8,7 +8,7 @@ use std::alloc::Global;
 use std::fmt;
 use std::io::Write;
 
-/// What is said of marks and collectors.
+/// Advice about marks and collectors.
 #[derive(Clone, Copy, Debug, PartialEq, Eq)]
 pub enum MarkAdvice {
     /// A question has to be of a moment below this one.
@@ -18,16 +18,16 @@ pub enum MarkAdvice {
         collector: u8,
         mark: Mark,
     },
-    /// There are so many collectors.
+    /// The archive has this many collectors.
     Collectors(u8),
-    /// The mark lies more than a day after the collector's last record, or after the last mark that it got, `present` in seconds. It is set, or isn't
-    /// since the load is strict.
+    /// The mark lies more than a day after the collector's last record, or after the last mark that it got, `present` in seconds. It is
+    /// set, or it isn't because the load is strict.
     Far {
         mark: Mark,
         present: u64,
         is_held: bool,
     },
-    /// The mark isn't set, since the load is strict.
+    /// The mark isn't set, because the load is strict.
     Held,
 }
 
@@ -104,7 +104,7 @@ impl fmt::Display for TextAdvice {
     }
 }
 
-/// Says what a text of the command line has to be that was refused.
+/// Prints what a text of the command line that was refused has to be.
 pub fn advise_text<E: Write>(alloc: Global, error: &CommandError, err: &mut Output<E>) {
     match error {
         CommandError::BadMark => advise(alloc, &TextAdvice::Mark, err),

@@ -35,7 +35,7 @@ impl FirstOctets {
         self.count.set(count);
     }
 
-    /// What the file is that they were read of, if it isn't MRT.
+    /// What the file that they were read from is, if it isn't MRT.
     pub fn packing(&self) -> Option<Packing> {
         let octets = self.octets.get();
         packing_of(octets.get(..self.count.get())?)

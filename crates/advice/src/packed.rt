@@ -13,7 +13,7 @@ pub enum Packing {
     Text,
 }
 
-/// How many octets tell it.
+/// How many octets suffice to recognize it.
 pub(crate) const FIRST: usize = 16;
 
 /// The fewest octets that are looked at for a text.
@@ -57,7 +57,7 @@ impl fmt::Display for Packing {
     }
 }
 
-/// Whether the octet stands in a text of ASCII.
+/// Whether the octet occurs in ASCII text.
 fn is_of_text(octet: u8) -> bool {
     octet == b'\n' || octet == b'\r' || octet == b'\t' || (b' '..=b'~').contains(&octet)
 }

@@ -1,4 +1,4 @@
-//! What is said of a question that isn't answered.
+//! Advice about a question that isn't answered.
 
 ghost use Rattle.std.specs.Prelude.{◌≡◌};
 
@@ -10,7 +10,7 @@ use service::{Output, Request, read_request};
 use std::alloc::Global;
 use std::io::Write;
 
-/// Says why a line isn't answered that the archive refused: which word isn't understood, until when it is settled, or which collectors
+/// Prints why a line that the archive refused isn't answered: which word isn't understood, until when it is settled, or which collectors
 /// there are.
 pub fn advise_question<A: RouteArchive, E: Write>(
     alloc: Global,

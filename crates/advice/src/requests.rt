@@ -1,10 +1,10 @@
-//! Where a line stops to be a request.
+//! Where a line stops being a request.
 
 use crate::forms::Form;
 use std::fmt;
 use std::str::Split;
 
-/// The first word of a line that isn't what it has to be there; none where the line ends.
+/// The first word of a line that isn't what it has to be there; none if the line ends there.
 #[derive(Clone, Copy, Debug, PartialEq, Eq)]
 pub struct Misread<'a> {
     pub word: Option<&'a str>,
@@ -45,7 +45,7 @@ const PAST: [Form; 6] = [
 /// How many words of the grammar a line has at most: `at`, what is asked, `after`.
 const GRAMMAR_WORDS: usize = 3;
 
-/// What stands after this word, where a line may begin with it.
+/// What stands after this word, if a line may begin with it.
 fn after_command(word: &str) -> Option<Part> {
     match word {
         "at" => Some(Part {
@@ -68,7 +68,7 @@ fn after_command(word: &str) -> Option<Part> {
     }
 }
 
-/// What stands after this word, where it may say what is asked of a moment.
+/// What stands after this word, if it may say what is asked of a moment.
 fn after_select(word: &str) -> Option<Part> {
     match word {
         "route" => Some(Part {
@@ -95,7 +95,7 @@ fn after_select(word: &str) -> Option<Part> {
     }
 }
 
-/// What stands after this word of the grammar, where one of this form may stand.
+/// What stands after this word of the grammar, if one of this form may stand there.
 fn part_after(form: Form, word: &str) -> Option<Part> {
     match (form, word) {
         (Form::Command, _) => after_command(word),
@@ -112,7 +112,7 @@ fn part_after(form: Form, word: &str) -> Option<Part> {
     }
 }
 
-/// The first of the next words that hasn't the form that it has to have.
+/// The first of the next words that doesn't have the form that it has to have.
 fn misfit<'a>(words: &mut Split<'a, char>, forms: &[Form]) -> Option<Misread<'a>> {
     for wanted in forms {
         let word = words.next();
@@ -126,7 +126,7 @@ fn misfit<'a>(words: &mut Split<'a, char>, forms: &[Form]) -> Option<Misread<'a>
     None
 }
 
-/// The first word of the line that keeps it from being a request; none where it is one.
+/// The first word of the line that keeps it from being a request; None if it is one.
 pub fn first_misread(line: &str) -> Option<Misread<'_>> {
     let mut words = line.split(' ');
     let mut wanted = Form::Command;

@@ -17,7 +17,7 @@ fn write_line<E: Write>(err: &mut Output<E>, words: &str)
     err.text("\n");
 }
 
-/// Says something to a person, in a line of its own: `rha: WORDS`. Where there is no memory for the words, nothing is said.
+/// Prints advice for a person, on a line of its own: `rha: WORDS`. If there is no memory for the words, nothing is printed.
 pub fn advise<D: Display, E: Write>(alloc: Global, words: &D, err: &mut Output<E>)
     ensures said { MaySay err.old err.new }
 {

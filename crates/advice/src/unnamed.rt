@@ -1,4 +1,4 @@
-//! What is said of files that hold no archive.
+//! Advice about files that hold no archive.
 
 ghost use Rattle.std.specs.Prelude.{ℕ, ◌≡◌, ◌≢◌, ◌+◌, ◌<◌, ◌≤◌, None, Some};
 ghost use Rattle.archive_facts.specs.declared.identity.Sizes.{Sizes};
@@ -32,7 +32,7 @@ pub enum NoArchive {
 }
 
 impl NoArchive {
-    /// Why files that are so large, whose first page says that the archive was made so large, hold none.
+    /// Why files of these sizes, whose first page says that the archive was made with those sizes, hold none.
     pub fn of(found: Found, made: Option<Sizes>) -> NoArchive
         ensures short { found.pages < JOURNAL_PAGES → result ≡ NoArchive.Short }
         ensures unnamed { JOURNAL_PAGES ≤ found.pages → made ≡ None → result ≡ NoArchive.Unnamed }

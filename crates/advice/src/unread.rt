@@ -1,4 +1,4 @@
-//! What is said of files that a load didn't come to.
+//! Advice about files that a load didn't come to.
 
 use std::fmt;
 

@@ -1,5 +1,5 @@
-//! How a transaction is committed: the one place where a call of an archive writes to the erasable disk. It is given no shelf, so
-//! that whatever a call burns is settled before.
+//! How a transaction is committed: the one place where a call that changes the history writes to the erasable disk. It is given no
+//! shelf, so that whatever a call burns is settled before.
 
 ghost use Rattle.std.specs.Prelude.{◌≡◌, ◌≢◌, ◌<◌, ◌⊎◌, ℕ, List, [], OnOk, OnErr, IfOk, IfErr, IsErrOf, Err, true, false};
 ghost use Rattle.disk_models.specs.Erase.{Leaves};

@@ -1,5 +1,34 @@
-//! An archive on two disks: pages that are written over, and blocks that are written once. What some collectors gave is on them,
-//! through crashes.
+//! An archive on two disks: pages that are written over, and blocks that are written once. What some collectors gave is on them, through
+//! crashes.
+//!
+//!     a call                              write-once disk   erasable disk             a crash then leaves
+//!     begin, read pages, plan in memory                     reads                     the history of before
+//!     the tree takes versions             burn, settle      reads                     that, and blocks to which nothing refers
+//!     if no slot is closed: checkpoint                      pages home, sync, gates   that
+//!     header and images                                     a slot's pages, sync      that
+//!     the gate                                              one octet, sync           that of before, or that of after
+//!     the head in memory is replaced                                                  that of after
+//!
+//! Nothing is burnt after the first erasable write: `commit`, by which a call changes the history, is given a transaction and no shelf.
+//! So what a crash inside a call leaves is stated with the write-once disk as it is after the call (`Crashes`). `Holds` is an
+//! implication, from disks that follow their models, so the same program serves disks of which nothing is promised, as files.
+//!
+//! A step of applying goes on with the next change while its images surely have room: with a change a tree of level l names at most
+//! 2 l + 3 pages, so one begins if at most 27 - 2 l are held; with the head's page there are never more than 31. It commits nothing if a
+//! device failed: with `Applied` nobody would learn of the failure, with `Fault` a refused call would have changed the history. The
+//! sequencer moves only once the commit is done (`Ahead`). The admission at hand is decoded once and kept with its octets (`Encoded`);
+//! the next step compares these with the ring's front, so nothing kept can be stale. Room in a ring is counted before memory is asked
+//! for, so `IntakeFull` is returned exactly if due.
+//!
+//! Creating lays the head and the tree's first pages home with the journal's own creation, so no crash leaves a new journal without an
+//! archive. An opening reads its pages through a map without room for an image, so only the journal's recovery writes. It tests of the
+//! head what a later call needs: each ring lies on home pages, the times in it rise up to the collector's mark, the root is one of the
+//! tree's used pages. A check decodes what waits, of which an opening reads the times alone; what it found holds of any pages, whether or
+//! not they carry a history: else a check that reads nothing would meet its contract.
+//!
+//! What a cursor has gathered is stated over a history and each later one (`IsGathered`), so between two turns its owner needs to know
+//! only that one history begins the other. An errand states itself what it relies on (`Lies`, `LiesKnown`), so it is finished by any view
+//! of the same disk that knows these blocks, on any thread, while the archive goes on.
 #![tactic(auto)]
 
 mod admitting;

@@ -1,5 +1,13 @@
-//! One line on a terminal that says how far a load has come. It is rewritten in place, and gone at the end. What is loaded doesn't know
-//! of it: the file's reader, the archive and the writers of lines are wrapped, and do what they do without it.
+//! One line on a terminal that says how far a load has come. It is rewritten in place, and gone at the end. What is loaded
+//! doesn't know of it: the file's reader, the archive and the writers of lines are wrapped, and do what they do without it.
+//!
+//! Octets are counted as they are read. Records are counted by batch, once the archive has admitted it: it is offered
+//! nothing else, so peer tables and records that are refused or skipped don't count. Changes applied are the archive's
+//! count now less that before the load. The archive that is wrapped is the one in files, since no trait returns how many
+//! changes are applied.
+//!
+//! Standard output may be the same terminal, so the line is removed before anything is written there too. The line comes
+//! back with the next count, if 200 ms have passed since it was last written.
 #![tactic(auto)]
 
 mod archive;

@@ -5,10 +5,10 @@ use std::cell::Cell;
 use std::io::Eprint;
 use std::time::{Clock, Duration, Instant};
 
-/// How long the line stands before it is written anew, in milliseconds.
+/// How long the line stays before it is written anew, in milliseconds.
 const PERIOD: u64 = 200;
 
-/// The line of progress on standard error, where that is a terminal. Elsewhere nothing is written, and no clock is read.
+/// The line of progress on standard error, if that is a terminal. If not, nothing is written, and no clock is read.
 #[derive(Drop)]
 pub struct Meter<'a, T> {
     terminal: Option<&'a T>,
@@ -22,7 +22,7 @@ pub struct Meter<'a, T> {
 }
 
 impl<'a, T: Eprint + Clock> Meter<'a, T> {
-    /// A line that stands nowhere yet: on what prints to a terminal, or on none.
+    /// A line that isn't written yet: on what prints to a terminal, or on none.
     pub fn new(terminal: Option<&'a T>) -> Meter<'a, T> {
         let began = match terminal {
             Some(terminal) => Instant::now(terminal).ok(),
@@ -54,13 +54,13 @@ impl<'a, T: Eprint + Clock> Meter<'a, T> {
         self.tell();
     }
 
-    /// Says how many changes are applied by now.
+    /// Sets how many changes are applied by now.
     pub fn count_applied(&self, applied: u64) {
         self.applied.set(applied);
         self.tell();
     }
 
-    /// Takes the line away, if it stands on the terminal. Where that can't be written, nobody sees the line either.
+    /// Removes the line, if it is on the terminal. If that can't be written, nobody sees the line either.
     pub fn clear(&self) {
         let Some(terminal) = self.terminal else {
             return;
@@ -71,7 +71,7 @@ impl<'a, T: Eprint + Clock> Meter<'a, T> {
         }
     }
 
-    // Writes the line, unless it was written a moment ago. Where no clock can be read, there is none.
+    // Writes the line, unless it was written a moment ago. If no clock can be read, there is none.
     fn tell(&self) {
         let (Some(terminal), Some(began)) = (self.terminal, self.began) else {
             return;

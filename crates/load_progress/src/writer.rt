@@ -1,10 +1,10 @@
-//! A writer before whose lines the line of progress is taken away.
+//! A writer that removes the line of progress before it writes.
 
 use crate::meter::Meter;
 use std::io::{Eprint, Result, Write};
 use std::time::Clock;
 
-/// Writes as the writer in it, once the line of progress is gone: both may stand on the same terminal.
+/// Writes as the writer in it, once the line of progress is gone: both may be on the same terminal.
 #[derive(Drop)]
 pub struct ClearedWriter<'a, W, T> {
     writer: W,

@@ -18,7 +18,7 @@ use service::{
 use std::alloc::Global;
 use std::io::{BufWriter, Write};
 
-/// Says what helps where an archive isn't made for its sizes: how many pages it needs, or that its files are too large.
+/// Prints what helps if an archive isn't made because of its sizes: how many pages it needs, or that its files are too large.
 fn advise_unmade<E: Write>(
     alloc: Global,
     asked: &Creation<'_>,

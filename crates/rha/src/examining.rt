@@ -16,7 +16,7 @@ use std::io;
 use std::io::Write;
 use std::os::unix::fs::FileExt;
 
-/// Why nothing is shown of an archive.
+/// Why nothing is printed about an archive.
 enum Unshown {
     Failed(io::Error),
     Refused(Refusal),
@@ -39,7 +39,7 @@ fn open_slots(file: &File) -> io::Result<u64> {
     Ok(open)
 }
 
-/// What the file of an archive's pages says, where no slot is open any more.
+/// What the file of an archive's pages says, once no slot is open any more.
 fn facts_in(
     alloc: Global,
     file: &File,
@@ -73,7 +73,7 @@ fn text_of(alloc: Global, facts: &Facts, json: bool) -> Option<String> {
     format!(in alloc; "{facts}").ok()
 }
 
-/// Shows what is known of an archive, and writes it out.
+/// Prints the facts about an archive, and writes them out.
 fn show<E: Write>(rt: &HostRuntime, facts: &Facts, json: bool, err: &mut Output<E>) -> u8 {
     let Some(text) = text_of(rt.alloc(), facts, json) else {
         return tell_out_of_memory(err);
@@ -83,7 +83,7 @@ fn show<E: Write>(rt: &HostRuntime, facts: &Facts, json: bool, err: &mut Output<
     finish(rt.alloc(), Status::Done, &mut out, err)
 }
 
-/// Shows how far the archive of a folder has come, and how much room it has left. Its slots are counted before it is opened, which
+/// Prints how far the archive of a folder has come, and how much room it has left. Its slots are counted before it is opened, which
 /// closes them; what its file says is read while the archive is held.
 pub(crate) fn info<E: Write>(rt: &HostRuntime, asked: &Examining<'_>, err: &mut Output<E>) -> u8 {
     let alloc = rt.alloc();

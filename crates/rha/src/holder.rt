@@ -29,7 +29,7 @@ fn process_of(rt: &HostRuntime, folder: &str) -> Option<u32> {
     holder_of(locks.as_str(), file.dev(), file.ino())
 }
 
-/// Says which process has the archive of a folder, if one has and the system says it.
+/// Prints which process has the archive of a folder, if one has and the system says it.
 pub(crate) fn advise_holder<E: Write>(rt: &HostRuntime, folder: &str, err: &mut Output<E>) {
     let Some(process) = process_of(rt, folder) else {
         return;

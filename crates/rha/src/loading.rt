@@ -30,7 +30,7 @@ impl Noted {
     }
 }
 
-/// Nothing yet of each of `count` files. None where there is no memory.
+/// Nothing yet of each of `count` files. None if out of memory.
 fn noted_of(rt: &HostRuntime, count: usize) -> Option<Vec<Noted>> {
     let mut noted = Vec::new(rt.alloc());
     for _ in 0..count {
@@ -39,7 +39,7 @@ fn noted_of(rt: &HostRuntime, count: usize) -> Option<Vec<Noted>> {
     Some(noted)
 }
 
-/// The files of these names. None where there is no memory.
+/// The files of these names. None if out of memory.
 fn sources_of<'a>(
     rt: &'a HostRuntime,
     names: &[&'a str],
@@ -95,14 +95,14 @@ fn tell_failed<R: Read, E: Write>(
     }
 }
 
-/// Says which files weren't read, if there are such.
+/// Prints which files weren't read, if there are any.
 fn advise_unread<E: Write>(rt: &HostRuntime, files: &[&str], err: &mut Output<E>) {
     if !files.is_empty() {
         advise(rt.alloc(), &Unread { files }, err);
     }
 }
 
-/// Says of each file that was loaded why it couldn't be read, if so, and what a person may not expect; and which files weren't read.
+/// Prints for each file that was loaded why it couldn't be read, if so, and what a person may not expect; and which files weren't read.
 fn advise_loaded<A: RouteArchive, R: Read, E: Write>(
     rt: &HostRuntime,
     archive: &A,
@@ -137,7 +137,7 @@ fn advise_loaded<A: RouteArchive, R: Read, E: Write>(
     advise_unread(rt, names.get(begun..).unwrap_or(&[]), err);
 }
 
-/// Loads files into an archive that is open. Where standard error is a terminal, one line there says how far it has come, and is gone
+/// Loads files into an archive that is open. If standard error is a terminal, one line there says how far it has come, and is gone
 /// before anything else is printed.
 fn load_into<E: Write>(
     rt: &HostRuntime,

@@ -1,5 +1,23 @@
-//! The program `rha`: a route history archive for BGP. It keeps what route collectors gave in the files of a folder, and answers
-//! for any past moment that is settled.
+//! The program `rha`: a route history archive for BGP. It keeps what route collectors gave in the files of a folder, and
+//! answers for any past moment that is settled.
+//!
+//! Standard streams that are closed are opened on `/dev/null` before all else (`streams`). Signals keep their defaults,
+//! since the toolchain's library sets none; so a write beyond the limit on the size of files would end the program
+//! (SIGXFSZ), and the archive's files ask for that limit before each write.
+//!
+//! `--wait` tries again ten times a second: three files are locked one after another, and no call waits some seconds for a
+//! lock; so nobody has a place in a line. Which process has an archive is read in `/proc/locks`, by the device and inode of
+//! `pages.rha`. `info` reads the head in the file of the pages, while it holds the archive: an opening brings all pages
+//! home and closes the slots, so the file has what the archive has.
+//!
+//!     serve:   open the archive   listen   make all threads   print `listening`   take connections
+//!
+//! The program starts threads through a second handle (`host`), since the compiler gives a runtime's threads only to
+//! `main`. What a file that isn't MRT is, is printed after the load, by its first 16 octets, and only if nothing of it was
+//! admitted.
+//!
+//! `main` has no contract: there is no model of what a process is given, nor of its exit status. That it opens the folder's
+//! files and then the files to load, and calls `file_archive` and `service` in this order, can only be read in it.
 #![tactic(auto)]
 
 mod commands;

@@ -1,4 +1,4 @@
-//! The archive of a folder is opened for a command. Where it is in use, the command may wait for it.
+//! The archive of a folder is opened for a command. If it is in use, the command may wait for it.
 
 use crate::holder::advise_holder;
 use crate::refusals::tell_unopened;
@@ -10,13 +10,13 @@ use std::io::Write;
 use std::thread;
 use std::time::Duration;
 
-/// How many times in a second it is tried whether an archive is still in use.
+/// How many times a second a command tries whether an archive is still in use.
 const TRIES: u64 = 10;
 
 /// How many milliseconds pass between two tries.
 const REST: u64 = 100;
 
-/// What helps where an archive that can be read has to be written to first.
+/// What helps if an archive that can be read has to be written to first.
 const UNENDED: &str =
     "a command that was cut off left this archive, and what it began has to be written to its files before they can be read: \
      run the command once as a user who may write to them";
@@ -40,7 +40,7 @@ fn within<T: Drop, F: Fn() -> Result<T, OpenFault>>(
     attempt()
 }
 
-/// What was opened. Where nothing was, why is printed, and which process has the archive where it is in use; the exit status is 1.
+/// What was opened. If nothing was, the reason is printed, and which process has the archive if it is in use; the exit status is 1.
 fn tell_closed<T, E: Write>(
     rt: &HostRuntime,
     folder: &str,
@@ -59,8 +59,8 @@ fn tell_closed<T, E: Write>(
     }
 }
 
-/// The disks of a folder's archive, which no one else has, within `seconds`. Where they aren't opened, why is printed, and the exit
-/// status is 1.
+/// The disks of a folder's archive, for this command alone, within `wait` seconds. If they aren't opened, the reason is printed, and
+/// the exit status is 1.
 pub(crate) fn open_disks<E: Write>(
     rt: &HostRuntime,
     folder: &str,
@@ -78,7 +78,8 @@ pub(crate) fn open_disks<E: Write>(
     tell_closed(rt, folder, opened, err)
 }
 
-/// The archive of a folder, which no one else has, within `seconds`. Where it isn't opened, why is printed, and the exit status is 1.
+/// The archive of a folder, for this command alone, within `wait` seconds. If it isn't opened, the reason is printed, and the exit
+/// status is 1.
 pub(crate) fn open<E: Write>(
     rt: &HostRuntime,
     folder: &str,
@@ -112,8 +113,8 @@ fn open_as(
     FileArchive::on(alloc, disks)
 }
 
-/// The archive of a folder, for a command that only reads it. Others may read it meanwhile; where something has to be written first, which a
-/// command that was cut off left, no one else may.
+/// The archive of a folder, for a command that only reads it. Others may read it meanwhile; if something that a command that was cut
+/// off left has to be written first, no one else may.
 fn open_shared(rt: &HostRuntime, folder: &str, first: First) -> Result<FileArchive, OpenFault> {
     match open_as(rt, folder, Access::Shared, first) {
         Err(fault) if fault.needs_alone() => open_as(rt, folder, Access::Alone, first),
@@ -121,8 +122,8 @@ fn open_shared(rt: &HostRuntime, folder: &str, first: First) -> Result<FileArchi
     }
 }
 
-/// The archive of a folder, for a command that only reads it, within `seconds`. Where it isn't opened, why is printed, and the exit
-/// status is 1.
+/// The archive of a folder, for a command that only reads it, within `wait` seconds. If it isn't opened, the reason is printed, and
+/// the exit status is 1.
 pub(crate) fn open_to_read<E: Write>(
     rt: &HostRuntime,
     folder: &str,

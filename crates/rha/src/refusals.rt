@@ -1,5 +1,5 @@
-//! Why no archive is made or opened, as standard error shows it: `rha: NUMBER NAME`, and where a file failed, then on the same line
-//! which one, at which call, and why; where the files hold no archive, which of them, and why. The exit status is 1.
+//! Why no archive is made or opened, as standard error shows it: `rha: NUMBER NAME`, and if a file failed, then on the same line
+//! which one, at which call, and why; if the files hold no archive, which of them, and why. The exit status is 1.
 
 ghost use Rattle.std.specs.Prelude.{◌≡◌, codes};
 ghost use Rattle.service.specs.Outputs.{Tells};
@@ -22,7 +22,7 @@ use serving::ServeError;
 use std::alloc::Global;
 use std::io::Write;
 
-/// What helps where a server's threads can't be made.
+/// What helps if a server's threads can't be made.
 const FEW_THREADS: &str =
     ": a thread can't be made for each: choose fewer, or raise the limits on processes and memory (ulimit -u, ulimit -v)";
 
@@ -56,7 +56,7 @@ fn tell_failure<E: Write>(alloc: Global, folder: &str, failure: Failure, err: &m
     tell_with(&Refusal::Fault, why, err)
 }
 
-/// Prints why no archive is opened on the files of a folder; where they hold none, also which of them is to blame.
+/// Prints why no archive is opened on the files of a folder; if they hold none, also which of them is to blame.
 fn tell_no_archive<E: Write>(
     rt: &HostRuntime,
     folder: &str,
@@ -94,7 +94,7 @@ pub(crate) fn tell_unopened<E: Write>(
     }
 }
 
-/// Tells why no archive is made in a folder.
+/// Prints why no archive is made in a folder.
 pub(crate) fn tell_unmade<E: Write>(
     alloc: Global,
     folder: &str,
@@ -111,7 +111,7 @@ pub(crate) fn tell_unmade<E: Write>(
     }
 }
 
-/// Prints of a question that isn't answered which call on a file failed, and why, if one did. Standard output has the refusal.
+/// Prints which call on a file failed, and why, for a question that isn't answered, if one failed. Standard output has the refusal.
 pub(crate) fn tell_unanswered<E: Write>(alloc: Global, archive: &FileArchive, err: &mut Output<E>) {
     if let Some(why) = archive.failure(alloc) {
         write_reason(err, &Refusal::Fault, why.as_str());
@@ -127,7 +127,7 @@ fn tell_few_threads<E: Write>(err: &mut Output<E>) -> u8
     1
 }
 
-/// What is printed of a trouble that ended a server. Where the archive must be opened again, an earlier call failed, and that one is printed.
+/// What is printed of a trouble that ended a server. If the archive must be opened again, an earlier call failed, and that one is printed.
 fn served_refusal(trouble: Trouble) -> Refusal
     ensures { result ≡ of_served trouble }
 {
@@ -159,7 +159,7 @@ pub(crate) fn tell_unserved<E: Write>(
     tell_with(&refusal, failure, err)
 }
 
-/// The refusal that tells why no archive is written to its files.
+/// The refusal that says why no archive is written to its files.
 fn refusal_of(why: CreateError) -> Refusal
     ensures { result ≡ of_create why }
 {

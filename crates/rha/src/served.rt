@@ -29,7 +29,7 @@ fn bind<H: Net<Listener = TcpListener, Stream = TcpStream>>(
     Ok((listener, SocketAddrV4::new(*address.ip(), port)))
 }
 
-/// Takes connections where it is asked for, and returns where that is. None where it can't, which standard error says.
+/// Listens at the address that is asked for, and returns where that is. None if it can't, and then standard error has the reason.
 fn listen<H: Net<Listener = TcpListener, Stream = TcpStream>, E: Write>(
     alloc: Global,
     host: &H,
@@ -49,14 +49,14 @@ fn listen<H: Net<Listener = TcpListener, Stream = TcpStream>, E: Write>(
     }
 }
 
-/// Prints where connections are taken. The exit status of the program: 0 where that could be printed.
+/// Prints where connections are taken. Returns the exit status of the program: 0 if that could be printed.
 fn announce<E: Write>(rt: &HostRuntime, bound: &SocketAddrV4, err: &mut Output<E>) -> u8 {
     let mut out = Output::new(rt.stdout());
     tell_listening(rt.alloc(), bound, &mut out, err)
 }
 
 /// Serves an archive on a socket, until a client stops the server. Where connections are taken is printed once
-/// they are. The exit status.
+/// they are. Returns the exit status.
 fn serve_on<
     B: Named + Send + Sync,
     H: Threads + Wait + Clock + Net<Listener = TcpListener, Stream = TcpStream> + Sync,

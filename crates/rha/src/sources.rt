@@ -1,4 +1,4 @@
-//! The files that are loaded, each of which is opened when it is read first.
+//! The files that are loaded, each of which is opened when it is first read.
 
 use advice::STDIN;
 use std::cell::Cell;
@@ -6,7 +6,7 @@ use std::fs::File;
 use std::io;
 use std::io::{Read, Stdin};
 
-/// Where a file that is loaded stands.
+/// How far the reading of a file that is loaded has come.
 #[derive(Drop)]
 enum Stand {
     Unopened,
@@ -16,7 +16,7 @@ enum Stand {
     Ended,
 }
 
-/// A file that is loaded. Standard input isn't opened by a name: where it is a socket, it has none.
+/// A file that is loaded. Standard input isn't opened by a name: if it is a socket, it has none.
 #[derive(Drop)]
 pub(crate) struct Source<'a> {
     rt: &'a HostRuntime,

@@ -101,7 +101,7 @@ none_early moment (x ∷ xs) e = elim (cases_Bool (leb x.time moment)) [
 pub until-applied : (h g : History) (moment : ℕ) → IsHistory h → IsHistory g → Begins h g → moment < settled h → until moment (applied h) ≡ until moment (applied g)
 until-applied h g moment is on b lt = until-later h g moment is b lt ∙ sym (until-later g g moment on (Begins-refl g) (settled_stays h g moment is b lt))
 
--- what is applied later was told after the settled moment
+-- what is applied later was reported after the settled moment
 pub later_times : (h g : History) (moment : ℕ) → IsHistory h → IsHistory g → (b : Begins h g) → moment < settled h → (s : IsStartOf (timed (applied h)) (timed (applied g))) → AllByRecursion (λ t. moment < t.time) s.more
 later_times h g moment is on b lt s =
     let same : filter (early moment) (timed (applied h)) ≡ filter (early moment) (timed (applied g)) = sym (timed_until moment (applied h)) ∙ (ap timed (until-applied h g moment is on b lt) ∙ timed_until moment (applied g)) in

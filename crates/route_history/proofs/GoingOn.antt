@@ -1,4 +1,4 @@
--- What is told of a history stays where later versions are added.
+-- What is gathered of a history stays right when later versions are added.
 use Rattle.std.proofs.Common.{◌≡◌, ℕ, suc, ◌<◌, ◌≤◌, ◌&&◌, List, [], ◌∷◌, ◌++◌, Bool, true, false, Some, None, Option, refl, sym, ap, ◌∙◌, subst, arith, length, drop, take, leb, append-nil}
 use Rattle.std.specs.List.{AllByRecursion, AllZip, filter}
 use Rattle.std.proofs.lemmas.Bool.{le-ltb}

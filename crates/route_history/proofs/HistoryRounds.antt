@@ -1,4 +1,4 @@
--- What a round of a history question tells.
+-- What a round of a history question gathers.
 use Rattle.std.proofs.Common.{◌≡◌, ℕ, zero, suc, ◌+◌, ◌-◌, ◌<◌, ◌≤◌, ◌⊎◌, inl, inr, List, [], ◌∷◌, ◌++◌, length, map, take, drop, Bool, true, false, Option, Some, None, refl, sym, ap, ◌∙◌, subst, arith, leb}
 use Rattle.std.specs.List.{AllZip, filter}
 use Rattle.std.proofs.lemmas.Bool.{lt-ltb, le-ltb, lt-leb, cases_lt}
@@ -114,7 +114,7 @@ module _ (all : List Version) (ps : List (Placed Admitted)) (q : EventsQuestion)
   abbrev pub news_of : ℕ → ℕ → List Version
   news_of at to = filter (is_of_two (key_number q.peer q.prefix) (session_number q.peer) at to) all
 
-  -- a round: what is told before `at`, and what is new before `to`
+  -- a round: what is gathered before `at`, and what is new before `to`
   pub round : (at to left : ℕ) (told news : List Event) (more : Bool) → IsTelling all q at left told more → span_start q ≤ at → at ≤ to → Zips q.peer q.prefix (news_of at to) news
       → Zips q.peer q.prefix (drop q.skip (asked all q to)) (told ++ drop left news) × (left - length news ≡ q.skip - length (asked all q to))
   round at to left told news more u low high zips =
@@ -129,7 +129,7 @@ module _ (all : List Version) (ps : List (Placed Admitted)) (q : EventsQuestion)
   pub tells_on : (to left : ℕ) (told : List Event) → span_start q ≤ to → to < span_end q → Zips q.peer q.prefix (drop q.skip (asked all q to)) told → left ≡ q.skip - length (asked all q to) → length told ≤ most_rows → IsTelling all q to left told false
   tells_on to left told low high zips left_is few = record { low = low; high = high; are = zips; left_is = left_is; few = few; alone = refl }
 
-  -- all is told
+  -- all is gathered
   pub tells_all : (told : List Event) → Zips q.peer q.prefix (drop q.skip (asked all q (span_end q))) told → length told ≤ most_rows → IsEventsAnswer ps q told false
   tells_all told zips few =
       let same : told ≡ events ps q = zips_one q.peer q.prefix ne (drop q.skip (asked all q (span_end q))) told (events ps q) zips (zips_drop q.peer q.prefix q.skip (asked all q (span_end q)) (all_events q.peer q.prefix (between q.from q.to ps)) t.told) in
@@ -138,7 +138,7 @@ module _ (all : List Version) (ps : List (Placed Admitted)) (q : EventsQuestion)
         rest = sym (le-ltb most_rows (length told) few) ∙ ap (λ (l : List Event). Rattle.std.proofs.Common.ltb most_rows (length l)) same;
       }
 
-  -- more is told than an answer has
+  -- more is gathered than an answer has
   pub tells_more : (to : ℕ) (told : List Event) → span_start q ≤ to → to ≤ span_end q → Zips q.peer q.prefix (drop q.skip (asked all q to)) told → most_rows < length told → IsEventsAnswer ps q (take most_rows told) true
   tells_more to told low within zips many =
       let whole : List Event = all_events q.peer q.prefix (between q.from q.to ps) in

@@ -1,4 +1,4 @@
--- The route after changes is what two look-ups of their versions tell.
+-- The route after changes is what two lookups of their versions return.
 use Rattle.std.proofs.Common.{◌≡◌, ◌↔◌, ℕ, zero, suc, ◌<◌, ◌≤◌, ◌&&◌, inl, inr, List, [], ◌∷◌, ◌++◌, map, Bool, true, false, cond, eqb, ltb, leb, Some, None, Option, IsSome, slice_get, refl, sym, ap, ◌∙◌, subst, arith}
 use Rattle.std.specs.List.{AllByRecursion, filter}
 use Rattle.std.specs.Option.{is_some}
@@ -26,7 +26,7 @@ use Rattle.route_history.specs.Walks.{counts, stamp_of_found, Tells}
 use Rattle.route_history.proofs.KeysApart.{prefix-prefix, session-session, session-prefix, prefix-session}
 use Rattle.route_history.proofs.Latest.{RisesFrom, stamp-leb, times_timed, rises_from, counts_at, latest, as_of_latest, latest_as_of}
 
--- one spelling is of one route
+-- one encoding is of one route
 pub routes_one : (r s : Route) (octets : List ℕ) → SpellsRoute r octets → SpellsRoute s octets → r ≡ s
 routes_one r s octets ir is = some_is r s (sym (route_spelled r octets ir) ∙ route_spelled s octets is)
 
@@ -46,7 +46,7 @@ older_more : (m n : ℕ) (o : Option Version) → m ≤ n → IsOlder m o → Is
 older_more m n None le h = tt
 older_more m n (Some v) le h = omega arith
 
--- the value spells the route, or there is neither
+-- the value encodes the route, or there is neither
 abbrev Says : Option Route → Option (List ℕ) → Type 0
 Says None None = Unit {0}
 Says None (Some octets) = ⊥

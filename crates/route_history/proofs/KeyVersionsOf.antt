@@ -1,4 +1,4 @@
--- The versions that a look tells of a key, as entries.
+-- The versions that a look returns for a key, as entries.
 use Rattle.std.proofs.Common.{◌≡◌, ℕ, inl, inr, List, [], ◌∷◌, map, Bool, true, false, eqb, Option, refl, sym, ◌∙◌, subst}
 use Rattle.std.specs.Prelude.{◌||◌}
 use Rattle.std.specs.List.{AllByRecursion, filter}

@@ -128,7 +128,7 @@ last_latest key s m found v (w ∷ ws) (suc i) r e a =
 pub as_of_latest : (key s m : ℕ) (found : Option Version) (v : Version) (vs : List Version) → RisesFrom m vs → AsOf vs key s v → latest key s found vs ≡ Some v
 as_of_latest key s m found v vs r a = last_latest key s m found v vs a.has.place r a.has.is (record { of_key = a.of_key; not_after = a.not_after; greatest = a.greatest })
 
--- what the walk has found is what holds, or what it had before
+-- what the walk has found is what holds, or what it found before
 latest_from : (key s m : ℕ) (found : Option Version) (v : Version) (vs : List Version) → RisesFrom m vs → latest key s found vs ≡ Some v → ((found ≡ Some v) × NoneCounts key s vs) ⊎ AsOf vs key s v
 latest_from key s m found v [] r e = inl (e, tt)
 latest_from key s m found v (w ∷ ws) r e = elim (latest_from key s (suc w.stamp) (cond (counts_at key s w) (Some w) found) v ws r.1 e) [

@@ -63,7 +63,7 @@ module _ (q : RowsQuestion) where
   joins_leap a b None f g = joins_none a b f g
   joins_leap a b (Some c) f g = joins a b c f g
 
-  -- behind the spot after which rows are asked for
+  -- past the spot after which rows are asked for
   pub behind_spot : (spot : Spot) (at : ℕ) → q.after ≡ Some spot → first_key (spot_number spot) < at → at ≤ spot_number spot → LeapsTo q at (suc (spot_number spot))
   behind_spot spot at e low high = (
     omega arith,
@@ -85,7 +85,7 @@ module _ (q : RowsQuestion) where
     inl (session_first peer),
   )
 
-  -- behind all keys of that peer
+  -- past all keys of that peer
   pub behind_peer : (peer : Peer) (at : ℕ) → ((p : Peer) (x : IpPrefix) → Selects q.select p x → p ≡ peer) → last_key (session_number peer) < at → RowlessFrom q at
   behind_peer peer at only lt p x hp hx selected above from =
       let is = key_is p x hx in

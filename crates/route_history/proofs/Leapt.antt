@@ -67,7 +67,7 @@ rose_from f front to e r = subst (λ (o : Option Front). Rose (front_number o) t
 pub under_front : (all : List Version) (ps : List (Placed Admitted)) (c : RowsCursor) (front : Front) → c.front ≡ Some front → Gathered all ps c → IsUnderWay all ps c.question (number_at front) c.ended c.rows.items c.more
 under_front all ps c front e g = subst (λ (f : Option ℕ). IsGathered all ps c.question f c.ended c.rows.items c.more) (ap front_number e) g
 
--- what the cursor tells after a look is the turn
+-- what the cursor returns after a look is the turn
 pub told_turn : (old : ℕ → Option BlockNode) (all : List Version) (ps : List (Placed Admitted)) (c d e : RowsCursor) (turn : RowsTurn) → IsTold d e turn → Gathered all ps d → d.question ≡ c.question → Rose (front_number c.front) (front_number d.front) → IsTurn old all ps c e turn
 told_turn old all ps c d e (Done answer) told g same rose =
     let whole : IsAnswer ps d.question d.rows.items d.more = subst (λ (f : Option Front). IsGathered all ps d.question (front_number f) d.ended d.rows.items d.more) told.0 g in
@@ -94,6 +94,6 @@ rose_on (Some a) None h n r = absurd r
 rose_on (Some a) (Some b) None n r = tt
 rose_on (Some a) (Some b) (Some c) n r = let le : a ≤ b = n in let lt : b < c = r in omega arith
 
--- the front is the key that is told
+-- the front is at the key that is given for it
 pub same_front : (f : Option Front) (front : Front) (from : ℕ) → f ≡ Some front → front_number f ≡ Some from → from ≡ number_at front
 same_front f front from e here = sym (same_Some (number_at front) from (ap front_number (sym e) ∙ here))

@@ -60,7 +60,7 @@ module _ (ps : List (Placed Admitted)) (q : RowsQuestion) where
   abbrev spot_of : Row → Spot
   spot_of row = record { peer = row.peer; prefix = row.prefix }
 
-  -- the rows up to a row and those behind it
+  -- the rows up to a row and those after it
   pub rows_up_to : (row : Row) (rows : List Row) → AreRowsBelow ps q (suc (row_number row)) rows → AreRows ps q.moment q.select q.after (Some (spot_of row)) rows
   rows_up_to row rows are = record {
     rising = are.rising;

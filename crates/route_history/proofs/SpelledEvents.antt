@@ -16,7 +16,7 @@ no_change p x octets o only none stamp (Announce q y r) ne is = let s = is.3 in 
 no_change p x octets o only none stamp (Withdraw q y) ne is = none-some octets (sym is.3)
 no_change p x octets o only none stamp (Down q) ne is = ne is.1
 
--- octets that spell no route
+-- octets that encode no route
 pub unspelled : (p : Peer) (x : IpPrefix) (octets : List ℕ) (o : Option Route) → ((r : Route) → SpellsRoute r octets → o ≡ Some r) → o ≡ None → IsChangeIn p x (Some octets) None
 unspelled p x octets o only none = λ stamp c ne is. no_change p x octets o only none stamp c ne is
 

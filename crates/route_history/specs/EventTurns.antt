@@ -26,7 +26,7 @@ use Rattle.route_history.specs.Spans.{HasToldSo}
 abbrev pub Stand : (ℕ → Option BlockNode) → List Version → EventsCursor → EventsErrand → Type 0
 Stand blocks all c errand = IsParted blocks all (key_number c.question.peer c.question.prefix) errand.from errand.route × IsParted blocks all (session_number c.question.peer) errand.from errand.session
 
--- what a look told is true of these versions, and its place stands by blocks that are known to a reader, which reads well
+-- what a look returned is true of these versions, or its place stands by the blocks that a reader knows; and the reader reads well
 abbrev pub IsKnownPart : {O Pen Seen : Type 0} → (device : Ghosts O Pen Seen) → ShelfReader O Pen Seen device → Seen → List Version → ℕ → ℕ → Parted → Type 0
 IsKnownPart device reader seen all key from (Here part) = IsPart all key from (versions_of part.entries.items) part.told × ReadsWell device reader seen
 IsKnownPart device reader seen all key from (InBlock place) = StandsKnown device reader seen all place
@@ -35,7 +35,7 @@ IsKnownPart device reader seen all key from (InBlock place) = StandsKnown device
 abbrev pub AreKnownParts : {O Pen Seen : Type 0} → (device : Ghosts O Pen Seen) → ShelfReader O Pen Seen device → Seen → List Version → EventsCursor → EventsErrand → Type 0
 AreKnownParts device reader seen all c errand = IsKnownPart device reader seen all (key_number c.question.peer c.question.prefix) errand.from errand.route × IsKnownPart device reader seen all (session_number c.question.peer) errand.from errand.session
 
--- the cursor is as the turn left it that gave the errand
+-- the cursor is as the turn that returned the errand left it
 pub record IsEventsErrandOf (c : EventsCursor) (errand : EventsErrand) : Type 0 where
   pub here : c.at ≡ Some errand.from
   pub route : PartsAt (key_number c.question.peer c.question.prefix) errand.from errand.route
@@ -47,13 +47,13 @@ HasFit c (Done answer) = Unit {0}
 HasFit c Again = Unit {0}
 HasFit c (Historical errand) = IsEventsErrandOf c errand
 
--- the whole answer; or more is told and the stamp rose; or an errand, with all as it was
+-- the whole answer; or more is gathered and the stamp rose; or an errand, and the cursor is the same
 abbrev pub IsEventsTurn : (ℕ → Option BlockNode) → List Version → List (Placed Admitted) → EventsCursor → EventsCursor → EventsTurn → Type 0
 IsEventsTurn blocks all ps c d (Done answer) = IsEventsAnswer ps c.question answer.events.items answer.more
 IsEventsTurn blocks all ps c d Again = HasToldSo all ps d × (d.question ≡ c.question) × Rose c.at d.at
 IsEventsTurn blocks all ps c d (Historical errand) = (d ≡ c) × IsEventsErrandOf d errand × Stand blocks all d errand
 
--- a cursor tells its answer where its walk is over
+-- an answer is the cursor's, whose walk is over; if the walk goes on, the cursor is the same
 abbrev pub IsToldSo : EventsCursor → EventsCursor → EventsTurn → Type 0
 IsToldSo c d (Done answer) = (c.at ≡ None) × (answer.events.items ≡ c.told.items) × (answer.more ≡ c.more)
 IsToldSo c d Again = d ≡ c

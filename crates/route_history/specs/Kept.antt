@@ -1,4 +1,4 @@
--- The versions that stand for applied changes, and what two look-ups of them tell.
+-- The versions that stand for applied changes.
 use Rattle.std.specs.Prelude.{◌≡◌, ℕ, suc, ◌^◌, ◌<◌, List, [], ◌∷◌, ◌++◌, map, Option, Some, None, IsSome}
 use Rattle.route_model.specs.declared.change.Change.{Change}
 use Rattle.route_model.specs.declared.change.Change.TheVariants.{Announce, Withdraw, Down}
@@ -10,7 +10,7 @@ use Rattle.route_meaning.specs.Merged.{Placed}
 use Rattle.version_model.specs.Versions.{Version}
 use Rattle.route_history.specs.Stamps.{orders, stamp_of}
 
--- a change, and when it was told, in seconds since 1970-01-01T00:00:00Z
+-- a change, and when it was reported, in seconds since 1970-01-01T00:00:00Z
 pub record Timed : Type 0 where
   pub time : ℕ
   pub change : Change
@@ -30,7 +30,7 @@ key_of (Announce p x route) = key_number p x
 key_of (Withdraw p x) = key_number p x
 key_of (Down p) = session_number p
 
--- what the version of a change has: the spelling of the route that is announced; an end for a withdrawal; any value for the end of a session
+-- what the version of a change has: the encoding of the route that is announced; an end for a withdrawal; any value for the end of a session
 abbrev pub HasValue : Change → Option (List ℕ) → Type 0
 HasValue (Announce p x route) value = (octets : List ℕ) × (value ≡ Some octets) × SpellsRoute route octets
 HasValue (Withdraw p x) value = value ≡ None

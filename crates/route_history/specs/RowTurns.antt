@@ -14,7 +14,7 @@ use Rattle.route_history.specs.Stamps.{last_stamp}
 use Rattle.route_history.specs.Fronts.{front_number}
 use Rattle.route_history.specs.Walks.{Gathered, Rose, NotBack}
 
--- the cursor is as the turn left it that gave the errand: the place is for the key where it stands, as of its moment
+-- the cursor is as the turn that returned the errand left it: the place is for the key where it stands, as of its moment
 pub record IsErrandOf (c : RowsCursor) (errand : RowsErrand) : Type 0 where
   pub here : front_number c.front ≡ Some errand.from
   pub point : IsPoint (range_of errand.place.bounds) errand.from (last_stamp c.question.moment)
@@ -25,13 +25,13 @@ HasFit c (Done answer) = Unit {0}
 HasFit c Again = Unit {0}
 HasFit c (Historical errand) = IsErrandOf c errand
 
--- the whole answer; or more is gathered and the walk has come further; or an errand into the past, with all as it was gathered
+-- the whole answer; or more is gathered and the walk has come further; or an errand into the past, and what was gathered is as it was
 abbrev pub IsTurn : (ℕ → Option BlockNode) → List Version → List (Placed Admitted) → RowsCursor → RowsCursor → RowsTurn → Type 0
 IsTurn blocks all ps c d (Done answer) = IsAnswer ps c.question answer.rows.items answer.more
 IsTurn blocks all ps c d Again = Gathered all ps d × (d.question ≡ c.question) × Rose (front_number c.front) (front_number d.front)
 IsTurn blocks all ps c d (Historical errand) = Gathered all ps d × (d.question ≡ c.question) × IsErrandOf d errand × PlaceStands blocks all errand.place × NotBack (front_number c.front) (front_number d.front)
 
--- a cursor tells its answer where its walk is over
+-- an answer is the cursor's, whose walk is over; if the walk goes on, the cursor is the same
 abbrev pub IsTold : RowsCursor → RowsCursor → RowsTurn → Type 0
 IsTold c d (Done answer) = (c.front ≡ None) × (answer.rows.items ≡ c.rows.items) × (answer.more ≡ c.more)
 IsTold c d Again = (d ≡ c)

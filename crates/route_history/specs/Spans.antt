@@ -38,7 +38,7 @@ is_of_two a b from to v = Rattle.std.specs.Prelude.◌||◌ (nat_eq v.key a) (na
 abbrev pub before : ℕ → Version → Bool
 before to v = nat_lt v.stamp to
 
--- what an entry says, at a key
+-- the version that an entry is, at a key
 abbrev pub version_at : ℕ → Entry → Version
 version_at key e = record { key = key; stamp = e.stamp; value = option_map (λ v. v.items) e.value }
 
@@ -53,11 +53,11 @@ pub record IsEventOf (p : Peer) (x : IpPrefix) (v : Version) (e : Event) : Type 
   pub time : e.time ≡ v.stamp / 2 ^ 64
   pub change : IsChangeOf p x v e.change
 
--- the first stamp of the question's span, and the one behind its last
+-- the first stamp of the question's span
 abbrev pub span_start : EventsQuestion → ℕ
 span_start q = stamp_of q.from 0
 
--- the stamp behind the last of the span
+-- the stamp after the last of the span
 abbrev pub span_end : EventsQuestion → ℕ
 span_end q = suc (last_stamp q.to)
 
@@ -88,7 +88,7 @@ abbrev pub subject_key : EventsQuestion → Subject → ℕ
 subject_key q OfPrefix = key_number q.peer q.prefix
 subject_key q OfSession = session_number q.peer
 
--- What follows where the versions are those of the applied changes: their stamps rise, each of the two keys stands for an event, and those that the question asks for are its events.
+-- What follows if the versions are those of the applied changes: their stamps rise, each of the two keys stands for an event, and those that the question asks for are its events.
 pub record TellsEvents (all : List Version) (ps : List (Placed Admitted)) (q : EventsQuestion) : Type 0 where
   pub rising : AreStampsRising all
   pub each : AllByRecursion (HasEvent q.peer q.prefix) (filter (is_at (key_number q.peer q.prefix) (session_number q.peer)) all)
@@ -128,7 +128,7 @@ event_in s = s.event
 abbrev pub HasToldSo : List Version → List (Placed Admitted) → EventsCursor → Type 0
 HasToldSo all ps c = HasTold all ps c.question c.at c.left c.told.items c.more
 
--- the cursor says the same
+-- the cursor holds the same
 pub record IsSameTelling (c d : EventsCursor) : Type 0 where
   pub question : d.question ≡ c.question
   pub at : d.at ≡ c.at
@@ -136,7 +136,7 @@ pub record IsSameTelling (c d : EventsCursor) : Type 0 where
   pub told : d.told.items ≡ c.told.items
   pub more : d.more ≡ c.more
 
--- the versions with later ones, where the events of the span are the same
+-- the versions with later ones, if the events of the span are the same
 pub record EventsGoOn (all new : List Version) (ps qs : List (Placed Admitted)) (q : EventsQuestion) : Type 0 where
   pub more : List Version
   pub added : new ≡ all ++ more

@@ -1,7 +1,7 @@
 -- Stamps of changes: a time, and a number in the order of application.
 use Rattle.std.specs.Prelude.{ℕ, ◌*◌, ◌+◌, ◌-◌, ◌^◌}
 
--- how many changes can be told apart
+-- how many changes can be distinguished by their number
 abbrev pub orders : ℕ
 orders = 2 ^ 64
 

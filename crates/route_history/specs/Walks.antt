@@ -1,4 +1,4 @@
--- What versions tell of applied changes, as far as questions of a moment need it; and what a cursor has gathered.
+-- What the versions of applied changes say about them, as far as questions of a moment need it; and what a cursor has gathered.
 use Rattle.std.specs.Prelude.{◌≡◌, ◌↔◌, ℕ, suc, ◌+◌, ◌-◌, ◌^◌, ◌<◌, ◌≤◌, ◌⊎◌, List, ◌++◌, Bool, true, false, Option, Some, None, option_map, nat_lt, length, Contains, cond}
 use Rattle.std.specs.List.{AllByRecursion}
 use Rattle.route_model.specs.declared.peer.Peer.{Peer}
@@ -24,7 +24,7 @@ use Rattle.route_history.specs.Fronts.{number_at, front_number}
 use Rattle.route_history.specs.declared.front.Front.{Front}
 use Rattle.route_history.specs.declared.rows.RowsCursor.{RowsCursor}
 
--- a value of this stamp counts, where the session ended at that stamp or never
+-- whether a value of this stamp counts, if the session ended last at that stamp, or never
 abbrev pub counts : Option ℕ → ℕ → Bool
 counts None stamp = true
 counts (Some ended) stamp = nat_lt ended stamp
@@ -33,7 +33,7 @@ counts (Some ended) stamp = nat_lt ended stamp
 abbrev pub stamp_of_found : Option Found → Option ℕ
 stamp_of_found found = option_map (λ f. f.stamp) found
 
--- What follows of one moment where the versions are those of the applied changes: what holds is of peers and prefixes that have keys, has a value at its key, and is what two look-ups tell; and the rows of each range can be listed.
+-- What follows for one moment if the versions are those of the applied changes: what holds is of peers and prefixes that have keys, has a value at its key, and is what two lookups return; and the rows of each range can be listed.
 pub record Tells (versions : List Version) (ps : List (Placed Admitted)) (moment : ℕ) : Type 0 where
   pub fits : (p : Peer) (x : IpPrefix) (route : Route) → Holds ps moment p x route → IsPeer p × IsPrefix x
   pub listed : (select : Select) (low : Option Spot) → (rows : List Row) × AreRows ps moment select low None rows
@@ -55,11 +55,11 @@ pub record AreRowsBelow (ps : List (Placed Admitted)) (q : RowsQuestion) (at : �
   pub only : AllByRecursion (IsRowBelow ps q at) rows
   pub each : (row : Row) → IsRowBelow ps q at row → Contains rows row
 
--- what is found at the key has this stamp; none where nothing is found
+-- what is found at the key has this stamp; None if nothing is found
 abbrev pub EndedAt : List Version → ℕ → ℕ → Option ℕ → Type 0
 EndedAt versions s key ended = (found : Option Found) × Answers versions key s found × (stamp_of_found found ≡ ended)
 
--- the session of the peer in whose keys the walk has come to `at` ended last with this stamp, where the walk has passed its key
+-- the session of the peer among whose keys `at` is ended last with this stamp, if the walk has passed the session's key
 abbrev pub Ended : List Version → ℕ → ℕ → Option ℕ → Type 0
 Ended versions s at ended = first_key at < at → EndedAt versions s (first_key at) ended
 
@@ -75,11 +75,11 @@ abbrev pub IsGathered : List Version → List (Placed Admitted) → RowsQuestion
 IsGathered versions ps q None ended rows more = IsAnswer ps q rows more
 IsGathered versions ps q (Some at) ended rows more = IsUnderWay versions ps q at ended rows more
 
--- what the cursor has gathered is exactly what the range that it has walked has, or the whole answer
+-- what the cursor has gathered is exactly what there is in the range that it has walked, or the whole answer
 abbrev pub Gathered : List Version → List (Placed Admitted) → RowsCursor → Type 0
 Gathered versions ps c = IsGathered versions ps c.question (front_number c.front) c.ended c.rows.items c.more
 
--- the cursor says the same
+-- the cursor holds the same
 pub record IsSame (c d : RowsCursor) : Type 0 where
   pub question : d.question ≡ c.question
   pub front : d.front ≡ c.front
@@ -116,7 +116,7 @@ abbrev pub Leaps : RowsQuestion → ℕ → Option ℕ → Type 0
 Leaps q at None = RowlessFrom q at
 Leaps q at (Some to) = LeapsTo q at to
 
--- the first key of the peer among whose keys `at` stands behind the first; none where it stands at a first key
+-- the first key of the peer whose keys `at` is among, if `at` is above it; None if `at` is a first key
 abbrev pub IsPeerFirst : ℕ → Option ℕ → Type 0
 IsPeerFirst at None = first_key at ≡ at
 IsPeerFirst at (Some first) = (first ≡ first_key at) × (first_key at < at)
@@ -138,13 +138,13 @@ IsSpotOf key None = (p : Peer) (x : IpPrefix) → IsPeer p → IsPrefix x → ke
 IsSpotOf key (Some spot) = (IsPeer spot.peer × IsPrefix spot.prefix) × (key_number spot.peer spot.prefix ≡ key)
     × ((p : Peer) (x : IpPrefix) → IsPeer p → IsPrefix x → key_number p x ≡ key → (p ≡ spot.peer) × (x ≡ spot.prefix))
 
--- the spot of a key, where the question selects it
+-- the spot of a key, if the question selects it
 abbrev pub IsWantedAt : RowsQuestion → ℕ → Option Spot → Type 0
 IsWantedAt q key None = (p : Peer) (x : IpPrefix) → IsPeer p → IsPrefix x → key_number p x ≡ key → Selects q.select p x → IsAbove q.after key → ⊥
 IsWantedAt q key (Some spot) = (IsPeer spot.peer × IsPrefix spot.prefix) × (key_number spot.peer spot.prefix ≡ key) × Selects q.select spot.peer spot.prefix × IsAbove q.after key
     × ((p : Peer) (x : IpPrefix) → IsPeer p → IsPrefix x → key_number p x ≡ key → (p ≡ spot.peer) × (x ≡ spot.prefix))
 
--- the route that octets of this stamp spell, where they count
+-- the route that octets of this stamp encode, if they count
 abbrev pub IsRouteIn : Option ℕ → ℕ → List ℕ → Option Route → Type 0
 IsRouteIn ended stamp octets None = (route : Route) → counts ended stamp ≡ true → SpellsRoute route octets → ⊥
 IsRouteIn ended stamp octets (Some route) = (counts ended stamp ≡ true) × SpellsRoute route octets
@@ -191,12 +191,12 @@ IsLeast at first address n None = (length : ℕ) → length < n → candidate fi
 IsLeast at first address n (Some key) = (at ≤ key) × ((length : ℕ) × IsPrefix (containing address length) × (key ≡ candidate first address length))
     × ((length : ℕ) → length < n → (candidate first address length < at) ⊎ (key ≤ candidate first address length))
 
--- the lesser of a key and another that may be there
+-- the lesser of a key and another, if there is one
 abbrev pub least_or : ℕ → Option ℕ → ℕ
 least_or key None = key
 least_or key (Some least) = cond (nat_lt key least) key least
 
--- the same key and stamp, and an end where the other is one
+-- the same key and stamp, and an end if the other is one
 pub record IsSameVersion (v w : Version) : Type 0 where
   pub key : v.key ≡ w.key
   pub stamp : v.stamp ≡ w.stamp

@@ -49,8 +49,8 @@ fn kept(alloc: Global, value: Option<&[u8]>) -> Result<Option<Vec<u8>>, AllocErr
     }
 }
 
-/// The version of a change that was told at a moment and has this number in the order of application, the first being 0: an
-/// announcement has the route's one spelling, a withdrawal is an end, and the end of a session has a value of no octets.
+/// The version of a change that was reported at this moment and has this number in the order of application, counted from 0: an
+/// announcement has the route's one encoding, a withdrawal is an end, and the end of a session has a value of no octets.
 pub fn version_of_change(
     alloc: Global,
     time: Moment,
@@ -69,8 +69,8 @@ pub fn version_of_change(
     Ok(Entry { key, stamp, value })
 }
 
-/// Applies a change that was told at a moment: adds its version, with this number in the order of application. The versions before
-/// it have lower stamps. After a refusal the same versions are there.
+/// Applies a change that was reported at this moment: adds its version, with this number in the order of application. The versions
+/// before it have lower stamps. After a refusal the versions are the same.
 pub fn apply<V: Growing>(
     versions: &mut V,
     time: Moment,

@@ -129,7 +129,7 @@ fn is_same(stamp: Stamp, other: Stamp) -> bool
     stamp == other
 }
 
-// Puts the event of a version before a stamp behind the others.
+// Appends the event of a version to the others, if the version is before a stamp.
 fn put_event(
     alloc: Global,
     question: &EventsQuestion,
@@ -196,7 +196,7 @@ fn fresh_of(alloc: Global, news: Vec<Stamped>, left: u64) -> Result<Vec<Event>, 
         .collect(alloc)
 }
 
-// The lesser of a stamp that may be told and another.
+// The lesser of a stamp, if there is one, and another.
 fn lesser(told: &Option<Stamp>, to: Stamp) -> Stamp
     ensures low { result ≤ end_or told.now }
     ensures high { result ≤ to }
@@ -210,7 +210,7 @@ fn lesser(told: &Option<Stamp>, to: Stamp) -> Stamp
     }
 }
 
-// The stamp behind the last of the moment.
+// The stamp after the last of the moment.
 fn end_of(moment: Moment) -> Stamp
     ensures end { result ≡ suc (last_stamp moment) }
 {
@@ -229,7 +229,7 @@ fn start_of(moment: Moment) -> Stamp
 #[derive(Debug, Drop)]
 pub struct EventsCursor {
     pub question: EventsQuestion,
-    /// The least stamp not yet looked at; none where the walk is over.
+    /// The least stamp not yet looked at; None once the walk is over.
     pub at: Option<Stamp>,
     /// How many events are still to be left out.
     pub left: u64,

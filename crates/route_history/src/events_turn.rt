@@ -36,7 +36,7 @@ pub struct EventsErrand {
     pub session: Parted,
 }
 
-/// What a turn of a question of a history gave.
+/// The result of a turn of a question of a history.
 #[derive(Debug, Drop)]
 pub enum EventsTurn {
     /// The whole answer. The cursor is spent.
@@ -60,7 +60,7 @@ impl EventsCursor {
         }
     }
 
-    // The answer, where the walk is over, or else that it goes on.
+    // The answer if the walk is over, or else that it goes on.
     fn told(&mut self, alloc: Global) -> EventsTurn
         ensures told { IsToldSo self.old self.new result }
         ensures question { self.new.question ≡ self.old.question }
@@ -72,8 +72,8 @@ impl EventsCursor {
     }
 }
 
-/// One turn: the versions of the prefix and of the session from one stamp on. Where some lie in the past, the errand goes on
-/// there without the store. A refusal leaves all as it was told.
+/// One turn: the versions of the prefix and of the session from one stamp on. If some lie in the past, the errand goes on
+/// there without the store. After a refusal the cursor holds the same as before.
 pub fn take_events_turn<V: Versions>(
     versions: &mut V,
     alloc: Global,
@@ -106,7 +106,7 @@ pub fn take_events_turn<V: Versions>(
     }
 }
 
-// The versions, from a block where they are there.
+// The versions, read from a block if they lie there.
 fn part_of<O: OnceDisk + Drop>(
     reader: &mut ShelfReader<O>,
     seen: &mut O::Seen,
@@ -134,9 +134,9 @@ fn part_of<O: OnceDisk + Drop>(
 }
 
 impl EventsErrand {
-    /// Finishes the turn in the past: the cursor has then told as much as the turn would have, and its stamp has risen. It is the
-    /// cursor as its turn left it. A refusal leaves it so, and a fault is counted once. It takes no lock, and waits for nothing but the
-    /// disk.
+    /// Finishes the turn in the past: the cursor has then gathered as much as the turn would have gathered, and its stamp has risen. It
+    /// must be as its turn left it. A refusal leaves it so, and a fault is counted once. It takes no lock, and waits for nothing but
+    /// the disk.
     pub fn finish<O: OnceDisk + Drop>(
         self,
         reader: &mut ShelfReader<O>,

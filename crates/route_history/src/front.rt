@@ -6,7 +6,7 @@ ghost use Rattle.route_history.specs.Fronts.{number_at};
 
 use route_model::Key;
 
-/// The least key not yet looked at: this key, or the one behind it.
+/// The least key not yet looked at: this key, or the one after it.
 #[derive(Clone, Copy, Debug)]
 pub struct Front {
     pub key: Key,
@@ -21,7 +21,7 @@ impl Front {
         Front { key, passed: false }
     }
 
-    /// From behind this key on.
+    /// From the key after this one on.
     pub(crate) fn behind(key: Key) -> Front
         ensures { number_at result ≡ suc key }
     {
@@ -39,7 +39,7 @@ impl Front {
         }
     }
 
-    /// The key itself, or none behind the last of all keys.
+    /// The key itself, or None after the last of all keys.
     pub(crate) fn first(&self) -> Option<Key>
         ensures key { IfSome result (λ key. key ≡ number_at self.now) }
         ensures end { result ≡ None → number_at self.now ≡ key_end }

@@ -18,8 +18,8 @@ ghost use Rattle.route_history.specs.Growing.{AreBefore};
 ghost use Rattle.route_history.specs.Walks.{Tells, Gathered, GoesOn, IsSameVersion};
 ghost use Rattle.route_history.specs.Spans.{TellsEvents, HasToldSo, EventsGoOn};
 
-/// What versions tell that are those of the applied changes, of which the times never fall: which route holds at a moment is what
-/// two look-ups at its greatest stamp tell, compared by stamp; the events of a span are the versions of the two keys in it; and
+/// What follows if the versions are those of the applied changes, whose times never fall: which route holds at a moment is what
+/// two lookups at its greatest stamp return, compared by stamp; the events of a span are the versions of the two keys in it; and
 /// the stamps rise.
 pub fn versions_tell()
     ensures rows { (ps : List (Placed Admitted)) (all : List Version) (moment : ℕ) → IsRising time_of ps → Kept ps all → Tells all ps moment }
@@ -27,14 +27,14 @@ pub fn versions_tell()
     ensures stamps { (ps : List (Placed Admitted)) (all : List Version) → IsRising time_of ps → Kept ps all → AreStampsInOrder all }
 {}
 
-/// The version of the next change, whose number is how many versions there are, keeps the versions those of the applied changes; and
-/// its stamp is above theirs where it is told no earlier.
+/// With the version of the next change, whose number is how many versions there are, the versions are again those of the applied
+/// changes; and its stamp is above theirs if its time is no earlier than theirs.
 pub fn kept_goes_on()
     ensures more { (ps qs : List (Placed Admitted)) (all : List Version) (t : Timed) (v : Version) → timed qs ≡ timed ps ++ t ∷ [] → Kept ps all → IsVersion (length all) t v → Kept qs (all ++ v ∷ []) }
     ensures before { (ps : List (Placed Admitted)) (all : List Version) (time : ℕ) → AllByRecursion (λ p. time_of p ≤ time) ps → Kept ps all → AreBefore (stamp_of time (length all)) all }
 {}
 
-/// What a cursor has gathered stays right where more changes are applied, none of which counts at its moment, or in its span.
+/// What a cursor has gathered stays right when more changes are applied, none of which counts at its moment, or in its span.
 pub fn gathered_goes_on()
     ensures rows { (all new : List Version) (ps qs : List (Placed Admitted)) (c : RowsCursor) → GoesOn all new ps qs c.question.moment → Gathered all ps c → Gathered new qs c }
     ensures events { (all new : List Version) (ps qs : List (Placed Admitted)) (c : EventsCursor) → EventsGoOn all new ps qs c.question → HasToldSo all ps c → HasToldSo new qs c }
@@ -46,8 +46,8 @@ pub fn gathered_alike()
     ensures { (vs ws : List Version) (ps : List (Placed Admitted)) (c : RowsCursor) → AllZip IsSameVersion vs ws → Gathered vs ps c → Gathered ws ps c }
 {}
 
-/// What a cursor has gathered over a history is so over each later one, whatever the versions of both are, where the last moment
-/// that it asks of was settled.
+/// What a cursor has gathered over a history is right over each later one too, whatever the versions of both are, if the last moment
+/// that it asks about was settled.
 pub fn gathered_follows_histories()
     ensures rows { (h g : History) (all new : List Version) (c : RowsCursor) → IsHistory h → IsHistory g → Begins h g → c.question.moment < settled h → Kept (applied h) all → Kept (applied g) new → Gathered all (applied h) c → Gathered new (applied g) c }
     ensures events { (h g : History) (all new : List Version) (c : EventsCursor) → IsHistory h → IsHistory g → Begins h g → c.question.to < settled h → IsPeer c.question.peer → IsPrefix c.question.prefix → Kept (applied h) all → Kept (applied g) new → HasToldSo all (applied h) c → HasToldSo new (applied g) c }

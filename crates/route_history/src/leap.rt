@@ -14,7 +14,7 @@ use crate::front::Front;
 use route_meaning::{RowsQuestion, Select, Spot};
 use route_model::{Address, Key, Peer, Prefix};
 
-// Behind the spot after which rows are asked for, once the session of its peer is looked at.
+// Past the spot after which rows are asked for, once the session of its peer is looked at.
 fn behind_after(front: Front, after: &Option<Spot>) -> Front
     ensures { (q : RowsQuestion) → q.after ≡ after.now → LeapsTo q (number_at front) (number_at result) }
 {
@@ -62,7 +62,7 @@ fn to_spot(front: Front, peer: &Peer, prefix: &Prefix) -> Option<Front>
     }
 }
 
-// The first key of the peer among whose keys the front stands behind the first.
+// The first key of the peer whose keys the front is among, if the front is past that key.
 fn peer_first(front: &Front) -> Option<Key>
     ensures { IsPeerFirst (number_at front.now) result }
 {
@@ -80,7 +80,7 @@ fn peer_first(front: &Front) -> Option<Key>
     }
 }
 
-// To the only prefix that is asked for, of this peer or of the next one.
+// To the only prefix that is asked for, among the keys of this peer or of the next one.
 fn to_prefix(front: Front, prefix: &Prefix) -> Front
     ensures { (q : RowsQuestion) → ((p : Peer) (x : IpPrefix) → Selects q.select p x → x ≡ prefix.now) → LeapsTo q (number_at front) (number_at result) }
 {
@@ -96,7 +96,7 @@ fn to_prefix(front: Front, prefix: &Prefix) -> Front
     }
 }
 
-// The least of a key that was found and another.
+// The lesser of a key, if one was found, and another.
 fn lesser(least: Option<Key>, key: Key) -> Option<Key>
     ensures { result ≡ Some (least_or key least) }
 {
@@ -123,7 +123,7 @@ fn least_candidate(front: &Front, first: Key, address: &Address) -> Option<Key>
     least
 }
 
-// To the next prefix that contains the address, of this peer or of the next one.
+// To the next prefix that contains the address, among the keys of this peer or of the next one.
 fn to_covering(front: Front, address: &Address) -> Front
     ensures { (q : RowsQuestion) → ((p : Peer) (x : IpPrefix) → Selects q.select p x → Covers x address.now) → LeapsTo q (number_at front) (number_at result) }
 {
@@ -136,7 +136,7 @@ fn to_covering(front: Front, address: &Address) -> Front
     }
 }
 
-/// A leap over keys that the question doesn't ask for, or none where it asks for no more keys.
+/// A leap over keys that the question doesn't ask for, or None if it asks for no more keys.
 pub(crate) fn leap(question: &RowsQuestion, front: Front) -> Option<Front>
     ensures { Leaps question.now (number_at front) (front_number result) }
 {

@@ -1,4 +1,4 @@
-//! What questions look for next, and what their cursors take of what was found: for a caller that makes the looks.
+//! What questions look for next, and what their cursors take in of what was found: for a caller that makes the looks itself.
 
 ghost use Rattle.std.specs.Prelude.{◌≡◌, ℕ, List, Some, None, IfSome, OnOk, OnErr};
 ghost use Rattle.route_model.specs.Admission.{Admitted};
@@ -33,7 +33,7 @@ pub struct RowsLook {
 }
 
 impl RowsCursor {
-    /// The next look of the question, or none where its walk is over. Keys that it doesn't ask for are leapt over.
+    /// The next look of the question, or None if its walk is over. Keys that the question doesn't ask for are leapt over.
     pub fn next_look(&mut self) -> Option<RowsLook>
         ensures gathered { (all : List Version) (ps : List (Placed Admitted)) → Tells all ps self.old.question.moment → Gathered all ps self.old → Gathered all ps self.new }
         ensures over { result ≡ None → self.new.front ≡ None }
@@ -53,7 +53,7 @@ impl RowsCursor {
         Some(RowsLook { from, stamp })
     }
 
-    /// Takes in what its look has reached. After a refusal all is as it was gathered.
+    /// Takes in what its look has reached. After a refusal the cursor holds the same as before.
     pub fn take_reached(&mut self, alloc: Global, reached: Reached) -> Result<(), AllocError>
         ensures taken { (from : ℕ) (all : List Version) (ps : List (Placed Admitted)) → front_number self.old.front ≡ Some from → Tells all ps self.old.question.moment → Gathered all ps self.old → IsReached all (last_stamp self.old.question.moment) from (reached_as reached) → OnOk result (Gathered all ps self.new) }
         ensures rose { (from : ℕ) → front_number self.old.front ≡ Some from → GoesOnFrom from reached → OnOk result (Rose (Some from) (front_number self.new.front)) }
@@ -67,7 +67,7 @@ impl RowsCursor {
         Ok(())
     }
 
-    /// The rows so far, and whether more follow: where the walk is over, the answer.
+    /// The rows so far, and whether more follow: once the walk is over, the answer.
     pub fn into_answer(self) -> RowsAnswer
         ensures answer { (all : List Version) (ps : List (Placed Admitted)) → Gathered all ps self → self.front ≡ None → IsAnswer ps self.question result.rows.items result.more }
     {
@@ -80,7 +80,7 @@ impl RowsCursor {
 
 impl EventsCursor {
     /// Takes in the versions of the prefix and those of the peer's session, from the stamp on to which the walk has come. After a
-    /// refusal all is as it was told.
+    /// refusal the cursor holds the same as before.
     pub fn take_parts(
         &mut self,
         alloc: Global,
@@ -99,7 +99,7 @@ impl EventsCursor {
         Ok(())
     }
 
-    /// The events so far, and whether more follow: where the walk is over, the answer.
+    /// The events so far, and whether more follow: once the walk is over, the answer.
     pub fn into_answer(self) -> EventsAnswer
         ensures answer { (all : List Version) (ps : List (Placed Admitted)) → HasToldSo all ps self → self.at ≡ None → IsEventsAnswer ps self.question result.events.items result.more }
     {

@@ -27,9 +27,9 @@ use version_model::Stamp;
 #[derive(Debug, Drop)]
 pub struct RowsCursor {
     pub question: RowsQuestion,
-    /// The least key not yet looked at; none where the walk is over.
+    /// The least key not yet looked at; None once the walk is over.
     pub front: Option<Front>,
-    /// When the session ended last of the peer among whose keys the walk is.
+    /// When the session of the peer whose keys the walk is among ended last.
     pub ended: Option<Stamp>,
     pub rows: Vec<Row>,
     pub more: bool,
@@ -82,7 +82,7 @@ fn spot_in(parts: &KeyParts) -> Option<Spot>
     }
 }
 
-// The spot of the key, where it is one of a prefix.
+// The spot of the key, if it is one of a prefix.
 fn spot_of(key: Key) -> Option<Spot>
     ensures { IsSpotOf key result }
 {
@@ -92,7 +92,7 @@ fn spot_of(key: Key) -> Option<Spot>
     spot_in(&parts)
 }
 
-// The spot of the key, where the question selects it.
+// The spot of the key, if the question selects it.
 fn wanted_at(question: &RowsQuestion, key: Key) -> Option<Spot>
     ensures { IsWantedAt question.now key result }
 {
@@ -116,7 +116,7 @@ fn counts(ended: &Option<Stamp>, stamp: Stamp) -> bool
     }
 }
 
-// The route that octets of this stamp spell, where they count.
+// The route that octets of this stamp encode, if they count.
 fn route_in(
     alloc: Global,
     ended: &Option<Stamp>,
@@ -134,7 +134,7 @@ fn route_in(
     Ok(Some(SharedRoute::new(alloc, route)?))
 }
 
-// The row of the question at a key, of which this value is found.
+// The row of the question at a key at which this value is found.
 fn row_at(
     alloc: Global,
     question: &RowsQuestion,
@@ -172,7 +172,7 @@ fn first_front(after: &Option<Spot>) -> Front
     }
 }
 
-// When the session ended of the peer of this key, as far as the walk knows it.
+// When the session of this key's peer ended, as far as the walk knows it.
 fn known(ended: &Option<Stamp>, front: &Front, key: Key) -> Option<Stamp>
     ensures { result ≡ cond (nat_lt (first_key key) (number_at front.now)) ended.now None }
 {

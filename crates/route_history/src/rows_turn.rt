@@ -34,7 +34,7 @@ pub struct RowsErrand {
     pub place: Place,
 }
 
-/// What a turn of a question gave.
+/// The result of a turn of a question.
 #[derive(Debug, Drop)]
 pub enum RowsTurn {
     /// The whole answer. The cursor is spent.
@@ -53,7 +53,7 @@ pub(crate) fn last_stamp(moment: Moment) -> Stamp
 }
 
 impl RowsCursor {
-    // Leaps over keys that the question doesn't ask for; none where the walk is over.
+    // Leaps over keys that the question doesn't ask for; None once the walk is over.
     pub(crate) fn leap(&mut self) -> Option<Front>
         ensures leapt { HasLeapt self.old self.new result }
         ensures question { self.new.question ≡ self.old.question }
@@ -65,7 +65,7 @@ impl RowsCursor {
         self.front
     }
 
-    // The answer, where the walk is over, or else that it goes on.
+    // The answer if the walk is over, or else that it goes on.
     fn told(&mut self, alloc: Global) -> RowsTurn
         ensures told { IsTold self.old self.new result }
         ensures question { self.new.question ≡ self.old.question }
@@ -89,8 +89,8 @@ impl RowsCursor {
     }
 }
 
-/// One turn of a question: one look for the next key that it asks for. Where it leads into the past, the errand goes on there
-/// without the store. A refusal leaves all as it was gathered.
+/// One turn of a question: one look for the next key that it asks for. If it leads into the past, the errand goes on there
+/// without the store. After a refusal what was gathered is as it was.
 pub fn take_rows_turn<V: Versions>(
     versions: &mut V,
     alloc: Global,
@@ -119,9 +119,9 @@ pub fn take_rows_turn<V: Versions>(
 }
 
 impl RowsErrand {
-    /// Finishes the turn in the past: the cursor has then gathered as much as the turn would have given, and has come further. It
-    /// is the cursor as its turn left it. A refusal leaves it so, and a fault is counted once. It takes no lock, and waits for nothing
-    /// but the disk.
+    /// Finishes the turn in the past: the cursor has then gathered as much as the turn would have gathered, and has come further. It
+    /// must be as its turn left it. A refusal leaves it so, and a fault is counted once. It takes no lock, and waits for nothing but
+    /// the disk.
     pub fn finish<O: OnceDisk + Drop>(
         self,
         reader: &mut ShelfReader<O>,

@@ -1,4 +1,4 @@
-//! A store of versions, as questions see it: what looks into it answer.
+//! A store of versions, as questions see it: what looks into it return.
 
 ghost use Rattle.std.specs.Prelude.{◌≤◌, ◌++◌, ◌∷◌, [], ℕ, List, length, option_map, IfOk, IfErr, IfSome, OnOk, OnErr, Option};
 ghost use Rattle.version_model.specs.Versions.{Version};
@@ -12,8 +12,8 @@ use route_model::Key;
 use tsb_walk::{Looked, NodeError, Parted};
 use version_model::Stamp;
 
-/// Versions by key and stamp. Those that are current can be looked up at once; others lie in settled blocks, of which a look
-/// tells the place.
+/// Versions by key and stamp. Those that are current can be looked up at once; others lie in settled blocks, and a look returns
+/// their place.
 pub trait Versions {
     /// By these settled blocks the store stands for these versions, in the order of their stamps.
     ghost stands: { Self → (ℕ → Option BlockNode) → List Version → Type 0 };
@@ -27,7 +27,7 @@ pub trait Versions {
         ensures kept { (blocks : ℕ → Option BlockNode) (all : List Version) → stands self.old blocks all → stands self.new blocks all };
 
     /// The versions of the key from the stamp on, ends included, in the order of their stamps: all before the stamp that is
-    /// told, or all that there are where none is; or the place in the past where they are to be looked for.
+    /// returned with them, or all that there are if none is; or the place in the past where they are to be looked for.
     fn part(&mut self, key: Key, from: Stamp) -> Result<Parted, NodeError>
         ensures point { IfOk result (λ parted. PartsAt key from parted) }
         ensures part { IfOk result (λ parted. (blocks : ℕ → Option BlockNode) (all : List Version) → stands self.old blocks all → IsParted blocks all key from parted) }
@@ -41,7 +41,7 @@ pub trait Growing: Versions {
     type Refusal;
 
     /// Adds a version of the key: a value of at most 3,072 octets, or an end. Its stamp is above those of all versions. More
-    /// blocks may be settled, also where it is refused.
+    /// blocks may be settled, even if it is refused.
     fn insert(&mut self, key: Key, stamp: Stamp, value: Option<&[u8]>) -> Result<(), Self::Refusal>
         requires few { IfSome value (λ octets. length octets.now ≤ 3072) }
         ensures inserted { (blocks : ℕ → Option BlockNode) (all : List Version) → Self.stands self.old blocks all → AreBefore stamp all → OnOk result (StandsGrown (Self.stands self.new) blocks (all ++ record { key = key; stamp = stamp; value = option_map (λ octets. octets.now) value.entry } ∷ [])) }

@@ -44,7 +44,7 @@ pub stands_above : (from at : ℕ) (o : Option ℕ) → IsOnward (Some from) o �
 stands_above from at None on back = absurd back
 stands_above from at (Some n) on back = let le : from ≤ n = on in let le' : n ≤ at = back in omega (arith, le, le')
 
--- what is told from a key on is told from where the walk stands
+-- the key from which the run goes on isn't above where the walk stands
 pub from_below : (from : ℕ) (last front : Option ℕ) (at : ℕ) → IsFrom from last front → NotBack front (Some at) → IfSome last (λ l. l < at) → from ≤ at
 from_below from None front at is back above = stands_above from at front is back
 from_below from (Some l) front at is back above = let lt : l < at = above in let e : from ≡ suc l = is in omega (arith, e, lt)

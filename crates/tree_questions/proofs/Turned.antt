@@ -1,4 +1,4 @@
--- Turns over current pages: what they tell of a tree, and how far they come.
+-- Turns over current pages: what they return of a tree, and how far they come.
 use Rattle.std.proofs.Common.{◌≡◌, ℕ, ◌<◌, ◌≤◌, ◌^◌, List, Bool, Option, Some, None, sym, ap, arith, subst}
 use Rattle.page_tx.specs.declared.pages.Pages.{Ghosts}
 use Rattle.page_tx.specs.Start.{Start}
@@ -68,7 +68,7 @@ events_same all ps c d s g =
     (subst (λ (x : List Event). HasTold all ps c.question c.at c.left x d.more) (sym s.told)
     (subst (λ (x : Bool). HasTold all ps c.question c.at c.left c.told.items x) (sym s.more) g))))
 
--- ---- what is told after a look, as a turn: from one cursor, by way of another, to the last
+-- ---- what is returned after a look, as a turn: from one cursor, by way of another, to the last
 
 pub rows_told : (blocks : ℕ → Option BlockNode) (all : List Version) (ps : List (Placed Admitted)) (c d e : RowsCursor) (turn : RowsTurn) → ToldRows ps d e turn → KeepsRows d e turn → d.question ≡ c.question → Rose (front_number c.front) (front_number d.front) → TurnsRows blocks all ps c e turn
 rows_told blocks all ps c d e (rows.Done answer) told keeps same rose = subst (λ (q : RowsQuestion). IsAnswer ps q answer.rows.items answer.more) same told
@@ -96,7 +96,7 @@ pub parts_at : (key from : ℕ) (p : Parted) → PartsAt key from p → PartsAtP
 parts_at key from (parted.Here part) at = tt
 parts_at key from (parted.InBlock place) at = at
 
--- where all is told, it is told up to the end of all stamps
+-- if all versions are returned, they go up to the end of all stamps
 pub tells_on : (from : ℕ) (p : Parted) → from < 256 ^ 16 → TellsAll p → TellsOn from p
 tells_on from (parted.Here part) fits all = subst (λ (o : Option ℕ). from < end_or o) (sym all) (let lt : from < 256 ^ 16 = fits in omega (arith, lt))
 tells_on from (parted.InBlock place) fits all = tt

@@ -46,7 +46,7 @@ TurnsEvents blocks all ps c d (events.Done answer) = IsEventsAnswer ps c.questio
 TurnsEvents blocks all ps c d events.Again = Rose c.at d.at
 TurnsEvents blocks all ps c d (events.Historical errand) = IsEventsErrandOf d errand × Stand blocks all d errand × NotBack c.at d.at
 
--- whatever the pages are: the walk has come further where it goes on, and an errand is one of the cursor, which hasn't gone back
+-- whatever the pages are: the walk has come further if it goes on, and an errand is one of the cursor, which hasn't gone back
 abbrev pub GoesOnRows : RowsCursor → RowsCursor → RowsTurn → Type 0
 GoesOnRows c d (rows.Done answer) = ⊤
 GoesOnRows c d rows.Again = Rose (front_number c.front) (front_number d.front)

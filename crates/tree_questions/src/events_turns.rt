@@ -26,7 +26,7 @@ use tsb_node::{key_fits, stamp_fits};
 use tsb_walk::{NodeError, PagePlace, Parted};
 use version_model::Stamp;
 
-// The answer, where the walk is over. The cursor is then at the start of its question again.
+// The answer of a walk that is over. The cursor is then at the start of its question again.
 fn take_answer(alloc: Global, cursor: &mut EventsCursor) -> EventsAnswer
     ensures answer { (all : List Version) (ps : List (Placed Admitted)) → HasToldSo all ps cursor.old → cursor.old.at ≡ None → IsEventsAnswer ps cursor.old.question result.events.items result.more }
     ensures anew { (all : List Version) (ps : List (Placed Admitted)) → TellsEvents all ps cursor.old.question → HasToldSo all ps cursor.new }
@@ -36,7 +36,7 @@ fn take_answer(alloc: Global, cursor: &mut EventsCursor) -> EventsAnswer
     mem::replace(cursor, anew).into_answer()
 }
 
-// The answer, where the walk is over; or that it goes on.
+// The answer if the walk is over; or that it goes on.
 fn tell(alloc: Global, cursor: &mut EventsCursor) -> EventsTurn
     ensures told { (all : List Version) (ps : List (Placed Admitted)) → HasToldSo all ps cursor.old → ToldEvents ps cursor.old cursor.new result }
     ensures goes_on { KeepsEvents cursor.old cursor.new result }
@@ -75,7 +75,7 @@ fn look<P: Pages>(
 }
 
 /// One turn of a question of a history over the tree whose root is at this place: the versions of the prefix and of the peer's session from
-/// one stamp on. Where some lie in the past, the errand goes on there without the pages.
+/// one stamp on. If some lie in the past, the errand goes on there without the pages.
 ///
 /// Each turn passes a stamp, but for one that leaves an errand, which passes it when it is finished. Pages are read, and called damaged, and
 /// memory is taken, as `rows_turn` does; the cursor is left as it leaves one.

@@ -26,7 +26,7 @@ use std::alloc::Global;
 use tsb_node::stamp_fits;
 use tsb_walk::{NodeError, PagePlace};
 
-// One look for the versions of both keys. Tells whether the walk goes on.
+// One look for the versions of both keys. Returns whether the walk goes on.
 fn take_look<P: Pages, O: OnceDisk + Drop>(
     pages: &mut P,
     reader: &mut ShelfReader<O>,
@@ -65,7 +65,7 @@ fn take_look<P: Pages, O: OnceDisk + Drop>(
     Ok(true)
 }
 
-/// Answers a question of a history over the tree whose root is at this place: the first 256 events behind those that are to be
+/// Answers a question of a history over the tree whose root is at this place: the first 256 events after those that are to be
 /// skipped, and whether more follow.
 ///
 /// Each look passes a stamp, so it ends. Pages and blocks are read, and called damaged, and memory is taken, as `rows` does.

@@ -61,8 +61,8 @@ pub(crate) fn next_key<P: Pages, O: OnceDisk + Drop>(
     }
 }
 
-/// The versions of the key from the stamp on, ends included, in the order of their stamps: all before the stamp that is told, or all
-/// that there are where none is.
+/// The versions of the key from the stamp on, ends included, in the order of their stamps: all before the stamp that is returned
+/// with them, or all that there are if none is.
 pub(crate) fn part_from<P: Pages, O: OnceDisk + Drop>(
     pages: &mut P,
     reader: &mut ShelfReader<O>,

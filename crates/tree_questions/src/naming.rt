@@ -36,7 +36,7 @@ fn check_named<P: Pages>(
     Err(NodeError::BadNode(column.page))
 }
 
-/// Looks for the next key as `tsb_walk::next` does. Where that leads into the past, the block there is below `burnt`, the first that
+/// Looks for the next key as `tsb_walk::next` does. If that leads into the past, the block there is below `burnt`, the first that
 /// was never burnt. The page of a column that names another is called bad.
 pub(crate) fn next_named<P: Pages>(
     pages: &mut P,

@@ -24,7 +24,7 @@ use std::mem;
 use tsb_node::key_fits;
 use tsb_walk::{Looked, NodeError, PagePlace};
 
-// The answer, where the walk is over. The cursor is then at the start of its question again.
+// The answer of a walk that is over. The cursor is then at the start of its question again.
 fn take_answer(alloc: Global, cursor: &mut RowsCursor) -> RowsAnswer
     ensures answer { (all : List Version) (ps : List (Placed Admitted)) → Gathered all ps cursor.old → cursor.old.front ≡ None → IsAnswer ps cursor.old.question result.rows.items result.more }
     ensures anew { (all : List Version) (ps : List (Placed Admitted)) → Gathered all ps cursor.new }
@@ -34,7 +34,7 @@ fn take_answer(alloc: Global, cursor: &mut RowsCursor) -> RowsAnswer
     mem::replace(cursor, anew).into_answer()
 }
 
-// The answer, where the walk is over; or that it goes on.
+// The answer if the walk is over; or that it goes on.
 fn tell(alloc: Global, cursor: &mut RowsCursor) -> RowsTurn
     ensures told { (all : List Version) (ps : List (Placed Admitted)) → Gathered all ps cursor.old → ToldRows ps cursor.old cursor.new result }
     ensures goes_on { KeepsRows cursor.old cursor.new result }
@@ -48,12 +48,13 @@ fn tell(alloc: Global, cursor: &mut RowsCursor) -> RowsTurn
 }
 
 /// One turn of a question of a moment over the tree whose root is at this place: one look for the next key that it asks for, and,
-/// where it asks for keys one after another, the keys that follow in its leaf. Where the look leads into the past, the errand goes on
+/// if it asks for keys one after another, the keys that follow in its leaf. If the look leads into the past, the errand goes on
 /// there without the pages.
 ///
 /// Each turn passes a key, but for one that leaves an errand, which passes it when it is finished. Pages are only read, and called damaged
-/// only where they aren't what the tree asks of them, or name a block from `burnt` on, the first that was never burnt. After each outcome the cursor has gathered what the range has that its walk has passed;
-/// once the answer is told, it is at the start of its question again. It takes memory for rows, and for what the cache of pages keeps.
+/// only if they aren't what the tree asks of them, or name a block from `burnt` on, the first that was never burnt. After each outcome
+/// the cursor has gathered what there is in the range that its walk has passed; once the answer is returned, it is at the start of its
+/// question again. It takes memory for rows, and for what the cache of pages keeps.
 pub fn rows_turn<P: Pages>(
     pages: &mut P,
     alloc: Global,

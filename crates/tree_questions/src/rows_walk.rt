@@ -27,7 +27,7 @@ use std::alloc::Global;
 use tsb_node::key_fits;
 use tsb_walk::{NodeError, PagePlace};
 
-// One look of the question. Tells whether its walk goes on.
+// One look of the question. Returns whether its walk goes on.
 fn take_look<P: Pages, O: OnceDisk + Drop>(
     pages: &mut P,
     reader: &mut ShelfReader<O>,
@@ -70,7 +70,7 @@ fn take_look<P: Pages, O: OnceDisk + Drop>(
 /// asked for, and whether more follow.
 ///
 /// Each look passes a key, so it ends. Pages are only read, and blocks by the reader alone. A page or a block is called damaged only
-/// where it isn't what the tree asks of it, or is the page of a column that names a block from `burnt` on, the first that was never
+/// if it isn't what the tree asks of it, or is the page of a column that names a block from `burnt` on, the first that was never
 /// burnt. It takes memory for the rows, and for what the cache of pages and the reader keep.
 pub fn rows<P: Pages, O: OnceDisk + Drop>(
     pages: &mut P,

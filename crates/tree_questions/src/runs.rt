@@ -1,4 +1,4 @@
-//! The leaf of a look gone over once, where that is worth it.
+//! The leaf of a look, scanned once for all its keys if that is worth it.
 
 ghost use Rattle.std.specs.Prelude.{◌≡◌, ◌≤◌, ℕ, List, IfOk, IfErr, Err};
 ghost use Rattle.page_tx.specs.Start.{Start};
@@ -17,13 +17,13 @@ use tsb_runs::{Run, next_run};
 use tsb_walk::{NodeError, PagePlace};
 use version_model::Stamp;
 
-// Whether a question asks for keys one after another. It decides how a leaf is read, and not what is answered.
+// Whether a question asks for keys one after another. It decides how a leaf is read, and not what is returned.
 fn goes_from_key_to_key(select: &Select) -> bool {
     matches!(select, Select::PeerTable(_) | Select::All)
 }
 
-/// The keys from `from` on that have a value as of the stamp, up to the end of the current leaf in which `from` is looked for, where the
-/// question goes from key to key. Else none: then it isn't worth it to go over the leaf.
+/// The keys from `from` on that have a value as of the stamp, up to the end of the current leaf in which `from` is looked for, if the
+/// question goes from key to key. Otherwise none: scanning the leaf isn't worth it then.
 pub(crate) fn run_from<P: Pages>(
     pages: &mut P,
     alloc: Global,

@@ -20,7 +20,7 @@ use std::alloc::{AllocError, Global};
 use tsb_runs::{LiveKey, Run};
 use tsb_walk::Reached;
 
-// Whether a key is above the last one that a run told, where it told one.
+// Whether a key is above the last one that a run returned; true before the first.
 fn is_above(last: &Option<Key>, key: Key) -> bool
     ensures { IsTrue result ↔ IfSome last.now (λ last. last < key) }
 {
@@ -37,7 +37,7 @@ fn is_past(key: Key, at: Key) -> bool
     key < at
 }
 
-// What is reached from a key on where no key below `high` has a value; nothing where the key isn't below it.
+// What is reached from a key on if no key below `high` has a value; None if the key isn't below it.
 fn past_from(key: Key, high: &Option<Key>) -> Option<Reached>
     ensures past { IfSome result (λ reached. (versions : List Version) (s : ℕ) → NoneWithin versions s key (high_or high.now) → IsReached versions s key (reached_as reached)) }
     ensures onward { IfSome result (GoesOnFrom key) }
@@ -54,7 +54,7 @@ fn past_from(key: Key, high: &Option<Key>) -> Option<Reached>
     }
 }
 
-// Takes in a key of a run, where the walk isn't past it. Says whether the run goes on.
+// Takes in a key of a run, unless the walk is past it. Returns whether the run goes on.
 fn take_row(alloc: Global, cursor: &mut RowsCursor, last: &Option<Key>, row: LiveKey) -> bool
     ensures taken { (from : ℕ) (all : List Version) (ps : List (Placed Admitted)) → IsFrom from last.now (front_number cursor.old.front) → Tells all ps cursor.old.question.moment → Gathered all ps cursor.old
         → IsReached all (last_stamp cursor.old.question.moment) from (ReachAt row.key (found_at row.found.stamp row.found.value.items)) → Gathered all ps cursor.new }
@@ -93,7 +93,7 @@ fn take_end(alloc: Global, cursor: &mut RowsCursor, last: &Option<Key>, high: &O
     }
 }
 
-// Takes in the keys of a run that begins where the walk stands, or before. Keys that the question doesn't ask for are passed over. Where
+// Takes in the keys of a run that begins where the walk stands, or before. Keys that the question doesn't ask for are passed over. If
 // memory is refused it stops, and the next look goes on from there.
 fn take_run(alloc: Global, cursor: &mut RowsCursor, run: Run)
     ensures taken { (from : ℕ) (all : List Version) (ps : List (Placed Admitted)) → IsOnward (Some from) (front_number cursor.old.front) → Tells all ps cursor.old.question.moment → Gathered all ps cursor.old
@@ -113,8 +113,8 @@ fn take_run(alloc: Global, cursor: &mut RowsCursor, run: Run)
     take_end(alloc, cursor, &last, &high);
 }
 
-/// Takes in what a question's look has reached, and the keys of the run that begins where the look began. After a refusal all is as it was
-/// gathered; of the run less may be taken in.
+/// Takes in what a question's look has reached, and the keys of the run that begins where the look began. After a refusal what was gathered
+/// is as it was; of the run less may be taken in.
 pub(crate) fn take_rows(
     alloc: Global,
     cursor: &mut RowsCursor,

@@ -37,7 +37,7 @@ no_some : (o : Option Entry) → o ≡ None → IsSome o → ⊥
 no_some o e some = true≢false (sym some ∙ ap is_some e)
 
 module _ (vs : List Version) (s at : ℕ) (m n : BTreeMap ℕ Entry) (key : ℕ) (entry : Entry) (latest : AreLatest vs s at m) (here : get nat_cmp m key ≡ Some entry) (least : IsLowerBound nat_cmp m key) (updates : Updates nat_cmp m n key None) where
-  -- the first key isn't below the one up to which all is said
+  -- the first key isn't below the one from which on all keys are covered
   pub first_above : at ≤ key
   first_above = latest.above key (ap is_some here)
 

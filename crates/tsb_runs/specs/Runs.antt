@@ -6,7 +6,7 @@ use Rattle.version_model.specs.Versions.{Version, Answers, found_at}
 use Rattle.version_model.specs.Ranges.{high_or}
 use Rattle.version_model.specs.Looks.{NoneWithin}
 
--- just the keys from `from` on and below `to` that have a value as of the stamp, each with it, in the order of keys
+-- exactly the keys from `from` on and below `to` that have a value as of the stamp, each with it, in the order of keys
 abbrev pub AreLive : List Version → ℕ → ℕ → ℕ → List LiveKey → Type 0
 AreLive versions s from to [] = NoneWithin versions s from to
 AreLive versions s from to (row ∷ rows) = (from ≤ row.key) × (row.key < to) × Answers versions row.key s (Some (found_at row.found.stamp row.found.value.items)) × NoneWithin versions s from row.key × AreLive versions s (suc row.key) to rows

@@ -21,7 +21,7 @@ use tsb_walk::{NodeError, PagePlace, bring, is_current_leaf};
 use version_model::Stamp;
 
 // The keys from `from` on that have a value as of a stamp in the current leaf of a column, which starts there. Refused as no node only
-// where the page isn't that leaf, and not always there.
+// if the page isn't that leaf, and not always then.
 fn run_on(
     alloc: Global,
     page: &Page,
@@ -42,7 +42,7 @@ fn run_on(
     run_in(alloc, page.octets(), &column.high, from, stamp)
 }
 
-// Why a leaf isn't gone over.
+// Why a leaf isn't scanned.
 fn refusal_of(fault: ReadFault, page: u64) -> NodeError
     ensures bad { (n : ℕ) → result ≡ NodeError.BadNode n → fault ≡ ReadFault.NotANode }
     ensures refused { (down : Bool) → LookRefusal down result }
@@ -80,10 +80,10 @@ fn run_here<P: Pages>(
 }
 
 /// The keys from `from` on, itself included, that have a value as of the stamp, up to the end of the current leaf in which `from` is
-/// looked for; where that is in the past none, and only up to `from`.
+/// looked for; if that is in the past none, and only up to `from`.
 ///
-/// Where the root stands, those are what its versions have, and no page is called bad. A failure of the disk, a journal that must be
-/// opened again and lack of memory refuse it too. Pages are only read, whatever is answered.
+/// If the root stands, those are what its versions have, and no page is called bad. A failure of the disk, a journal that must be
+/// opened again and a lack of memory refuse it too. Pages are only read, whatever is returned.
 pub fn next_run<P: Pages>(
     pages: &mut P,
     alloc: Global,

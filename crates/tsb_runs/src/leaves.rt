@@ -46,9 +46,9 @@ fn column_spot<P: Pages>(
     }
 }
 
-/// The current leaf in which a key is looked for as of a stamp; none where that is in the past.
+/// The current leaf in which a key is looked for as of a stamp; None if that is in the past.
 ///
-/// Where the root stands, the leaf shows what there is of its keys, and no page is called bad. Pages are only read.
+/// If the root stands, the leaf shows what there is of its keys, and no page is called bad. Pages are only read.
 pub fn leaf_at<P: Pages>(
     pages: &mut P,
     root: &PagePlace,

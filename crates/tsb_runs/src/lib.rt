@@ -1,5 +1,5 @@
-//! Runs: the keys of a leaf that have a value as of a stamp, for questions that go from key to key. A leaf is gone over once for all of
-//! them, where a look for the next key goes over it for each.
+//! Runs: the keys of a leaf that have a value as of a stamp, for questions that go from key to key. A leaf is scanned once for all of
+//! them, while a look for the next key scans it for each.
 #![tactic(auto)]
 
 mod leaf_runs;

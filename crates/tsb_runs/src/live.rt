@@ -40,7 +40,7 @@ fn counts(entry: &Entry, from: Key, stamp: Stamp) -> bool
     from <= entry.key && entry.stamp <= stamp
 }
 
-// Puts an entry in the place of an earlier one of its key.
+// Puts an entry in place of an earlier one of its key.
 fn put(latest: &mut BTreeMap<Key, Entry>, entry: Entry) -> Result<(), AllocError>
     ensures { OnOk result (Updates nat_cmp latest.old latest.new entry.key (Some entry)) }
 {
@@ -66,7 +66,7 @@ fn latest_of(
     Ok(latest)
 }
 
-// Whether a key isn't below the high one, where there is one.
+// Whether a key isn't below the high one, if there is one.
 fn is_past(key: Key, high: &Option<Key>) -> bool
     ensures { IsTrue result ↔ (high_or high.now ≤ key) }
 {
@@ -104,8 +104,8 @@ fn live_of(
     }
 }
 
-/// The keys from `from` on and below `high` that have a value as of the stamp, by the leaf that begins these octets. The leaf is gone
-/// over once.
+/// The keys from `from` on and below `high` that have a value as of the stamp, by the leaf that begins these octets. The leaf is scanned
+/// once.
 pub fn run_in(
     alloc: Global,
     octets: &[u8],

@@ -20,7 +20,7 @@ use Rattle.tsb_walk.specs.Knowing.{ReadsWell, AreKnown, StandsKnown}
 use Rattle.tsb_walk.specs.Looked.{GoesOnIn}
 use Rattle.tsb_walk.specs.Refusals.{of_block}
 
--- a refusal that is told as damage is damage
+-- a refusal that is reported as damage is damage
 pub of_damaged : (refusal : BlockError) (block : ℕ) → of_block refusal ≡ nodes.Damaged block → refusal ≡ blocks.Damaged block
 of_damaged (blocks.Damaged n) block e = (let same : n ≡ block = cc in ap (λ (m : ℕ). blocks.Damaged m) same)
 of_damaged blocks.Fault block e = absurd (cc)
@@ -47,7 +47,7 @@ none_first key (v ∷ vs) = (let out = is_of_no key 0 0 v (λ k f t. omega (arit
 pub none_gathered : (key from : ℕ) (all : List Version) (entries : List Entry) → entries ≡ [] → from ≡ 0 → versions_of entries ≡ filter (is_of key 0 from) all
 none_gathered key from all entries empty first = ap versions_of empty ∙ sym (none_first key all) ∙ ap (λ (n : ℕ). filter (is_of key 0 n) all) (sym first)
 
--- the next part behind those that are gathered
+-- the next part after those that are gathered
 pub gathered : (all : List Version) (key from : ℕ) (told : Option ℕ) (old more new : List Entry) → IsRising all → new ≡ old ++ more → versions_of old ≡ filter (is_of key 0 from) all → IsPart all key from (versions_of more) told
     → versions_of new ≡ filter (is_of key 0 (end_or told)) all
 gathered all key from told old more new rising is so_far part =

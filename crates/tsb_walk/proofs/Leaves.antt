@@ -35,7 +35,7 @@ live_dead leaf key s live none = absurd (let e : Some live.0.value ≡ None = no
 pub one_holds : (leaf : LeafNode) (octets : List ℕ) → BeginsAsLeaf leaf octets → (key s : ℕ) (u v : Version) → AsOf leaf.versions key s u → AsOf leaf.versions key s v → v.value ≡ u.value
 one_holds leaf octets begins key s u v a b = ap (λ (x : Version). x.value) (AsOf-one leaf.versions key s v u begins.valid.rising b a)
 
--- the versions of a key that a leaf tells are all that there are
+-- the versions of a key that a leaf has are all that there are
 pub part_told : (all : List Version) (r : Range) (leaf : LeafNode) (octets : List ℕ) (key from : ℕ) (told : Option ℕ) (part : List Version) → BeginsAsLeaf leaf octets → Shows all r leaf.versions → IsRising all → r.end ≡ end_or told → IsPoint r key from
     → part ≡ filter (is_of key from (end_or told)) leaf.versions → IsPart all key from part told
 part_told all r leaf octets key from told part begins shows rising end point is =

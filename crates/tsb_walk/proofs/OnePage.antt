@@ -23,7 +23,7 @@ use Rattle.tsb_walk.specs.declared.page_steps.ColumnSpot.{ColumnSpot}
 use Rattle.tsb_walk.specs.Shown.{keys_at, HasKey}
 use Rattle.tsb_walk.specs.inner.PageSteps.{IsChildAt, IsSpotOf}
 
--- ---- what is said
+-- ---- the nodes that pages say
 
 pub record SaidKeyNode (octets : List ℕ) (level : ℕ) (keys : Keys) (children : List Child) : Type 0 where
   pub node : KeyNodeInPage

@@ -1,4 +1,4 @@
--- What is said of a result that is given, said in other words.
+-- Facts about a given result, in other words.
 use Rattle.std.proofs.Common.{Result, Ok, Err, IfOk}
 
 pub if_ok : {T E : Type 0} (r : Result T E) (P Q : T → Type 0) → ((t : T) → P t → Q t) → IfOk r P → IfOk r Q

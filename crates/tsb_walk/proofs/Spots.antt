@@ -16,7 +16,7 @@ above_at n [] all j q at = absurd (none_at j q at)
 above_at n (p ∷ rest) all zero q at = subst (λ (x : Part). n < x.start) (same_Some p q at) all.0
 above_at n (p ∷ rest) all (suc j) q at = above_at n rest all.1 j q at
 
--- the first of parts doesn't start behind another
+-- the first of parts doesn't start after another
 first_from : (parts : List Part) (end : ℕ) → AreAscending (starts_of parts) → (j : ℕ) (q : Part) → slice_get parts j ≡ Some q → start_or end (slice_get parts 0) ≤ q.start
 first_from [] end rising j q at = absurd (none_at j q at)
 first_from (p ∷ rest) end rising zero q at = (let same = ap (λ (x : Part). x.start) (same_Some p q at) in omega (arith, same))

@@ -1,4 +1,4 @@
--- The ways of looks through settled blocks. A look reads of each block what it needs to go on, so a way is what the blocks lead to: where
+-- The ways of looks through settled blocks. A look reads of each block what it needs to go on, so a way is what the blocks lead to: if
 -- they are what their places ask, it is the way to the leaf that has the key as of the stamp.
 use Rattle.std.specs.Prelude.{◌≡◌, ℕ, ◌<◌, ◌≤◌, List, Option}
 use Rattle.version_model.specs.declared.part.Place.{Place}
@@ -6,8 +6,8 @@ use Rattle.version_model.specs.Ranges.{IsPoint, range_of}
 use Rattle.tsb_walk.specs.Knowing.{IsKnown}
 use Rattle.tsb_walk.specs.Ways.{IsFit, LeadsTo}
 
--- Where the place's block is what the place asks, the other place is the one to which it leads. Of other blocks it is said only that the next
--- place is in a block of a lower number, and has the key and the stamp.
+-- If the place's block is what the place asks, the other place is the one to which it leads. Of other blocks it is known only that the
+-- next place is in a block of a lower number, and has the key and the stamp.
 pub record IsLedOn (known : ℕ → Option (List ℕ)) (count key stamp : ℕ) (place next : Place) : Type 0 where
   pub leads : (octets : List ℕ) → IsKnown known count place.part.block octets → IsFit place octets key stamp → LeadsTo place octets key stamp next
   pub lower : next.part.block < place.part.block

@@ -1,10 +1,10 @@
--- Up to where looks tell.
+-- Up to which key looks come.
 use Rattle.std.specs.Prelude.{◌≡◌, ℕ, ◌<◌}
 use Rattle.tsb_walk.specs.declared.looks.Reached.{Reached}
 use Rattle.tsb_walk.specs.declared.looks.Reached.TheVariants.{At, Past, End}
 use Rattle.version_model.specs.Ranges.{key_end}
 
--- how far a look has come is a key below this one, or just up to it
+-- a look has come to a key below this one, or exactly up to it
 abbrev pub ReachesTo : ℕ → Reached → Type 0
 ReachesTo high (At key found) = key < high
 ReachesTo high (Past to) = to ≡ high

@@ -13,7 +13,7 @@ pub record ReadsWell {O Pen Seen : Type 0} (device : Ghosts O Pen Seen) (reader 
   pub honest : device.honest_seen (reader_disk reader) seen
   pub kept : KnowsKept device reader seen
 
--- on a disk of so many blocks, the block with this number is known to be settled with these octets
+-- on a disk of `count` blocks, block n is known to be settled with these octets
 pub record IsKnown (known : ℕ → Option (List ℕ)) (count n : ℕ) (octets : List ℕ) : Type 0 where
   pub inside : n < count
   pub at : known n ≡ Some octets

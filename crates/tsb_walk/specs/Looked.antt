@@ -1,4 +1,4 @@
--- What looks answer that begin at current pages.
+-- What looks that begin at current pages return.
 use Rattle.std.specs.Prelude.{◌≡◌, ℕ, ◌<◌, ◌≤◌, List, Option, None}
 use Rattle.tsb_walk.specs.declared.looks.Descended.{Descended}
 use Rattle.tsb_walk.specs.declared.looks.Descended.TheVariants as descended
@@ -22,42 +22,42 @@ pub record GoesOnIn (blocks : ℕ → Option BlockNode) (all : List Version) (ke
   pub point : IsPoint (range_of place.bounds) key stamp
   pub stands : PlaceStands blocks all place
 
--- what is told of the next key from this one on as of the stamp is true of these versions; or a place is told in which it is looked for
+-- what is returned about the next key from this one on as of the stamp is true of these versions; or it is to be looked for in the place that is returned
 abbrev pub IsLooked : (ℕ → Option BlockNode) → List Version → ℕ → ℕ → Looked → Type 0
 IsLooked blocks all key stamp (looked.Here reached) = IsReached all stamp key (reached_as reached)
 IsLooked blocks all key stamp (looked.InBlock place) = GoesOnIn blocks all key stamp place
 
--- what is told of the key's versions from the stamp on is true of these versions; or a place is told in which they are looked for
+-- what is returned about the key's versions from the stamp on is true of these versions; or they are to be looked for in the place that is returned
 abbrev pub IsParted : (ℕ → Option BlockNode) → List Version → ℕ → ℕ → Parted → Type 0
 IsParted blocks all key stamp (parted.Here part) = IsPart all key stamp (versions_of part.entries.items) part.told
 IsParted blocks all key stamp (parted.InBlock place) = GoesOnIn blocks all key stamp place
 
--- what is told of the key as of the stamp is true of these versions; or a place is told in which it is looked for
+-- what is returned about the key as of the stamp is true of these versions; or it is to be looked for in the place that is returned
 abbrev pub IsDescended : (ℕ → Option BlockNode) → List Version → ℕ → ℕ → Descended → Type 0
 IsDescended blocks all key stamp (descended.Here found) = Answers all key stamp (found_as found)
 IsDescended blocks all key stamp (descended.InBlock place) = GoesOnIn blocks all key stamp place
 
--- how far a look has come is not before the key where it began, and a key up to which none has a value is above it
+-- a look has come to the key where it began or a later one; a key up to which none has a value is above it
 abbrev pub GoesOnFrom : ℕ → Reached → Type 0
 GoesOnFrom key (At found value) = key ≤ found
 GoesOnFrom key (Past high) = key < high
 GoesOnFrom key End = Unit {0}
 
--- versions are told up to a stamp above the one where the look began
+-- versions are returned up to a stamp above the one where the look began
 abbrev pub TellsFrom : ℕ → KeyVersions → Type 0
 TellsFrom stamp part = stamp < end_or part.told
 
--- where a look tells of keys, it goes on from this one
+-- if a look returns how far it has come, it goes on from this key
 abbrev pub LooksOn : ℕ → Looked → Type 0
 LooksOn key (looked.Here reached) = GoesOnFrom key reached
 LooksOn key (looked.InBlock place) = Unit {0}
 
--- where a look tells of a place in the past, it has the key and the stamp
+-- if a look returns a place in the past, that has the key and the stamp
 abbrev pub LooksAt : ℕ → ℕ → Looked → Type 0
 LooksAt key stamp (looked.Here reached) = Unit {0}
 LooksAt key stamp (looked.InBlock place) = IsPoint (range_of place.bounds) key stamp
 
--- where a look goes on in the past, it does so in a block below this number
+-- if a look goes on in the past, it does so in a block below this number
 abbrev pub LooksBelow : ℕ → Looked → Type 0
 LooksBelow number (looked.Here reached) = Unit {0}
 LooksBelow number (looked.InBlock place) = place.part.block < number
@@ -72,7 +72,7 @@ abbrev pub DescendsBelow : ℕ → Descended → Type 0
 DescendsBelow number (descended.Here found) = Unit {0}
 DescendsBelow number (descended.InBlock place) = place.part.block < number
 
--- where a look for versions comes to a place in the past, it has the key and the stamp
+-- if a look for versions returns a place in the past, that has the key and the stamp
 abbrev pub PartsAt : ℕ → ℕ → Parted → Type 0
 PartsAt key stamp (parted.Here part) = Unit {0}
 PartsAt key stamp (parted.InBlock place) = IsPoint (range_of place.bounds) key stamp
@@ -82,7 +82,7 @@ abbrev pub DescendsAt : ℕ → ℕ → Descended → Type 0
 DescendsAt key stamp (descended.Here found) = Unit {0}
 DescendsAt key stamp (descended.InBlock place) = IsPoint (range_of place.bounds) key stamp
 
--- where a look tells versions, it tells all that there are from its stamp on
+-- if a look returns versions, they are all that there are from its stamp on
 abbrev pub TellsAll : Parted → Type 0
 TellsAll (parted.Here part) = part.told ≡ None
 TellsAll (parted.InBlock place) = Unit {0}

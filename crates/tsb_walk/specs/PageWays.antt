@@ -1,5 +1,5 @@
 -- The ways of keys through the pages of a tree. A walk reads of each page what it needs to go on, so a way is what the pages lead to:
--- where they are the nodes that they are to be, it is the way to the key's column.
+-- if they are the nodes that they are to be, it is the way to the key's column.
 use Rattle.std.specs.Prelude.{◌≡◌, ℕ, suc, ◌<◌, List}
 use Rattle.tsb_walk.specs.declared.page_place.PagePlace.{PagePlace}
 use Rattle.tsb_walk.specs.Shown.{Says, keys_at, HasKey}
@@ -8,7 +8,7 @@ use Rattle.version_model.specs.declared.child.Child.{Child}
 use Rattle.version_model.specs.Versions.{Version}
 use Rattle.version_model.specs.Pages.{CurrentLeaf, ColumnNode, KeyNode, IsChildOf}
 
--- the page says a key node of just its level and its keys; the other place is its child that has the key, one level below, of just the child's keys
+-- the page says a key node of exactly its level and its keys; the other place is its child that has the key, one level below, of exactly the child's keys
 pub record IsLower (shown : List (List ℕ)) (key : ℕ) (place next : PagePlace) : Type 0 where
   pub children : List Child
   pub says : Says shown place.page (KeyNode place.level (keys_at place) children)
@@ -16,8 +16,8 @@ pub record IsLower (shown : List (List ℕ)) (key : ℕ) (place next : PagePlace
   pub level : suc next.level ≡ place.level
   pub has : HasKey next key
 
--- Where the page says a key node of its level and its keys, the other place is its child that has the key. Of other pages it is said only
--- that the next place is one level below, and is to have the key.
+-- If the page says a key node of its level and its keys, the other place is its child that has the key. Of other pages it is known
+-- only that the next place is one level below, and is to have the key.
 pub record IsLed (shown : List (List ℕ)) (key : ℕ) (place next : PagePlace) : Type 0 where
   pub lower : (children : List Child) → Says shown place.page (KeyNode place.level (keys_at place) children) → IsLower shown key place next
   pub above : 1 < place.level

@@ -17,7 +17,7 @@ pub record OnlyReads {P : Type 0} (pages : Ghosts P) (old new : P) (failed : Typ
   pub down : pages.down new ≡ pages.down old
   pub device : KeepsDevice (pages.honest old) (pages.honest new) (pages.faults old) (pages.faults new) failed
 
--- a refusal of blocks, told by a look
+-- a refusal of blocks, as a look reports it
 abbrev pub of_block : BlockError → NodeError
 of_block (blocks.Damaged block) = Damaged block
 of_block blocks.Fault = OnceFault
@@ -32,7 +32,7 @@ WalkRefusal down OnceFault = ⊥
 WalkRefusal down NeedsRecovery = down ≡ true
 WalkRefusal down OutOfMemory = down ≡ false
 
--- the reasons for which a look through pages doesn't answer: the same, and want of memory for the answer
+-- the reasons for which a look through pages fails: the same, and out of memory for its result
 abbrev pub LookRefusal : Bool → NodeError → Type 0
 LookRefusal down (BadNode page) = ⊤
 LookRefusal down (Damaged block) = ⊥
@@ -41,7 +41,7 @@ LookRefusal down OnceFault = ⊥
 LookRefusal down NeedsRecovery = down ≡ true
 LookRefusal down OutOfMemory = ⊤
 
--- a page is at fault or memory is wanting: no device failed, and the journal needn't be opened again
+-- a page is at fault or memory has run out: no device failed, and the journal needn't be opened again
 abbrev pub NeedsNoDevice : NodeError → Type 0
 NeedsNoDevice (BadNode page) = ⊤
 NeedsNoDevice (Damaged block) = ⊥

@@ -8,14 +8,14 @@ use Rattle.version_model.specs.Ranges.{Range, IsPoint, range_of}
 use Rattle.version_model.specs.Blocks.{OldLeaf, OldColumn, IsWider, IsPartOf}
 use Rattle.tsb_node.specs.Views.{BlockSays}
 
--- the octets are a leaf of just the place's stamps, and of its keys at least, with these versions
+-- the octets are a leaf of exactly the place's stamps, and of its keys at least, with these versions
 pub record IsLeafFor (place : Place) (octets : List ℕ) (versions : List Version) : Type 0 where
   pub wide : Range
   pub kind : place.part.kind ≡ LeafBlock
   pub says : BlockSays octets (OldLeaf wide versions)
   pub wider : IsWider wide (range_of place.bounds)
 
--- the octets are a column of just the place's stamps, and of its keys at least, with these parts
+-- the octets are a column of exactly the place's stamps, and of its keys at least, with these parts
 pub record IsColumnFor (place : Place) (octets : List ℕ) (parts : List Part) : Type 0 where
   pub wide : Range
   pub kind : place.part.kind ≡ ColumnBlock

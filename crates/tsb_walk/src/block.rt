@@ -1,4 +1,4 @@
-//! What one block says to a place: that it is the leaf, or where to go on.
+//! What one block is to a place: the leaf, or a column with the part where to go on.
 
 ghost use Rattle.std.specs.Prelude.{◌≡◌, ◌<◌, ◌≤◌, ◌↔◌, ℕ, length, IsTrue, IfSome, IfNone, IsSome, Some};
 ghost use Rattle.version_model.specs.Ranges.{IsPoint, range_of, high_or, end_or};
@@ -14,7 +14,7 @@ use route_model::Key;
 use tsb_node::{PartAt, column_head, key_fits, leaf_head, part_for, stamp_fits};
 use version_model::{Bounds, PartKind, Place, Stamp};
 
-/// What a block says to a place.
+/// What a block is to a place.
 #[derive(Clone, Copy, Debug)]
 pub enum Step {
     /// It is the leaf that has the place's versions.
@@ -64,7 +64,7 @@ fn is_same_end(wide: Option<Stamp>, end: Option<Stamp>) -> bool
     }
 }
 
-// Whether bounds have an end, are of just the stamps of others, and of their keys at least.
+// Whether bounds have an end, exactly the stamps of others, and at least their keys.
 fn is_wider(wide: &Bounds, bounds: &Bounds) -> bool
     ensures { IsTrue result ↔ (IsSome wide.now.end × IsWider (range_of wide.now) (range_of bounds.now)) }
 {
@@ -76,7 +76,7 @@ fn is_wider(wide: &Bounds, bounds: &Bounds) -> bool
         && is_same_end(wide.end, bounds.end)
 }
 
-// Whether octets may begin as a leaf for bounds: they don't where this says no.
+// Whether octets may begin as a leaf for bounds: if this returns false, they don't.
 fn is_leaf_for(octets: &[u8], bounds: &Bounds) -> bool
     requires size { length octets.now ≡ 16384 }
     ensures { (leaf : LeafNode) → IsLeafOf bounds.now octets.now leaf → IsTrue result }
@@ -87,7 +87,7 @@ fn is_leaf_for(octets: &[u8], bounds: &Bounds) -> bool
     }
 }
 
-// The end of the column for bounds with which octets begin. None only where they begin with none, and not always there.
+// The end of the column for bounds with which octets begin. None only if they begin with none, and not always then.
 fn column_end(octets: &[u8], bounds: &Bounds) -> Option<Stamp>
     requires size { length octets.now ≡ 16384 }
     ensures found { (column : ColumnInBlock) (end : ℕ) → IsEndOf bounds.now octets.now column end → result ≡ Some end }
@@ -151,8 +151,8 @@ fn part_step(octets: &[u8], place: &Place, key: Key, stamp: Stamp) -> Option<Ste
     Some(Step::Further(place_of(place, &found)))
 }
 
-/// What the octets of a block say to a place, for a key and a stamp, by their header and the part that has the stamp. None only where they
-/// aren't what the place asks, and not always there: neither a leaf nor a column for it, or the part that is next isn't in a block of a
+/// What a block with these octets is to a place, for a key and a stamp, by their header and the part that has the stamp. None only if they
+/// aren't what the place asks, and not always then: neither a leaf nor a column for it, or the part that is next isn't in a block of a
 /// lower number.
 pub fn step_in(octets: &[u8], place: &Place, key: Key, stamp: Stamp) -> Option<Step>
     requires size { length octets.now ≡ 16384 }

@@ -34,9 +34,9 @@ fn fault_of(fault: ReadFault, block: u64) -> BlockError
 
 /// The next key from `from` on, itself included, that has a value as of the stamp, among the keys of a place in the past.
 ///
-/// It takes no lock, and waits for nothing but the disk. Where the place stands, no block is called damaged. A block that is called damaged
+/// It takes no lock, and waits for nothing but the disk. If the place stands, no block is called damaged. A block that is called damaged
 /// lies on the way on which the blocks lead the key, and isn't what its place asks; not each such block is called damaged, since of a block
-/// its digest, its header and what the key needs alone are read. A failure of the disk and lack of memory refuse it too.
+/// only its digest, its header and what the key needs are read. A failure of the disk and a lack of memory refuse it too.
 pub fn hist_next<O: OnceDisk + Drop>(
     reader: &mut ShelfReader<O>,
     seen: &mut O::Seen,
@@ -70,7 +70,8 @@ pub fn hist_next<O: OnceDisk + Drop>(
     }
 }
 
-/// The versions of the key from the stamp on, ends included, of a place in the past: all before the end that is told.
+/// The versions of the key from the stamp on, ends included, of a place in the past: all before the end that is returned
+/// with them.
 ///
 /// It waits for nothing but the disk, and is refused as `hist_next` is.
 pub fn hist_part<O: OnceDisk + Drop>(
@@ -106,7 +107,7 @@ pub fn hist_part<O: OnceDisk + Drop>(
     }
 }
 
-/// What the key has as of the stamp, by a place in the past: its value, or none where it has none or has ended.
+/// What the key has as of the stamp, by a place in the past: its value, or None if it has none or has ended.
 ///
 /// It waits for nothing but the disk, and is refused as `hist_next` is.
 pub fn hist_find<O: OnceDisk + Drop>(

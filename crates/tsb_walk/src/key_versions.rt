@@ -27,7 +27,7 @@ use std::alloc::Global;
 use tsb_node::stamp_fits;
 use version_model::{Entry, Stamp};
 
-// The versions of the key from the stamp on up to one that is told, of current pages or of the past.
+// The versions of the key from the stamp on, before another stamp if one is returned with them; of current pages or of the past.
 fn next_part<P: Pages, O: OnceDisk + Drop>(
     pages: &mut P,
     reader: &mut ShelfReader<O>,

@@ -1,4 +1,4 @@
-//! What the page of a current leaf answers looks.
+//! What looks find in the page of a current leaf.
 
 ghost use Rattle.std.specs.Prelude.{◌≡◌, ℕ, List, None, IfOk, Err, filter};
 ghost use Rattle.version_model.specs.Versions.{Version, Answers};
@@ -21,8 +21,8 @@ use std::alloc::Global;
 use tsb_node::{ReadFault, stamp_fits};
 use version_model::Stamp;
 
-/// How far a look for the next key comes in the current leaf of a column, which starts there. Refused as no node only where the
-/// page isn't that leaf, and not always there.
+/// How far a look for the next key comes in the current leaf of a column, which starts there. Refused as no node only if the
+/// page isn't that leaf, and not always then.
 pub fn reached_on(
     alloc: Global,
     page: &Page,
@@ -45,7 +45,7 @@ pub fn reached_on(
 }
 
 /// The versions of a key from a stamp on in the current leaf of a column, which starts there: all that there are. Refused as no
-/// node only where the page isn't that leaf, and not always there.
+/// node only if the page isn't that leaf, and not always then.
 pub fn part_on(
     alloc: Global,
     page: &Page,
@@ -64,8 +64,8 @@ pub fn part_on(
     part_in(alloc, page.octets(), &None, key, from)
 }
 
-/// What a key has as of a stamp in the current leaf of a column, which starts there. Refused as no node only where the page
-/// isn't that leaf, and not always there.
+/// What a key has as of a stamp in the current leaf of a column, which starts there. Refused as no node only if the page
+/// isn't that leaf, and not always then.
 pub fn found_on(
     alloc: Global,
     page: &Page,

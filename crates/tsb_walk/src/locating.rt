@@ -30,7 +30,7 @@ fn refusal_of(refusal: PageError) -> NodeError
     }
 }
 
-/// Sees to it that a page of a tree is in memory. A page that there isn't is bad.
+/// Brings a page of a tree into memory, unless it is there. A page that doesn't exist is bad.
 pub fn bring<P: Pages>(pages: &mut P, n: u64) -> Result<(), NodeError>
     ensures there { OnOk result (P.resident pages.new n) }
     ensures inside { OnOk result (n < P.homes pages.old) }
@@ -47,9 +47,9 @@ pub fn bring<P: Pages>(pages: &mut P, n: u64) -> Result<(), NodeError>
     }
 }
 
-/// Goes down from a key node to its child that has the key: one level below, of just the keys that the key node gives it. Of the page its
-/// header and that child alone are read: a page that is called bad isn't a key node of just the place's level and keys, and not each that
-/// isn't is called bad. Pages are only read.
+/// Goes down from a key node to its child that has the key: one level below, of exactly the keys that the key node gives it. Of the page
+/// only its header and that child are read: a page that is called bad isn't a key node of exactly the place's level and keys, but not
+/// each page that isn't one is called bad. Pages are only read.
 pub fn down<P: Pages>(pages: &mut P, place: &PagePlace, key: Key) -> Result<PagePlace, NodeError>
     requires has { HasKey place.now key }
     ensures has { IfOk result (λ next. HasKey next key) }

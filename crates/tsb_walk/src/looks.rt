@@ -1,4 +1,4 @@
-//! What looks answer, and how the octets of a leaf answer them.
+//! What looks return, and what they find in the octets of a leaf.
 
 ghost use Rattle.std.specs.Prelude.{◌≡◌, ◌<◌, ◌↔◌, length, filter, IsTrue, IfOk, Err, ℕ, List};
 ghost use Rattle.version_model.specs.Versions.{Version, Answers, IsRising};
@@ -34,15 +34,15 @@ pub enum Reached {
     End,
 }
 
-/// The versions of a key from a stamp on, ends included, in the order of their stamps: all before the stamp that is told,
-/// or all that there are where none is.
+/// The versions of a key from a stamp on, ends included, in the order of their stamps: all before the stamp `told`,
+/// or all that there are if it is None.
 #[derive(Debug, Drop)]
 pub struct KeyVersions {
     pub entries: Vec<Entry>,
     pub told: Option<Stamp>,
 }
 
-/// What a look for the next key answers where it begins at current pages: how far it has come, or the place in the past where
+/// What a look for the next key returns if it begins at current pages: how far it has come, or the place in the past where
 /// it goes on, for the same key and stamp.
 #[derive(Debug, Drop)]
 pub enum Looked {
@@ -50,7 +50,7 @@ pub enum Looked {
     InBlock(Place),
 }
 
-/// What a look for the versions of a key answers where it begins at current pages: the versions, or the place in the past where
+/// What a look for the versions of a key returns if it begins at current pages: the versions, or the place in the past where
 /// it goes on, for the same key and stamp.
 #[derive(Debug, Drop)]
 pub enum Parted {
@@ -58,7 +58,7 @@ pub enum Parted {
     InBlock(Place),
 }
 
-/// What a look for a key answers where it begins at current pages: what the key has, none where it has no value; or the place in
+/// What a look for a key returns if it begins at current pages: what the key has, None if it has no value; or the place in
 /// the past where it goes on, for the same key and stamp.
 #[derive(Debug, Drop)]
 pub enum Descended {
@@ -93,7 +93,7 @@ pub fn found_in(
     }))
 }
 
-// Whether a key is below the high key of a leaf, where it has one.
+// Whether a key is below the high key of a leaf, if it has one.
 fn is_below(key: Key, high: Option<Key>) -> bool
     ensures { IsTrue result ↔ (key < high_or high) }
 {

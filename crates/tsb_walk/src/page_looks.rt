@@ -1,4 +1,4 @@
-//! Looks that begin at current pages. Those into the past answer the place in settled blocks where they go on.
+//! Looks that begin at current pages. Those into the past return the place in settled blocks where they go on.
 
 ghost use Rattle.std.specs.Prelude.{◌≡◌, ◌<◌, ◌≤◌, ℕ, Bool, List, None, IfOk, IfErr, Err, filter};
 ghost use Rattle.page_tx.specs.Start.{Start};
@@ -174,10 +174,10 @@ fn found_here<P: Pages>(
 /// The next key from `from` on, itself included, that has a value as of the stamp, among the keys of the column that has `from`;
 /// or the place in the past where it is looked for.
 ///
-/// Where the root stands, that is what its versions have, and no page is called bad. A page that is called bad lies on the way on which
-/// the pages lead the key, and isn't what it is to be there: a key node, the column, or its current leaf where the stamp lies in it. Not
-/// each such page is called bad, since of a page its header and what the key needs alone are read; `tsb_check` reads all. A failure of the
-/// disk, a journal that must be opened again and lack of memory refuse it too. Pages are only read, whatever is answered.
+/// If the root stands, that is what its versions have, and no page is called bad. A page that is called bad lies on the way on which
+/// the pages lead the key, and isn't what it is to be there: a key node, the column, or its current leaf if the stamp lies in it. Not
+/// each such page is called bad, since of a page only its header and what the key needs are read; `tsb_check` reads all. A failure of the
+/// disk, a journal that must be opened again and a lack of memory refuse it too. Pages are only read, whatever is returned.
 pub fn next<P: Pages>(
     pages: &mut P,
     alloc: Global,
@@ -207,7 +207,7 @@ pub fn next<P: Pages>(
     }
 }
 
-/// The versions of the key from the stamp on, ends included: all that there are, where the current leaf has them; or the place in
+/// The versions of the key from the stamp on, ends included: all that there are, if the current leaf has them; or the place in
 /// the past where the first of them are looked for.
 ///
 /// It is refused, and leaves the pages, as `next` does.
@@ -240,7 +240,7 @@ pub fn part<P: Pages>(
     }
 }
 
-/// What the key has as of the stamp, none where it has no value then or has ended; or the place in the past where it is looked for.
+/// What the key has as of the stamp, None if it has no value then or has ended; or the place in the past where it is looked for.
 ///
 /// It is refused, and leaves the pages, as `next` does.
 pub fn descend<P: Pages>(

@@ -1,4 +1,4 @@
-//! Pages of a tree, and what is said of them before they are read.
+//! Pages of a tree, and what the pages above say of them, known before they are read.
 
 ghost use Rattle.std.specs.Prelude.{◌≡◌, ◌↔◌, IsTrue};
 ghost use Rattle.version_model.specs.Ranges.{high_or};
@@ -9,8 +9,8 @@ use route_model::Key;
 use tsb_node::key_fits;
 use version_model::Bounds;
 
-/// A page of a tree, and what the page above it says of it: at level 1 it is a column, above it a key node of just that level, in
-/// either case of the keys from `low` on and below `high`, or of all keys from `low` on where there is none.
+/// A page of a tree, and what the page above it says of it: at level 1 it is a column, above it a key node of exactly that level, in
+/// either case of the keys from `low` on and below `high`, or of all keys from `low` on if there is none.
 #[derive(Clone, Copy, Debug)]
 pub struct PagePlace {
     pub page: u64,
@@ -78,7 +78,7 @@ fn is_open(high: Option<Key>) -> bool
     }
 }
 
-/// Whether bounds have just the keys of a place.
+/// Whether bounds have exactly the keys of a place.
 pub fn are_its_keys(bounds: &Bounds, place: &PagePlace) -> bool
     ensures { IsTrue result ↔ (keys_between bounds.now ≡ keys_at place.now) }
 {

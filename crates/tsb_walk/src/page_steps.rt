@@ -1,6 +1,6 @@
-//! What one page of a tree says to a key and a stamp: which page is next, or where the column has them. Of each page that is read which a
-//! walk needs to go on: its header, and the entry that has the key or the stamp. Where the page is the node that it is to be, the answer
-//! is that node's; of other pages it is said only that the walk goes down and keeps to the key and the stamp.
+//! Where one page of a tree leads for a key and a stamp: to which page next, or where the column has them. Of each page that is read which
+//! a walk needs to go on: its header, and the entry that has the key or the stamp. If the page is the node that it is to be, the answer
+//! is that node's; for other pages the only promise is that the walk goes down and keeps to the key and the stamp.
 
 ghost use Rattle.std.specs.Prelude.{◌≡◌, ◌↔◌, ◌<◌, ◌≤◌, ℕ, suc, List, Some, IsTrue, IfSome, IfNone};
 ghost use Rattle.version_model.specs.declared.child.Child.{Child as ChildValue};
@@ -47,8 +47,8 @@ fn child_place(place: &PagePlace, under: &Under) -> PagePlace
     }
 }
 
-/// The child of the key node that a page is, for a key: one level below, of keys that have it. None only where the page is no key node of
-/// just the place's level and keys, and not always there.
+/// The child of the key node that a page is, for a key: one level below, of keys that have it. None only if the page is no key node of
+/// exactly the place's level and keys, and not always then.
 pub fn child_in(page: &Page, place: &PagePlace, key: Key) -> Option<PagePlace>
     requires has { HasKey place.now key }
     ensures child { (children : List ChildValue) → PageSays page.now (KeyNode place.now.level (keys_at place.now) children) → IfSome result (IsChildAt place.now children) }
@@ -100,7 +100,7 @@ pub fn is_in(found: &PartAt, stamp: Stamp) -> bool
     found.part.start <= stamp && stamp < found.end
 }
 
-// Where the column at a place has its versions, of its keys: none where the stamp isn't in the part.
+// Where the column at a place has its versions, of its keys: None if the stamp isn't in the part.
 fn column_spot(place: &PagePlace, spot: &Spot, key: Key, stamp: Stamp) -> Option<ColumnSpot>
     requires has { HasKey place.now key }
     ensures spot { (column : ColumnInPage) → keys_between column.bounds ≡ keys_at place.now → IsSpot column stamp spot.now
@@ -119,8 +119,8 @@ fn column_spot(place: &PagePlace, spot: &Spot, key: Key, stamp: Stamp) -> Option
     }
 }
 
-/// Where the column that a page is has its versions at a stamp. None only where the page is no column of just the place's keys, and not
-/// always there.
+/// Where the column that a page is has its versions at a stamp. None only if the page is no column of exactly the place's keys, and not
+/// always then.
 pub fn spot_in(page: &Page, place: &PagePlace, key: Key, stamp: Stamp) -> Option<ColumnSpot>
     requires has { HasKey place.now key }
     ensures spot { (parts : List PartValue) (start current : ℕ) → PageSays page.now (ColumnNode (keys_at place.now) parts start current)
@@ -140,8 +140,8 @@ pub fn spot_in(page: &Page, place: &PagePlace, key: Key, stamp: Stamp) -> Option
     column_spot(place, &spot, key, stamp)
 }
 
-/// Whether a page may be the current leaf of a column's keys from a start on: it is none where this says no, and not always one where it
-/// says yes.
+/// Whether a page may be the current leaf of a column's keys from a start on: it is none if this returns false, and not always one if it
+/// returns true.
 pub fn is_current_leaf(page: &Page, column: &PagePlace, start: Stamp) -> bool
     ensures { (versions : List Version) → PageSays page.now (CurrentLeaf (keys_at column.now) start versions) → IsTrue result }
 {

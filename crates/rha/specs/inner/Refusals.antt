@@ -26,12 +26,12 @@ of_open (opens.BadSlot page) = refusals.BadNode page
 of_open (opens.BadNode page) = refusals.BadNode page
 of_open opens.OutOfMemory = refusals.OutOfMemory
 
--- a trouble that ended a server; where the archive must be opened again, a device failed before
+-- a trouble that ended a server; if the archive must be opened again, a device failed before
 abbrev pub of_served : Trouble → Refusal
 of_served shared.NeedsRecovery = refusals.Fault
 of_served trouble = of_trouble (of_shared trouble)
 
--- why a server ended that no client stopped
+-- why a server that no client stopped ended
 abbrev pub of_serve : ServeError → Refusal
 of_serve serves.OutOfMemory = refusals.OutOfMemory
 of_serve serves.Threads = refusals.Outside

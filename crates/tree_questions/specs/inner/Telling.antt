@@ -1,4 +1,4 @@
--- What is told after a look.
+-- What a turn returns after a look.
 use Rattle.std.specs.Prelude.{◌≡◌, ⊤, ℕ, List}
 use Rattle.route_model.specs.Admission.{Admitted}
 use Rattle.route_meaning.specs.Merged.{Placed}
@@ -20,7 +20,7 @@ ToldRows ps c d (rows.Done answer) = IsAnswer ps c.question answer.rows.items an
 ToldRows ps c d rows.Again = ⊤
 ToldRows ps c d (rows.Historical errand) = ⊥
 
--- where the walk goes on, the cursor is the same; no errand is left
+-- if the walk goes on, the cursor is the same; no errand is left
 abbrev pub KeepsRows : RowsCursor → RowsCursor → RowsTurn → Type 0
 KeepsRows c d (rows.Done answer) = ⊤
 KeepsRows c d rows.Again = d ≡ c
@@ -38,7 +38,7 @@ KeepsEvents c d (events.Done answer) = ⊤
 KeepsEvents c d events.Again = d ≡ c
 KeepsEvents c d (events.Historical errand) = ⊥
 
--- where versions are told, they are told up to a stamp above this one
+-- versions are returned, and up to a stamp above this one
 abbrev pub TellsOn : ℕ → Parted → Type 0
 TellsOn from (parted.Here part) = TellsFrom from part
 TellsOn from (parted.InBlock place) = ⊤

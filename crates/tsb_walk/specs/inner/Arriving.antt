@@ -20,7 +20,7 @@ pub record HasLeaf {O Pen Seen : Type 0} (device : Ghosts O Pen Seen) (reader : 
   pub leaf : IsLeafFor place octets versions
   pub shows : Shows all (range_of place.bounds) versions
 
--- the way comes to the place of a leaf; where its block is known, the reader keeps that block alone under its number
+-- the way comes to the place of a leaf; if its block is known, the reader keeps that block alone under its number
 pub record Arrives {O Pen Seen : Type 0} (device : Ghosts O Pen Seen) (reader : ShelfReader O Pen Seen device) (known : ℕ → Option (List ℕ)) (count key stamp : ℕ) (first last : Place) : Type 0 where
   pub way : BlockWay known count key stamp first last
   pub kind : last.part.kind ≡ LeafBlock

@@ -9,7 +9,7 @@ use Rattle.tsb_walk.specs.inner.PageSteps.{IsSpotOf}
 use Rattle.version_model.specs.declared.part.Part.{Part}
 use Rattle.version_model.specs.Pages.{ColumnNode}
 
--- where the page says a column of the place's keys, that is where it has the key and the stamp
+-- if the page says a column of the place's keys, that is where it has the key and the stamp
 abbrev pub IsSpotAt : List (List ℕ) → PagePlace → ℕ → ℕ → ColumnSpot → Type 0
 IsSpotAt shown column key stamp spot =
     (parts : List Part) (start current : ℕ) → Says shown column.page (ColumnNode (keys_at column) parts start current) → IsSpotOf column parts start current key stamp spot

@@ -14,7 +14,7 @@ use Rattle.version_model.specs.Blocks.{IsPartOf}
 abbrev pub IsChildAt : PagePlace → List Child → PagePlace → Type 0
 IsChildAt place children next = IsChildOf (keys_at place) children (keys_at next) (record { low = next.low; page = next.page })
 
--- in the current leaf where the stamp isn't before its start, else in the part of the past that has the key and the stamp
+-- in the current leaf if the stamp isn't before its start, else in the part of the past that has the key and the stamp
 abbrev pub IsSpotOf : PagePlace → List Part → ℕ → ℕ → ℕ → ℕ → ColumnSpot → Type 0
 IsSpotOf place parts start current key stamp (InLeaf leaf) = (leaf.start ≡ start) × (leaf.page ≡ current) × (start ≤ stamp)
 IsSpotOf place parts start current key stamp (InPast past) = IsPartOf (past_range (keys_at place) start) parts (range_of past.bounds) past.part × IsPoint (range_of past.bounds) key stamp

@@ -13,13 +13,13 @@ use Rattle.tsb_walk.specs.declared.block.Step.{Step}
 use Rattle.tsb_walk.specs.declared.block.Step.TheVariants.{InLeaf, Further}
 use Rattle.tsb_walk.specs.Ways.{IsLeafFor, LeadsTo}
 
--- the octets begin as a leaf of a block, of just the stamps of bounds and of their keys at least
+-- the octets begin as a leaf of a block, of exactly the stamps of bounds and of their keys at least
 pub record IsLeafOf (bounds : Bounds) (octets : List ℕ) (leaf : LeafNode) : Type 0 where
   pub begins : BeginsAsLeaf leaf octets
   pub ended : IsSome leaf.bounds.end
   pub wider : IsWider (range_of leaf.bounds) (range_of bounds)
 
--- the octets begin as a column of a block with this end, of just the stamps of bounds and of their keys at least
+-- the octets begin as a column of a block with this end, of exactly the stamps of bounds and of their keys at least
 pub record IsEndOf (bounds : Bounds) (octets : List ℕ) (column : ColumnInBlock) (end : ℕ) : Type 0 where
   pub begins : BeginsAsOldColumn column octets
   pub ended : column.bounds.end ≡ Some end
