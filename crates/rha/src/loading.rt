@@ -30,7 +30,7 @@ impl Noted {
     }
 }
 
-/// Nothing yet of each of `count` files. None if out of memory.
+/// Nothing yet of each of `count` files. None where there is no memory.
 fn noted_of(rt: &HostRuntime, count: usize) -> Option<Vec<Noted>> {
     let mut noted = Vec::new(rt.alloc());
     for _ in 0..count {
@@ -39,12 +39,12 @@ fn noted_of(rt: &HostRuntime, count: usize) -> Option<Vec<Noted>> {
     Some(noted)
 }
 
-/// The files of these names. None if out of memory.
-fn sources_of<'a>(
+/// The files of these names. None where there is no memory.
+fn sources_of<'a, 'o>(
     rt: &'a HostRuntime,
     names: &[&'a str],
-    noted: &'a [Noted],
-) -> Option<Vec<Source<'a>>> {
+    noted: &'o [Noted],
+) -> Option<Vec<Source<'a, 'o>>> {
     let mut sources = Vec::new(rt.alloc());
     for (name, it) in names.iter().zip(noted) {
         sources.push(Source::new(rt, *name, &it.is_open)).ok()?;
@@ -54,7 +54,11 @@ fn sources_of<'a>(
 
 /// Loads files into the archive of a folder. The folder's files are opened before the first of them, and what is in these is read after it; each
 /// further one is opened when the load comes to it.
-pub(crate) fn load<E: Write>(rt: &HostRuntime, asked: &Loading<'_>, err: &mut Output<E>) -> u8 {
+pub(crate) fn load<'a, E: Write>(
+    rt: &'a HostRuntime,
+    asked: &Loading<'a>,
+    err: &mut Output<E>,
+) -> u8 {
     let alloc = rt.alloc();
     let names = asked.files.as_slice();
     let Some(disks) = open_disks(rt, asked.folder, asked.wait, err) else {
@@ -95,14 +99,14 @@ fn tell_failed<R: Read, E: Write>(
     }
 }
 
-/// Prints which files weren't read, if there are any.
+/// Says which files weren't read, if there are such.
 fn advise_unread<E: Write>(rt: &HostRuntime, files: &[&str], err: &mut Output<E>) {
     if !files.is_empty() {
         advise(rt.alloc(), &Unread { files }, err);
     }
 }
 
-/// Prints for each file that was loaded why it couldn't be read, if so, and what a person may not expect; and which files weren't read.
+/// Says of each file that was loaded why it couldn't be read, if so, and what a person may not expect; and which files weren't read.
 fn advise_loaded<A: RouteArchive, R: Read, E: Write>(
     rt: &HostRuntime,
     archive: &A,
@@ -117,7 +121,7 @@ fn advise_loaded<A: RouteArchive, R: Read, E: Write>(
         if !file.report.is_begun {
             break;
         }
-        begun += 1;
+        begun = begun.saturating_add(1);
         tell_failed(rt, name, it.is_open.get(), &file.input, err);
         let mark = if begun == names.len() {
             asked.mark
@@ -137,14 +141,14 @@ fn advise_loaded<A: RouteArchive, R: Read, E: Write>(
     advise_unread(rt, names.get(begun..).unwrap_or(&[]), err);
 }
 
-/// Loads files into an archive that is open. If standard error is a terminal, one line there says how far it has come, and is gone
+/// Loads files into an archive that is open. Where standard error is a terminal, one line there says how far it has come, and is gone
 /// before anything else is printed.
-fn load_into<E: Write>(
-    rt: &HostRuntime,
+fn load_into<'a, 'o, E: Write>(
+    rt: &'a HostRuntime,
     archive: FileArchive,
     asked: &Loading<'_>,
-    sources: Vec<Source<'_>>,
-    noted: &[Noted],
+    sources: Vec<Source<'a, 'o>>,
+    noted: &'o [Noted],
     err: &mut Output<E>,
 ) -> u8 {
     let alloc = rt.alloc();
