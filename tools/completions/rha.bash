@@ -25,7 +25,7 @@ _rha() {
   case ${words[1]}/$word in
     /*) offered="create load ask serve check info --help --version" ;;
     create/-*) offered="--collectors --ring --pages --blocks --help" ;;
-    load/-*) offered="--wait --collector --batch --mark --resume --strict --help" ;;
+    load/-*) offered="--wait --collector --batch --mark --resume --lose-entries --strict --help" ;;
     serve/-*) offered="--wait --listen --workers --help" ;;
     ask/-* | check/-*) offered="--wait --help" ;;
     info/-*) offered="--wait --json --help" ;;

@@ -46,6 +46,7 @@ complete -c rha -n '__rha_is load' -x -l collector -d 'The collector, 0 to 15'
 complete -c rha -n '__rha_is load' -x -l batch -d 'The most records of a batch, 1 to 1000'
 complete -c rha -n '__rha_is load' -x -l mark -d "The collector's mark once the last file is loaded"
 complete -c rha -n '__rha_is load' -l resume -d 'Leave out the records that were offered before'
+complete -c rha -n '__rha_is load' -l lose-entries -d 'Leave table entries without a next hop out'
 complete -c rha -n '__rha_is load' -l strict -d 'End at a file that gives cause for doubt'
 complete -c rha -n '__rha_is load' -F
 

@@ -43,6 +43,11 @@ pub enum FileAdvice<'a> {
         refused: u64,
         records: u64,
     },
+    /// Entries of its RIB records were left out.
+    LeftOut {
+        file: &'a str,
+        count: u64,
+    },
 }
 
 impl fmt::Display for FileAdvice<'_> {
@@ -83,6 +88,14 @@ impl fmt::Display for FileAdvice<'_> {
             } => write!(
                 f,
                 "{file}: {refused} of {records} records were refused, as the X lines say"
+            ),
+            FileAdvice::LeftOut { file, count: 1 } => write!(
+                f,
+                "{file}: 1 entry without a next hop is left out: this file gives its peer no route to that prefix"
+            ),
+            FileAdvice::LeftOut { file, count } => write!(
+                f,
+                "{file}: {count} entries without a next hop are left out: this file gives their peers no route to those prefixes"
             ),
         }
     }

@@ -144,6 +144,10 @@ pub fn advise_load<A: RouteArchive, E: Write>(
         advise_cut(alloc, loaded, err);
         advise_held(alloc, loaded, err);
     }
+    let (file, count) = (loaded.file, loaded.report.left_out);
+    if count > 0 {
+        advise(alloc, &FileAdvice::LeftOut { file, count }, err);
+    }
     if let Some(refusal) = loaded.report.refusal {
         advise_refused(alloc, archive, refusal, loaded, err);
     }

@@ -1,7 +1,7 @@
 //! What is said of files that are loaded.
 
 use crate::be;
-use advice::{Packing, advise_file, packing_of};
+use advice::{FileAdvice, Packing, advise, advise_file, packing_of};
 use route_model::Mark;
 use service::{FeedCounts, Output};
 use std::alloc::Global;
@@ -147,5 +147,33 @@ fn is_said(alloc: Global, said: &Said) -> bool {
 fn what_was_not_taken_is_said(rt: HostRuntime) {
     for said in &SAID {
         be(&rt, is_said(rt.alloc(), said), said.text);
+    }
+}
+
+/// How many entries of a file are left out, and what is said of them.
+const LEFT_OUT: [(u64, &str); 2] = [
+    (
+        1,
+        "rha: a.mrt: 1 entry without a next hop is left out: this file gives its peer no route to that prefix\n",
+    ),
+    (
+        74,
+        "rha: a.mrt: 74 entries without a next hop are left out: this file gives their peers no route to those prefixes\n",
+    ),
+];
+
+/// Whether this is said where this many entries are left out.
+fn is_left_out(alloc: Global, count: u64, wanted: &str) -> bool {
+    let mut text: Vec<u8> = Vec::new(alloc);
+    let file = "a.mrt";
+    let words = FileAdvice::LeftOut { file, count };
+    advise(alloc, &words, &mut Output::new(&mut text));
+    text.as_slice() == wanted.as_bytes()
+}
+
+#[test]
+fn how_many_entries_are_left_out_is_said(rt: HostRuntime) {
+    for (count, wanted) in &LEFT_OUT {
+        be(&rt, is_left_out(rt.alloc(), *count, wanted), wanted);
     }
 }

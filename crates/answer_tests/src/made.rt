@@ -6,7 +6,7 @@ use disk_memory::{MemErase, MemOnce};
 use memory_archive::MemArchive;
 use once_store::ShelfReader;
 use route_model::Mark;
-use service::{FeedSettings, FileLoad, LoadSettings, Output, Status, load};
+use service::{FeedSettings, FileLoad, LoadSettings, Output, Status, WithoutHop, load};
 use std::alloc::Global;
 use std::sync::Arc;
 
@@ -51,6 +51,7 @@ fn load_into(alloc: Global, archive: &mut MemArchive, octets: &[u8]) -> Status {
         feed: FeedSettings {
             collector: 0,
             limit: 1000,
+            rule: WithoutHop::Refused,
         },
         mark: Mark::new(1_704_067_201),
         resume: false,

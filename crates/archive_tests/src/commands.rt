@@ -8,7 +8,7 @@ use std::alloc::Global;
 
 /// Words, with lines between them, and what they ask for: the folder a, and each further thing that they say, or what takes its
 /// place where they don't.
-const ACCEPTED: [(&str, &str); 38] = [
+const ACCEPTED: [(&str, &str); 39] = [
     // What isn't chosen.
     ("rha|create|a", "create a 1 4096 10000000 100000000"),
     (
@@ -60,6 +60,10 @@ const ACCEPTED: [(&str, &str); 38] = [
     (
         "rha|load|--resume|a|a.mrt|--batch=1000|--collector=0",
         "load a 0 1000 none resumed a.mrt",
+    ),
+    (
+        "rha|load|a|--lose-entries|--collector=0|a.mrt",
+        "load a 0 1000 none whole lossy a.mrt",
     ),
     // Several files, with options between them.
     (
@@ -211,6 +215,9 @@ impl Line {
             None => self.word("none"),
         }
         self.word(if asked.resume { "resumed" } else { "whole" });
+        if asked.lose_entries {
+            self.word("lossy");
+        }
         if asked.strict {
             self.word("strict");
         }

@@ -3,7 +3,9 @@
 use crate::pure::Pure;
 use crate::samples::stream;
 use route_model::Mark;
-use service::{End, FeedSettings, FileLoad, Input, LoadSettings, Output, Status, ask, feed, load};
+use service::{
+    End, FeedSettings, FileLoad, Input, LoadSettings, Output, Status, WithoutHop, ask, feed, load,
+};
 use std::alloc::Global;
 use std::io::{Read, Write};
 
@@ -14,6 +16,7 @@ pub(crate) fn plainly() -> LoadSettings {
         feed: FeedSettings {
             collector: 0,
             limit: 1000,
+            rule: WithoutHop::Refused,
         },
         mark: Mark::new(1_704_067_201),
         resume: false,
@@ -58,8 +61,9 @@ pub(crate) fn feed_to<R: Read, W: Write>(
     let how = FeedSettings {
         collector,
         limit: 2,
+        rule: WithoutHop::Refused,
     };
-    feed(alloc, archive, how, &mut 0, reader, out, &mut None)
+    feed(alloc, archive, how, &mut 0, reader, out, &mut None, &mut 0)
 }
 
 /// Whether a load of the octets writes these lines, and ends so.

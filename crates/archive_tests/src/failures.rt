@@ -6,7 +6,8 @@ use crate::feeds::QUESTION;
 use crate::pure::Pure;
 use crate::samples::{LONG_PREFIX, UPDATE, stream};
 use service::{
-    End, FeedSettings, FeedStop, Input, LoadSettings, Output, Status, tell_lost, tell_outside,
+    End, FeedSettings, FeedStop, Input, LoadSettings, Output, Status, WithoutHop, tell_lost,
+    tell_outside,
 };
 use std::alloc::Global;
 use std::io::{Error, ErrorKind, Read, Write};
@@ -128,6 +129,7 @@ fn fails_all<W: Write>(
         feed: FeedSettings {
             collector: 0,
             limit: 1000,
+            rule: WithoutHop::Refused,
         },
         mark: None,
         resume: false,

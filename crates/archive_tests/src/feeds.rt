@@ -6,7 +6,7 @@ use crate::pure::{Pure, Rings};
 use crate::samples::{
     EARLIER, EMPTY, LONG_PREFIX, UPDATE, cut_stream, many_updates, stream, two_tables,
 };
-use service::{End, FeedSettings, FeedStop, LoadSettings, Status};
+use service::{End, FeedSettings, FeedStop, LoadSettings, Status, WithoutHop};
 use std::alloc::Global;
 
 pub(crate) const QUESTION: &str = "at 1704067200 prefix 10.0.0.0/8";
@@ -18,6 +18,7 @@ fn fits_as(alloc: Global, octets: Option<Vec<u8>>, lines: &str) -> Option<bool> 
         feed: FeedSettings {
             collector: 0,
             limit: 100_000,
+            rule: WithoutHop::Refused,
         },
         mark: None,
         resume: false,

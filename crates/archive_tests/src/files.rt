@@ -5,8 +5,9 @@ use crate::samples::{
     AFTER_TIME, AGGREGATED, BEFORE_256, BEFORE_257, BEFORE_763, BEFORE_764, BOTH_PLACES,
     CUT_PEER_TABLE, CUT_UPDATE, EARLIER, EMPTY, EMPTY_AFTER_TIME, ENTRIES_UNCOUNTED, EXTENDED,
     IPV6, JOINED, LONG_PREFIX, LONGER, NOTIFICATION, OTHER_PATH, OTHER_PEER_TABLE, PEER_TABLE,
-    PEERS_UNCOUNTED, RIB, RIB_IPV6, RIB_IPV6_FULL, RIB_OF_NEXT_HOP, RIB_OF_SECOND,
-    RIB_WITHOUT_ORIGIN, SESSION_DOWN, SKIPPED, TOO_LONG, TWO_PREFIXES, UPDATE, WITHDRAWAL,
+    PEERS_UNCOUNTED, RIB, RIB_IPV6, RIB_IPV6_FULL, RIB_OF_NEXT_HOP, RIB_OF_SECOND, RIB_OF_THREE,
+    RIB_WITHOUT_HOP, RIB_WITHOUT_ORIGIN, SESSION_DOWN, SKIPPED, TOO_LONG, TWO_PREFIXES, UPDATE,
+    WITHDRAWAL,
 };
 use std::alloc::Global;
 
@@ -20,7 +21,7 @@ enum Part {
 /// A name, and the parts of the record, or of the records, for which it stands.
 struct Named(&'static str, &'static [Part]);
 
-const NAMES: [Named; 43] = [
+const NAMES: [Named; 45] = [
     Named("nothing", &[]),
     Named("update", &[Part::Octets(UPDATE)]),
     Named("earlier", &[Part::Octets(EARLIER)]),
@@ -92,6 +93,8 @@ const NAMES: [Named; 43] = [
     Named("rib-ipv6-full", &[Part::Octets(RIB_IPV6_FULL)]),
     Named("rib-without-origin", &[Part::Octets(RIB_WITHOUT_ORIGIN)]),
     Named("rib-of-next-hop", &[Part::Octets(RIB_OF_NEXT_HOP)]),
+    Named("rib-without-hop", &[Part::Octets(RIB_WITHOUT_HOP)]),
+    Named("rib-of-three", &[Part::Octets(RIB_OF_THREE)]),
     Named("entries-uncounted", &[Part::Octets(ENTRIES_UNCOUNTED)]),
     // 8 octets, and 13 for each peer, 10.0.0.0 to 10.0.17.15 of AS 65001.
     Named(

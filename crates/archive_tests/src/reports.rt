@@ -2,20 +2,24 @@
 
 use crate::be;
 use crate::pure::Pure;
-use crate::samples::{EARLIER, LONG_PREFIX, UPDATE, stream};
+use crate::samples::{
+    EARLIER, LONG_PREFIX, PEER_TABLE, RIB_OF_THREE, RIB_WITHOUT_HOP, UPDATE, stream,
+};
 use route_model::Mark;
 use service::{
-    FeedCounts, FeedSettings, FileLoad, LoadReport, LoadSettings, Output, Refusal, load,
+    FeedCounts, FeedSettings, FileLoad, LoadReport, LoadSettings, Output, Refusal, WithoutHop, load,
 };
 use std::alloc::Global;
 
 /// Records that are loaded into an archive of one collector, and what is reported.
 struct Reported {
     collector: u8,
+    rule: WithoutHop,
     mark: u64,
     records: &'static [&'static str],
     /// How many records, and how many of these are admitted, late and refused.
     counts: Option<[u64; 4]>,
+    left_out: u64,
     refusal: Option<Refusal>,
 }
 
@@ -31,33 +35,50 @@ fn counted(counts: [u64; 4]) -> FeedCounts {
     }
 }
 
-const REPORTS: [Reported; 4] = [
+const REPORTS: [Reported; 5] = [
     Reported {
         collector: 0,
+        rule: WithoutHop::Refused,
         mark: 1_704_067_201,
         records: &[UPDATE, EARLIER, LONG_PREFIX],
         counts: Some([3, 1, 1, 1]),
+        left_out: 0,
         refusal: None,
     },
     Reported {
         collector: 0,
+        rule: WithoutHop::Refused,
         mark: 1_704_067_201,
         records: &[],
         counts: Some([0, 0, 0, 0]),
+        left_out: 0,
         refusal: None,
     },
     Reported {
         collector: 0,
+        rule: WithoutHop::LeftOut,
+        mark: 1_704_067_201,
+        records: &[PEER_TABLE, RIB_OF_THREE, RIB_WITHOUT_HOP],
+        counts: Some([3, 1, 0, 0]),
+        left_out: 3,
+        refusal: None,
+    },
+    Reported {
+        collector: 0,
+        rule: WithoutHop::Refused,
         mark: 1,
         records: &[UPDATE],
         counts: Some([1, 1, 0, 0]),
+        left_out: 0,
         refusal: Some(Refusal::MarkBack),
     },
     Reported {
         collector: 1,
+        rule: WithoutHop::Refused,
         mark: 1_704_067_201,
         records: &[UPDATE],
         counts: None,
+        left_out: 0,
         refusal: Some(Refusal::NoCollector),
     },
 ];
@@ -69,6 +90,7 @@ fn report_of(alloc: Global, it: &Reported) -> Option<LoadReport> {
         feed: FeedSettings {
             collector: it.collector,
             limit: 1000,
+            rule: it.rule,
         },
         mark: Mark::new(it.mark),
         resume: false,
@@ -96,7 +118,11 @@ fn report_of(alloc: Global, it: &Reported) -> Option<LoadReport> {
 fn is_reported(alloc: Global, it: &Reported) -> bool {
     let counts = it.counts.map(counted);
     match report_of(alloc, it) {
-        Some(report) => report.counts == counts && report.refusal == it.refusal,
+        Some(report) => {
+            report.counts == counts
+                && report.left_out == it.left_out
+                && report.refusal == it.refusal
+        }
         None => false,
     }
 }

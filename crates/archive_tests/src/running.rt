@@ -26,6 +26,7 @@ fn loading(alloc: Global) -> Option<Loading<'static>> {
         mark: Mark::new(1_704_067_201),
         resume: false,
         strict: false,
+        lose_entries: false,
         files,
     })
 }

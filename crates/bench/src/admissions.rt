@@ -2,7 +2,7 @@
 
 use crate::reading::{Counter, more};
 use mrt_records::Item;
-use resolve::Resolver;
+use resolve::{Resolver, WithoutHop};
 use route_model::{Admission, Change};
 use std::alloc::Global;
 use std::io;
@@ -57,7 +57,7 @@ impl Counter for Admissions {
     fn count(&mut self, alloc: Global, items: &[Item]) {
         for item in items {
             more(&mut self.records, 1);
-            match self.resolver.record(alloc, item) {
+            match self.resolver.record(alloc, WithoutHop::Refused, item) {
                 Ok(Some(admission)) => self.count_admission(&admission),
                 Ok(None) => {}
                 Err(_) => more(&mut self.refused, 1),

@@ -8,7 +8,7 @@ use archive_pages::Settings;
 use file_archive::FileArchive;
 use load_progress::{Counts, Meter, WatchedArchive};
 use route_model::Mark;
-use service::{FeedSettings, FileLoad, LoadSettings, Output, Status, ask, check, load};
+use service::{FeedSettings, FileLoad, LoadSettings, Output, Status, WithoutHop, ask, check, load};
 use std::alloc::Global;
 use test_octets::octets;
 
@@ -88,6 +88,7 @@ fn give<A: RouteArchive>(
         feed: FeedSettings {
             collector,
             limit: 1000,
+            rule: WithoutHop::Refused,
         },
         mark: Mark::new(1_704_068_100),
         resume: false,

@@ -4,6 +4,7 @@ use Rattle.std.specs.List.{Any}
 use Rattle.route_model.specs.Admission.{Admitted, IsTooLarge, admission_octets}
 use Rattle.route_model.specs.Admission as admissions
 use Rattle.route_model.specs.Prefix.{IpPrefix}
+use Rattle.route_model.specs.Sequence.{Each}
 use Rattle.route_model.specs.Spelling.{route_octets}
 use Rattle.route_model.specs.declared.admission.AdmissionError.{AdmissionError}
 use Rattle.route_model.specs.declared.admission.AdmissionError.TheVariants as errors
@@ -16,9 +17,10 @@ use Rattle.mrt_records.specs.Entries.{Entry}
 use Rattle.mrt_records.specs.declared.neighbor.Neighbor.{Neighbor}
 use Rattle.bgp_update.specs.Messages.{Announced, Told, Update, Notification, Other, IsMessage, IsLarge, HasLarge}
 use Rattle.resolve.specs.Changes.{withdrawals, announcements, message_changes, is_among}
-use Rattle.resolve.specs.Entries.{AreChangesOf}
+use Rattle.resolve.specs.Entries.{IsChangeOf}
 use Rattle.resolve.specs.Faults.{of_admission}
-use Rattle.resolve.specs.Records.{MessageGives, StateGives, RibGives, IsLong, admitted, state_changes}
+use Rattle.resolve.specs.Records.{AreAnnounced, MessageGives, StateGives, RibGives, IsLong, admitted, state_changes}
+use Rattle.resolve.specs.declared.without_hop.WithoutHop.{WithoutHop}
 
 -- the calls that may refuse an admission of these changes, and what each refusal says
 pub record IsRefused (time : ℕ) (list : List Change) (e : AdmissionError) : Type 0 where
@@ -80,7 +82,7 @@ message_refused peer time width octets m list errors.RouteTooLarge is fits same 
 message_refused peer time width octets m list errors.AdmissionTooLarge is fits same r =
     (m, is, fits, subst (λ (t : List Change). IsLong (admitted time t)) same (r.long refl).large)
 
-none_large : (c : ℕ) (peers : List Neighbor) (prefix : IpPrefix) (entries : List Entry) (list : List Change) → AreChangesOf c peers prefix entries list → Has admissions.IsLarge list → ⊥
+none_large : (c : ℕ) (peers : List Neighbor) (prefix : IpPrefix) (entries : List Entry) (list : List Change) → Each (IsChangeOf c peers prefix) entries list → Has admissions.IsLarge list → ⊥
 none_large c peers prefix [] [] all h = h
 none_large c peers prefix (e ∷ entries) [] all h = h
 none_large c peers prefix [] (x ∷ list) all h = all
@@ -89,10 +91,10 @@ none_large c peers prefix (e ∷ entries) (x ∷ list) all (inl h) =
     omega (arith, large, all.0.fits)
 none_large c peers prefix (e ∷ entries) (x ∷ list) all (inr h) = none_large c peers prefix entries list all.1 h
 
-pub rib_refused : (c : ℕ) (peers : List Neighbor) (time : ℕ) (prefix : IpPrefix) (entries : List Entry) (list : List Change) (e : AdmissionError)
-    → AreChangesOf c peers prefix entries list → IsRefused time list e → RibGives c peers time prefix entries (Err (of_admission e))
-rib_refused c peers time prefix entries list errors.RouteTooLarge all r = absurd (none_large c peers prefix entries list all (any_has admissions.IsLarge list (r.route refl)))
-rib_refused c peers time prefix entries list errors.AdmissionTooLarge all r = (list, all, (r.long refl).large)
+pub rib_refused : (rule : WithoutHop) (c : ℕ) (peers : List Neighbor) (time : ℕ) (prefix : IpPrefix) (entries : List Entry) (list : List Change) (e : AdmissionError)
+    → AreAnnounced rule c peers prefix entries list → IsRefused time list e → RibGives rule c peers time prefix entries (Err (of_admission e))
+rib_refused rule c peers time prefix entries list errors.RouteTooLarge all r = absurd (none_large c peers prefix all.0.0 list all.0.2 (any_has admissions.IsLarge list (r.route refl)))
+rib_refused rule c peers time prefix entries list errors.AdmissionTooLarge all r = (list, all, (r.long refl).large)
 
 none_of_one : (peer : Peer) (b : Bool) → Has admissions.IsLarge (if b then [] else changes.Down peer ∷ []) → ⊥
 none_of_one peer true h = h

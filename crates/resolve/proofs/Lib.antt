@@ -1,3 +1,5 @@
+pub mod Others
+pub mod Hops
 pub mod Reading
 pub mod Announcing
 pub mod Admitting
@@ -5,4 +7,5 @@ pub mod PrefixSets
 pub mod Tables
 pub mod OneTable
 pub mod OneMeaning
+pub mod LeavingOut
 pub mod api

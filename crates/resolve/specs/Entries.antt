@@ -1,5 +1,5 @@
 -- What the entries of a RIB record announce.
-use Rattle.std.specs.Prelude.{◌≡◌, ℕ, ◌<◌, ◌≤◌, List, ◌∷◌, ◌++◌, length, Some, slice_get, Result, Ok, Err, Vec}
+use Rattle.std.specs.Prelude.{◌≡◌, ◌⊎◌, ℕ, ◌<◌, ◌≤◌, List, [], ◌∷◌, ◌++◌, length, Option, Some, None, slice_get, Result, Ok, Err, Vec}
 use Rattle.std.specs.declared.alloc.Global.{Global}
 use Rattle.route_model.specs.Sequence.{Each}
 use Rattle.route_model.specs.Spelling.{route_octets}
@@ -23,6 +23,8 @@ use Rattle.bgp_update.specs.declared.reading.PathAttributes.{PathAttributes}
 use Rattle.resolve.specs.Changes.{peer_of_neighbor}
 use Rattle.resolve.specs.declared.fault.ResolveFault.{ResolveFault}
 use Rattle.resolve.specs.declared.fault.ResolveFault.TheVariants as faults
+use Rattle.resolve.specs.declared.without_hop.WithoutHop.{WithoutHop}
+use Rattle.resolve.specs.declared.without_hop.WithoutHop.TheVariants as rules
 
 -- the family of a RIB record is that of its prefix
 abbrev pub family_of : Address → Family
@@ -42,51 +44,75 @@ pub record IsChangeOf (collector : ℕ) (peers : List Neighbor) (prefix : IpPref
   pub fits : length (route_octets route) ≤ 3072
   pub announces : change ≡ changes.Announce (peer_of_neighbor collector neighbor) prefix route
 
--- why an entry announces nothing: the peer is looked at first, then the attributes; memory may be wanting at any entry
-abbrev pub IsFaultOf : List Neighbor → IpPrefix → Entry → ResolveFault → Type 0
-IsFaultOf peers prefix entry faults.BadPeerIndex = length peers ≤ entry.peer_index
-IsFaultOf peers prefix entry faults.Malformed = (entry.peer_index < length peers) × ((route : Route) → IsRouteOf prefix entry route → ⊥)
-IsFaultOf peers prefix entry faults.RouteTooLarge = (entry.peer_index < length peers) × (route : Route) × IsRouteOf prefix entry route × (3072 < length (route_octets route))
-IsFaultOf peers prefix entry faults.NoPeerTable = ⊥
-IsFaultOf peers prefix entry faults.AdmissionTooLarge = ⊥
-IsFaultOf peers prefix entry faults.OutOfMemory = Unit {0}
+-- nothing gives a next hop: there is neither NEXT_HOP nor MP_REACH_NLRI
+abbrev pub HasNoHop : PathAttributes → Type 0
+HasNoHop a = (a.next_hop ≡ None) × (a.reach ≡ None)
 
--- one announcement for each entry, in their order
-abbrev pub AreChangesOf : ℕ → List Neighbor → IpPrefix → List Entry → List Change → Type 0
-AreChangesOf collector peers prefix entries changes = Each (IsChangeOf collector peers prefix) entries changes
+-- nothing gives an entry with these attributes a next hop, and such entries are left out
+abbrev pub IsWithoutHop : WithoutHop → PathAttributes → Type 0
+IsWithoutHop rules.Refused a = ⊥
+IsWithoutHop rules.LeftOut a = HasNoHop a
+
+-- these octets are the attributes of an entry that is left out
+abbrev pub LeavesOut : WithoutHop → List ℕ → Type 0
+LeavesOut rule octets = (a : PathAttributes) × AreAttributes widths.Four octets a × IsWithoutHop rule a
+
+-- the entry is left out; one that names no peer never is
+abbrev pub IsLeftOut : WithoutHop → List Neighbor → Entry → Type 0
+IsLeftOut rule peers entry = (entry.peer_index < length peers) × LeavesOut rule entry.attributes
+
+-- why an entry announces nothing: the peer is looked at first, then the attributes; memory may be wanting at any entry
+abbrev pub IsFaultOf : WithoutHop → List Neighbor → IpPrefix → Entry → ResolveFault → Type 0
+IsFaultOf rule peers prefix entry faults.BadPeerIndex = length peers ≤ entry.peer_index
+IsFaultOf rule peers prefix entry faults.Malformed = (entry.peer_index < length peers) × (LeavesOut rule entry.attributes → ⊥) × ((route : Route) → IsRouteOf prefix entry route → ⊥)
+IsFaultOf rule peers prefix entry faults.RouteTooLarge = (entry.peer_index < length peers) × (route : Route) × IsRouteOf prefix entry route × (3072 < length (route_octets route))
+IsFaultOf rule peers prefix entry faults.NoPeerTable = ⊥
+IsFaultOf rule peers prefix entry faults.AdmissionTooLarge = ⊥
+IsFaultOf rule peers prefix entry faults.OutOfMemory = Unit {0}
+
+-- the list without the elements that have P, in its order
+abbrev pub AreOthers : {X : Type 0} → (X → Type 0) → List X → List X → Type 0
+AreOthers P [] others = others ≡ []
+AreOthers {X = X} P (x ∷ xs) others = (P x × AreOthers P xs others) ⊎ ((P x → ⊥) × (more : List X) × (others ≡ x ∷ more) × AreOthers P xs more)
+
+-- one announcement for each entry that isn't left out, in their order
+abbrev pub AreChangesOf : WithoutHop → ℕ → List Neighbor → IpPrefix → List Entry → List Change → Type 0
+AreChangesOf rule collector peers prefix entries changes = (kept : List Entry) × AreOthers (IsLeftOut rule peers) entries kept × Each (IsChangeOf collector peers prefix) kept changes
 
 -- the first entry that announces nothing, and why
-pub record IsFirstFault (collector : ℕ) (peers : List Neighbor) (prefix : IpPrefix) (entries : List Entry) (fault : ResolveFault) : Type 0 where
+pub record IsFirstFault (rule : WithoutHop) (collector : ℕ) (peers : List Neighbor) (prefix : IpPrefix) (entries : List Entry) (fault : ResolveFault) : Type 0 where
   pub before : List Entry
   pub entry : Entry
   pub after : List Entry
   pub changes : List Change
   pub parts : entries ≡ before ++ entry ∷ after
-  pub well : AreChangesOf collector peers prefix before changes
-  pub faulty : IsFaultOf peers prefix entry fault
+  pub well : AreChangesOf rule collector peers prefix before changes
+  pub faulty : IsFaultOf rule peers prefix entry fault
 
--- an entry's announcement, or why there is none
-abbrev pub EntryGives : ℕ → List Neighbor → IpPrefix → Entry → Result Change ResolveFault → Type 0
-EntryGives collector peers prefix entry (Ok change) = IsChangeOf collector peers prefix entry change
-EntryGives collector peers prefix entry (Err fault) = IsFaultOf peers prefix entry fault
+-- an entry's announcement, none where it is left out, or why there is none
+abbrev pub EntryGives : WithoutHop → ℕ → List Neighbor → IpPrefix → Entry → Result (Option Change) ResolveFault → Type 0
+EntryGives rule collector peers prefix entry (Ok (Some change)) = IsChangeOf collector peers prefix entry change
+EntryGives rule collector peers prefix entry (Ok None) = IsLeftOut rule peers entry
+EntryGives rule collector peers prefix entry (Err fault) = IsFaultOf rule peers prefix entry fault
 
--- the announcements of all entries, or the first fault among them
-abbrev pub EntriesGive : ℕ → List Neighbor → IpPrefix → List Entry → Result (Vec Change Global) ResolveFault → Type 0
-EntriesGive collector peers prefix entries (Ok list) = AreChangesOf collector peers prefix entries list.items
-EntriesGive collector peers prefix entries (Err faults.OutOfMemory) = Unit {0}
-EntriesGive collector peers prefix entries (Err faults.NoPeerTable) = ⊥
-EntriesGive collector peers prefix entries (Err faults.AdmissionTooLarge) = ⊥
-EntriesGive collector peers prefix entries (Err faults.BadPeerIndex) = IsFirstFault collector peers prefix entries faults.BadPeerIndex
-EntriesGive collector peers prefix entries (Err faults.Malformed) = IsFirstFault collector peers prefix entries faults.Malformed
-EntriesGive collector peers prefix entries (Err faults.RouteTooLarge) = IsFirstFault collector peers prefix entries faults.RouteTooLarge
+-- the announcements of the entries, or the first fault among them
+abbrev pub EntriesGive : WithoutHop → ℕ → List Neighbor → IpPrefix → List Entry → Result (Vec Change Global) ResolveFault → Type 0
+EntriesGive rule collector peers prefix entries (Ok list) = AreChangesOf rule collector peers prefix entries list.items
+EntriesGive rule collector peers prefix entries (Err faults.OutOfMemory) = Unit {0}
+EntriesGive rule collector peers prefix entries (Err faults.NoPeerTable) = ⊥
+EntriesGive rule collector peers prefix entries (Err faults.AdmissionTooLarge) = ⊥
+EntriesGive rule collector peers prefix entries (Err faults.BadPeerIndex) = IsFirstFault rule collector peers prefix entries faults.BadPeerIndex
+EntriesGive rule collector peers prefix entries (Err faults.Malformed) = IsFirstFault rule collector peers prefix entries faults.Malformed
+EntriesGive rule collector peers prefix entries (Err faults.RouteTooLarge) = IsFirstFault rule collector peers prefix entries faults.RouteTooLarge
 
 -- an entry as it is handed out
 abbrev pub entry_shown : RibEntry → Entry
 entry_shown entry = record { peer_index = entry.peer_index; attributes = entry.attributes.now }
 
--- the route that the octets of attributes give, or why they give none
-abbrev pub RouteRead : Family → List ℕ → Result Route MessageFault → Type 0
-RouteRead family octets (Ok route) = (a : PathAttributes) × AreAttributes widths.Four octets a × IsEntryRoute family a route × (length (route_octets route) ≤ 3072)
-RouteRead family octets (Err messages.Malformed) = (a : PathAttributes) (route : Route) → AreAttributes widths.Four octets a → IsEntryRoute family a route → ⊥
-RouteRead family octets (Err messages.RouteTooLarge) = (a : PathAttributes) × (route : Route) × AreAttributes widths.Four octets a × IsEntryRoute family a route × (3072 < length (route_octets route))
-RouteRead family octets (Err messages.OutOfMemory) = Unit {0}
+-- the route that the octets of attributes give, none where their entry is left out, or why they give none
+abbrev pub RouteRead : WithoutHop → Family → List ℕ → Result (Option Route) MessageFault → Type 0
+RouteRead rule family octets (Ok (Some route)) = (a : PathAttributes) × AreAttributes widths.Four octets a × IsEntryRoute family a route × (length (route_octets route) ≤ 3072)
+RouteRead rule family octets (Ok None) = LeavesOut rule octets
+RouteRead rule family octets (Err messages.Malformed) = (LeavesOut rule octets → ⊥) × ((a : PathAttributes) (route : Route) → AreAttributes widths.Four octets a → IsEntryRoute family a route → ⊥)
+RouteRead rule family octets (Err messages.RouteTooLarge) = (a : PathAttributes) × (route : Route) × AreAttributes widths.Four octets a × IsEntryRoute family a route × (3072 < length (route_octets route))
+RouteRead rule family octets (Err messages.OutOfMemory) = Unit {0}

@@ -7,16 +7,17 @@ use Rattle.resolve.specs.Tables.{LastTable}
 use Rattle.resolve.specs.Records.{Gives}
 use Rattle.resolve.specs.declared.fault.ResolveFault.{ResolveFault}
 use Rattle.resolve.specs.declared.fault.ResolveFault.TheVariants as faults
+use Rattle.resolve.specs.declared.without_hop.WithoutHop.{WithoutHop}
 
--- the record that comes behind these gives this under their last peer table; want of memory is no meaning
-pub record IsMeaning (c : ℕ) (before : List Told) (next : Told) (result : Result (Option Admitted) ResolveFault) : Type 0 where
+-- the record that comes behind these gives this under their last peer table, where entries without a next hop are taken so; want of memory is no meaning
+pub record IsMeaning (rule : WithoutHop) (c : ℕ) (before : List Told) (next : Told) (result : Result (Option Admitted) ResolveFault) : Type 0 where
   pub table : Option (List Neighbor)
   pub last : LastTable before table
-  pub gives : Gives c table next result
+  pub gives : Gives rule c table next result
   pub wanting : result ≡ Err faults.OutOfMemory → ⊥
 
 -- what the records of a feed of the collector c mean: one result for each
-pub record Means (c : ℕ) (records : List Told) (results : List (Result (Option Admitted) ResolveFault)) : Type 0 where
+pub record Means (rule : WithoutHop) (c : ℕ) (records : List Told) (results : List (Result (Option Admitted) ResolveFault)) : Type 0 where
   pub count : length results ≡ length records
   pub each : (n : ℕ) (next : Told) (result : Result (Option Admitted) ResolveFault)
-      → slice_get records n ≡ Some next → slice_get results n ≡ Some result → IsMeaning c (take n records) next result
+      → slice_get records n ≡ Some next → slice_get results n ≡ Some result → IsMeaning rule c (take n records) next result

@@ -31,10 +31,11 @@ LastTable records table =
     ⊎ ((before after : List Told) × (last : Told) × (records ≡ before ++ last ∷ after) × IsPeerTableRecord last
     × AllByRecursion (λ r. IsPeerTableRecord r → ⊥) after × (table ≡ peers_of last))
 
--- what a resolver keeps of a feed: its collector and its peer table
+-- what a resolver keeps of a feed: its collector, its peer table, and how many entries were left out
 pub record Feed : Type 0 where
   pub collector : ℕ
   pub table : Option (List Neighbor)
+  pub left_out : ℕ
 
 -- a peer table as a list
 abbrev pub table_told : Option (Vec Neighbor Global) → Option (List Neighbor)

@@ -1,15 +1,17 @@
 //! What the entries of RIB records announce (RFC 6396 section 4.3.4).
 
-ghost use Rattle.std.specs.Prelude.{◌≡◌};
+ghost use Rattle.std.specs.Prelude.{◌≡◌, ◌++◌, ◌↔◌, IsTrue, OnOk};
+ghost use Rattle.std.specs.Option.{option_to_list};
 ghost use Rattle.resolve.specs.Changes.{peer_of_neighbor};
-ghost use Rattle.resolve.specs.Entries.{family_of, EntryGives, EntriesGive, entry_shown, RouteRead};
+ghost use Rattle.resolve.specs.Entries.{family_of, EntryGives, EntriesGive, entry_shown, HasNoHop, IsWithoutHop, RouteRead};
 
 use crate::fault::ResolveFault;
 use crate::messages::add;
-use bgp_update::{MessageFault, attributes_are_one, entry_route, read_attributes};
+use crate::without_hop::WithoutHop;
+use bgp_update::{MessageFault, PathAttributes, attributes_are_one, entry_route, read_attributes};
 use mrt_records::{AsWidth, Family, Neighbor, RibEntries, RibEntry};
 use route_model::{Address, Change, Peer, Prefix, Route, SharedRoute};
-use std::alloc::Global;
+use std::alloc::{AllocError, Global};
 
 /// The neighbor as a peer of the collector.
 pub(crate) fn peer_of_neighbor(collector: u8, neighbor: &Neighbor) -> Peer
@@ -31,46 +33,88 @@ fn family_of(address: &Address) -> Family
     }
 }
 
-/// The route that the attributes of an entry give.
-fn route_of(alloc: Global, prefix: &Prefix, attributes: &[u8]) -> Result<Route, MessageFault>
-    ensures { RouteRead (family_of prefix.now.address) attributes.now result }
+/// Whether nothing gives an entry with these attributes a next hop.
+fn has_no_hop(attributes: &PathAttributes<'_>) -> bool
+    ensures { IsTrue result ↔ HasNoHop attributes.now }
 {
-    let attributes = read_attributes(alloc, attributes, AsWidth::Four)?;
-    entry_route(alloc, attributes, family_of(&prefix.address()))
+    attributes.next_hop.is_none() && attributes.reach.is_none()
 }
 
-/// The announcement of an entry.
+/// Whether an entry with these attributes is left out.
+fn is_left_out(rule: WithoutHop, attributes: &PathAttributes<'_>) -> bool
+    ensures { IsTrue result ↔ IsWithoutHop rule attributes.now }
+{
+    match rule {
+        WithoutHop::Refused => false,
+        WithoutHop::LeftOut => has_no_hop(attributes),
+    }
+}
+
+/// The route that the attributes of an entry give, none where the entry is left out.
+fn route_of(
+    alloc: Global,
+    rule: WithoutHop,
+    prefix: &Prefix,
+    attributes: &[u8],
+) -> Result<Option<Route>, MessageFault>
+    ensures { RouteRead rule (family_of prefix.now.address) attributes.now result }
+{
+    let attributes = read_attributes(alloc, attributes, AsWidth::Four)?;
+    if is_left_out(rule, &attributes) {
+        return Ok(None);
+    }
+    let route = entry_route(alloc, attributes, family_of(&prefix.address()))?;
+    Ok(Some(route))
+}
+
+/// The announcement of an entry, none where it is left out.
 fn change_of(
     alloc: Global,
+    rule: WithoutHop,
     collector: u8,
     peers: &[Neighbor],
     prefix: &Prefix,
     entry: &RibEntry<'_>,
-) -> Result<Change, ResolveFault>
-    ensures { EntryGives collector peers.now prefix.now (entry_shown entry.now) result }
+) -> Result<Option<Change>, ResolveFault>
+    ensures { EntryGives rule collector peers.now prefix.now (entry_shown entry.now) result }
 {
     let Some(neighbor) = peers.get(entry.peer_index as usize) else {
         return Err(ResolveFault::BadPeerIndex);
     };
-    let route = route_of(alloc, prefix, entry.attributes)?;
+    let Some(route) = route_of(alloc, rule, prefix, entry.attributes)? else {
+        return Ok(None);
+    };
     let route = SharedRoute::new(alloc, route)?;
-    Ok(Change::Announce(peer_of_neighbor(collector, neighbor), *prefix, route))
+    Ok(Some(Change::Announce(peer_of_neighbor(collector, neighbor), *prefix, route)))
 }
 
-/// The announcements of the entries, or the fault of the first that has one.
+/// Adds the change, where there is one.
+fn add_some(changes: &mut Vec<Change>, change: Option<Change>) -> Result<(), AllocError>
+    ensures { OnOk result (changes.new.items ≡ changes.old.items ++ option_to_list change) }
+{
+    match change {
+        Some(change) => add(changes, change),
+        None => Ok(()),
+    }
+}
+
+/// The announcements of the entries that aren't left out, or the fault of the first that has one.
 pub(crate) fn entry_changes(
     alloc: Global,
+    rule: WithoutHop,
     collector: u8,
     peers: &[Neighbor],
     prefix: &Prefix,
     entries: &RibEntries,
 ) -> Result<Vec<Change>, ResolveFault>
-    ensures { EntriesGive collector peers.now prefix.now entries.now result }
+    ensures { EntriesGive rule collector peers.now prefix.now entries.now result }
 {
     let mut changes = Vec::with_capacity(alloc, entries.len())?;
-    while let Some(entry) = entries.get(changes.len()) {
-        let change = change_of(alloc, collector, peers, prefix, &entry)?;
-        add(&mut changes, change)?;
+    let mut index = 0;
+    while let Some(entry) = entries.get(index) {
+        let change = change_of(alloc, rule, collector, peers, prefix, &entry)?;
+        add_some(&mut changes, change)?;
+        index += 1;
     }
     Ok(changes)
 }

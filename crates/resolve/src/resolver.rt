@@ -3,11 +3,12 @@
 ghost use Rattle.std.specs.Prelude.{◌≡◌, ◌∷◌, ◌++◌, [], List, Some, None, Err, IfOk, OnOk, OnErr, IsTrue, ◌↔◌};
 ghost use Rattle.mrt_records.specs.Values.{Told, told};
 ghost use Rattle.resolve.specs.Tables.{LastTable};
-ghost use Rattle.resolve.specs.Records.{MessageGives, StateGives, RibGives, RibGivesUnder, Gives, state_changes};
+ghost use Rattle.resolve.specs.Records.{MessageGives, StateGives, RibGives, RibGivesUnder, Gives, state_changes, left_out, counted};
 
 use crate::entries::{entry_changes, peer_of_neighbor};
 use crate::fault::ResolveFault;
 use crate::messages::{add, message_changes};
+use crate::without_hop::WithoutHop;
 use bgp_update::read_message;
 use mrt_records::{AsWidth, Item, Neighbor, RibEntries};
 use route_model::{Admission, Change, Moment, Peer, Prefix};
@@ -22,11 +23,12 @@ const PEER_INDEX_TABLE: u16 = 1;
 /// The state Established (RFC 4271 section 8.2.2).
 const ESTABLISHED: u16 = 6;
 
-/// What a feed of a collector has told so far that later records need: its peer table.
+/// What is kept of a feed of a collector: its peer table, which later records need, and how many entries were left out.
 #[derive(Debug, Drop)]
 pub struct Resolver {
     collector: u8,
     peers: Option<Vec<Neighbor>>,
+    left_out: u64,
 }
 
 /// Are these the type and the subtype of a peer table?
@@ -75,19 +77,48 @@ fn of_state(
     Ok(Some(Admission::new(time, changes)?))
 }
 
+/// Whether there are entries but no changes.
+fn are_all_left_out(entries: &RibEntries, changes: &Vec<Change>) -> bool
+    ensures { IsTrue result ↔ (changes.now.items ≡ []) × (entries.now ≡ [] → ⊥) }
+{
+    changes.is_empty() && !entries.is_empty()
+}
+
 /// What a RIB record announces, under these peers.
 fn of_rib(
     alloc: Global,
+    rule: WithoutHop,
     collector: u8,
     peers: &[Neighbor],
     time: Moment,
     prefix: &Prefix,
     entries: &RibEntries,
 ) -> Result<Option<Admission>, ResolveFault>
-    ensures { RibGives collector peers.now time prefix.now entries.now result }
+    ensures { RibGives rule collector peers.now time prefix.now entries.now result }
 {
-    let changes = entry_changes(alloc, collector, peers, prefix, entries)?;
+    let changes = entry_changes(alloc, rule, collector, peers, prefix, entries)?;
+    if are_all_left_out(entries, &changes) {
+        return Ok(None);
+    }
     Ok(Some(Admission::new(time, changes)?))
+}
+
+/// How many entries of a record that means this are left out.
+fn left_out_of(item: &Item, meaning: &Result<Option<Admission>, ResolveFault>) -> u64
+    ensures { result ≡ left_out (told item.now) meaning.now }
+{
+    match item {
+        Item::Rib { entries, .. } => match meaning {
+            Ok(Some(admission)) => entries.len().saturating_sub(admission.changes().len()) as u64,
+            Ok(None) => entries.len() as u64,
+            Err(_) => 0,
+        },
+        Item::Message { .. }
+        | Item::StateChange { .. }
+        | Item::PeerTable(_)
+        | Item::Skipped { .. }
+        | Item::Malformed { .. } => 0,
+    }
 }
 
 impl Model for Resolver {
@@ -95,7 +126,7 @@ impl Model for Resolver {
 
     ghost Value = { Feed };
 
-    ghost view = { λ r. record { collector = r.collector; table = table_told r.peers } };
+    ghost view = { λ r. record { collector = r.collector; table = table_told r.peers; left_out = r.left_out } };
 }
 
 impl Resolver {
@@ -103,27 +134,37 @@ impl Resolver {
     pub fn new(collector: u8) -> Resolver
         ensures collector { result.collector ≡ collector }
         ensures none { result.table ≡ None }
+        ensures left_out { result.left_out ≡ 0 }
     {
         Resolver {
             collector,
             peers: None,
+            left_out: 0,
         }
+    }
+
+    /// How many entries were left out of the records until now; the count stops at 18446744073709551615.
+    pub fn left_out(&self) -> u64
+        ensures { result ≡ self.now.left_out }
+    {
+        self.left_out
     }
 
     /// What a RIB record announces.
     fn of_rib(
         &self,
         alloc: Global,
+        rule: WithoutHop,
         time: Moment,
         prefix: &Prefix,
         entries: &RibEntries,
     ) -> Result<Option<Admission>, ResolveFault>
-        ensures { RibGivesUnder self.now.collector self.now.table time prefix.now entries.now result }
+        ensures { RibGivesUnder rule self.now.collector self.now.table time prefix.now entries.now result }
     {
         let Some(peers) = &self.peers else {
             return Err(ResolveFault::NoPeerTable);
         };
-        of_rib(alloc, self.collector, peers, time, prefix, entries)
+        of_rib(alloc, rule, self.collector, peers, time, prefix, entries)
     }
 
     /// Keeps a copy of a peer table for the records behind it.
@@ -131,6 +172,7 @@ impl Resolver {
         ensures collector { self.new.collector ≡ self.old.collector }
         ensures kept { OnOk result (self.new.table ≡ Some peers.now) }
         ensures same { OnErr result (self.new.table ≡ self.old.table) }
+        ensures left_out { self.new.left_out ≡ self.old.left_out }
     {
         let mut copy = Vec::with_capacity(alloc, peers.len())?;
         copy.extend_from_slice(peers)?;
@@ -138,12 +180,18 @@ impl Resolver {
         Ok(())
     }
 
-    /// What the record means that comes next in the feed: an admission, nothing, or why it is refused.
-    pub fn record(&mut self, alloc: Global, item: &Item) -> Result<Option<Admission>, ResolveFault>
+    /// What the record means that comes next in the feed; nothing is counted yet.
+    fn meaning(
+        &mut self,
+        alloc: Global,
+        rule: WithoutHop,
+        item: &Item,
+    ) -> Result<Option<Admission>, ResolveFault>
         ensures collector { self.new.collector ≡ self.old.collector }
-        ensures gives { Gives self.old.collector self.old.table (told item.now) result }
+        ensures gives { Gives rule self.old.collector self.old.table (told item.now) result }
         ensures table { (result ≡ Err ResolveFault.OutOfMemory → ⊥) → (before : List Told) → LastTable before self.old.table → LastTable (before ++ told item.now ∷ []) self.new.table }
         ensures kept { result ≡ Err ResolveFault.OutOfMemory → self.new.table ≡ self.old.table }
+        ensures left_out { self.new.left_out ≡ self.old.left_out }
     {
         match item {
             Item::Message {
@@ -172,7 +220,7 @@ impl Resolver {
                 time,
                 prefix,
                 entries,
-            } => self.of_rib(alloc, *time, prefix, entries),
+            } => self.of_rib(alloc, rule, *time, prefix, entries),
             Item::PeerTable(peers) => {
                 self.keep(alloc, peers)?;
                 Ok(None)
@@ -186,5 +234,25 @@ impl Resolver {
                 Err(ResolveFault::Malformed)
             }
         }
+    }
+    /// What the record means that comes next in the feed: an admission, nothing, or why it is refused. An entry of a RIB record
+    /// that has no next hop is taken as `rule` says: it refuses the record, or it is left out and counted. A record of which all
+    /// entries are left out means nothing.
+    pub fn record(
+        &mut self,
+        alloc: Global,
+        rule: WithoutHop,
+        item: &Item,
+    ) -> Result<Option<Admission>, ResolveFault>
+        ensures collector { self.new.collector ≡ self.old.collector }
+        ensures gives { Gives rule self.old.collector self.old.table (told item.now) result }
+        ensures table { (result ≡ Err ResolveFault.OutOfMemory → ⊥) → (before : List Told) → LastTable before self.old.table → LastTable (before ++ told item.now ∷ []) self.new.table }
+        ensures kept { result ≡ Err ResolveFault.OutOfMemory → self.new.table ≡ self.old.table }
+        ensures counted { self.new.left_out ≡ counted self.old.left_out (left_out (told item.now) result) }
+    {
+        let meaning = self.meaning(alloc, rule, item);
+        let more = left_out_of(item, &meaning);
+        self.left_out = self.left_out.saturating_add(more);
+        meaning
     }
 }

@@ -9,6 +9,7 @@ use Rattle.resolve.specs.Meanings.{IsMeaning}
 use Rattle.resolve.specs.declared.fault.ResolveFault.{ResolveFault}
 use Rattle.resolve.specs.declared.fault.ResolveFault.TheVariants as faults
 use Rattle.resolve.proofs.api.Feeds.{one_more}
+use Rattle.resolve.specs.declared.without_hop.WithoutHop.{WithoutHop}
 use Rattle.service.specs.Turns.{admissions_of}
 use Rattle.service.specs.FeedTexts.{intake_in}
 use Rattle.service.specs.Resuming.{MeansFrom, dropped_where, left_after, left_behind, taken_at, without_first}
@@ -26,15 +27,15 @@ as_many_taken n [] = refl
 as_many_taken n (q ∷ meanings) = ap suc (as_many_taken (left_after n q) meanings)
 
 -- something is taken of each record
-pub taken_count : (c dropped : ℕ) (records : List Told) (results : List (Result (Option Admitted) ResolveFault)) → MeansFrom c dropped records results → length results ≡ length records
-taken_count c dropped records results m = ap length m.taken ∙ as_many_taken dropped m.meanings ∙ m.means.count
+pub taken_count : (rule : WithoutHop) (c dropped : ℕ) (records : List Told) (results : List (Result (Option Admitted) ResolveFault)) → MeansFrom rule c dropped records results → length results ≡ length records
+taken_count rule c dropped records results m = ap length m.taken ∙ as_many_taken dropped m.meanings ∙ m.means.count
 
 -- one more record
-abbrev pub meant_more : (c dropped : ℕ) (records : List Told) (results : List (Result (Option Admitted) ResolveFault)) (r : Told) (x y : Result (Option Admitted) ResolveFault) (m : MeansFrom c dropped records results)
-    → IsMeaning c records r x → y ≡ taken_at (left_behind dropped m.meanings) x → MeansFrom c dropped (records ++ r ∷ []) (results ++ y ∷ [])
-meant_more c dropped records results r x y m is taken = record {
+abbrev pub meant_more : (rule : WithoutHop) (c dropped : ℕ) (records : List Told) (results : List (Result (Option Admitted) ResolveFault)) (r : Told) (x y : Result (Option Admitted) ResolveFault) (m : MeansFrom rule c dropped records results)
+    → IsMeaning rule c records r x → y ≡ taken_at (left_behind dropped m.meanings) x → MeansFrom rule c dropped (records ++ r ∷ []) (results ++ y ∷ [])
+meant_more rule c dropped records results r x y m is taken = record {
   meanings = m.meanings ++ x ∷ [];
-  means = one_more c records m.meanings r x m.means is;
+  means = one_more rule c records m.meanings r x m.means is;
   taken = (λ k. m.taken k ++ taken k ∷ []) ∙ sym (taken_snoc dropped m.meanings x);
 }
 

@@ -4,6 +4,7 @@ use Rattle.std.proofs.lemmas.List.{drop_more, take_more, take-append-drop, lengt
 use Rattle.std.proofs.Math.Seq.{get_or-append_seam, set-append_seam}
 use Rattle.std.proofs.Math.ListN.{drop_of_length-le, get_or-map}
 use Rattle.route_meaning.specs.History.{History}
+use Rattle.resolve.specs.declared.without_hop.WithoutHop.{WithoutHop}
 use Rattle.service.specs.Carried.{Carried}
 use Rattle.service.specs.Outputs.{InputState, OutputState}
 use Rattle.service.specs.Feeds.{MayGive, limits_for}
@@ -18,9 +19,9 @@ use Rattle.service.specs.declared.status.Status.{Status}
 use Rattle.service.specs.declared.status.Status.TheVariants as statuses
 
 -- of all that is carried, this history alone
-only : (c dropped : ℕ) (limit : BatchLimits) (mark : Option ℕ) (h : History) (bytes : List ℕ) (cut : Option FeedCut) (archive : Carried) (was now : OutputState) (l : IsLoaded c dropped limit mark h bytes cut archive was now)
-    → IsLoaded c dropped limit mark h bytes cut (λ g. g ≡ l.applied.now) was now
-only c dropped limit mark h bytes cut archive was now l = record {
+only : (rule : WithoutHop) (c dropped : ℕ) (limit : BatchLimits) (mark : Option ℕ) (h : History) (bytes : List ℕ) (cut : Option FeedCut) (archive : Carried) (was now : OutputState) (l : IsLoaded rule c dropped limit mark h bytes cut archive was now)
+    → IsLoaded rule c dropped limit mark h bytes cut (λ g. g ≡ l.applied.now) was now
+only rule c dropped limit mark h bytes cut archive was now l = record {
   rest = l.rest;
   records = l.records;
   results = l.results;
@@ -57,7 +58,7 @@ done_with false statuses.Done status how most dropped left h bytes lost_was lost
         statuses.Done,
         refl,
         (
-          (e.0.0, only how.feed.collector dropped (limits_for how.feed most) (mark_unless false how.mark) h bytes None archive was now l, e.0.2, ap (λ (o : OutputState). o.failed) (sym e.0.4) ∙ e.0.3, refl, e.0.5),
+          (e.0.0, only how.feed.rule how.feed.collector dropped (limits_for how.feed most) (mark_unless false how.mark) h bytes None archive was now l, e.0.2, ap (λ (o : OutputState). o.failed) (sym e.0.4) ∙ e.0.3, refl, e.0.5),
           record { drops = e.1.drops; is_held = e.1.is_held },
         ),
       );

@@ -1,4 +1,5 @@
 -- A feed that is taken in record by record.
+use Rattle.resolve.specs.declared.without_hop.WithoutHop.{WithoutHop}
 use Rattle.service.specs.Outputs.{OutputState}
 use Rattle.std.proofs.Common.{◌≡◌, ℕ, ◌+◌, ◌<◌, ◌≤◌, length, length-append, take, get_or, map, suc, List, [], ◌∷◌, ◌++◌, Option, None, Result, Ok, Err, OnOk, inl, refl, sym, ap, ◌∙◌, subst, append_assoc, arith}
 use Rattle.std.proofs.lemmas.List.{append-nil, map-append}
@@ -48,26 +49,32 @@ skips_both (Read reading ∷ xs) ys = skips_both xs ys
 skips_both (Malformed kind subtype ∷ xs) ys = skips_both xs ys
 
 -- what comes behind one more record, once its turns are made
-pub behind_more : (c dropped : ℕ) (limit : BatchLimits) (h : History) (records : List Told) (r : Told) (x : Result (Option Admitted) ResolveFault) (next : Feed) (left : ℕ) (old new : Feeding) (archive later : Carried) (was mid now : OutputState)
-    (b : IsBehind c dropped limit h records old archive was mid)
-    → new.collector ≡ old.collector → new.limit ≡ old.limit → new.resolver ≡ next → new.dropping ≡ left
-    → TakesNext old.resolver next old.dropping left r x → (x ≡ Err faults.OutOfMemory → ⊥)
+pub behind_more : (rule : WithoutHop) (c dropped : ℕ) (limit : BatchLimits) (h : History) (records : List Told) (r : Told) (x : Result (Option Admitted) ResolveFault) (next : Feed) (left : ℕ) (old new : Feeding) (archive later : Carried) (was mid now : OutputState)
+    (b : IsBehind rule c dropped limit h records old archive was mid)
+    → new.collector ≡ old.collector → new.limit ≡ old.limit → new.rule ≡ old.rule → new.resolver ≡ next → new.dropping ≡ left
+    → TakesNext old.rule old.resolver next old.dropping left r x → (x ≡ Err faults.OutOfMemory → ⊥)
     → new.gathered.items ≡ waits_after old.limit old.gathered.items x → IsCounted new
     → HasDone c h (turns_for limit 0 [] b.results ++ turns_at old.limit (length b.results) old.gathered.items x) new.counts later was now
     → new.counts.records ≡ capped (suc old.counts.records) → new.counts.skipped ≡ capped (old.counts.skipped + skips (r ∷ []))
-    → IsBehind c dropped limit h (records ++ r ∷ []) new later was now
-behind_more c dropped limit h records r x next left old new archive later was mid now b collector limits follows leaves takes enough waits counted done counts skipped =
+    → IsBehind rule c dropped limit h (records ++ r ∷ []) new later was now
+behind_more rule c dropped limit h records r x next left old new archive later was mid now b collector limits rules follows leaves takes enough waits counted done counts skipped =
     let some : takes.meaning ≡ Err faults.OutOfMemory → ⊥ = λ e. enough (takes.taken_is ∙ still_wanting old.dropping takes.meaning e) in
     let n = length b.results in
     record {
       results = b.results ++ x ∷ [];
       collector = collector ∙ b.collector;
       limited = limits ∙ b.limited;
+      ruled = rules ∙ b.ruled;
       fed = ap (λ (t : Feed). t.collector) follows ∙ takes.collector ∙ b.fed;
       known = subst (λ (t : Feed). LastTable (records ++ r ∷ []) t.table) (sym follows) (takes.table some records b.known);
       means =
-          meant_more c dropped records b.results r takes.meaning x b.means
-          (record { table = old.resolver.table; last = b.known; gives = subst (λ (t : ℕ). Gives t old.resolver.table r takes.meaning) b.fed takes.gives; wanting = some })
+          meant_more rule c dropped records b.results r takes.meaning x b.means
+          (record {
+            table = old.resolver.table;
+            last = b.known;
+            gives = subst (λ (w : WithoutHop). Gives w c old.resolver.table r takes.meaning) b.ruled (subst (λ (t : ℕ). Gives old.rule t old.resolver.table r takes.meaning) b.fed takes.gives);
+            wanting = some;
+          })
           (takes.taken_is ∙ ap (λ (t : ℕ). taken_at t takes.meaning) b.drops);
       drops = drops_more dropped old.dropping new.dropping b.means.meanings takes.meaning b.drops (leaves ∙ takes.left_is);
       waits = waits ∙ (λ k. waits_after (b.limited k) (b.waits k) x) ∙ sym (waits_snoc limit [] b.results x);
@@ -81,21 +88,21 @@ behind_more c dropped limit h records r x next left old new archive later was mi
     }
 
 -- the same where the turns may fail
-pub behind_where : (t : Result (Unit {0}) FeedStop) (c dropped : ℕ) (limit : BatchLimits) (h : History) (records : List Told) (r : Told) (x : Result (Option Admitted) ResolveFault) (next : Feed) (left : ℕ) (old new : Feeding) (archive later : Carried) (was mid now : OutputState)
-    (b : IsBehind c dropped limit h records old archive was mid)
-    → new.collector ≡ old.collector → new.limit ≡ old.limit → new.resolver ≡ next → new.dropping ≡ left
-    → TakesNext old.resolver next old.dropping left r x → OnOk t (x ≡ Err faults.OutOfMemory → ⊥)
+pub behind_where : (t : Result (Unit {0}) FeedStop) (rule : WithoutHop) (c dropped : ℕ) (limit : BatchLimits) (h : History) (records : List Told) (r : Told) (x : Result (Option Admitted) ResolveFault) (next : Feed) (left : ℕ) (old new : Feeding) (archive later : Carried) (was mid now : OutputState)
+    (b : IsBehind rule c dropped limit h records old archive was mid)
+    → new.collector ≡ old.collector → new.limit ≡ old.limit → new.rule ≡ old.rule → new.resolver ≡ next → new.dropping ≡ left
+    → TakesNext old.rule old.resolver next old.dropping left r x → OnOk t (x ≡ Err faults.OutOfMemory → ⊥)
     → OnOk t (new.gathered.items ≡ waits_after old.limit old.gathered.items x) → OnOk t (IsCounted new)
     → OnOk t (HasDone c h (turns_for limit 0 [] b.results ++ turns_at old.limit (length b.results) old.gathered.items x) new.counts later was now)
     → new.counts.records ≡ capped (suc old.counts.records) → new.counts.skipped ≡ capped (old.counts.skipped + skips (r ∷ []))
-    → OnOk t (IsBehind c dropped limit h (records ++ r ∷ []) new later was now)
-behind_where (Ok done_) c dropped limit h records r x next left old new archive later was mid now b collector limits follows leaves takes enough waits counted done counts skipped =
-    behind_more c dropped limit h records r x next left old new archive later was mid now b collector limits follows leaves takes enough waits counted done counts skipped
-behind_where (Err e) c dropped limit h records r x next left old new archive later was mid now b collector limits follows leaves takes enough waits counted done counts skipped = tt
+    → OnOk t (IsBehind rule c dropped limit h (records ++ r ∷ []) new later was now)
+behind_where (Ok done_) rule c dropped limit h records r x next left old new archive later was mid now b collector limits rules follows leaves takes enough waits counted done counts skipped =
+    behind_more rule c dropped limit h records r x next left old new archive later was mid now b collector limits rules follows leaves takes enough waits counted done counts skipped
+behind_where (Err e) rule c dropped limit h records r x next left old new archive later was mid now b collector limits rules follows leaves takes enough waits counted done counts skipped = tt
 
 -- the place of the next record
-pub place_of : (c dropped : ℕ) (limit : BatchLimits) (h : History) (records : List Told) (old : Feeding) (archive : Carried) (was mid : OutputState) (b : IsBehind c dropped limit h records old archive was mid) → old.counts.records ≡ capped (length b.results)
-place_of c dropped limit h records old archive was mid b = b.recorded ∙ ap capped (sym (taken_count c dropped records b.results b.means))
+pub place_of : (rule : WithoutHop) (c dropped : ℕ) (limit : BatchLimits) (h : History) (records : List Told) (old : Feeding) (archive : Carried) (was mid : OutputState) (b : IsBehind rule c dropped limit h records old archive was mid) → old.counts.records ≡ capped (length b.results)
+place_of rule c dropped limit h records old archive was mid b = b.recorded ∙ ap capped (sym (taken_count rule c dropped records b.results b.means))
 
 -- counts of records and skipped ones tell nothing of what was done
 pub done_counted : (c : ℕ) (h : History) (turns : List Turn) (old new : FeedCounts) (archive : Carried) (was now : OutputState)
@@ -103,15 +110,16 @@ pub done_counted : (c : ℕ) (h : History) (turns : List Turn) (old new : FeedCo
 done_counted c h turns old new archive was now admitted late refused d = record { carried = d.carried; wrote = d.wrote; admitted = admitted ∙ d.admitted; late = late ∙ d.late; refused = refused ∙ d.refused; there = d.there }
 
 -- no record came yet
-pub behind_none : (c dropped : ℕ) (limit : BatchLimits) (h : History) (archive : Carried) (feeding : Feeding) (was : OutputState)
-    → feeding.collector ≡ c → feeding.limit ≡ limit → feeding.resolver.collector ≡ c → feeding.resolver.table ≡ None → feeding.gathered.items ≡ [] → feeding.octets ≡ 0 → feeding.dropping ≡ dropped
+pub behind_none : (rule : WithoutHop) (c dropped : ℕ) (limit : BatchLimits) (h : History) (archive : Carried) (feeding : Feeding) (was : OutputState)
+    → feeding.collector ≡ c → feeding.limit ≡ limit → feeding.rule ≡ rule → feeding.resolver.collector ≡ c → feeding.resolver.table ≡ None → feeding.gathered.items ≡ [] → feeding.octets ≡ 0 → feeding.dropping ≡ dropped
     → feeding.counts ≡ record { records = 0; admitted = 0; late = 0; refused = 0; skipped = 0 }
     → 131076 ≤ feeding.limit.octets → feeding.limit.octets ≤ 262144
-    → archive h → IsBehind c dropped limit h [] feeding archive was was
-behind_none c dropped limit h archive feeding was collector limits fed none empty octets drops counts one few carried = record {
+    → archive h → IsBehind rule c dropped limit h [] feeding archive was was
+behind_none rule c dropped limit h archive feeding was collector limits rules fed none empty octets drops counts one few carried = record {
   results = [];
   collector = collector;
   limited = limits;
+  ruled = rules;
   fed = fed;
   known = inl (tt, none);
   means = record { meanings = []; means = record { count = refl; each = λ n next result e f. absurd cc }; taken = refl };

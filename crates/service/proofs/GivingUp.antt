@@ -1,6 +1,7 @@
 -- Feeds that are given up.
 use Rattle.std.proofs.Common.{◌≡◌, ℕ, ◌+◌, ◌<◌, ◌≤◌, List, [], ◌∷◌, ◌++◌, length, map, take, drop, get_or, Option, Result, Ok, Err, IfErr, OnErr, inl, refl, sym, ap, ◌∙◌, subst, append_assoc, arith}
 use Rattle.std.specs.List.{AllByRecursion, slice_get}
+use Rattle.resolve.specs.declared.without_hop.WithoutHop.{WithoutHop}
 use Rattle.service.specs.Outputs.{OutputState, Tells}
 use Rattle.service.proofs.Outputs.{Tells-trans}
 use Rattle.std.proofs.lemmas.List.{append-nil, map-append, take-append-drop}
@@ -113,13 +114,13 @@ gives_refused b c h turns batch given_ counts archive later was now e one same f
     }
 
 -- the feed is given up at this record, whose meaning is known
-pub stops_at : (t : Result (Unit {0}) FeedStop) (c dropped : ℕ) (limit : BatchLimits) (h : History) (records : List Told) (item : Item) (x : Result (Option Admitted) ResolveFault) (next : Feed) (left : ℕ) (old : Feeding) (archive later : Carried) (was mid now : OutputState)
-    (b : IsBehind c dropped limit h records old archive was mid)
-    → TakesNext old.resolver next old.dropping left (told item) x → (x ≡ Err faults.OutOfMemory → ⊥)
+pub stops_at : (t : Result (Unit {0}) FeedStop) (rule : WithoutHop) (c dropped : ℕ) (limit : BatchLimits) (h : History) (records : List Told) (item : Item) (x : Result (Option Admitted) ResolveFault) (next : Feed) (left : ℕ) (old : Feeding) (archive later : Carried) (was mid now : OutputState)
+    (b : IsBehind rule c dropped limit h records old archive was mid)
+    → TakesNext old.rule old.resolver next old.dropping left (told item) x → (x ≡ Err faults.OutOfMemory → ⊥)
     → IfErr t (GivesUp c h (turns_for limit 0 [] b.results ++ turns_at old.limit (length b.results) old.gathered.items x) later was now)
-    → IfErr t (StopsAmong c dropped limit h records (item ∷ []) later was now)
-stops_at (Ok done_) c dropped limit h records item x next left old archive later was mid now b takes enough g = tt
-stops_at (Err why) c dropped limit h records item x next left old archive later was mid now b takes enough g =
+    → IfErr t (StopsAmong rule c dropped limit h records (item ∷ []) later was now)
+stops_at (Ok done_) rule c dropped limit h records item x next left old archive later was mid now b takes enough g = tt
+stops_at (Err why) rule c dropped limit h records item x next left old archive later was mid now b takes enough g =
     let n = length b.results in
     record {
       front = item ∷ [];
@@ -127,11 +128,11 @@ stops_at (Err why) c dropped limit h records item x next left old archive later 
       parts = refl;
       results = b.results ++ x ∷ [];
       means =
-          meant_more c dropped records b.results (told item) takes.meaning x b.means
+          meant_more rule c dropped records b.results (told item) takes.meaning x b.means
           (record {
             table = old.resolver.table;
             last = b.known;
-            gives = subst (λ (k : ℕ). Gives k old.resolver.table (told item) takes.meaning) b.fed takes.gives;
+            gives = subst (λ (w : WithoutHop). Gives w c old.resolver.table (told item) takes.meaning) b.ruled (subst (λ (k : ℕ). Gives old.rule k old.resolver.table (told item) takes.meaning) b.fed takes.gives);
             wanting = λ e. enough (takes.taken_is ∙ still_wanting old.dropping takes.meaning e);
           })
           (takes.taken_is ∙ ap (λ (k : ℕ). taken_at k takes.meaning) b.drops);
@@ -141,17 +142,17 @@ stops_at (Err why) c dropped limit h records item x next left old archive later 
     }
 
 -- the feed is given up before this record has a meaning
-pub stops_before : (t : Result (Unit {0}) FeedStop) (c dropped : ℕ) (limit : BatchLimits) (h : History) (records : List Told) (item : Item) (old : Feeding) (archive later : Carried) (was mid now : OutputState)
-    (b : IsBehind c dropped limit h records old archive was mid)
-    → IfErr t (GivesUp c h (turns_for limit 0 [] b.results) later was now) → IfErr t (StopsAmong c dropped limit h records (item ∷ []) later was now)
-stops_before (Ok done_) c dropped limit h records item old archive later was mid now b g = tt
-stops_before (Err why) c dropped limit h records item old archive later was mid now b g =
-    record { front = []; back = item ∷ []; parts = refl; results = b.results; means = subst (λ (t : List Told). MeansFrom c dropped t b.results) (sym (append-nil records)) b.means; gives_up = g }
+pub stops_before : (t : Result (Unit {0}) FeedStop) (rule : WithoutHop) (c dropped : ℕ) (limit : BatchLimits) (h : History) (records : List Told) (item : Item) (old : Feeding) (archive later : Carried) (was mid now : OutputState)
+    (b : IsBehind rule c dropped limit h records old archive was mid)
+    → IfErr t (GivesUp c h (turns_for limit 0 [] b.results) later was now) → IfErr t (StopsAmong rule c dropped limit h records (item ∷ []) later was now)
+stops_before (Ok done_) rule c dropped limit h records item old archive later was mid now b g = tt
+stops_before (Err why) rule c dropped limit h records item old archive later was mid now b g =
+    record { front = []; back = item ∷ []; parts = refl; results = b.results; means = subst (λ (t : List Told). MeansFrom rule c dropped t b.results) (sym (append-nil records)) b.means; gives_up = g }
 
 -- the feed is given up at one of the items, behind those that were taken
-pub stops_among : (c dropped : ℕ) (limit : BatchLimits) (h : History) (records : List Told) (items : List Item) (i : ℕ) (item : Item) (archive : Carried) (was now : OutputState) (why : FeedStop)
-    → i < length items → item ≡ get_or items i item → StopsAmong c dropped limit h (records ++ map told (take i items)) (item ∷ []) archive was now why → StopsAmong c dropped limit h records items archive was now why
-stops_among c dropped limit h records items i item archive was now why lt is s =
+pub stops_among : (rule : WithoutHop) (c dropped : ℕ) (limit : BatchLimits) (h : History) (records : List Told) (items : List Item) (i : ℕ) (item : Item) (archive : Carried) (was now : OutputState) (why : FeedStop)
+    → i < length items → item ≡ get_or items i item → StopsAmong rule c dropped limit h (records ++ map told (take i items)) (item ∷ []) archive was now why → StopsAmong rule c dropped limit h records items archive was now why
+stops_among rule c dropped limit h records items i item archive was now why lt is s =
     let first = take i items in
     let rest = drop (i + 1) items in
     record {
@@ -162,7 +163,7 @@ stops_among c dropped limit h records items i item archive was now why lt is s =
           ∙ ap (λ (t : List Item). first ++ (t ++ rest)) s.parts ∙ ap (λ (t : List Item). first ++ t) (append_assoc s.front s.back rest) ∙ sym (append_assoc first s.front (s.back ++ rest));
       results = s.results;
       means =
-          subst (λ (t : List Told). MeansFrom c dropped t s.results)
+          subst (λ (t : List Told). MeansFrom rule c dropped t s.results)
           (append_assoc records (map told first) (map told s.front) ∙ ap (λ (t : List Told). records ++ t) (sym (map-append told first s.front))) s.means;
       gives_up = s.gives_up;
     }
@@ -189,9 +190,9 @@ framed_front bytes rest front back g =
     )
 
 -- the feed is given up among the items of the whole records of the octets
-pub stops_within : (c dropped : ℕ) (limit : BatchLimits) (h : History) (bytes rest : List ℕ) (before items : List Item) (archive : Carried) (was now : OutputState) (why : FeedStop)
-    → GainsFrames bytes rest [] (before ++ items) → StopsAmong c dropped limit h (map told before) items archive was now why → StopsWithin c dropped limit h bytes archive was now why
-stops_within c dropped limit h bytes rest before items archive was now why framed s =
+pub stops_within : (rule : WithoutHop) (c dropped : ℕ) (limit : BatchLimits) (h : History) (bytes rest : List ℕ) (before items : List Item) (archive : Carried) (was now : OutputState) (why : FeedStop)
+    → GainsFrames bytes rest [] (before ++ items) → StopsAmong rule c dropped limit h (map told before) items archive was now why → StopsWithin rule c dropped limit h bytes archive was now why
+stops_within rule c dropped limit h bytes rest before items archive was now why framed s =
     let f = framed_front bytes rest (before ++ s.front) s.back (subst (λ (t : List Item). GainsFrames bytes rest [] t) (ap (λ (t : List Item). before ++ t) s.parts ∙ sym (append_assoc before s.front s.back)) framed) in
     record {
       seen = f.0;
@@ -200,19 +201,19 @@ stops_within c dropped limit h bytes rest before items archive was now why frame
       items = before ++ s.front;
       framed = f.3;
       results = s.results;
-      means = subst (λ (t : List Told). MeansFrom c dropped t s.results) (sym (map-append told before s.front)) s.means;
+      means = subst (λ (t : List Told). MeansFrom rule c dropped t s.results) (sym (map-append told before s.front)) s.means;
       gives_up = gives_more c h (turns_for limit 0 [] s.results) (last_turns (waits_behind limit [] s.results)) archive was now why s.gives_up;
     }
 
 -- what comes behind is left too
-pub within_more : (c dropped : ℕ) (limit : BatchLimits) (h : History) (bytes more : List ℕ) (archive : Carried) (was now : OutputState) (why : FeedStop) → StopsWithin c dropped limit h bytes archive was now why → StopsWithin c dropped limit h (bytes ++ more) archive was now why
-within_more c dropped limit h bytes more archive was now why s =
+pub within_more : (rule : WithoutHop) (c dropped : ℕ) (limit : BatchLimits) (h : History) (bytes more : List ℕ) (archive : Carried) (was now : OutputState) (why : FeedStop) → StopsWithin rule c dropped limit h bytes archive was now why → StopsWithin rule c dropped limit h (bytes ++ more) archive was now why
+within_more rule c dropped limit h bytes more archive was now why s =
     record { seen = s.seen; later = s.later ++ more; parts = ap (λ (t : List ℕ). t ++ more) s.parts ∙ append_assoc s.seen s.later more; items = s.items; framed = s.framed; results = s.results; means = s.means; gives_up = s.gives_up }
 
 -- the feed is given up behind all that was read, and nothing of it is untold
-pub stops_behind : (c dropped : ℕ) (limit : BatchLimits) (h : History) (bytes rest : List ℕ) (feeding : Feeding) (archive : Carried) (was now : OutputState) (why : FeedStop)
-    → ((made : List Turn) → IsReason c h made [] why) → Reads c dropped limit h bytes rest feeding archive was now → StopsWithin c dropped limit h bytes archive was now why
-stops_behind c dropped limit h bytes rest feeding archive was now why reason r =
+pub stops_behind : (rule : WithoutHop) (c dropped : ℕ) (limit : BatchLimits) (h : History) (bytes rest : List ℕ) (feeding : Feeding) (archive : Carried) (was now : OutputState) (why : FeedStop)
+    → ((made : List Turn) → IsReason c h made [] why) → Reads rule c dropped limit h bytes rest feeding archive was now → StopsWithin rule c dropped limit h bytes archive was now why
+stops_behind rule c dropped limit h bytes rest feeding archive was now why reason r =
     let f = framed_front bytes rest r.items [] (subst (λ (t : List Item). GainsFrames bytes rest [] t) (sym (append-nil r.items)) r.framed) in
     let b = r.behind in
     let turns = turns_for limit 0 [] b.results in
@@ -228,10 +229,10 @@ stops_behind c dropped limit h bytes rest feeding archive was now why reason r =
     }
 
 -- the feed is given up while its last batch is offered, or its end told
-pub stops_last : (c dropped : ℕ) (limit : BatchLimits) (h : History) (bytes rest : List ℕ) (feeding : Feeding) (archive later : Carried) (was mid now : OutputState) (why : FeedStop)
-    (r : Reads c dropped limit h bytes rest feeding archive was mid)
-    → GivesUp c h (turns_for limit 0 [] r.behind.results ++ last_turns feeding.gathered.items) later was now why → StopsWithin c dropped limit h bytes later was now why
-stops_last c dropped limit h bytes rest feeding archive later was mid now why r g =
+pub stops_last : (rule : WithoutHop) (c dropped : ℕ) (limit : BatchLimits) (h : History) (bytes rest : List ℕ) (feeding : Feeding) (archive later : Carried) (was mid now : OutputState) (why : FeedStop)
+    (r : Reads rule c dropped limit h bytes rest feeding archive was mid)
+    → GivesUp c h (turns_for limit 0 [] r.behind.results ++ last_turns feeding.gathered.items) later was now why → StopsWithin rule c dropped limit h bytes later was now why
+stops_last rule c dropped limit h bytes rest feeding archive later was mid now why r g =
     let f = framed_front bytes rest r.items [] (subst (λ (t : List Item). GainsFrames bytes rest [] t) (sym (append-nil r.items)) r.framed) in
     let b = r.behind in
     record {
@@ -246,9 +247,9 @@ stops_last c dropped limit h bytes rest feeding archive later was mid now why r 
     }
 
 -- the feed is given up, and the refusal was written
-pub given_up_told : (c dropped : ℕ) (limit : BatchLimits) (h : History) (bytes : List ℕ) (archive : Carried) (was mid now : OutputState) (why : FeedStop)
-    → StopsWithin c dropped limit h bytes archive was mid why → Tells mid now (refusal_line (of_stop why)) → IsGivenUp c dropped limit h bytes why archive was now
-given_up_told c dropped limit h bytes archive was mid now why s line =
+pub given_up_told : (rule : WithoutHop) (c dropped : ℕ) (limit : BatchLimits) (h : History) (bytes : List ℕ) (archive : Carried) (was mid now : OutputState) (why : FeedStop)
+    → StopsWithin rule c dropped limit h bytes archive was mid why → Tells mid now (refusal_line (of_stop why)) → IsGivenUp rule c dropped limit h bytes why archive was now
+given_up_told rule c dropped limit h bytes archive was mid now why s line =
     let g = s.gives_up in
     record {
       seen = s.seen;

@@ -1,6 +1,7 @@
 -- A stream that is read piece by piece.
 use Rattle.std.proofs.Common.{◌≡◌, ℕ, List, [], ◌++◌, Option, Some, None, Bool, true, false, map, arith, inl, refl, sym, ap, ◌∙◌, subst, append_assoc}
 use Rattle.std.specs.Io.KnownBytes.{Consumes, IsAtEnd}
+use Rattle.resolve.specs.declared.without_hop.WithoutHop.{WithoutHop}
 use Rattle.service.specs.Outputs.{OutputState, Tells}
 use Rattle.std.proofs.KnownBytes.{Consumes-nil, Consumes-trans}
 use Rattle.service.proofs.Outputs.{Tells-trans}
@@ -34,16 +35,16 @@ gains_behind : (bytes now : List ℕ) (none items mid : List Item) → none ≡ 
 gains_behind bytes now none items mid e p = (p.0, p.1, (p.2.0, p.2.1, ap (λ (t : List Item). mid ++ t) (p.2.2 ∙ ap (λ (t : List Item). t ++ p.2.0) e)))
 
 -- one more piece, behind which this rest is left
-pub piece_read : (c dropped : ℕ) (limit : BatchLimits) (h : History) (bytes held piece rest : List ℕ) (old new : Feeding) (archive later : Carried) (was mid now : OutputState) (none items got : List Item)
+pub piece_read : (rule : WithoutHop) (c dropped : ℕ) (limit : BatchLimits) (h : History) (bytes held piece rest : List ℕ) (old new : Feeding) (archive later : Carried) (was mid now : OutputState) (none items got : List Item)
     → none ≡ [] → got ≡ items → GainsFrames (held ++ piece) rest none items
-    → ((records : List Told) → IsBehind c dropped limit h records old archive was mid → IsBehind c dropped limit h (records ++ map told got) new later was now)
-    → Reads c dropped limit h bytes held old archive was mid → Reads c dropped limit h (bytes ++ piece) rest new later was now
-piece_read c dropped limit h bytes held piece rest old new archive later was mid now none items got empty same gains behind r =
+    → ((records : List Told) → IsBehind rule c dropped limit h records old archive was mid → IsBehind rule c dropped limit h (records ++ map told got) new later was now)
+    → Reads rule c dropped limit h bytes held old archive was mid → Reads rule c dropped limit h (bytes ++ piece) rest new later was now
+piece_read rule c dropped limit h bytes held piece rest old new archive later was mid now none items got empty same gains behind r =
     let both : map told r.items ++ map told got ≡ map told (r.items ++ items) = ap (λ (t : List Item). map told r.items ++ map told t) same ∙ sym (map-append told r.items items) in
     record {
       items = r.items ++ items;
       framed = frames_then bytes held piece rest [] r.items (r.items ++ items) r.framed (gains_behind (held ++ piece) rest none items r.items empty gains);
-      behind = subst (λ (t : List Told). IsBehind c dropped limit h t new later was now) both (behind (map told r.items) r.behind);
+      behind = subst (λ (t : List Told). IsBehind rule c dropped limit h t new later was now) both (behind (map told r.items) r.behind);
     }
 
 -- the records with one more piece
@@ -52,25 +53,25 @@ piece_framed bytes held piece rest before none items got empty same gains framed
     subst (λ (t : List Item). GainsFrames (bytes ++ piece) rest [] (before ++ t)) (sym same) (frames_then bytes held piece rest [] before (before ++ items) framed (gains_behind (held ++ piece) rest none items before empty gains))
 
 -- one more piece, and the feed goes on
-pub piece_goes : (c dropped : ℕ) (limit : BatchLimits) (h : History) (bytes held piece now_held : List ℕ) (old new : Feeding) (archive later : Carried) (was mid now : OutputState) (none items got : List Item) (on : Bool)
+pub piece_goes : (rule : WithoutHop) (c dropped : ℕ) (limit : BatchLimits) (h : History) (bytes held piece now_held : List ℕ) (old new : Feeding) (archive later : Carried) (was mid now : OutputState) (none items got : List Item) (on : Bool)
     → on ≡ true → none ≡ [] → got ≡ items → GainsFrames (held ++ piece) now_held none items
-    → ((records : List Told) → IsBehind c dropped limit h records old archive was mid → IsBehind c dropped limit h (records ++ map told got) new later was now)
-    → Reads c dropped limit h bytes held old archive was mid → IsRead c dropped limit h (bytes ++ piece) now_held on new later was now
-piece_goes c dropped limit h bytes held piece now_held old new archive later was mid now none items got on goes_on empty same gains behind r =
-    subst (λ (t : Bool). IsRead c dropped limit h (bytes ++ piece) now_held t new later was now) (sym goes_on)
-    (record { rest = now_held; holds = refl; reads = piece_read c dropped limit h bytes held piece now_held old new archive later was mid now none items got empty same gains behind r })
+    → ((records : List Told) → IsBehind rule c dropped limit h records old archive was mid → IsBehind rule c dropped limit h (records ++ map told got) new later was now)
+    → Reads rule c dropped limit h bytes held old archive was mid → IsRead rule c dropped limit h (bytes ++ piece) now_held on new later was now
+piece_goes rule c dropped limit h bytes held piece now_held old new archive later was mid now none items got on goes_on empty same gains behind r =
+    subst (λ (t : Bool). IsRead rule c dropped limit h (bytes ++ piece) now_held t new later was now) (sym goes_on)
+    (record { rest = now_held; holds = refl; reads = piece_read rule c dropped limit h bytes held piece now_held old new archive later was mid now none items got empty same gains behind r })
 
 -- one more piece, and behind its records stands a Length above the limit
-pub piece_stops : (c dropped : ℕ) (limit : BatchLimits) (h : History) (bytes held piece now_held : List ℕ) (old new : Feeding) (archive later : Carried) (was mid now : OutputState) (none items got : List Item) (on : Bool)
+pub piece_stops : (rule : WithoutHop) (c dropped : ℕ) (limit : BatchLimits) (h : History) (bytes held piece now_held : List ℕ) (old new : Feeding) (archive later : Carried) (was mid now : OutputState) (none items got : List Item) (on : Bool)
     → on ≡ false → none ≡ [] → got ≡ items → EndsOver (held ++ piece) now_held none items
-    → ((records : List Told) → IsBehind c dropped limit h records old archive was mid → IsBehind c dropped limit h (records ++ map told got) new later was now)
-    → Reads c dropped limit h bytes held old archive was mid → IsRead c dropped limit h (bytes ++ piece) now_held on new later was now
-piece_stops c dropped limit h bytes held piece now_held old new archive later was mid now none items got on stops empty same ends behind r =
-    subst (λ (t : Bool). IsRead c dropped limit h (bytes ++ piece) now_held t new later was now) (sym stops)
+    → ((records : List Told) → IsBehind rule c dropped limit h records old archive was mid → IsBehind rule c dropped limit h (records ++ map told got) new later was now)
+    → Reads rule c dropped limit h bytes held old archive was mid → IsRead rule c dropped limit h (bytes ++ piece) now_held on new later was now
+piece_stops rule c dropped limit h bytes held piece now_held old new archive later was mid now none items got on stops empty same ends behind r =
+    subst (λ (t : Bool). IsRead rule c dropped limit h (bytes ++ piece) now_held t new later was now) (sym stops)
     (record {
       rest = now_held ++ ends.0;
       holds = (ends.0, refl, ends.2);
-      reads = piece_read c dropped limit h bytes held piece (now_held ++ ends.0) old new archive later was mid now none items got empty same ends.1 behind r;
+      reads = piece_read rule c dropped limit h bytes held piece (now_held ++ ends.0) old new archive later was mid now none items got empty same ends.1 behind r;
     })
 
 -- what a reader still has, where it tells that
@@ -98,80 +99,80 @@ pieces_join : (bytes done piece rest : List ℕ) → ((bytes ++ done) ++ piece) 
 pieces_join bytes done piece rest = append_assoc (bytes ++ done) piece rest ∙ append_assoc bytes done (piece ++ rest) ∙ ap (λ (t : List ℕ). bytes ++ t) (sym (append_assoc done piece rest))
 
 -- of what a reader gives, known beforehand or not, these octets are read
-pub record Taken (c dropped : ℕ) (limit : BatchLimits) (h : History) (bytes : List ℕ) (known reader : Option (List ℕ)) (held : List ℕ) (feeding : Feeding) (archive : Carried) (was now : OutputState) : Type 0 where
+pub record Taken (rule : WithoutHop) (c dropped : ℕ) (limit : BatchLimits) (h : History) (bytes : List ℕ) (known reader : Option (List ℕ)) (held : List ℕ) (feeding : Feeding) (archive : Carried) (was now : OutputState) : Type 0 where
   pub done : List ℕ
   pub gone : Consumes known reader done
-  pub reads : Reads c dropped limit h (bytes ++ done) held feeding archive was now
+  pub reads : Reads rule c dropped limit h (bytes ++ done) held feeding archive was now
 
-pub taken_first : (c dropped : ℕ) (limit : BatchLimits) (h : History) (bytes : List ℕ) (reader : Option (List ℕ)) (held : List ℕ) (feeding : Feeding) (archive : Carried) (was now : OutputState)
-    → Reads c dropped limit h bytes held feeding archive was now → Taken c dropped limit h bytes reader reader held feeding archive was now
-taken_first c dropped limit h bytes reader held feeding archive was now r = record {
+pub taken_first : (rule : WithoutHop) (c dropped : ℕ) (limit : BatchLimits) (h : History) (bytes : List ℕ) (reader : Option (List ℕ)) (held : List ℕ) (feeding : Feeding) (archive : Carried) (was now : OutputState)
+    → Reads rule c dropped limit h bytes held feeding archive was now → Taken rule c dropped limit h bytes reader reader held feeding archive was now
+taken_first rule c dropped limit h bytes reader held feeding archive was now r = record {
   done = [];
   gone = Consumes-nil reader;
-  reads = subst (λ (t : List ℕ). Reads c dropped limit h t held feeding archive was now) (sym (append-nil bytes)) r;
+  reads = subst (λ (t : List ℕ). Reads rule c dropped limit h t held feeding archive was now) (sym (append-nil bytes)) r;
 }
 
 -- the reader is at its end
-pub taken_none : (c dropped : ℕ) (limit : BatchLimits) (h : History) (bytes : List ℕ) (known reader new : Option (List ℕ)) (held : List ℕ) (feeding : Feeding) (archive : Carried) (was now : OutputState)
-    → Consumes reader new [] → IsAtEnd new → Taken c dropped limit h bytes known reader held feeding archive was now
-    → (more : List ℕ) × MayGive known more × IsReadOut c dropped limit h (bytes ++ more) held feeding archive was now
-taken_none c dropped limit h bytes known reader new held feeding archive was now gone end l =
+pub taken_none : (rule : WithoutHop) (c dropped : ℕ) (limit : BatchLimits) (h : History) (bytes : List ℕ) (known reader new : Option (List ℕ)) (held : List ℕ) (feeding : Feeding) (archive : Carried) (was now : OutputState)
+    → Consumes reader new [] → IsAtEnd new → Taken rule c dropped limit h bytes known reader held feeding archive was now
+    → (more : List ℕ) × MayGive known more × IsReadOut rule c dropped limit h (bytes ++ more) held feeding archive was now
+taken_none rule c dropped limit h bytes known reader new held feeding archive was now gone end l =
     let gives = may_give known new (l.done ++ []) (Consumes-trans known reader new l.done [] l.gone gone) in
     let same : (l.done ++ []) ++ left_of new ≡ l.done = ap (λ (t : List ℕ). (l.done ++ []) ++ t) (none_left new end) ∙ append-nil (l.done ++ []) ∙ append-nil l.done in
     (l.done, subst (MayGive known) same gives, (true, record { rest = held; holds = refl; reads = l.reads }))
 
 -- some more is read and taken, and the feed goes on
-pub taken_more : (c dropped : ℕ) (limit : BatchLimits) (h : History) (bytes piece : List ℕ) (known reader next : Option (List ℕ)) (held left : List ℕ) (old new : Feeding) (archive later : Carried) (was mid now : OutputState) (on : Bool)
-    → on ≡ true → Consumes reader next piece → Taken c dropped limit h bytes known reader held old archive was mid
-    → ((seen : List ℕ) → Reads c dropped limit h seen held old archive was mid → IsRead c dropped limit h (seen ++ piece) left on new later was now)
-    → Taken c dropped limit h bytes known next left new later was now
-taken_more c dropped limit h bytes piece known reader next held left old new archive later was mid now on goes_on gone l takes =
-    let read = subst (λ (t : Bool). IsRead c dropped limit h ((bytes ++ l.done) ++ piece) left t new later was now) goes_on (takes (bytes ++ l.done) l.reads) in
+pub taken_more : (rule : WithoutHop) (c dropped : ℕ) (limit : BatchLimits) (h : History) (bytes piece : List ℕ) (known reader next : Option (List ℕ)) (held left : List ℕ) (old new : Feeding) (archive later : Carried) (was mid now : OutputState) (on : Bool)
+    → on ≡ true → Consumes reader next piece → Taken rule c dropped limit h bytes known reader held old archive was mid
+    → ((seen : List ℕ) → Reads rule c dropped limit h seen held old archive was mid → IsRead rule c dropped limit h (seen ++ piece) left on new later was now)
+    → Taken rule c dropped limit h bytes known next left new later was now
+taken_more rule c dropped limit h bytes piece known reader next held left old new archive later was mid now on goes_on gone l takes =
+    let read = subst (λ (t : Bool). IsRead rule c dropped limit h ((bytes ++ l.done) ++ piece) left t new later was now) goes_on (takes (bytes ++ l.done) l.reads) in
     record {
       done = l.done ++ piece;
       gone = Consumes-trans known reader next l.done piece l.gone gone;
-      reads = subst (λ (t : List ℕ). Reads c dropped limit h t left new later was now) (append_assoc bytes l.done piece)
-          (subst (λ (t : List ℕ). Reads c dropped limit h ((bytes ++ l.done) ++ piece) t new later was now) (sym read.holds) read.reads);
+      reads = subst (λ (t : List ℕ). Reads rule c dropped limit h t left new later was now) (append_assoc bytes l.done piece)
+          (subst (λ (t : List ℕ). Reads rule c dropped limit h ((bytes ++ l.done) ++ piece) t new later was now) (sym read.holds) read.reads);
     }
 
 -- the feed is given up where nothing more is read
-pub taken_gives : (c dropped : ℕ) (limit : BatchLimits) (h : History) (bytes : List ℕ) (known reader : Option (List ℕ)) (held : List ℕ) (feeding : Feeding) (archive : Carried) (was now : OutputState)
-    → (why : FeedStop) → ((made : List Turn) → IsReason c h made [] why) → Taken c dropped limit h bytes known reader held feeding archive was now
-    → (more : List ℕ) × MayGive known more × StopsWithin c dropped limit h (bytes ++ more) archive was now why
-taken_gives c dropped limit h bytes known reader held feeding archive was now why reason l =
+pub taken_gives : (rule : WithoutHop) (c dropped : ℕ) (limit : BatchLimits) (h : History) (bytes : List ℕ) (known reader : Option (List ℕ)) (held : List ℕ) (feeding : Feeding) (archive : Carried) (was now : OutputState)
+    → (why : FeedStop) → ((made : List Turn) → IsReason c h made [] why) → Taken rule c dropped limit h bytes known reader held feeding archive was now
+    → (more : List ℕ) × MayGive known more × StopsWithin rule c dropped limit h (bytes ++ more) archive was now why
+taken_gives rule c dropped limit h bytes known reader held feeding archive was now why reason l =
     let rest = left_of reader in (
       l.done ++ rest,
       may_give known reader l.done l.gone,
-      subst (λ (t : List ℕ). StopsWithin c dropped limit h t archive was now why) (append_assoc bytes l.done rest)
-          (within_more c dropped limit h (bytes ++ l.done) rest archive was now why (stops_behind c dropped limit h (bytes ++ l.done) held feeding archive was now why reason l.reads)),
+      subst (λ (t : List ℕ). StopsWithin rule c dropped limit h t archive was now why) (append_assoc bytes l.done rest)
+          (within_more rule c dropped limit h (bytes ++ l.done) rest archive was now why (stops_behind rule c dropped limit h (bytes ++ l.done) held feeding archive was now why reason l.reads)),
     )
 
 -- the feed is given up in the next piece
-pub taken_piece_gives : (c dropped : ℕ) (limit : BatchLimits) (h : History) (bytes piece : List ℕ) (known reader next : Option (List ℕ)) (held : List ℕ) (feeding : Feeding) (archive later : Carried) (was mid now : OutputState) (why : FeedStop)
-    → Consumes reader next piece → Taken c dropped limit h bytes known reader held feeding archive was mid
-    → ((seen : List ℕ) → Reads c dropped limit h seen held feeding archive was mid → StopsWithin c dropped limit h (seen ++ piece) later was now why)
-    → (more : List ℕ) × MayGive known more × StopsWithin c dropped limit h (bytes ++ more) later was now why
-taken_piece_gives c dropped limit h bytes piece known reader next held feeding archive later was mid now why gone l stops_ =
+pub taken_piece_gives : (rule : WithoutHop) (c dropped : ℕ) (limit : BatchLimits) (h : History) (bytes piece : List ℕ) (known reader next : Option (List ℕ)) (held : List ℕ) (feeding : Feeding) (archive later : Carried) (was mid now : OutputState) (why : FeedStop)
+    → Consumes reader next piece → Taken rule c dropped limit h bytes known reader held feeding archive was mid
+    → ((seen : List ℕ) → Reads rule c dropped limit h seen held feeding archive was mid → StopsWithin rule c dropped limit h (seen ++ piece) later was now why)
+    → (more : List ℕ) × MayGive known more × StopsWithin rule c dropped limit h (bytes ++ more) later was now why
+taken_piece_gives rule c dropped limit h bytes piece known reader next held feeding archive later was mid now why gone l stops_ =
     let rest = left_of next in (
       (l.done ++ piece) ++ rest,
       may_give known next (l.done ++ piece) (Consumes-trans known reader next l.done piece l.gone gone),
-      subst (λ (t : List ℕ). StopsWithin c dropped limit h t later was now why) (pieces_join bytes l.done piece rest)
-          (within_more c dropped limit h ((bytes ++ l.done) ++ piece) rest later was now why (stops_ (bytes ++ l.done) l.reads)),
+      subst (λ (t : List ℕ). StopsWithin rule c dropped limit h t later was now why) (pieces_join bytes l.done piece rest)
+          (within_more rule c dropped limit h ((bytes ++ l.done) ++ piece) rest later was now why (stops_ (bytes ++ l.done) l.reads)),
     )
 
 -- the next piece is taken, and the feed is given up behind it
-pub taken_failed : (c dropped : ℕ) (limit : BatchLimits) (h : History) (bytes piece : List ℕ) (known reader next : Option (List ℕ)) (held left : List ℕ) (old new : Feeding) (archive later : Carried) (was mid now : OutputState) (on : Bool)
-    → Consumes reader next piece → Taken c dropped limit h bytes known reader held old archive was mid
-    → ((seen : List ℕ) → Reads c dropped limit h seen held old archive was mid → IsRead c dropped limit h (seen ++ piece) left on new later was now)
-    → (more : List ℕ) × MayGive known more × StopsWithin c dropped limit h (bytes ++ more) later was now stops.Outside
-taken_failed c dropped limit h bytes piece known reader next held left old new archive later was mid now on gone l takes =
+pub taken_failed : (rule : WithoutHop) (c dropped : ℕ) (limit : BatchLimits) (h : History) (bytes piece : List ℕ) (known reader next : Option (List ℕ)) (held left : List ℕ) (old new : Feeding) (archive later : Carried) (was mid now : OutputState) (on : Bool)
+    → Consumes reader next piece → Taken rule c dropped limit h bytes known reader held old archive was mid
+    → ((seen : List ℕ) → Reads rule c dropped limit h seen held old archive was mid → IsRead rule c dropped limit h (seen ++ piece) left on new later was now)
+    → (more : List ℕ) × MayGive known more × StopsWithin rule c dropped limit h (bytes ++ more) later was now stops.Outside
+taken_failed rule c dropped limit h bytes piece known reader next held left old new archive later was mid now on gone l takes =
     let rest = left_of next in
     let read = takes (bytes ++ l.done) l.reads in (
       (l.done ++ piece) ++ rest,
       may_give known next (l.done ++ piece) (Consumes-trans known reader next l.done piece l.gone gone),
-      subst (λ (t : List ℕ). StopsWithin c dropped limit h t later was now stops.Outside) (pieces_join bytes l.done piece rest)
-          (within_more c dropped limit h ((bytes ++ l.done) ++ piece) rest later was now stops.Outside
-          (stops_behind c dropped limit h ((bytes ++ l.done) ++ piece) read.rest new later was now stops.Outside (λ made. tt) read.reads)),
+      subst (λ (t : List ℕ). StopsWithin rule c dropped limit h t later was now stops.Outside) (pieces_join bytes l.done piece rest)
+          (within_more rule c dropped limit h ((bytes ++ l.done) ++ piece) rest later was now stops.Outside
+          (stops_behind rule c dropped limit h ((bytes ++ l.done) ++ piece) read.rest new later was now stops.Outside (λ made. tt) read.reads)),
     )
 
 -- what stands behind a Length above the limit is left with it
@@ -179,13 +180,13 @@ over_more : (bytes rest more : List ℕ) (items : List Item) → Over rest → G
 over_more bytes rest more items over g = (g.0, record { whole = ap (λ (t : List ℕ). t ++ more) g.1.whole ∙ append_assoc _ rest more; each = g.1.each; ended = over_begins_none (rest ++ more) (over-append rest more over) }, g.2)
 
 -- some more is read and taken, and the feed stops
-pub taken_stops : (c dropped : ℕ) (limit : BatchLimits) (h : History) (bytes piece : List ℕ) (known reader next : Option (List ℕ)) (held left : List ℕ) (old new : Feeding) (archive later : Carried) (was mid now : OutputState) (on : Bool)
-    → on ≡ false → Consumes reader next piece → Taken c dropped limit h bytes known reader held old archive was mid
-    → ((seen : List ℕ) → Reads c dropped limit h seen held old archive was mid → IsRead c dropped limit h (seen ++ piece) left on new later was now)
-    → (more : List ℕ) × MayGive known more × IsReadOut c dropped limit h (bytes ++ more) left new later was now
-taken_stops c dropped limit h bytes piece known reader next held left old new archive later was mid now on ends gone l takes =
+pub taken_stops : (rule : WithoutHop) (c dropped : ℕ) (limit : BatchLimits) (h : History) (bytes piece : List ℕ) (known reader next : Option (List ℕ)) (held left : List ℕ) (old new : Feeding) (archive later : Carried) (was mid now : OutputState) (on : Bool)
+    → on ≡ false → Consumes reader next piece → Taken rule c dropped limit h bytes known reader held old archive was mid
+    → ((seen : List ℕ) → Reads rule c dropped limit h seen held old archive was mid → IsRead rule c dropped limit h (seen ++ piece) left on new later was now)
+    → (more : List ℕ) × MayGive known more × IsReadOut rule c dropped limit h (bytes ++ more) left new later was now
+taken_stops rule c dropped limit h bytes piece known reader next held left old new archive later was mid now on ends gone l takes =
     let rest = left_of next in
-    let read = subst (λ (t : Bool). IsRead c dropped limit h ((bytes ++ l.done) ++ piece) left t new later was now) ends (takes (bytes ++ l.done) l.reads) in
+    let read = subst (λ (t : Bool). IsRead rule c dropped limit h ((bytes ++ l.done) ++ piece) left t new later was now) ends (takes (bytes ++ l.done) l.reads) in
     let held_ = read.holds in
     let over : Over read.rest = subst Over (sym held_.1) (over-append left held_.0 held_.2) in (
       (l.done ++ piece) ++ rest,
@@ -205,9 +206,9 @@ taken_stops c dropped limit h bytes piece known reader next held left old new ar
     )
 
 -- nothing is read yet
-pub reads_none : (c dropped : ℕ) (limit : BatchLimits) (h : History) (held : List ℕ) (feeding : Feeding) (archive : Carried) (was : OutputState)
-    → held ≡ [] → IsBehind c dropped limit h [] feeding archive was was → Reads c dropped limit h [] held feeding archive was was
-reads_none c dropped limit h held feeding archive was empty b = record {
+pub reads_none : (rule : WithoutHop) (c dropped : ℕ) (limit : BatchLimits) (h : History) (held : List ℕ) (feeding : Feeding) (archive : Carried) (was : OutputState)
+    → held ≡ [] → IsBehind rule c dropped limit h [] feeding archive was was → Reads rule c dropped limit h [] held feeding archive was was
+reads_none rule c dropped limit h held feeding archive was empty b = record {
   items = [];
   framed = subst (λ (t : List ℕ). GainsFrames [] t [] []) (sym empty) (frames_none [] [] (part_begins_none [] (inl (omega arith))));
   behind = b;
@@ -221,12 +222,12 @@ cut_short held rest false (Some cuts.Truncated) over is = absurd (is.1 over.2)
 cut_short held rest false (Some cuts.TooLong) over is = subst Over (sym over.1) (over-append held over.0 over.2)
 
 -- all is read, and its end is told
-pub all_fed : (c dropped : ℕ) (limit : BatchLimits) (h : History) (bytes held : List ℕ) (cut : Option FeedCut) (old new : Feeding) (archive later : Carried) (was mid then now : OutputState)
-    → IsReadOut c dropped limit h bytes held old archive was mid → IsCut held cut → IsSameFeed old new
+pub all_fed : (rule : WithoutHop) (c dropped : ℕ) (limit : BatchLimits) (h : History) (bytes held : List ℕ) (cut : Option FeedCut) (old new : Feeding) (archive later : Carried) (was mid then now : OutputState)
+    → IsReadOut rule c dropped limit h bytes held old archive was mid → IsCut held cut → IsSameFeed old new
     → ((turns : List Turn) → old.collector ≡ c → HasDone c h turns old.counts archive was mid → HasDone c h (turns ++ last_turns old.gathered.items) new.counts later was then)
     → Tells then now (cut_line cut new.counts.records ++ counts_line new.counts)
-    → IsFed c dropped limit h bytes cut later was now
-all_fed c dropped limit h bytes held cut old new archive later was mid then now out is same rest told_ =
+    → IsFed rule c dropped limit h bytes cut later was now
+all_fed rule c dropped limit h bytes held cut old new archive later was mid then now out is same rest told_ =
     let read = out.1 in
     let b = read.reads.behind in
     let records = map told read.reads.items in
@@ -250,13 +251,13 @@ all_fed c dropped limit h bytes held cut old new archive later was mid then now 
     }
 
 -- what it says of itself
-pub all_summed : (c dropped : ℕ) (limit : BatchLimits) (h : History) (bytes held : List ℕ) (cut : Option FeedCut) (old new : Feeding) (archive later : Carried) (was mid then now : OutputState)
-    → (out : IsReadOut c dropped limit h bytes held old archive was mid) → (is : IsCut held cut) → (same : IsSameFeed old new)
+pub all_summed : (rule : WithoutHop) (c dropped : ℕ) (limit : BatchLimits) (h : History) (bytes held : List ℕ) (cut : Option FeedCut) (old new : Feeding) (archive later : Carried) (was mid then now : OutputState)
+    → (out : IsReadOut rule c dropped limit h bytes held old archive was mid) → (is : IsCut held cut) → (same : IsSameFeed old new)
     → (rest : (turns : List Turn) → old.collector ≡ c → HasDone c h turns old.counts archive was mid → HasDone c h (turns ++ last_turns old.gathered.items) new.counts later was then)
     → (told_ : Tells then now (cut_line cut new.counts.records ++ counts_line new.counts))
-    → IsSummed c dropped limit h (all_fed c dropped limit h bytes held cut old new archive later was mid then now out is same rest told_).records (all_fed c dropped limit h bytes held cut old new archive later was mid then now out is same rest told_).results (all_fed c dropped limit h bytes held cut old new archive later was mid then now out is same rest told_).feed.means.meanings (Some new.counts) new.dropping
+    → IsSummed c dropped limit h (all_fed rule c dropped limit h bytes held cut old new archive later was mid then now out is same rest told_).records (all_fed rule c dropped limit h bytes held cut old new archive later was mid then now out is same rest told_).results (all_fed rule c dropped limit h bytes held cut old new archive later was mid then now out is same rest told_).feed.means.meanings (Some new.counts) new.dropping
 unfolding all_fed
-all_summed c dropped limit h bytes held cut old new archive later was mid then now out is same rest told_ =
+all_summed rule c dropped limit h bytes held cut old new archive later was mid then now out is same rest told_ =
     let b = out.1.reads.behind in
     let d = rest _ b.collector b.done in
     let turns : turns_for limit 0 [] b.results ++ last_turns old.gathered.items ≡ feed_turns limit b.results = ap (λ (t : List Admitted). turns_for limit 0 [] b.results ++ last_turns t) b.waits in

@@ -56,6 +56,10 @@ resume_rule = record (new_rule (codes "resume")) { long = Some (codes "resume");
 abbrev pub strict_rule : Rule
 strict_rule = record (new_rule (codes "strict")) { long = Some (codes "strict"); action = Some SetTrue }
 
+-- --lose-entries
+abbrev pub lose_entries_rule : Rule
+lose_entries_rule = record (new_rule (codes "lose-entries")) { long = Some (codes "lose-entries"); action = Some SetTrue }
+
 -- FILE..: one file at least
 abbrev pub files_rule : Rule
 files_rule = record (new_rule (codes "FILE")) {
@@ -105,9 +109,9 @@ loading_of_batches = with_rule (with_rule (of_archive (codes "load")) (number_ru
 abbrev pub loading_to_mark : App
 loading_to_mark = with_rule (with_rule loading_of_batches mark_rule) resume_rule
 
--- load DIR --collector C [--batch N] [--mark M] [--resume] [--strict] FILE..
+-- load DIR --collector C [--batch N] [--mark M] [--resume] [--lose-entries] [--strict] FILE..
 abbrev pub loading : App
-loading = with_rule (with_rule loading_to_mark strict_rule) files_rule
+loading = with_rule (with_rule (with_rule loading_to_mark lose_entries_rule) strict_rule) files_rule
 
 -- ask DIR [--wait SECONDS] WORD..
 abbrev pub question : App
@@ -181,6 +185,7 @@ pub record IsLoading (rows : List Row) (l : Loading) : Type 0 where
   pub wait : IsNumber 0 1000000 (first_of (codes "wait") rows) l.wait
   pub mark : IsMarkIf (first_of (codes "mark") rows) l.mark
   pub resume : IsThere (one_of (codes "resume") rows) l.resume
+  pub lose_entries : IsThere (one_of (codes "lose-entries") rows) l.lose_entries
   pub strict : IsThere (one_of (codes "strict") rows) l.strict
   pub files : map (λ f. f.now) l.files.items ≡ unwrap_or (all_of (codes "FILE") rows) []
 

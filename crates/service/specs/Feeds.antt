@@ -1,5 +1,6 @@
 -- What a feed of MRT records is, and what an archive carries once it took it in.
 use Rattle.std.specs.Prelude.{◌≡◌, ◌⊎◌, Bool, true, false, ℕ, map, length, List, [], ◌∷◌, ◌++◌, Option, Some, None, Result}
+use Rattle.resolve.specs.declared.without_hop.WithoutHop.{WithoutHop}
 use Rattle.service.specs.Carried.{Carried, HasIntakes}
 use Rattle.service.specs.Resuming.{MeansFrom, left_behind}
 use Rattle.service.specs.Outputs.{OutputState, Tells}
@@ -31,11 +32,11 @@ abbrev pub limits_for : FeedSettings → ℕ → BatchLimits
 limits_for how most = record { records = how.limit; octets = most }
 
 -- the octets are these whole records, of which this is taken where so many of their first admissions are dropped, and then a rest at whose front no whole record stands
-pub record IsFeed (c dropped : ℕ) (bytes rest : List ℕ) (records : List Told) (results : List (Result (Option Admitted) ResolveFault)) : Type 0 where
+pub record IsFeed (rule : WithoutHop) (c dropped : ℕ) (bytes rest : List ℕ) (records : List Told) (results : List (Result (Option Admitted) ResolveFault)) : Type 0 where
   pub items : List Item
   pub framed : GainsFrames bytes rest [] items
   pub told_are : map told items ≡ records
-  pub means : MeansFrom c dropped records results
+  pub means : MeansFrom rule c dropped records results
 
 -- The octets that a reader gives in all, where it tells them beforehand, as memory does. A file tells nothing: any octets may be those that it gave.
 abbrev pub MayGive : Option (List ℕ) → List ℕ → Type 0
@@ -50,11 +51,11 @@ IsCut rest (Some cuts.TooLong) = Over rest
 
 -- The archive carried h; now it carries all that the feed gives too, wherever it is applied, and what the feed writes was written. It
 -- was cut short for this, or it wasn't. Where the feed gives anything, there is the collector.
-pub record IsFed (c dropped : ℕ) (limit : BatchLimits) (h : History) (bytes : List ℕ) (cut : Option FeedCut) (archive : Carried) (was now : OutputState) : Type 0 where
+pub record IsFed (rule : WithoutHop) (c dropped : ℕ) (limit : BatchLimits) (h : History) (bytes : List ℕ) (cut : Option FeedCut) (archive : Carried) (was now : OutputState) : Type 0 where
   pub rest : List ℕ
   pub records : List Told
   pub results : List (Result (Option Admitted) ResolveFault)
-  pub feed : IsFeed c dropped bytes rest records results
+  pub feed : IsFeed rule c dropped bytes rest records results
   pub cut_is : IsCut rest cut
   pub carried : HasIntakes (given h c (admissions_of results)).intakes archive
   pub wrote : Tells was now (feed_text (intake_in h.intakes c) limit records results cut)
@@ -72,13 +73,13 @@ IsReason c h made unmade stops.Outside = Unit {0}
 
 -- The archive carried h; now it carries what the first turns for the first records of the feed offer too, wherever it is applied. These
 -- turns were written and then the refusal.
-pub record IsGivenUp (c dropped : ℕ) (limit : BatchLimits) (h : History) (bytes : List ℕ) (why : FeedStop) (archive : Carried) (was now : OutputState) : Type 0 where
+pub record IsGivenUp (rule : WithoutHop) (c dropped : ℕ) (limit : BatchLimits) (h : History) (bytes : List ℕ) (why : FeedStop) (archive : Carried) (was now : OutputState) : Type 0 where
   pub seen : List ℕ
   pub later : List ℕ
   pub parts : bytes ≡ seen ++ later
   pub records : List Told
   pub results : List (Result (Option Admitted) ResolveFault)
-  pub feed : IsFeed c dropped seen [] records results
+  pub feed : IsFeed rule c dropped seen [] records results
   pub made : List Turn
   pub unmade : List Turn
   pub turns : feed_turns limit results ≡ made ++ unmade
@@ -88,10 +89,10 @@ pub record IsGivenUp (c dropped : ℕ) (limit : BatchLimits) (h : History) (byte
   pub there : (offered made ≡ [] → ⊥) → IsCollector h c
 
 -- how a feed of these octets ended: all of it was read, or it was cut short, or it was given up for this
-abbrev pub IsEnd : ℕ → ℕ → BatchLimits → History → List ℕ → End → Carried → OutputState → OutputState → Type 0
-IsEnd c dropped limit h bytes ends.Well archive was now = IsFed c dropped limit h bytes None archive was now
-IsEnd c dropped limit h bytes ends.Cut archive was now = (why : FeedCut) × IsFed c dropped limit h bytes (Some why) archive was now
-IsEnd c dropped limit h bytes (ends.Refused why) archive was now = IsGivenUp c dropped limit h bytes why archive was now
+abbrev pub IsEnd : WithoutHop → ℕ → ℕ → BatchLimits → History → List ℕ → End → Carried → OutputState → OutputState → Type 0
+IsEnd rule c dropped limit h bytes ends.Well archive was now = IsFed rule c dropped limit h bytes None archive was now
+IsEnd rule c dropped limit h bytes ends.Cut archive was now = (why : FeedCut) × IsFed rule c dropped limit h bytes (Some why) archive was now
+IsEnd rule c dropped limit h bytes (ends.Refused why) archive was now = IsGivenUp rule c dropped limit h bytes why archive was now
 
 -- how a feed that ended so is answered: where not all of its lines were written, it is given up for the writer
 abbrev pub as_told : Bool → End → End
@@ -111,7 +112,7 @@ pub record IsSummed (c dropped : ℕ) (limit : BatchLimits) (h : History) (recor
   pub drops : left ≡ left_behind dropped meanings
 
 -- the same by how the feed ended; one that was given up says nothing
-abbrev pub IsSummedEnd : (c dropped : ℕ) (limit : BatchLimits) (h : History) (bytes : List ℕ) (end : End) (archive : Carried) (was now : OutputState) → IsEnd c dropped limit h bytes end archive was now → Option FeedCounts → ℕ → Type 0
-IsSummedEnd c dropped limit h bytes ends.Well archive was now f counts left = IsSummed c dropped limit h f.records f.results f.feed.means.meanings counts left
-IsSummedEnd c dropped limit h bytes ends.Cut archive was now f counts left = IsSummed c dropped limit h f.1.records f.1.results f.1.feed.means.meanings counts left
-IsSummedEnd c dropped limit h bytes (ends.Refused why) archive was now g counts left = Unit {0}
+abbrev pub IsSummedEnd : (rule : WithoutHop) (c dropped : ℕ) (limit : BatchLimits) (h : History) (bytes : List ℕ) (end : End) (archive : Carried) (was now : OutputState) → IsEnd rule c dropped limit h bytes end archive was now → Option FeedCounts → ℕ → Type 0
+IsSummedEnd rule c dropped limit h bytes ends.Well archive was now f counts left = IsSummed c dropped limit h f.records f.results f.feed.means.meanings counts left
+IsSummedEnd rule c dropped limit h bytes ends.Cut archive was now f counts left = IsSummed c dropped limit h f.1.records f.1.results f.1.feed.means.meanings counts left
+IsSummedEnd rule c dropped limit h bytes (ends.Refused why) archive was now g counts left = Unit {0}

@@ -42,11 +42,11 @@ pub record IsWeighed (how : LoadSettings) (held : Bool) (most dropped left : ℕ
 -- How a load that is held back, or isn't, ended, but for what that makes of its status: the mark is set unless it is held back.
 abbrev pub IsHeldEnd : LoadSettings → Bool → ℕ → ℕ → ℕ → History → List ℕ → Bool → Bool → Status → Carried → OutputState → OutputState → OutputState → OutputState → Type 0
 IsHeldEnd how held most dropped left h bytes lost_was lost statuses.Done archive was now err_was err_now =
-    (e : IsLoadEnd how.feed.collector dropped (limits_for how.feed most) (mark_unless held how.mark) h bytes lost_was lost statuses.Done archive was now err_was err_now) × IsWeighed how held most dropped left h e.1.records e.1.results e.1.feed.means.meanings
+    (e : IsLoadEnd how.feed.rule how.feed.collector dropped (limits_for how.feed most) (mark_unless held how.mark) h bytes lost_was lost statuses.Done archive was now err_was err_now) × IsWeighed how held most dropped left h e.1.records e.1.results e.1.feed.means.meanings
 IsHeldEnd how held most dropped left h bytes lost_was lost statuses.Refused archive was now err_was err_now =
-    IsLoadEnd how.feed.collector dropped (limits_for how.feed most) (mark_unless held how.mark) h bytes lost_was lost statuses.Refused archive was now err_was err_now
+    IsLoadEnd how.feed.rule how.feed.collector dropped (limits_for how.feed most) (mark_unless held how.mark) h bytes lost_was lost statuses.Refused archive was now err_was err_now
 IsHeldEnd how held most dropped left h bytes lost_was lost statuses.Failed archive was now err_was err_now =
-    IsLoadEnd how.feed.collector dropped (limits_for how.feed most) (mark_unless held how.mark) h bytes lost_was lost statuses.Failed archive was now err_was err_now
+    IsLoadEnd how.feed.rule how.feed.collector dropped (limits_for how.feed most) (mark_unless held how.mark) h bytes lost_was lost statuses.Failed archive was now err_was err_now
 
 -- How the load of a file of these octets ended, `dropped` of whose first admissions are dropped: as one that isn't strict; but where it is held back, no mark
 -- was set, and it is refused.

@@ -4,6 +4,7 @@ use Rattle.route_model.specs.Admission.{Admitted}
 use Rattle.route_meaning.specs.History.{Intake}
 use Rattle.mrt_records.specs.Values.{Told}
 use Rattle.resolve.specs.Meanings.{Means}
+use Rattle.resolve.specs.declared.without_hop.WithoutHop.{WithoutHop}
 use Rattle.resolve.specs.declared.fault.ResolveFault.{ResolveFault}
 
 -- what is taken of a record that means this, where so many admissions are still dropped: an admission that is dropped counts as none
@@ -31,9 +32,9 @@ left_behind n [] = n
 left_behind n (m ∷ meanings) = left_behind (left_after n m) meanings
 
 -- what is taken of these records of a feed, of whose admissions the first so many are dropped
-pub record MeansFrom (c dropped : ℕ) (records : List Told) (results : List (Result (Option Admitted) ResolveFault)) : Type 0 where
+pub record MeansFrom (rule : WithoutHop) (c dropped : ℕ) (records : List Told) (results : List (Result (Option Admitted) ResolveFault)) : Type 0 where
   pub meanings : List (Result (Option Admitted) ResolveFault)
-  pub means : Means c records meanings
+  pub means : Means rule c records meanings
   pub taken : results ≡ without_first dropped meanings
 
 -- how many admissions a feed drops that goes on behind what was offered of a collector, or that doesn't

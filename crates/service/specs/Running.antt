@@ -1,6 +1,8 @@
 -- What the program does of a command, once its archive is made or open.
 use Rattle.std.specs.Prelude.{◌≡◌, ℕ, Bool, true, false, Option, List, [], ◌++◌, codes, decimal}
 use Rattle.route_meaning.specs.History.{History}
+use Rattle.resolve.specs.declared.without_hop.WithoutHop.{WithoutHop}
+use Rattle.resolve.specs.declared.without_hop.WithoutHop.TheVariants.{Refused, LeftOut}
 use Rattle.service.specs.Carried.{Carried}
 use Rattle.service.specs.Checks.{IsCheckEnd}
 use Rattle.service.specs.FileLoads.{AreLoaded}
@@ -22,9 +24,14 @@ pub record IsWrittenOut (ended : Status) (code : ℕ) (was now err_was err_now :
   pub quiet : was.failed ≡ true → err_now ≡ err_was
   pub told : was.failed ≡ false → TellsFailure now.failed err_was err_now
 
+-- how entries without a next hop are taken, where it may have been asked that they are lost
+abbrev pub rule_where : Bool → WithoutHop
+rule_where true = LeftOut
+rule_where false = Refused
+
 -- how files are loaded as the command line asks
 abbrev pub settings_of : Loading → LoadSettings
-settings_of asked = record { feed = record { collector = asked.collector; limit = asked.batch }; mark = asked.mark; resume = asked.resume; strict = asked.strict }
+settings_of asked = record { feed = record { collector = asked.collector; limit = asked.batch; rule = rule_where asked.lose_entries }; mark = asked.mark; resume = asked.resume; strict = asked.strict }
 
 -- The files were loaded as they were asked for, into an archive that carried h and takes batches of at most `most` octets, and what was buffered
 -- was written out.

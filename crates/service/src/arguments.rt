@@ -4,7 +4,7 @@ ghost use Rattle.std.specs.Prelude.{◌≡◌, IfOk, false, codes};
 ghost use Rattle.clap.specs.Simple.{app_of};
 ghost use Rattle.clap.specs.Walk.{rule_of};
 ghost use Rattle.clap.specs.declared.builder.command.Command.TheViews.{out-Command};
-ghost use Rattle.service.specs.CommandLines.{mark_rule, resume_rule, strict_rule, listen_rule, files_rule, words_rule, word_rule, number_rule, number_or_rule, of_folder, of_archive, creation_of_rings, creation, loading_of_batches, loading_to_mark, loading, question, serving, checking, examining, json_rule, bare_program, program};
+ghost use Rattle.service.specs.CommandLines.{mark_rule, resume_rule, lose_entries_rule, strict_rule, listen_rule, files_rule, words_rule, word_rule, number_rule, number_or_rule, of_folder, of_archive, creation_of_rings, creation, loading_of_batches, loading_to_mark, loading, question, serving, checking, examining, json_rule, bare_program, program};
 
 use crate::help;
 use clap::builder::ValueParser;
@@ -110,6 +110,16 @@ fn resume<'a>(alloc: Global) -> Arg<'a>
     Arg::new(alloc, "resume")
         .long("resume")
         .help("Goes on after the records that were offered before")
+        .action(ArgAction::SetTrue)
+}
+
+fn lose_entries<'a>(alloc: Global) -> Arg<'a>
+    ensures rule { rule_of result ≡ lose_entries_rule }
+    ensures own { result.global ≡ false }
+{
+    Arg::new(alloc, "lose-entries")
+        .long("lose-entries")
+        .help("Leaves table entries without a next hop out")
         .action(ArgAction::SetTrue)
 }
 
@@ -239,12 +249,13 @@ fn loading_to_mark<'a>(alloc: Global) -> Result<Command<'a>, AllocError>
         .arg(resume(alloc))
 }
 
-/// `load DIR --collector C [--batch N] [--mark M] [--resume] [--strict] FILE..`
+/// `load DIR --collector C [--batch N] [--mark M] [--resume] [--lose-entries] [--strict] FILE..`
 fn loading<'a>(alloc: Global) -> Result<Command<'a>, AllocError>
     ensures app { IfOk result (λ c. app_of c ≡ loading) }
     ensures own { IfOk result (λ c. (out-Command c).has_globals ≡ false) }
 {
     loading_to_mark(alloc)?
+        .arg(lose_entries(alloc))?
         .arg(strict(alloc))?
         .arg(files(alloc))
 }

@@ -116,6 +116,7 @@ fn loading_of<'a>(matches: &ArgMatches<'a>, files: Vec<&'a str>) -> Result<Loadi
         wait: number_of(matches, "wait", 0, MAX_WAIT),
         mark,
         resume: is_there(matches, "resume"),
+        lose_entries: is_there(matches, "lose-entries"),
         strict: is_there(matches, "strict"),
         files,
     })
@@ -226,7 +227,7 @@ fn usage(error: clap::Error) -> CommandError
 /// What the words of the command line ask for, the first of them being the program's name:
 ///
 /// - `rha create DIR [--collectors N] [--ring P] [--pages N] [--blocks N]`
-/// - `rha load DIR --collector C [--batch N] [--mark M] [--resume] [--strict] FILE..`
+/// - `rha load DIR --collector C [--batch N] [--mark M] [--resume] [--lose-entries] [--strict] FILE..`
 /// - `rha ask DIR WORD..`
 /// - `rha serve DIR --listen ADDRESS:PORT --workers N`
 /// - `rha check DIR`

@@ -2,6 +2,7 @@
 
 ghost use Rattle.std.specs.Prelude.{◌≡◌, ◌≤◌, ◌∷◌, ◌++◌, ◌+◌, ltb, ℕ, List, [], Option, Some, Ok, map, OnOk, OnErr, IfErr};
 ghost use Rattle.route_meaning.specs.History.{History};
+ghost use Rattle.resolve.specs.declared.without_hop.WithoutHop.{WithoutHop};
 ghost use Rattle.mrt_records.specs.Values.{Told, told};
 ghost use Rattle.service.specs.Turns.{Turn, Offer, Refuse, offer_where, wait_unless, is_full, turns_at, waits_after, last_turns};
 ghost use Rattle.service.specs.FeedTexts.{capped, intake_in};
@@ -24,17 +25,18 @@ use crate::settings::FeedSettings;
 use archive_calls::{RouteArchive, Trouble};
 use interleaving_core::BatchReply;
 use mrt_records::Item;
-use resolve::{ResolveFault, Resolver};
+use resolve::{ResolveFault, Resolver, WithoutHop};
 use route_model::Admission;
 use std::alloc::{AllocError, Global};
 use std::io::Write;
 
-/// A feed under way: what later records need of earlier ones, how many admissions are still dropped, the admissions that
+/// A feed under way: how entries without a next hop are taken, what later records need of earlier ones, how many admissions are still dropped, the admissions that
 /// aren't offered yet, with how many octets they have as a batch, and what became of the records.
 #[derive(Drop)]
 pub(crate) struct Feeding {
     pub(crate) collector: u8,
     pub(crate) limit: BatchLimits,
+    pub(crate) rule: WithoutHop,
     pub(crate) resolver: Resolver,
     pub(crate) dropping: u64,
     pub(crate) gathered: Vec<Admission>,
@@ -77,7 +79,7 @@ impl Feeding {
         how: FeedSettings,
         dropping: u64,
     ) -> Feeding
-        ensures begins { (h : History) (was : OutputState) → A.carries archive.now h → IsBehind how.collector dropping (limits_for how (A.most archive.now)) h [] result (A.carries archive.now) was was }
+        ensures begins { (h : History) (was : OutputState) → A.carries archive.now h → IsBehind how.rule how.collector dropping (limits_for how (A.most archive.now)) h [] result (A.carries archive.now) was was }
     {
         let limit = BatchLimits {
             records: how.limit,
@@ -86,6 +88,7 @@ impl Feeding {
         Feeding {
             collector: how.collector,
             limit,
+            rule: how.rule,
             resolver: Resolver::new(how.collector),
             dropping,
             gathered: Vec::new(alloc),
@@ -255,14 +258,20 @@ impl Feeding {
         item: &Item,
         out: &mut Output<W>,
     ) -> Result<(), FeedStop>
-        ensures behind { (c dropped : ℕ) (limit : BatchLimits) (h : History) (records : List Told) (was : OutputState) → IsBehind c dropped limit h records self.old (A.carries archive.old) was out.old → OnOk result (IsBehind c dropped limit h (records ++ told item.now ∷ []) self.new (A.carries archive.new) was out.new) }
+        ensures behind { (rule : WithoutHop) (c dropped : ℕ) (limit : BatchLimits) (h : History) (records : List Told) (was : OutputState) → IsBehind rule c dropped limit h records self.old (A.carries archive.old) was out.old → OnOk result (IsBehind rule c dropped limit h (records ++ told item.now ∷ []) self.new (A.carries archive.new) was out.new) }
         ensures most { A.most archive.new ≡ A.most archive.old }
         ensures inside { result ≡ Err FeedStop.Outside → ⊥ }
-        ensures given_up { (c dropped : ℕ) (limit : BatchLimits) (h : History) (records : List Told) (was : OutputState) → IsBehind c dropped limit h records self.old (A.carries archive.old) was out.old → IfErr result (StopsAmong c dropped limit h records (item.now ∷ []) (A.carries archive.new) was out.new) }
+        ensures given_up { (rule : WithoutHop) (c dropped : ℕ) (limit : BatchLimits) (h : History) (records : List Told) (was : OutputState) → IsBehind rule c dropped limit h records self.old (A.carries archive.old) was out.old → IfErr result (StopsAmong rule c dropped limit h records (item.now ∷ []) (A.carries archive.new) was out.new) }
     {
         let place = self.counts.records;
         self.counts.count_record(item);
-        match read_next(alloc, &mut self.resolver, &mut self.dropping, item) {
+        match read_next(
+            alloc,
+            self.rule,
+            &mut self.resolver,
+            &mut self.dropping,
+            item,
+        ) {
             Ok(Some(admission)) => self.gather(archive, admission, out),
             Ok(None) => Ok(()),
             Err(fault) => self.refuse(fault, place, out),
@@ -277,10 +286,10 @@ impl Feeding {
         items: &[Item],
         out: &mut Output<W>,
     ) -> Result<(), FeedStop>
-        ensures behind { (c dropped : ℕ) (limit : BatchLimits) (h : History) (records : List Told) (was : OutputState) → IsBehind c dropped limit h records self.old (A.carries archive.old) was out.old → OnOk result (IsBehind c dropped limit h (records ++ map told items.now) self.new (A.carries archive.new) was out.new) }
+        ensures behind { (rule : WithoutHop) (c dropped : ℕ) (limit : BatchLimits) (h : History) (records : List Told) (was : OutputState) → IsBehind rule c dropped limit h records self.old (A.carries archive.old) was out.old → OnOk result (IsBehind rule c dropped limit h (records ++ map told items.now) self.new (A.carries archive.new) was out.new) }
         ensures most { A.most archive.new ≡ A.most archive.old }
         ensures inside { result ≡ Err FeedStop.Outside → ⊥ }
-        ensures given_up { (c dropped : ℕ) (limit : BatchLimits) (h : History) (records : List Told) (was : OutputState) → IsBehind c dropped limit h records self.old (A.carries archive.old) was out.old → IfErr result (StopsAmong c dropped limit h records items.now (A.carries archive.new) was out.new) }
+        ensures given_up { (rule : WithoutHop) (c dropped : ℕ) (limit : BatchLimits) (h : History) (records : List Told) (was : OutputState) → IsBehind rule c dropped limit h records self.old (A.carries archive.old) was out.old → IfErr result (StopsAmong rule c dropped limit h records items.now (A.carries archive.new) was out.new) }
     {
         for item in items {
             self.take(alloc, archive, item, out)?;

@@ -41,6 +41,8 @@ of which more than one record in a hundred is refused; and a mark isn't set that
 collector's last record. Without it standard error warns of these.
 With --resume, the FILEs are all that the collector ever gave, from its beginning, in this order: as many of their
 first records as were offered before are left out, so a load that was broken off goes on.
+With --lose-entries, an entry of a table dump that has no next hop is left out, and the others of its record are
+loaded; without it the whole record is refused. Standard error has a line with how many were left out.
 
 Prints of each FILE, as soon as each is true:
   B|FROM|TO|OFFERED          a batch is kept: its records have the numbers FROM to below TO

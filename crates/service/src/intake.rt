@@ -2,6 +2,7 @@
 
 ghost use Rattle.std.specs.Prelude.{◌≡◌, ◌⊎◌, ◌++◌, ℕ, true, List, [], OnOk, IfOk, IfErr};
 ghost use Rattle.route_meaning.specs.History.{History};
+ghost use Rattle.resolve.specs.declared.without_hop.WithoutHop.{WithoutHop};
 ghost use Rattle.service.specs.FeedLines.{counts_line};
 ghost use Rattle.service.specs.Faults.{of_stop};
 ghost use Rattle.service.specs.FeedTexts.{cut_line, intake_in};
@@ -47,10 +48,10 @@ impl Feeding {
         archive: &mut A,
         out: &mut Output<W>,
     ) -> Result<bool, FeedStop>
-        ensures read { (c dropped : ℕ) (limit : BatchLimits) (h : History) (bytes : List ℕ) (was : OutputState) → Reads c dropped limit h bytes framer.old self.old (A.carries archive.old) was out.old → IfOk result (λ goes_on. IsRead c dropped limit h (bytes ++ piece.now) framer.new goes_on self.new (A.carries archive.new) was out.new) }
+        ensures read { (rule : WithoutHop) (c dropped : ℕ) (limit : BatchLimits) (h : History) (bytes : List ℕ) (was : OutputState) → Reads rule c dropped limit h bytes framer.old self.old (A.carries archive.old) was out.old → IfOk result (λ goes_on. IsRead rule c dropped limit h (bytes ++ piece.now) framer.new goes_on self.new (A.carries archive.new) was out.new) }
         ensures most { A.most archive.new ≡ A.most archive.old }
         ensures inside { result ≡ Err FeedStop.Outside → ⊥ }
-        ensures given_up { (c dropped : ℕ) (limit : BatchLimits) (h : History) (bytes : List ℕ) (was : OutputState) → Reads c dropped limit h bytes framer.old self.old (A.carries archive.old) was out.old → IfErr result (StopsWithin c dropped limit h (bytes ++ piece.now) (A.carries archive.new) was out.new) }
+        ensures given_up { (rule : WithoutHop) (c dropped : ℕ) (limit : BatchLimits) (h : History) (bytes : List ℕ) (was : OutputState) → Reads rule c dropped limit h bytes framer.old self.old (A.carries archive.old) was out.old → IfErr result (StopsWithin rule c dropped limit h (bytes ++ piece.now) (A.carries archive.new) was out.new) }
     {
         let mut items = Vec::new(alloc);
         let goes_on = match framer.feed(piece, &mut items) {
@@ -71,8 +72,8 @@ impl Feeding {
         archive: &mut A,
         out: &mut Output<W>,
     ) -> Result<(), FeedStop>
-        ensures read { (c dropped : ℕ) (limit : BatchLimits) (h : History) (bytes : List ℕ) (was : OutputState) → Reads c dropped limit h bytes framer.old self.old (A.carries archive.old) was out.old → OnOk result ((more : List ℕ) × MayGive reader.old.left more × IsReadOut c dropped limit h (bytes ++ more) framer.new self.new (A.carries archive.new) was out.new) }
-        ensures given_up { (c dropped : ℕ) (limit : BatchLimits) (h : History) (bytes : List ℕ) (was : OutputState) → Reads c dropped limit h bytes framer.old self.old (A.carries archive.old) was out.old → IfErr result (λ why. (more : List ℕ) × MayGive reader.old.left more × StopsWithin c dropped limit h (bytes ++ more) (A.carries archive.new) was out.new why) }
+        ensures read { (rule : WithoutHop) (c dropped : ℕ) (limit : BatchLimits) (h : History) (bytes : List ℕ) (was : OutputState) → Reads rule c dropped limit h bytes framer.old self.old (A.carries archive.old) was out.old → OnOk result ((more : List ℕ) × MayGive reader.old.left more × IsReadOut rule c dropped limit h (bytes ++ more) framer.new self.new (A.carries archive.new) was out.new) }
+        ensures given_up { (rule : WithoutHop) (c dropped : ℕ) (limit : BatchLimits) (h : History) (bytes : List ℕ) (was : OutputState) → Reads rule c dropped limit h bytes framer.old self.old (A.carries archive.old) was out.old → IfErr result (λ why. (more : List ℕ) × MayGive reader.old.left more × StopsWithin rule c dropped limit h (bytes ++ more) (A.carries archive.new) was out.new why) }
         ensures most { A.most archive.new ≡ A.most archive.old }
         ensures outside { result ≡ Err FeedStop.Outside → (reader.new.failed ≡ true) ⊎ (out.new.failed ≡ true) }
         ensures sound { (result ≡ Err FeedStop.Outside → ⊥) → reader.new.failed ≡ reader.old.failed }
@@ -146,9 +147,10 @@ fn take_in<A: RouteArchive, R: Read, W: Write>(
     reader: &mut Input<R>,
     out: &mut Output<W>,
     counts: &mut Option<FeedCounts>,
+    left_out: &mut u64,
 ) -> Result<Option<FeedCut>, FeedStop>
-    ensures fed { (h : History) → A.carries archive.old h → IfOk result (λ cut. (bytes : List ℕ) × MayGive reader.old.left bytes × (f : IsFed how.collector dropping.old (limits_for how (A.most archive.old)) h bytes cut (A.carries archive.new) out.old out.new) × IsSummed how.collector dropping.old (limits_for how (A.most archive.old)) h f.records f.results f.feed.means.meanings counts.new dropping.new) }
-    ensures given_up { (h : History) → A.carries archive.old h → IfErr result (λ why. (bytes : List ℕ) × MayGive reader.old.left bytes × StopsWithin how.collector dropping.old (limits_for how (A.most archive.old)) h bytes (A.carries archive.new) out.old out.new why) }
+    ensures fed { (h : History) → A.carries archive.old h → IfOk result (λ cut. (bytes : List ℕ) × MayGive reader.old.left bytes × (f : IsFed how.rule how.collector dropping.old (limits_for how (A.most archive.old)) h bytes cut (A.carries archive.new) out.old out.new) × IsSummed how.collector dropping.old (limits_for how (A.most archive.old)) h f.records f.results f.feed.means.meanings counts.new dropping.new) }
+    ensures given_up { (h : History) → A.carries archive.old h → IfErr result (λ why. (bytes : List ℕ) × MayGive reader.old.left bytes × StopsWithin how.rule how.collector dropping.old (limits_for how (A.most archive.old)) h bytes (A.carries archive.new) out.old out.new why) }
     ensures most { A.most archive.new ≡ A.most archive.old }
     ensures outside { result ≡ Err FeedStop.Outside → (reader.new.failed ≡ true) ⊎ (out.new.failed ≡ true) }
     ensures sound { (result ≡ Err FeedStop.Outside → ⊥) → reader.new.failed ≡ reader.old.failed }
@@ -160,6 +162,7 @@ fn take_in<A: RouteArchive, R: Read, W: Write>(
     let cut = cut_of(&framer);
     tell_end(&cut, &feeding.counts, out);
     *counts = Some(feeding.counts);
+    *left_out = feeding.resolver.left_out();
     *dropping = feeding.dropping;
     Ok(cut)
 }
@@ -183,7 +186,7 @@ fn as_told<W: Write>(end: End, out: &Output<W>) -> End
 /// is met, each batch what became of it, and the end the counts of the feed; where the feed ends inside a record or
 /// at a Length above the limit, a line before them. Another refusal writes its line and ends the feed. Each line is
 /// written out at once. Where not all lines can be written, the answer is that the feed is given up for the writer,
-/// `Outside`. `counts` become those of the feed where it came to its end.
+/// `Outside`. `counts` become those of the feed where it came to its end, and `left_out` how many entries of its RIB records were left out.
 pub fn feed<A: RouteArchive, R: Read, W: Write>(
     alloc: Global,
     archive: &mut A,
@@ -192,13 +195,14 @@ pub fn feed<A: RouteArchive, R: Read, W: Write>(
     reader: &mut Input<R>,
     out: &mut Output<W>,
     counts: &mut Option<FeedCounts>,
+    left_out: &mut u64,
 ) -> End
-    ensures ended { (h : History) → A.carries archive.old h → (bytes : List ℕ) × MayGive reader.old.left bytes × (end : End) × (result ≡ as_told out.new.failed end) × (e : IsEnd how.collector dropping.old (limits_for how (A.most archive.old)) h bytes end (A.carries archive.new) out.old out.new) × FitsFailures end reader.old.failed reader.new.failed out.new.failed × IsSummedEnd how.collector dropping.old (limits_for how (A.most archive.old)) h bytes end (A.carries archive.new) out.old out.new e counts.new dropping.new }
+    ensures ended { (h : History) → A.carries archive.old h → (bytes : List ℕ) × MayGive reader.old.left bytes × (end : End) × (result ≡ as_told out.new.failed end) × (e : IsEnd how.rule how.collector dropping.old (limits_for how (A.most archive.old)) h bytes end (A.carries archive.new) out.old out.new) × FitsFailures end reader.old.failed reader.new.failed out.new.failed × IsSummedEnd how.rule how.collector dropping.old (limits_for how (A.most archive.old)) h bytes end (A.carries archive.new) out.old out.new e counts.new dropping.new }
     ensures most { A.most archive.new ≡ A.most archive.old }
     ensures outside { result ≡ End.Refused FeedStop.Outside → (reader.new.failed ≡ true) ⊎ (out.new.failed ≡ true) }
     ensures sound { (result ≡ End.Refused FeedStop.Outside → ⊥) → reader.new.failed ≡ reader.old.failed }
 {
-    match take_in(alloc, archive, how, dropping, reader, out, counts) {
+    match take_in(alloc, archive, how, dropping, reader, out, counts, left_out) {
         Ok(None) => as_told(End::Well, out),
         Ok(Some(_)) => as_told(End::Cut, out),
         Err(why) => {

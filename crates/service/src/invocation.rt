@@ -41,6 +41,8 @@ pub struct Loading<'a> {
     pub resume: bool,
     /// Whether a feed that gives cause for doubt ends the load, and a mark far ahead isn't set.
     pub strict: bool,
+    /// Whether entries of RIB records that have no next hop are left out.
+    pub lose_entries: bool,
     /// The files to load, in their order.
     pub files: Vec<&'a str>,
 }

@@ -61,6 +61,7 @@ pub use report::{FileLoad, LoadReport};
 pub use request::{Request, RequestError, read_request, words_of};
 pub use request_laws::lines_are_one_request;
 pub use request_words::{LAST_COLLECTOR, words_behind};
+pub use resolve::WithoutHop;
 pub use running::{ask_line, check_archive, finish, load_files, tell_created};
 pub use settings::{FeedSettings, LoadSettings};
 pub use status::Status;

@@ -181,6 +181,7 @@ fn load_one<A: RouteArchive, R: Read, W: Write, E: Write>(
         reader,
         out,
         &mut report.counts,
+        &mut report.left_out,
     );
     report.refusal = refusal_of(end);
     let present = present_mark(archive, collector);

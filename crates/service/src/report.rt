@@ -15,6 +15,8 @@ pub struct LoadReport {
     pub before: Option<Mark>,
     /// What became of the records, where the feed wrote its counts.
     pub counts: Option<FeedCounts>,
+    /// How many entries of its RIB records were left out, where the feed wrote its counts.
+    pub left_out: u64,
     /// The collector's mark after the feed, in seconds, from which `--mark` would raise it; where the feed ended well.
     pub present: Option<u64>,
     /// Whether the load was held back: it is strict, and the feed or the mark is in doubt.
@@ -30,6 +32,7 @@ impl LoadReport {
             is_begun: false,
             before: None,
             counts: None,
+            left_out: 0,
             present: None,
             is_held: false,
             refusal: None,

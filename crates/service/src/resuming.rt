@@ -9,7 +9,7 @@ ghost use Rattle.service.specs.inner.Feeding.{TakesNext};
 
 use archive_calls::RouteArchive;
 use mrt_records::Item;
-use resolve::{ResolveFault, Resolver};
+use resolve::{ResolveFault, Resolver, WithoutHop};
 use route_model::Admission;
 use std::alloc::Global;
 
@@ -42,13 +42,14 @@ fn keep(dropping: &mut u64, admission: Admission) -> Option<Admission>
 /// admission that is dropped, which counts as none.
 pub(crate) fn read_next(
     alloc: Global,
+    rule: WithoutHop,
     resolver: &mut Resolver,
     dropping: &mut u64,
     item: &Item,
 ) -> Result<Option<Admission>, ResolveFault>
-    ensures takes { TakesNext resolver.old resolver.new dropping.old dropping.new (told item.now) result }
+    ensures takes { TakesNext rule resolver.old resolver.new dropping.old dropping.new (told item.now) result }
 {
-    match resolver.record(alloc, item) {
+    match resolver.record(alloc, rule, item) {
         Ok(Some(admission)) => Ok(keep(dropping, admission)),
         Ok(None) => Ok(None),
         Err(fault) => Err(fault),

@@ -4,7 +4,7 @@ ghost use Rattle.std.specs.Prelude.{◌≡◌, true, false, [], map, string_byte
 ghost use Rattle.route_meaning.specs.History.{History};
 ghost use Rattle.service.specs.Outputs.{Tells};
 ghost use Rattle.service.specs.Refusals.{TellsFailure};
-ghost use Rattle.service.specs.Running.{created_line, settings_of, IsWrittenOut, AreFilesLoaded, IsLineAsked, IsArchiveChecked, IsCreationTold};
+ghost use Rattle.service.specs.Running.{rule_where, created_line, settings_of, IsWrittenOut, AreFilesLoaded, IsLineAsked, IsArchiveChecked, IsCreationTold};
 
 use crate::asking::ask;
 use crate::checking::check;
@@ -16,6 +16,7 @@ use crate::settings::{FeedSettings, LoadSettings};
 use crate::status::Status;
 use crate::telling::tell_unwritten;
 use archive_calls::RouteArchive;
+use resolve::WithoutHop;
 use std::alloc::Global;
 use std::io::{Read, Write};
 
@@ -52,6 +53,17 @@ pub fn finish<W: Write, E: Write>(
     ended.code().max(written.code())
 }
 
+/// How entries without a next hop are taken, where a person may have asked that they are lost.
+fn rule_where(is_lost: bool) -> WithoutHop
+    ensures rule { result ≡ rule_where is_lost }
+{
+    if is_lost {
+        WithoutHop::LeftOut
+    } else {
+        WithoutHop::Refused
+    }
+}
+
 /// How files are loaded as the command line asks.
 fn settings_of(asked: &Loading<'_>) -> LoadSettings
     ensures settings { result ≡ settings_of asked.now }
@@ -60,6 +72,7 @@ fn settings_of(asked: &Loading<'_>) -> LoadSettings
         feed: FeedSettings {
             collector: asked.collector,
             limit: asked.batch,
+            rule: rule_where(asked.lose_entries),
         },
         mark: asked.mark,
         resume: asked.resume,

@@ -1,5 +1,6 @@
 //! How feeds and files are taken in.
 
+use resolve::WithoutHop;
 use route_model::Mark;
 
 /// How a feed is taken in.
@@ -9,6 +10,8 @@ pub struct FeedSettings {
     pub collector: u8,
     /// The most admissions of a batch; 0 counts as 1.
     pub limit: usize,
+    /// How entries of RIB records are taken that have no next hop.
+    pub rule: WithoutHop,
 }
 
 /// How files are loaded.

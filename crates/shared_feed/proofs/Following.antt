@@ -8,6 +8,7 @@ use Rattle.resolve.specs.Tables.{Feed, LastTable}
 use Rattle.resolve.specs.Records.{Gives}
 use Rattle.resolve.specs.declared.fault.ResolveFault.{ResolveFault}
 use Rattle.resolve.specs.declared.fault.ResolveFault.TheVariants as faults
+use Rattle.resolve.specs.declared.without_hop.WithoutHop.TheVariants as rules
 use Rattle.resolve.proofs.api.Feeds.{one_more}
 use Rattle.service.specs.FeedTexts.{capped, skips}
 use Rattle.service.specs.Outputs.{OutputState}
@@ -37,7 +38,7 @@ behind_more promised c limit v records r x next old new w u was mid now b collec
       limited = limits ∙ b.limited;
       fed = ap (λ (t : Feed). t.collector) follows ∙ takes.collector ∙ b.fed;
       known = subst (λ (t : Feed). LastTable (records ++ r ∷ []) t.table) (sym follows) (takes.table enough records b.known);
-      means = one_more c records b.results r x b.means (record { table = old.resolver.table; last = b.known; gives = subst (λ (t : ℕ). Gives t old.resolver.table r x) b.fed takes.gives; wanting = enough });
+      means = one_more rules.Refused c records b.results r x b.means (record { table = old.resolver.table; last = b.known; gives = subst (λ (t : ℕ). Gives rules.Refused t old.resolver.table r x) b.fed takes.gives; wanting = enough });
       waits = waits ∙ (λ k. waits_after (b.limited k) (b.waits k) x) ∙ sym (waits_snoc limit [] b.results x);
       counted = counted;
       done =

@@ -19,6 +19,7 @@ use Rattle.resolve.specs.Records.{Gives}
 use Rattle.resolve.specs.Meanings.{Means}
 use Rattle.resolve.specs.declared.fault.ResolveFault.{ResolveFault}
 use Rattle.resolve.specs.declared.fault.ResolveFault.TheVariants as faults
+use Rattle.resolve.specs.declared.without_hop.WithoutHop.TheVariants as rules
 use Rattle.resolve.proofs.api.Feeds.{one_more}
 use Rattle.service.specs.Faults.{of_stop}
 use Rattle.service.specs.Outputs.{OutputState, Tells}
@@ -104,7 +105,7 @@ stops_at (Err why) promised c limit v records item x next old w u was mid now b 
       back = [];
       parts = refl;
       results = b.results ++ x ∷ [];
-      means = one_more c records b.results (told item) x b.means (record { table = old.resolver.table; last = b.known; gives = subst (λ (k : ℕ). Gives k old.resolver.table (told item) x) b.fed takes.gives; wanting = enough });
+      means = one_more rules.Refused c records b.results (told item) x b.means (record { table = old.resolver.table; last = b.known; gives = subst (λ (k : ℕ). Gives rules.Refused k old.resolver.table (told item) x) b.fed takes.gives; wanting = enough });
       gives_up =
           subst (λ (k : List Turn). GivesUp promised c v k u was now why)
           ((λ k. turns_for limit 0 [] b.results ++ turns_at (b.limited k) (let e : n ≡ 0 + n = omega arith in e k) (b.waits k) x) ∙ sym (turns_snoc limit 0 [] b.results x)) g;
@@ -116,7 +117,7 @@ pub stops_before : (t : Result (Unit {0}) FeedStop) (promised : Type 0) (c : ℕ
     → IfErr t (GivesUp promised c v (turns_for limit 0 [] b.results) u was now) → IfErr t (StopsAmong promised c limit v records (item ∷ []) u was now)
 stops_before (Ok done_) promised c limit v records item old w u was mid now b g = tt
 stops_before (Err why) promised c limit v records item old w u was mid now b g =
-    record { front = []; back = item ∷ []; parts = refl; results = b.results; means = subst (λ (t : List Told). Means c t b.results) (sym (append-nil records)) b.means; gives_up = g }
+    record { front = []; back = item ∷ []; parts = refl; results = b.results; means = subst (λ (t : List Told). Means rules.Refused c t b.results) (sym (append-nil records)) b.means; gives_up = g }
 
 -- the feed is given up at one of the items, after those that were taken
 pub stops_among : (promised : Type 0) (c : ℕ) (limit : BatchLimits) (v : View) (records : List Told) (items : List Item) (i : ℕ) (item : Item) (w : View) (was now : OutputState) (why : FeedStop)
@@ -132,7 +133,7 @@ stops_among promised c limit v records items i item w was now why lt is s =
           ∙ ap (λ (t : List Item). first ++ (t ++ rest)) s.parts ∙ ap (λ (t : List Item). first ++ t) (append_assoc s.front s.back rest) ∙ sym (append_assoc first s.front (s.back ++ rest));
       results = s.results;
       means =
-          subst (λ (t : List Told). Means c t s.results)
+          subst (λ (t : List Told). Means rules.Refused c t s.results)
           (append_assoc records (map told first) (map told s.front) ∙ ap (λ (t : List Told). records ++ t) (sym (map-append told first s.front))) s.means;
       gives_up = s.gives_up;
     }
@@ -170,7 +171,7 @@ stops_within promised c limit v bytes rest before items w was now why framed s =
       items = before ++ s.front;
       framed = f.3;
       results = s.results;
-      means = subst (λ (t : List Told). Means c t s.results) (sym (map-append told before s.front)) s.means;
+      means = subst (λ (t : List Told). Means rules.Refused c t s.results) (sym (map-append told before s.front)) s.means;
       gives_up = gives_more promised c v (turns_for limit 0 [] s.results) (last_turns (waits_behind limit [] s.results)) w was now why s.gives_up;
     }
 
@@ -216,7 +217,7 @@ stops_last promised c limit v bytes rest feeding w u was mid now why r g =
     }
 
 -- what a feed's records mean is taken of them where nothing is dropped
-pub means_from : (c : ℕ) (records : List Told) (results : List (Result (Option Admitted) ResolveFault)) → Means c records results → MeansFrom c 0 records results
+pub means_from : (c : ℕ) (records : List Told) (results : List (Result (Option Admitted) ResolveFault)) → Means rules.Refused c records results → MeansFrom rules.Refused c 0 records results
 means_from c records results m = record { meanings = results; means = m; taken = sym (all_taken results) }
 
 -- the feed is given up, and the refusal was written

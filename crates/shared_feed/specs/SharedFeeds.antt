@@ -6,6 +6,7 @@ use Rattle.interleaving_core.specs.declared.reply.BatchReply.{BatchReply}
 use Rattle.mrt_records.specs.Values.{Told}
 use Rattle.query_threads.specs.Seeing.{Since}
 use Rattle.resolve.specs.declared.fault.ResolveFault.{ResolveFault}
+use Rattle.resolve.specs.declared.without_hop.WithoutHop.TheVariants as rules
 use Rattle.service.specs.Faults.{of_stop}
 use Rattle.service.specs.FeedLines.{counts_line}
 use Rattle.service.specs.FeedTexts.{capped, cut_line, skips}
@@ -42,7 +43,7 @@ pub record IsTakenIn (promised : Type 0) (c : ℕ) (limit : BatchLimits) (bytes 
   pub rest : List ℕ
   pub records : List Told
   pub results : List (Result (Option Admitted) ResolveFault)
-  pub feed : IsFeed c 0 bytes rest records results
+  pub feed : IsFeed rules.Refused c 0 bytes rest records results
   pub cut_is : IsCut rest cut
   pub replies : List BatchReply
   pub then : OutputState
@@ -63,7 +64,7 @@ pub record IsGivenUp (promised : Type 0) (c : ℕ) (limit : BatchLimits) (bytes 
   pub parts : bytes ≡ seen ++ later
   pub records : List Told
   pub results : List (Result (Option Admitted) ResolveFault)
-  pub feed : IsFeed c 0 seen [] records results
+  pub feed : IsFeed rules.Refused c 0 seen [] records results
   pub made : List Turn
   pub unmade : List Turn
   pub turns : feed_turns limit results ≡ made ++ unmade

@@ -16,7 +16,7 @@ use archive_calls::Trouble;
 use board::{Named, Pass};
 use mrt_records::Item;
 use query_threads::{Gate, OnDisk, Shared, Store};
-use resolve::{ResolveFault, Resolver};
+use resolve::{ResolveFault, Resolver, WithoutHop};
 use route_model::Admission;
 use service::{BatchLimits, FeedCounts, FeedStop, Output, tell_batch, tell_refused};
 use std::alloc::{AllocError, Global};
@@ -45,7 +45,7 @@ fn is_over(octets: usize, more: usize, most: usize) -> bool
     }
 }
 
-/// What the next record of a feed means.
+/// What the next record of a feed means. An entry of a RIB record that has no next hop refuses its record.
 fn read_next(
     alloc: Global,
     resolver: &mut Resolver,
@@ -53,7 +53,7 @@ fn read_next(
 ) -> Result<Option<Admission>, ResolveFault>
     ensures takes { TakesNext resolver.old resolver.new (told item.now) result }
 {
-    resolver.record(alloc, item)
+    resolver.record(alloc, WithoutHop::Refused, item)
 }
 
 impl Feeding {

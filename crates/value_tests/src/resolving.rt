@@ -2,7 +2,7 @@
 
 use crate::be;
 use mrt_records::{Framer, Item};
-use resolve::{ResolveFault, Resolver};
+use resolve::{ResolveFault, Resolver, WithoutHop};
 use route_model::Admission;
 use std::alloc::Global;
 use std::test::Fail;
@@ -75,6 +75,33 @@ const RIB_OF_BAD_ENTRY: &str =
 /// Without entries.
 const RIB_OF_NONE: &str = "65920080 000D 0002 00000008 00000000 08 0A 0000";
 
+/// An entry without a next hop.
+const RIB_WITHOUT_HOP: &str =
+    "65920080 000D 0002 00000021 00000000 08 0A 0001 0000 65920000 0011 40010100
+    40020A02020000FDE90000FDEA";
+
+/// One whose MP_REACH_NLRI is of a family that isn't read, so that it gives no next hop.
+const RIB_OF_OTHER_FAMILY: &str =
+    "65920080 000D 0002 0000001A 00000000 08 0A 0001 0000 65920000 000A 40010100 800E03000104";
+
+/// One whose MP_REACH_NLRI is cut.
+const RIB_OF_CUT_REACH: &str =
+    "65920080 000D 0002 00000019 00000000 08 0A 0001 0000 65920000 0009 40010100 800E020500";
+
+/// One without attributes, of the second peer.
+const RIB_WITHOUT_HOP_OF_SECOND: &str =
+    "65920080 000D 0002 00000010 00000000 08 0A 0001 0001 65920000 0000";
+
+/// An entry without a next hop, that of `RIB`, and one without attributes.
+const RIB_OF_THREE: &str =
+    "65920080 000D 0002 00000049 00000000 08 0A 0003 0000 65920000 0011 40010100
+    40020A02020000FDE90000FDEA 0000 65920000 0018 40010100 40020A02020000FDE90000FDEA 400304C0000201
+    0000 65920000 0000";
+
+/// An entry without a next hop, and one whose ORIGIN is 3.
+const RIB_OF_LOST_AND_FAULTY: &str =
+    "65920080 000D 0002 0000001C 00000000 08 0A 0002 0000 65920000 0000 0000 65920000 0004 40010103";
+
 /// 2001:db8::/32, where MP_REACH_NLRI gives the next hop.
 const RIB_IPV6: &str =
     "65920080 000D 0004 00000038 00000000 20 20010DB8 0001 0000 65920000 0025 40010100
@@ -109,15 +136,19 @@ const ANNOUNCED_IPV6: &str = "0000000065920080 0001 0004C00002010000000000000000
 /// What a record means: an admission of this spelling, nothing, or a fault.
 type Meaning = Result<Option<&'static str>, ResolveFault>;
 
-/// The records of a feed, and what each means behind those before it.
+/// The records of a feed, what each means after those before it where entries without a next hop are taken so, and how many entries are left
+/// out.
 struct Feed {
     name: &'static str,
+    rule: WithoutHop,
     records: &'static [(&'static str, Meaning)],
+    left_out: u64,
 }
 
-const FEEDS: [Feed; 6] = [
+const FEEDS: [Feed; 8] = [
     Feed {
         name: "messages change routes",
+        rule: WithoutHop::Refused,
         records: &[
             (UPDATE, Ok(Some(ANNOUNCED))),
             (EMPTY, Ok(Some(NO_CHANGES))),
@@ -125,24 +156,32 @@ const FEEDS: [Feed; 6] = [
             (LONG_PREFIX, Err(ResolveFault::Malformed)),
             (SKIPPED, Ok(None)),
         ],
+        left_out: 0,
     },
     Feed {
         name: "a prefix that is announced is not withdrawn",
+        rule: WithoutHop::Refused,
         records: &[(BOTH, Ok(Some(WITHDRAWN_AND_ANNOUNCED)))],
+        left_out: 0,
     },
     Feed {
         name: "changes stand in the order of the places",
+        rule: WithoutHop::Refused,
         records: &[(FOUR_PLACES, Ok(Some(FOUR_CHANGES)))],
+        left_out: 0,
     },
     Feed {
         name: "a session that is left ends its routes",
+        rule: WithoutHop::Refused,
         records: &[
             (SESSION_DOWN, Ok(Some(ENDED))),
             (SESSION_UP, Ok(Some(NO_CHANGES))),
         ],
+        left_out: 0,
     },
     Feed {
         name: "RIB records are read under the last peer table",
+        rule: WithoutHop::Refused,
         records: &[
             (RIB, Err(ResolveFault::NoPeerTable)),
             (PEER_TABLE, Ok(None)),
@@ -155,9 +194,11 @@ const FEEDS: [Feed; 6] = [
             (LONG_PREFIX, Err(ResolveFault::Malformed)),
             (RIB, Ok(Some(ANNOUNCED))),
         ],
+        left_out: 0,
     },
     Feed {
         name: "entries are refused in their order",
+        rule: WithoutHop::Refused,
         records: &[
             (PEER_TABLE, Ok(None)),
             (RIB_OF_SECOND, Err(ResolveFault::BadPeerIndex)),
@@ -165,6 +206,36 @@ const FEEDS: [Feed; 6] = [
             (RIB_OF_BAD_ENTRY, Err(ResolveFault::BadPeerIndex)),
             (RIB_OF_TWO_OTHERS, Err(ResolveFault::Malformed)),
         ],
+        left_out: 0,
+    },
+    Feed {
+        name: "an entry without a next hop refuses its record",
+        rule: WithoutHop::Refused,
+        records: &[
+            (PEER_TABLE, Ok(None)),
+            (RIB_WITHOUT_HOP, Err(ResolveFault::Malformed)),
+            (RIB_OF_THREE, Err(ResolveFault::Malformed)),
+            (RIB, Ok(Some(ANNOUNCED))),
+        ],
+        left_out: 0,
+    },
+    Feed {
+        name: "an entry without a next hop is left out",
+        rule: WithoutHop::LeftOut,
+        records: &[
+            (RIB_WITHOUT_HOP, Err(ResolveFault::NoPeerTable)),
+            (PEER_TABLE, Ok(None)),
+            (RIB_WITHOUT_HOP, Ok(None)),
+            (RIB_OF_OTHER_FAMILY, Err(ResolveFault::Malformed)),
+            (RIB_OF_CUT_REACH, Err(ResolveFault::Malformed)),
+            (RIB_WITHOUT_HOP_OF_SECOND, Err(ResolveFault::BadPeerIndex)),
+            (RIB_OF_THREE, Ok(Some(ANNOUNCED))),
+            (RIB_OF_LOST_AND_FAULTY, Err(ResolveFault::Malformed)),
+            (RIB, Ok(Some(ANNOUNCED))),
+            (RIB_OF_NONE, Ok(Some(NO_CHANGES))),
+            (UPDATE, Ok(Some(ANNOUNCED))),
+        ],
+        left_out: 3,
     },
 ];
 
@@ -182,10 +253,11 @@ fn item(alloc: Global, record: &str) -> Result<Item, Fail> {
 fn means(
     alloc: Global,
     resolver: &mut Resolver,
+    rule: WithoutHop,
     record: &str,
     wanted: &Meaning,
 ) -> Result<bool, Fail> {
-    match (resolver.record(alloc, &item(alloc, record)?), wanted) {
+    match (resolver.record(alloc, rule, &item(alloc, record)?), wanted) {
         (Ok(Some(admission)), Ok(Some(text))) => {
             Ok(admission.encode(alloc)?.as_slice() == octets(alloc, text)?.as_slice())
         }
@@ -202,10 +274,15 @@ fn records_mean_what_they_say(rt: HostRuntime) -> Result<(), Fail> {
         for (record, wanted) in feed.records {
             be(
                 &rt,
-                means(rt.alloc(), &mut resolver, record, wanted)?,
+                means(rt.alloc(), &mut resolver, feed.rule, record, wanted)?,
                 "records mean what they say",
             );
         }
+        be(
+            &rt,
+            resolver.left_out() == feed.left_out,
+            "entries that are left out are counted",
+        );
     }
     Ok(())
 }
@@ -235,7 +312,7 @@ fn record_all(
     let mut resolver = Resolver::new(0);
     let mut results = Vec::new(alloc);
     for item in items {
-        results.push(resolver.record(alloc, item))?;
+        results.push(resolver.record(alloc, WithoutHop::Refused, item))?;
     }
     Ok(results)
 }

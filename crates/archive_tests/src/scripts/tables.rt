@@ -2,7 +2,7 @@
 
 use crate::scripts::{PLAIN, SMALL_RING, Script, WIDE};
 
-pub(crate) const TABLES: [Script; 14] = [
+pub(crate) const TABLES: [Script; 16] = [
     Script {
         name: "a table is answered",
         made: PLAIN,
@@ -108,6 +108,30 @@ F|2|1|0|0|0
 S|1704067201
 $ rha ask a at 1704067200 prefix 10.0.0.0/8
 R|0|192.0.2.1|65001|10.0.0.0/8|-|INCOMPLETE|192.0.2.1|||NAG||
+E|1
+",
+    },
+    Script {
+        name: "an entry without a next hop refuses its record",
+        made: PLAIN,
+        shown: "$ rha load a --collector 0 --mark 1704067201 peer-table+rib-of-three+rib-without-hop
+X|15|Malformed|1
+X|15|Malformed|2
+F|3|0|0|2|0
+S|1704067201
+$ rha ask a at 1704067200 prefix 10.0.0.0/8
+E|0
+",
+    },
+    Script {
+        name: "entries without a next hop are lost where that is asked",
+        made: PLAIN,
+        shown: "$ rha load a --collector 0 --lose-entries --mark 1704067201 peer-table+rib-of-three+rib-without-hop
+B|0|1|1
+F|3|1|0|0|0
+S|1704067201
+$ rha ask a at 1704067200 prefix 10.0.0.0/8
+R|0|192.0.2.1|65001|10.0.0.0/8|65001 65002|IGP|192.0.2.1|||NAG||
 E|1
 ",
     },

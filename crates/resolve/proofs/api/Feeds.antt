@@ -13,15 +13,16 @@ use Rattle.resolve.specs.Records.{Gives}
 use Rattle.resolve.specs.Meanings.{IsMeaning, Means}
 use Rattle.resolve.specs.declared.fault.ResolveFault.{ResolveFault}
 use Rattle.resolve.specs.declared.fault.ResolveFault.TheVariants as faults
+use Rattle.resolve.specs.declared.without_hop.WithoutHop.{WithoutHop}
 
 -- the resolver of the collector c came behind these records, which mean these results
-pub record IsBehind (c : ℕ) (records : List Told) (feed : Feed) (results : List (Result (Option Admitted) ResolveFault)) : Type 0 where
+pub record IsBehind (rule : WithoutHop) (c : ℕ) (records : List Told) (feed : Feed) (results : List (Result (Option Admitted) ResolveFault)) : Type 0 where
   pub collector : feed.collector ≡ c
   pub last : LastTable records feed.table
-  pub means : Means c records results
+  pub means : Means rule c records results
 
-pub at_first : (c : ℕ) (feed : Feed) (results : List (Result (Option Admitted) ResolveFault)) → feed.collector ≡ c → feed.table ≡ None → results ≡ [] → IsBehind c [] feed results
-at_first c feed results same none empty = record {
+pub at_first : (rule : WithoutHop) (c : ℕ) (feed : Feed) (results : List (Result (Option Admitted) ResolveFault)) → feed.collector ≡ c → feed.table ≡ None → results ≡ [] → IsBehind rule c [] feed results
+at_first rule c feed results same none empty = record {
   collector = same;
   last = inl (tt, none);
   means = record { count = ap length empty; each = λ n next result e f. absurd cc };
@@ -37,9 +38,9 @@ at_seam [] y = refl
 at_seam (x ∷ xs) y = at_seam xs y
 
 -- one record more
-pub one_more : (c : ℕ) (records : List Told) (results : List (Result (Option Admitted) ResolveFault)) (r : Told) (x : Result (Option Admitted) ResolveFault)
-    → Means c records results → IsMeaning c records r x → Means c (records ++ r ∷ []) (results ++ x ∷ [])
-one_more c records results r x means is = record {
+pub one_more : (rule : WithoutHop) (c : ℕ) (records : List Told) (results : List (Result (Option Admitted) ResolveFault)) (r : Told) (x : Result (Option Admitted) ResolveFault)
+    → Means rule c records results → IsMeaning rule c records r x → Means rule c (records ++ r ∷ []) (results ++ x ∷ [])
+one_more rule c records results r x means is = record {
   count = let a = length-append results (x ∷ []) in let b = length-append records (r ∷ []) in let same = means.count in omega (arith, a, b, same);
   each = λ n next result e f.
       elim (leb_tells (length records) n) [
@@ -50,27 +51,27 @@ one_more c records results r x means is = record {
             let first : r ≡ next = let h : Some r ≡ Some next = sym (at_seam records r) ∙ ap (λ (k : ℕ). slice_get (records ++ r ∷ []) k) (sym same) ∙ e in cc in
             let second : x ≡ result = let h : Some x ≡ Some result = sym (at_seam results x) ∙ ap (λ (k : ℕ). slice_get (results ++ x ∷ []) k) (means.count ∙ sym same) ∙ f in cc in
             let front : records ≡ take n (records ++ r ∷ []) = sym (take-append_seam records (r ∷ [])) ∙ ap (λ (k : ℕ). take k (records ++ r ∷ [])) (sym same) in
-            subst (λ (t : List Told). IsMeaning c t next result) front
-            (subst (λ (t : Told). IsMeaning c records t result) first (subst (λ (t : Result (Option Admitted) ResolveFault). IsMeaning c records r t) second is))
+            subst (λ (t : List Told). IsMeaning rule c t next result) front
+            (subst (λ (t : Told). IsMeaning rule c records t result) first (subst (λ (t : Result (Option Admitted) ResolveFault). IsMeaning rule c records r t) second is))
         | inr less ↦
             let lt = less.1 in
             let here : slice_get records n ≡ Some next = sym (before_seam records r n lt) ∙ e in
             let there : slice_get results n ≡ Some result = sym (before_seam results x n (omega (arith, lt, means.count))) ∙ f in
-            subst (λ (t : List Told). IsMeaning c t next result) (sym (take-append-le n records (r ∷ []) (omega (arith, lt)))) (means.each n next result here there)
+            subst (λ (t : List Told). IsMeaning rule c t next result) (sym (take-append-le n records (r ∷ []) (omega (arith, lt)))) (means.each n next result here there)
       ];
 }
 
 -- the next record of a feed
-pub goes_on : (c : ℕ) (records : List Told) (old new : Feed) (results : List (Result (Option Admitted) ResolveFault)) (r : Told) (x : Result (Option Admitted) ResolveFault)
-    → IsBehind c records old results → new.collector ≡ old.collector → Gives old.collector old.table r x
+pub goes_on : (rule : WithoutHop) (c : ℕ) (records : List Told) (old new : Feed) (results : List (Result (Option Admitted) ResolveFault)) (r : Told) (x : Result (Option Admitted) ResolveFault)
+    → IsBehind rule c records old results → new.collector ≡ old.collector → Gives rule old.collector old.table r x
     → ((x ≡ Err faults.OutOfMemory → ⊥) → (before : List Told) → LastTable before old.table → LastTable (before ++ r ∷ []) new.table)
-    → (x ≡ Err faults.OutOfMemory → ⊥) → IsBehind c (records ++ r ∷ []) new (results ++ x ∷ [])
-goes_on c records old new results r x behind same gives table enough = record {
+    → (x ≡ Err faults.OutOfMemory → ⊥) → IsBehind rule c (records ++ r ∷ []) new (results ++ x ∷ [])
+goes_on rule c records old new results r x behind same gives table enough = record {
   collector = same ∙ behind.collector;
   last = table enough records behind.last;
   means =
-      one_more c records results r x behind.means
-      (record { table = old.table; last = behind.last; gives = subst (λ (n : ℕ). Gives n old.table r x) behind.collector gives; wanting = enough });
+      one_more rule c records results r x behind.means
+      (record { table = old.table; last = behind.last; gives = subst (λ (n : ℕ). Gives rule n old.table r x) behind.collector gives; wanting = enough });
 }
 
 -- what the items tell that were gone over, with one more

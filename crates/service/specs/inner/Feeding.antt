@@ -1,5 +1,6 @@
 -- A feed under way. Contracts of private functions alone cite this file.
 use Rattle.std.specs.Prelude.{◌≡◌, ◌≤◌, ℕ, map, length, Bool, true, false, List, [], ◌∷◌, ◌++◌, Option, Result, Err}
+use Rattle.resolve.specs.declared.without_hop.WithoutHop.{WithoutHop}
 use Rattle.service.specs.Carried.{Carried, HasIntakes}
 use Rattle.service.specs.Resuming.{MeansFrom, left_after, left_behind, taken_at}
 use Rattle.service.specs.Outputs.{OutputState, Tells}
@@ -47,9 +48,9 @@ pub record HasDone (c : ℕ) (h : History) (turns : List Turn) (counts : FeedCou
   pub there : (offered turns ≡ [] → ⊥) → IsCollector h c
 
 -- The next record means something, of which this is taken where so many admissions are dropped, and so many are still dropped behind it.
-pub record TakesNext (was now : Feed) (dropping left : ℕ) (r : Told) (taken : Result (Option Admitted) ResolveFault) : Type 0 where
+pub record TakesNext (rule : WithoutHop) (was now : Feed) (dropping left : ℕ) (r : Told) (taken : Result (Option Admitted) ResolveFault) : Type 0 where
   pub meaning : Result (Option Admitted) ResolveFault
-  pub gives : Gives was.collector was.table r meaning
+  pub gives : Gives rule was.collector was.table r meaning
   pub taken_is : taken ≡ taken_at dropping meaning
   pub left_is : left ≡ left_after dropping meaning
   pub collector : now.collector ≡ was.collector
@@ -60,6 +61,7 @@ pub record IsSameFeed (old new : Feeding) : Type 0 where
   pub collector : new.collector ≡ old.collector
   pub limit : new.limit ≡ old.limit
   pub dropping : new.dropping ≡ old.dropping
+  pub rule : new.rule ≡ old.rule
   pub resolver : new.resolver ≡ old.resolver
   pub records : new.counts.records ≡ old.counts.records
   pub skipped : new.counts.skipped ≡ old.counts.skipped
@@ -72,13 +74,14 @@ pub record IsCounted (feeding : Feeding) : Type 0 where
   pub few : feeding.limit.octets ≤ 262144
 
 -- the feed came behind these records
-pub record IsBehind (c dropped : ℕ) (limit : BatchLimits) (h : History) (records : List Told) (feeding : Feeding) (archive : Carried) (was now : OutputState) : Type 0 where
+pub record IsBehind (rule : WithoutHop) (c dropped : ℕ) (limit : BatchLimits) (h : History) (records : List Told) (feeding : Feeding) (archive : Carried) (was now : OutputState) : Type 0 where
   pub results : List (Result (Option Admitted) ResolveFault)
   pub collector : feeding.collector ≡ c
   pub limited : feeding.limit ≡ limit
+  pub ruled : feeding.rule ≡ rule
   pub fed : feeding.resolver.collector ≡ c
   pub known : LastTable records feeding.resolver.table
-  pub means : MeansFrom c dropped records results
+  pub means : MeansFrom rule c dropped records results
   pub drops : feeding.dropping ≡ left_behind dropped means.meanings
   pub waits : feeding.gathered.items ≡ waits_behind limit [] results
   pub counted : IsCounted feeding
@@ -87,10 +90,10 @@ pub record IsBehind (c dropped : ℕ) (limit : BatchLimits) (h : History) (recor
   pub skipped : feeding.counts.skipped ≡ capped (skips records)
 
 -- the octets are whole records, behind which the feed came, and this rest
-pub record Reads (c dropped : ℕ) (limit : BatchLimits) (h : History) (bytes rest : List ℕ) (feeding : Feeding) (archive : Carried) (was now : OutputState) : Type 0 where
+pub record Reads (rule : WithoutHop) (c dropped : ℕ) (limit : BatchLimits) (h : History) (bytes rest : List ℕ) (feeding : Feeding) (archive : Carried) (was now : OutputState) : Type 0 where
   pub items : List Item
   pub framed : GainsFrames bytes rest [] items
-  pub behind : IsBehind c dropped limit h (map told items) feeding archive was now
+  pub behind : IsBehind rule c dropped limit h (map told items) feeding archive was now
 
 -- the framer holds the rest, or the front of one whose Length is above the limit
 abbrev pub IsHeld : List ℕ → List ℕ → Bool → Type 0
@@ -98,14 +101,14 @@ IsHeld held rest true = held ≡ rest
 IsHeld held rest false = (more : List ℕ) × (rest ≡ held ++ more) × Over held
 
 -- the octets were read as far as the feed goes on
-pub record IsRead (c dropped : ℕ) (limit : BatchLimits) (h : History) (bytes held : List ℕ) (goes_on : Bool) (feeding : Feeding) (archive : Carried) (was now : OutputState) : Type 0 where
+pub record IsRead (rule : WithoutHop) (c dropped : ℕ) (limit : BatchLimits) (h : History) (bytes held : List ℕ) (goes_on : Bool) (feeding : Feeding) (archive : Carried) (was now : OutputState) : Type 0 where
   pub rest : List ℕ
   pub holds : IsHeld held rest goes_on
-  pub reads : Reads c dropped limit h bytes rest feeding archive was now
+  pub reads : Reads rule c dropped limit h bytes rest feeding archive was now
 
 -- all the octets were read, or those behind a Length above the limit are left
-abbrev pub IsReadOut : ℕ → ℕ → BatchLimits → History → List ℕ → List ℕ → Feeding → Carried → OutputState → OutputState → Type 0
-IsReadOut c dropped limit h bytes held feeding archive was now = (goes_on : Bool) × IsRead c dropped limit h bytes held goes_on feeding archive was now
+abbrev pub IsReadOut : WithoutHop → ℕ → ℕ → BatchLimits → History → List ℕ → List ℕ → Feeding → Carried → OutputState → OutputState → Type 0
+IsReadOut rule c dropped limit h bytes held feeding archive was now = (goes_on : Bool) × IsRead rule c dropped limit h bytes held goes_on feeding archive was now
 
 -- Some of these turns were made and written when the feed was given up for this, which isn't written yet.
 pub record GivesUp (c : ℕ) (h : History) (turns : List Turn) (archive : Carried) (was now : OutputState) (why : FeedStop) : Type 0 where
@@ -118,21 +121,21 @@ pub record GivesUp (c : ℕ) (h : History) (turns : List Turn) (archive : Carrie
   pub there : (offered made ≡ [] → ⊥) → IsCollector h c
 
 -- the feed was given up at one of the items that came behind these records, or before the first of them
-pub record StopsAmong (c dropped : ℕ) (limit : BatchLimits) (h : History) (records : List Told) (items : List Item) (archive : Carried) (was now : OutputState) (why : FeedStop) : Type 0 where
+pub record StopsAmong (rule : WithoutHop) (c dropped : ℕ) (limit : BatchLimits) (h : History) (records : List Told) (items : List Item) (archive : Carried) (was now : OutputState) (why : FeedStop) : Type 0 where
   pub front : List Item
   pub back : List Item
   pub parts : items ≡ front ++ back
   pub results : List (Result (Option Admitted) ResolveFault)
-  pub means : MeansFrom c dropped (records ++ map told front) results
+  pub means : MeansFrom rule c dropped (records ++ map told front) results
   pub gives_up : GivesUp c h (turns_for limit 0 [] results) archive was now why
 
 -- the feed was given up among the whole records of the octets
-pub record StopsWithin (c dropped : ℕ) (limit : BatchLimits) (h : History) (bytes : List ℕ) (archive : Carried) (was now : OutputState) (why : FeedStop) : Type 0 where
+pub record StopsWithin (rule : WithoutHop) (c dropped : ℕ) (limit : BatchLimits) (h : History) (bytes : List ℕ) (archive : Carried) (was now : OutputState) (why : FeedStop) : Type 0 where
   pub seen : List ℕ
   pub later : List ℕ
   pub parts : bytes ≡ seen ++ later
   pub items : List Item
   pub framed : GainsFrames seen [] [] items
   pub results : List (Result (Option Admitted) ResolveFault)
-  pub means : MeansFrom c dropped (map told items) results
+  pub means : MeansFrom rule c dropped (map told items) results
   pub gives_up : GivesUp c h (feed_turns limit results) archive was now why

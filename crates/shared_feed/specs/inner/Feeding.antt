@@ -14,6 +14,7 @@ use Rattle.resolve.specs.Records.{Gives}
 use Rattle.resolve.specs.Meanings.{Means}
 use Rattle.resolve.specs.declared.fault.ResolveFault.{ResolveFault}
 use Rattle.resolve.specs.declared.fault.ResolveFault.TheVariants as faults
+use Rattle.resolve.specs.declared.without_hop.WithoutHop.TheVariants as rules
 use Rattle.interleaving_core.specs.declared.reply.BatchReply.{BatchReply}
 use Rattle.archive_calls.specs.Limits.{batch_octets}
 use Rattle.archive_calls.specs.declared.refusal.Trouble.TheVariants as troubles
@@ -56,7 +57,7 @@ pub record HasDone (promised : Type 0) (c : ℕ) (v : View) (turns : List Turn) 
 
 -- the next record of a feed means this
 pub record TakesNext (was now : Feed) (r : Told) (meaning : Result (Option Admitted) ResolveFault) : Type 0 where
-  pub gives : Gives was.collector was.table r meaning
+  pub gives : Gives rules.Refused was.collector was.table r meaning
   pub collector : now.collector ≡ was.collector
   pub table : (meaning ≡ Err faults.OutOfMemory → ⊥) → (before : List Told) → LastTable before was.table → LastTable (before ++ r ∷ []) now.table
 
@@ -82,7 +83,7 @@ pub record IsBehind (promised : Type 0) (c : ℕ) (limit : BatchLimits) (v : Vie
   pub limited : feeding.limit ≡ limit
   pub fed : feeding.resolver.collector ≡ c
   pub known : LastTable records feeding.resolver.table
-  pub means : Means c records results
+  pub means : Means rules.Refused c records results
   pub waits : feeding.gathered.items ≡ waits_behind limit [] results
   pub counted : IsCounted feeding
   pub done : HasDone promised c v (turns_for limit 0 [] results) feeding.counts w was now
@@ -127,7 +128,7 @@ pub record StopsAmong (promised : Type 0) (c : ℕ) (limit : BatchLimits) (v : V
   pub back : List Item
   pub parts : items ≡ front ++ back
   pub results : List (Result (Option Admitted) ResolveFault)
-  pub means : Means c (records ++ map told front) results
+  pub means : Means rules.Refused c (records ++ map told front) results
   pub gives_up : GivesUp promised c v (turns_for limit 0 [] results) w was now why
 
 -- the feed was given up among the whole records of the octets
@@ -138,5 +139,5 @@ pub record StopsWithin (promised : Type 0) (c : ℕ) (limit : BatchLimits) (v : 
   pub items : List Item
   pub framed : GainsFrames seen [] [] items
   pub results : List (Result (Option Admitted) ResolveFault)
-  pub means : Means c (map told items) results
+  pub means : Means rules.Refused c (map told items) results
   pub gives_up : GivesUp promised c v (feed_turns limit results) w was now why

@@ -3,7 +3,7 @@ use Rattle.resolve.proofs.Announcing.{Announced}
 use Rattle.resolve.proofs.entries.entry_changes.Given as goal
 
 abbrev pub invariant-loop-entry : goal.invariant-loop-entry
-invariant-loop-entry l = Announced l.collector l.peers l.prefix l.entries l.changes.items
+invariant-loop-entry l = Announced l.rule l.collector l.peers l.prefix l.entries l.index l.changes.items
 
 abbrev pub decreases-loop-entry : goal.decreases-loop-entry
-decreases-loop-entry l = length l.entries - length l.changes.items
+decreases-loop-entry l = length l.entries - l.index

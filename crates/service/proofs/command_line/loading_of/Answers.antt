@@ -20,6 +20,7 @@ returns-clause-found c = record {
   wait = c.number_of-3.ensures.number;
   mark = subst (λ (t : Option (List ℕ)). IsMarkIf t c.in_ok-mark.mark) (c.get_str.ensures ∙ first_value-rows (found_of c.args.matches.now) (codes "mark")) c.in_ok-mark.ensures.found;
   resume = c.is_there.ensures.there;
-  strict = c.is_there-2.ensures.there;
+  lose_entries = c.is_there-2.ensures.there;
+  strict = c.is_there-3.ensures.there;
   files = c.requires.files;
 }

@@ -49,7 +49,7 @@ returns-in-Err g c = record {
         up.1,
         Refused c.in-Err.why,
         c.as_told-in-Err.ensures.told,
-        given_up_told c.args.how.collector c.args.dropping.now (limits_for c.args.how (g.A.RouteArchive.most c.args.archive.now)) h up.0 (g.A.RouteArchive.carries c.take_in.new.archive) _ _ _ c.in-Err.why up.2 c.tell_stop.ensures.told,
+        given_up_told c.args.how.rule c.args.how.collector c.args.dropping.now (limits_for c.args.how (g.A.RouteArchive.most c.args.archive.now)) h up.0 (g.A.RouteArchive.carries c.take_in.new.archive) _ _ _ c.in-Err.why up.2 c.tell_stop.ensures.told,
         record {
           outside = λ e. ⊎_elim (λ failed. inl failed) (λ failed. inr (c.tell_stop.ensures.told.stays failed).0) (c.in-Err.ensures.outside (ap Err (same_stop c.in-Err.why e)));
           inside = λ none. c.in-Err.ensures.sound (λ e. none (ap (λ (t : FeedStop). Refused t) (err_is c.in-Err.why e)));

@@ -33,7 +33,7 @@ returns-then-collector-collectors g c = record {
           refl,
           undone c.told.result how false most c.args.dropping.now c.args.dropping.now h given.0 c.args.reader.now.failed c.args.reader.now.failed (g.A.RouteArchive.carries c.args.archive.now) c.args.out.now c.args.out.now c.args.err.now c.told.new.err
               (λ done. refused_undone _ _ (sym c.told.ensures.status ∙ done))
-              (load_nowhere c.told.result how.feed.collector c.args.dropping.now (limits_for how.feed most) how.mark h given.0 c.args.reader.now.failed (g.A.RouteArchive.carries c.args.archive.now) c.args.out.now c.args.err.now c.write_error.new.out c.told.new.err (λ here. absurd (omega (arith, here, count, few))) carried c.told.ensures.status (record { told = c.told.ensures.told; quiet = c.told.ensures.quiet })
+              (load_nowhere c.told.result how.feed.rule how.feed.collector c.args.dropping.now (limits_for how.feed most) how.mark h given.0 c.args.reader.now.failed (g.A.RouteArchive.carries c.args.archive.now) c.args.out.now c.args.err.now c.write_error.new.out c.told.new.err (λ here. absurd (omega (arith, here, count, few))) carried c.told.ensures.status (record { told = c.told.ensures.told; quiet = c.told.ensures.quiet })
               (inl (rw c.from.ensures at c.write_error.ensures.line))),
         ),
       );
@@ -45,6 +45,7 @@ pub returns-in-Ok : goal.returns-in-Ok
 returns-in-Ok g c = record {
   ended = λ h carried.
       let how = c.args.how in
+      let rule = how.feed.rule in
       let k = how.feed.collector in
       let count = c.collectors.ensures.count h carried in
       let some = c.if-collector-collectors.false in
@@ -75,6 +76,7 @@ pub returns-in-Err : goal.returns-in-Err
 returns-in-Err g c = record {
   ended = λ h carried.
       let how = c.args.how in
+      let rule = how.feed.rule in
       let k = how.feed.collector in
       let most = g.A.RouteArchive.most c.args.archive.now in
       let count = c.collectors.ensures.count h carried in
@@ -90,7 +92,7 @@ returns-in-Err g c = record {
           c.refused_if-in-Err.ensures.status,
           undone c.told-in-Err.result how held most c.args.dropping.now c.feed-end.new.dropping h fed.0 c.args.reader.now.failed c.feed-end.new.reader.failed (g.A.RouteArchive.carries c.settle.new.archive) c.args.out.now c.feed-end.new.out c.args.err.now c.told-in-Err.new.err
               (λ done. refused_undone _ _ (sym c.told-in-Err.ensures.status ∙ done))
-              (load_stops fed.2 c.told-in-Err.result k c.args.dropping.now (limits_for how.feed most) (mark_unless held how.mark) h fed.0 c.args.reader.now.failed c.feed-end.new.reader.failed (g.A.RouteArchive.carries c.feed-end.new.archive) (g.A.RouteArchive.carries c.settle.new.archive) c.args.out.now c.feed-end.new.out c.args.err.now c.tell_trouble.new.err c.told-in-Err.new.err (first_of c.feed-end.result c.in-Err.why) here fed.4 fed.5
+              (load_stops fed.2 c.told-in-Err.result rule k c.args.dropping.now (limits_for how.feed most) (mark_unless held how.mark) h fed.0 c.args.reader.now.failed c.feed-end.new.reader.failed (g.A.RouteArchive.carries c.feed-end.new.archive) (g.A.RouteArchive.carries c.settle.new.archive) c.args.out.now c.feed-end.new.out c.args.err.now c.tell_trouble.new.err c.told-in-Err.new.err (first_of c.feed-end.result c.in-Err.why) here fed.4 fed.5
               (subst (λ (m : Option ℕ). (past : History) → g.A.RouteArchive.carries c.feed-end.new.archive past → HasNotSettled k m past (g.A.RouteArchive.carries c.settle.new.archive) (first_of c.feed-end.result c.in-Err.why))
               (c.mark_after.ensures.mark ∙ ap (mark_after c.feed-end.result) c.mark_unless-mark.ensures.mark ∙ ap (λ (e : End). mark_after e (mark_unless held how.mark)) fed.3) (λ past stands. first_unsettled c.feed-end.result c.in-Err.why _ _ _ _ (c.in-Err.ensures.unsettled past stands)))
               c.told-in-Err.ensures.status (record { told = c.told-in-Err.ensures.told; quiet = c.told-in-Err.ensures.quiet })

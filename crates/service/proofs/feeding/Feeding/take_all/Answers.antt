@@ -10,31 +10,31 @@ use Rattle.service.proofs.feeding.Feeding.take_all.Goals as goal
 pub loop-item-init : goal.loop-item-init
 loop-item-init g c = record {
   most = refl;
-  behind = λ k dropped limit h records was b.
-      subst (λ (t : List Told). IsBehind k dropped limit h t c.args.self.now (g.A.RouteArchive.carries c.args.archive.now) was c.args.out.now) (sym (append-nil records)) b;
+  behind = λ rule k dropped limit h records was b.
+      subst (λ (t : List Told). IsBehind rule k dropped limit h t c.args.self.now (g.A.RouteArchive.carries c.args.archive.now) was c.args.out.now) (sym (append-nil records)) b;
 }
 
 pub loop-item-preserved : goal.loop-item-preserved
 loop-item-preserved g c = record {
   most = c.in_ok-take.ensures.most ∙ c.loop-item.invariant.most;
-  behind = λ k dropped limit h records was b.
-      subst (λ (t : List Told). IsBehind k dropped limit h t c.take.new.self (g.A.RouteArchive.carries c.take.new.archive) was c.take.new.out) (told_more c.args.items.now c.loop-item.item-index c.item-item.result records (omega arith) c.item-item.is)
-      (c.in_ok-take.ensures.behind k dropped limit h _ was (c.loop-item.invariant.behind k dropped limit h records was b));
+  behind = λ rule k dropped limit h records was b.
+      subst (λ (t : List Told). IsBehind rule k dropped limit h t c.take.new.self (g.A.RouteArchive.carries c.take.new.archive) was c.take.new.out) (told_more c.args.items.now c.loop-item.item-index c.item-item.result records (omega arith) c.item-item.is)
+      (c.in_ok-take.ensures.behind rule k dropped limit h _ was (c.loop-item.invariant.behind rule k dropped limit h records was b));
 }
 
 pub returns : goal.returns
 returns g c = record {
-  behind = λ k dropped limit h records was b.
-      subst (λ (t : List _). IsBehind k dropped limit h (records ++ map told t) c.loop-item.self (g.A.RouteArchive.carries c.loop-item.archive) was c.loop-item.out) (take_all c.loop-item.item-index c.args.items.now (omega arith))
-      (c.loop-item.invariant.behind k dropped limit h records was b);
+  behind = λ rule k dropped limit h records was b.
+      subst (λ (t : List _). IsBehind rule k dropped limit h (records ++ map told t) c.loop-item.self (g.A.RouteArchive.carries c.loop-item.archive) was c.loop-item.out) (take_all c.loop-item.item-index c.args.items.now (omega arith))
+      (c.loop-item.invariant.behind rule k dropped limit h records was b);
   inside = λ e. absurd cc;
   most = c.loop-item.invariant.most;
-  given_up = λ k dropped limit h records was b. tt;
+  given_up = λ rule k dropped limit h records was b. tt;
 }
 
 pub returns-in_err-take-clause-given_up : goal.returns-in_err-take-clause-given_up
-returns-in_err-take-clause-given_up g c = λ k dropped limit h records was b.
+returns-in_err-take-clause-given_up g c = λ rule k dropped limit h records was b.
     let p = err_from_is_err_and c.from_residual.result c.from_residual.ensures.1 in
     rw p.1 (rw p.2
-    (stops_among k dropped limit h records c.args.items.now c.loop-item.item-index c.item-item.result (g.A.RouteArchive.carries c.take.new.archive) was _ _ (omega arith) c.item-item.is
-    (c.in_err-take.ensures.given_up k dropped limit h _ was (c.loop-item.invariant.behind k dropped limit h records was b))))
+    (stops_among rule k dropped limit h records c.args.items.now c.loop-item.item-index c.item-item.result (g.A.RouteArchive.carries c.take.new.archive) was _ _ (omega arith) c.item-item.is
+    (c.in_err-take.ensures.given_up rule k dropped limit h _ was (c.loop-item.invariant.behind rule k dropped limit h records was b))))

@@ -11,7 +11,7 @@ loop-init g c = record {
   room = refl;
   most = refl;
   sound = refl;
-  taken = λ k dropped limit h bytes was r. taken_first k dropped limit h bytes _ _ _ _ _ _ r;
+  taken = λ rule k dropped limit h bytes was r. taken_first rule k dropped limit h bytes _ _ _ _ _ _ r;
 }
 
 pub loop-preserved : goal.loop-preserved
@@ -20,21 +20,21 @@ loop-preserved g c =
       room = c.read.auto.piece ∙ c.loop.invariant.room;
       most = c.in_ok-goes_on.ensures.most ∙ c.loop.invariant.most;
       sound = c.in-Some.ensures.sound ∙ c.loop.invariant.sound;
-      taken = λ k dropped limit h bytes was r.
-          taken_more k dropped limit h bytes _ _ _ _ _ _ _ _ _ _ was _ _ _ c.if-not-goes_on.false c.in-Some.ensures.read (c.loop.invariant.taken k dropped limit h bytes was r)
-          (λ seen s. c.in_ok-goes_on.ensures.read k dropped limit h seen was s);
+      taken = λ rule k dropped limit h bytes was r.
+          taken_more rule k dropped limit h bytes _ _ _ _ _ _ _ _ _ _ was _ _ _ c.if-not-goes_on.false c.in-Some.ensures.read (c.loop.invariant.taken rule k dropped limit h bytes was r)
+          (λ seen s. c.in_ok-goes_on.ensures.read rule k dropped limit h seen was s);
     }
 
 pub returns-then-count-eq0 : goal.returns-then-count-eq0
 returns-then-count-eq0 g c = record {
-  read = λ k dropped limit h bytes was r.
+  read = λ rule k dropped limit h bytes was r.
       let none = c.if-count-eq0.true in
       let room : 0 < length c.loop.piece = omega (arith, c.loop.invariant.room) in
-      taken_none k dropped limit h bytes _ _ _ _ _ _ was _
+      taken_none rule k dropped limit h bytes _ _ _ _ _ _ was _
       (subst (λ (n : ℕ). Consumes c.loop.reader.left c.read.new.self.left (take n c.read.new.piece)) none c.in-Some.ensures.read)
       (c.in-Some.ensures.end room (ap Some none))
-      (c.loop.invariant.taken k dropped limit h bytes was r);
-  given_up = λ k dropped limit h bytes was r. tt;
+      (c.loop.invariant.taken rule k dropped limit h bytes was r);
+  given_up = λ rule k dropped limit h bytes was r. tt;
   most = c.loop.invariant.most;
   outside = λ e. absurd cc;
   sound = λ none. c.in-Some.ensures.sound ∙ c.loop.invariant.sound;
@@ -42,28 +42,28 @@ returns-then-count-eq0 g c = record {
 
 pub returns-then-not-goes_on : goal.returns-then-not-goes_on
 returns-then-not-goes_on g c = record {
-  read = λ k dropped limit h bytes was r.
-      taken_stops k dropped limit h bytes _ _ _ _ _ _ _ _ _ _ was _ _ _ c.if-not-goes_on.true c.in-Some.ensures.read (c.loop.invariant.taken k dropped limit h bytes was r)
-      (λ seen s. c.in_ok-goes_on.ensures.read k dropped limit h seen was s);
-  given_up = λ k dropped limit h bytes was r. tt;
+  read = λ rule k dropped limit h bytes was r.
+      taken_stops rule k dropped limit h bytes _ _ _ _ _ _ _ _ _ _ was _ _ _ c.if-not-goes_on.true c.in-Some.ensures.read (c.loop.invariant.taken rule k dropped limit h bytes was r)
+      (λ seen s. c.in_ok-goes_on.ensures.read rule k dropped limit h seen was s);
+  given_up = λ rule k dropped limit h bytes was r. tt;
   most = c.in_ok-goes_on.ensures.most ∙ c.loop.invariant.most;
   outside = λ e. absurd cc;
   sound = λ none. c.in-Some.ensures.sound ∙ c.loop.invariant.sound;
 }
 
 pub returns-then-has_failed-clause-given_up : goal.returns-then-has_failed-clause-given_up
-returns-then-has_failed-clause-given_up g c = λ k dropped limit h bytes was r.
-    taken_failed k dropped limit h bytes _ _ _ _ _ _ _ _ _ _ was _ _ _ c.in-Some.ensures.read (c.loop.invariant.taken k dropped limit h bytes was r) (λ seen s. c.in_ok-goes_on.ensures.read k dropped limit h seen was s)
+returns-then-has_failed-clause-given_up g c = λ rule k dropped limit h bytes was r.
+    taken_failed rule k dropped limit h bytes _ _ _ _ _ _ _ _ _ _ was _ _ _ c.in-Some.ensures.read (c.loop.invariant.taken rule k dropped limit h bytes was r) (λ seen s. c.in_ok-goes_on.ensures.read rule k dropped limit h seen was s)
 
 pub returns-in-None-clause-given_up : goal.returns-in-None-clause-given_up
-returns-in-None-clause-given_up g c = λ k dropped limit h bytes was r. taken_gives k dropped limit h bytes _ _ _ c.loop.self (g.A.RouteArchive.carries c.loop.archive) was _ stops.Outside (λ made. tt) (c.loop.invariant.taken k dropped limit h bytes was r)
+returns-in-None-clause-given_up g c = λ rule k dropped limit h bytes was r. taken_gives rule k dropped limit h bytes _ _ _ c.loop.self (g.A.RouteArchive.carries c.loop.archive) was _ stops.Outside (λ made. tt) (c.loop.invariant.taken rule k dropped limit h bytes was r)
 
 pub returns-clause-given_up : goal.returns-clause-given_up
-returns-clause-given_up g c = λ k dropped limit h bytes was r. taken_gives k dropped limit h bytes _ _ _ c.loop.self (g.A.RouteArchive.carries c.loop.archive) was _ (stops.Trouble troubles.OutOfMemory) (λ made. tt) (c.loop.invariant.taken k dropped limit h bytes was r)
+returns-clause-given_up g c = λ rule k dropped limit h bytes was r. taken_gives rule k dropped limit h bytes _ _ _ c.loop.self (g.A.RouteArchive.carries c.loop.archive) was _ (stops.Trouble troubles.OutOfMemory) (λ made. tt) (c.loop.invariant.taken rule k dropped limit h bytes was r)
 
 pub returns-in_err-goes_on-clause-given_up : goal.returns-in_err-goes_on-clause-given_up
-returns-in_err-goes_on-clause-given_up g c = λ k dropped limit h bytes was r.
+returns-in_err-goes_on-clause-given_up g c = λ rule k dropped limit h bytes was r.
     let p = err_from_is_err_and c.from_residual.result c.from_residual.ensures.1 in
     rw p.1 (rw p.2
-    (taken_piece_gives k dropped limit h bytes _ _ _ _ _ c.loop.self (g.A.RouteArchive.carries c.loop.archive) (g.A.RouteArchive.carries c.take_piece.new.archive) was _ _ _ c.in-Some.ensures.read (c.loop.invariant.taken k dropped limit h bytes was r)
-    (λ seen s. c.in_err-goes_on.ensures.given_up k dropped limit h seen was s)))
+    (taken_piece_gives rule k dropped limit h bytes _ _ _ _ _ c.loop.self (g.A.RouteArchive.carries c.loop.archive) (g.A.RouteArchive.carries c.take_piece.new.archive) was _ _ _ c.in-Some.ensures.read (c.loop.invariant.taken rule k dropped limit h bytes was r)
+    (λ seen s. c.in_err-goes_on.ensures.given_up rule k dropped limit h seen was s)))
