@@ -110,7 +110,7 @@ fn report_of(alloc: Global, it: &Reported) -> Option<LoadReport> {
         &mut lines,
         &mut refusals,
     );
-    let [file] = files;
+    let file = files.first()?;
     Some(file.report)
 }
 
