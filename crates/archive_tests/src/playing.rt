@@ -255,7 +255,7 @@ fn updates_are_played(rt: HostRuntime) {
 #[test]
 fn tables_are_played(rt: HostRuntime) {
     let count = play_all(&rt, rt.alloc(), &TABLES, WHOLE);
-    be(&rt, count.scripts == 14 && count.commands == 47, "tables");
+    be(&rt, count.scripts == 16 && count.commands == 51, "tables");
 }
 
 #[test]
