@@ -1,5 +1,5 @@
--- Where a change is refused since there are too few pages, levels or blocks.
-use Rattle.std.proofs.Common.{◌≡◌, ◌≢◌, ℕ, Bool, List, [], ◌∷◌, refl, subst, Result, Ok, Err}
+-- Where a change is refused since there are too few pages, levels or blocks, and where there are enough.
+use Rattle.std.proofs.Common.{◌≡◌, ◌≢◌, ◌<◌, ◌≤◌, ◌⊎◌, inl, inr, ℕ, suc, Bool, List, [], ◌∷◌, refl, sym, ◌∙◌, subst, arith, Result, Ok, Err}
 use Rattle.std.specs.Prelude.{IfErr}
 use Rattle.page_tx.specs.declared.error.PageError.{PageError}
 use Rattle.page_tx.specs.declared.error.PageError.TheVariants as pages
@@ -9,7 +9,10 @@ use Rattle.intake.specs.Calls.{PageRefusal}
 use Rattle.route_model.specs.Admission.{Admitted}
 use Rattle.route_meaning.specs.Merged.{Placed}
 use Rattle.route_meaning.specs.History.{History, waiting}
-use Rattle.route_history.specs.Kept.{AreVersions}
+use Rattle.route_history.specs.Kept.{Timed, AreVersions}
+use Rattle.tsb_tree.specs.Needs.{NeedsLevel, NeedsPages}
+use Rattle.tsb_tree.specs.NoRoom.{AtRoot}
+use Rattle.tsb_tree.specs.Opened.{HasRootLevel}
 use Rattle.version_model.specs.Versions.{Version}
 use Rattle.archive_head.specs.Head.{Contents}
 use Rattle.archive_pages.specs.declared.settings.Settings.{Settings}
@@ -18,9 +21,10 @@ use Rattle.archive_pages.specs.Changes.{next_change}
 use Rattle.archive_pages.specs.Carried.{Bears}
 use Rattle.disk_archive.specs.declared.apply_error.ApplyError.{ApplyError}
 use Rattle.disk_archive.specs.declared.apply_error.ApplyError.TheVariants as applies
-use Rattle.disk_archive.specs.Lacks.{IsNextVersion, LacksBlock, LacksLevel, LacksPages}
+use Rattle.disk_archive.specs.Lacks.{HasRoom, IsNextVersion, LacksBlock, LacksLevel, LacksNeither, LacksPages, OneLacksNeither}
 use Rattle.disk_archive.specs.Trees.{TreeLies}
 use Rattle.disk_archive.specs.inner.Applications.{ApplyRefusal, FrontRefusal, LackRefusal, LimitRefusal, apply_of_use}
+use Rattle.disk_archive.proofs.OneNeed.{tree_need}
 
 -- ---- the first admission isn't read
 
@@ -80,7 +84,7 @@ lacks_by is shown left root applies.OutOfMemory full high once = tt
 pub lacks_as : (was is : Version → Type 0) (shown : List (List ℕ)) (left root : ℕ) (e : ApplyError) → ((v : Version) → was v → is v) → LackRefusal was shown left root e → LackRefusal is shown left root e
 lacks_as was is shown left root applies.NeedsRecovery more l = tt
 lacks_as was is shown left root applies.CounterFull more l = tt
-lacks_as was is shown left root applies.TooHigh more l = record { version = l.version; its = more l.version l.its; needs = l.needs }
+lacks_as was is shown left root applies.TooHigh more l = record { version = l.version; its = more l.version l.its; highest = l.highest; needs = l.needs }
 lacks_as was is shown left root applies.PagesFull more l = record { version = l.version; its = more l.version l.its; level = l.level; needed = l.needed; needs = l.needs; above = l.above }
 lacks_as was is shown left root applies.OnceFull more l = record { version = l.version; its = more l.version l.its; level = l.level; needs = l.needs }
 lacks_as was is shown left root (applies.BadNode page) more l = tt
@@ -107,6 +111,49 @@ next_version count s settled head shown h first later v b here is = record {
   here = here;
   version = subst (λ (n : ℕ). AreVersions n (next_change h.some first) (v ∷ [])) b.numbered (subst (λ (n : ℕ). AreVersions head.applied (next_change n first) (v ∷ [])) b.begun is);
 }
+
+-- and only its version is one by the head
+pub version_next : (count : ℕ) (s : Settings) (settled : ℕ → List ℕ → Type 0) (head : Contents) (shown : List (List ℕ)) (h : History) (first : Placed Admitted) (later : List (Placed Admitted)) (v : Version)
+    → Bears (TreeLies count) s settled head shown h → waiting h ≡ first ∷ later → IsNextVersion h v → AreVersions head.applied (next_change head.begun first) (v ∷ [])
+version_next count s settled head shown h first later v b here is =
+    let same : is.first ≡ first = (let e : is.first ∷ is.later ≡ first ∷ later = sym is.here ∙ here in cc) in
+    subst (λ (p : Placed Admitted). AreVersions head.applied (next_change head.begun p) (v ∷ [])) same
+    (subst (λ (n : ℕ). AreVersions head.applied (next_change n is.first) (v ∷ [])) (sym b.begun) (subst (λ (n : ℕ). AreVersions n (next_change h.some is.first) (v ∷ [])) (sym b.numbered) is.version))
+
+-- ---- a version is taken
+
+-- where the tree was given as many pages as it needs, and rises where it has to
+module _ (v : Version) (shown : List (List ℕ)) (left root level n : ℕ) (at : AtRoot (λ place. NeedsPages shown v place n) root level) where
+  enough_of : n ≤ left → LacksPages (λ w. w ≡ v) shown left root → ⊥
+  enough_of few l =
+      let needs : AtRoot (λ place. NeedsPages shown v place l.needed) root l.level = subst (λ (w : Version). AtRoot (λ place. NeedsPages shown w place l.needed) root l.level) l.its l.needs in
+      let same : n ≡ l.needed = tree_need shown v at.0 needs.0 n l.needed (at.1 ∙ sym needs.1) at.4 needs.4 in
+      let above = l.above in
+      omega (arith, same, few, above)
+
+  below_of : (now : ℕ) → HasRootLevel shown root level → now ≤ 7 → (AtRoot (NeedsLevel shown v) root level → now ≡ suc level) → LacksLevel (λ w. w ≡ v) shown root → ⊥
+  below_of now is most rises l =
+      let seven : level ≡ 7 = is 7 l.highest in
+      let needs : AtRoot (NeedsLevel shown v) root 7 = subst (λ (w : Version). AtRoot (NeedsLevel shown w) root 7) l.its l.needs in
+      let up = rises (subst (λ (k : ℕ). AtRoot (NeedsLevel shown v) root k) (sym seven) needs) in
+      omega (arith, seven, up, most)
+
+  pub lacks_neither : n ≤ left → (now : ℕ) → HasRootLevel shown root level → now ≤ 7 → (AtRoot (NeedsLevel shown v) root level → now ≡ suc level) → LacksNeither v shown left root
+  lacks_neither few now is most rises = record { enough = enough_of few; below = below_of now is most rises }
+
+-- the same of one of the versions of which more is known
+pub one_as : (was is : Version → Type 0) (shown : List (List ℕ)) (left root : ℕ) → ((v : Version) → was v → is v) → ((v : Version) → is v → was v) → OneLacksNeither was shown left root → OneLacksNeither is shown left root
+one_as was is shown left root more back (inl none) = inl (λ v h. none v (back v h))
+one_as was is shown left root more back (inr one) = inr (one.0, more one.0 one.1, one.2)
+
+-- a change that isn't there has no version
+pub none_versions : (n : ℕ) (shown : List (List ℕ)) (left root : ℕ) (ts : List Timed) → ts ≡ [] → OneLacksNeither (λ v. AreVersions n ts (v ∷ [])) shown left root
+none_versions n shown left root ts none = inl (λ v is. subst (λ (us : List Timed). AreVersions n us (v ∷ [])) none is)
+
+-- the same where as many pages are left, of the same tree, and as many changes are applied
+pub room_at : (is : Version → Type 0) (shown : List (List ℕ)) (left root count left' root' count' : ℕ) → left' ≡ left → root' ≡ root → count' ≡ count → HasRoom is shown left' root' count' → HasRoom is shown left root count
+room_at is shown left root count left' root' count' n r c room =
+    subst (λ m. HasRoom is shown m root count) n (subst (λ m. HasRoom is shown left' m count) r (subst (λ m. HasRoom is shown left' root' m) c room))
 
 -- ---- what is returned
 

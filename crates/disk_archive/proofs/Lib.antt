@@ -34,6 +34,7 @@ mod Counts
 mod Turning
 mod Staying
 mod Limited
+mod OneNeed
 mod Lacking
 mod Faults
 mod Failing

@@ -1,5 +1,5 @@
--- What a step of applying needs and doesn't have.
-use Rattle.std.specs.Prelude.{◌≡◌, ◌<◌, ℕ, List, [], ◌∷◌, length}
+-- What a step of applying needs, and has or doesn't have.
+use Rattle.std.specs.Prelude.{◌≡◌, ◌<◌, ◌⊎◌, ℕ, List, [], ◌∷◌, length}
 use Rattle.route_model.specs.Admission.{Admitted}
 use Rattle.route_meaning.specs.Merged.{Placed}
 use Rattle.route_meaning.specs.History.{History, applied, waiting}
@@ -7,6 +7,7 @@ use Rattle.version_model.specs.Versions.{Version}
 use Rattle.route_history.specs.Kept.{AreVersions, timed}
 use Rattle.tsb_tree.specs.NoRoom.{AtRoot}
 use Rattle.tsb_tree.specs.Needs.{NeedsLevel, NeedsPages}
+use Rattle.tsb_tree.specs.Opened.{ShowsRoot}
 use Rattle.tsb_tree.specs.Outlived.{LeadsToOutdated}
 use Rattle.archive_pages.specs.Changes.{next_change}
 
@@ -30,6 +31,7 @@ pub record LacksPages (is : Version → Type 0) (pages : List (List ℕ)) (left 
 pub record LacksLevel (is : Version → Type 0) (pages : List (List ℕ)) (root : ℕ) : Type 0 where
   pub version : Version
   pub its : is version
+  pub highest : ShowsRoot pages root 7
   pub needs : AtRoot (NeedsLevel pages version) root 7
 
 -- To take the version of which this holds, the tree with this root on these pages has to split a full leaf by time, which moves versions
@@ -39,3 +41,19 @@ pub record LacksBlock (is : Version → Type 0) (pages : List (List ℕ)) (root 
   pub its : is version
   pub level : ℕ
   pub needs : AtRoot (LeadsToOutdated pages version) root level
+
+-- To take the version, the tree with this root on these pages lacks neither pages, of which `left` were never used, nor a level.
+pub record LacksNeither (v : Version) (pages : List (List ℕ)) (left root : ℕ) : Type 0 where
+  pub enough : LacksPages (λ w. w ≡ v) pages left root → ⊥
+  pub below : LacksLevel (λ w. w ≡ v) pages root → ⊥
+
+-- one of the versions of which this holds, where there is one, lacks neither: a change has one, but for the end of a session, at which any
+-- value stands
+abbrev pub OneLacksNeither : (Version → Type 0) → List (List ℕ) → ℕ → ℕ → Type 0
+OneLacksNeither is pages left root = ((v : Version) → is v → ⊥) ⊎ ((v : Version) × is v × LacksNeither v pages left root)
+
+-- What is there where the next change is applied, after `count` others: one more can be counted, and its version, where it has one, lacks
+-- neither pages nor a level.
+pub record HasRoom (is : Version → Type 0) (pages : List (List ℕ)) (left root count : ℕ) : Type 0 where
+  pub counted : count < 18446744073709551615
+  pub version : OneLacksNeither is pages left root

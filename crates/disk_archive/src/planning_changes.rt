@@ -13,7 +13,7 @@ ghost use Rattle.sequencer.specs.Lanes.{Releases};
 ghost use Rattle.archive_pages.specs.Carried.{Bears};
 ghost use Rattle.tsb_tree.specs.Opened.{HasRootLevel};
 ghost use Rattle.disk_archive.specs.Failures.{ReportsOne};
-ghost use Rattle.disk_archive.specs.Lacks.{IsNextVersion};
+ghost use Rattle.disk_archive.specs.Lacks.{HasRoom, IsNextVersion};
 ghost use Rattle.disk_archive.specs.Mirrors.{Mirrors};
 ghost use Rattle.disk_archive.specs.Trees.{TreeLies};
 ghost use Rattle.disk_archive.specs.inner.Applications.{Advances, ApplyRefusal, FrontRefusal, IsPlan, KeepsBlocks, LackRefusal, LimitRefusal, PlansMove, Reached, Reaches};
@@ -153,6 +153,9 @@ fn plan_step<P: Pages, O: OnceDisk + Drop>(
     ensures lacks { (start : Start) (h : History) → O.honest (disk_of shelf.old) (pen_of shelf.old)
         → (r : Reached (O.block_count (disk_of shelf.old)) settings (settled_in (O.model (pen_of shelf.old))) (P.shows pages.old start) sequencer.now plan.old h)
         → IfErr result (LackRefusal (IsNextVersion h) r.pages (P.homes pages.old - P.next pages.old) plan.old.head.root) }
+    ensures room { (start : Start) (h : History) → O.honest (disk_of shelf.old) (pen_of shelf.old)
+        → (r : Reached (O.block_count (disk_of shelf.old)) settings (settled_in (O.model (pen_of shelf.old))) (P.shows pages.old start) sequencer.now plan.old h)
+        → OnOk result (HasRoom (IsNextVersion h) r.pages (P.homes pages.old - P.next pages.old) plan.old.head.root plan.old.head.applied) }
     ensures shows { (start : Start) (shown : List (List ℕ)) → P.shows pages.old start shown → (after : List (List ℕ)) × P.shows pages.new start after }
     ensures shelf { KeepsBlocks O.OnceDisk 2 shelf.old shelf.new (result ≡ Err ApplyError.OnceFull) }
     ensures homes { P.homes pages.new ≡ P.homes pages.old }
@@ -343,6 +346,9 @@ pub(crate) fn plan_changes<P: Pages, O: OnceDisk + Drop>(
     ensures lacks { (start : Start) (shown : List (List ℕ)) (h : History) → P.shows pages.old start shown → O.honest (disk_of shelf.old) (pen_of shelf.old)
         → Bears (TreeLies (O.block_count (disk_of shelf.old))) settings (settled_in (O.model (pen_of shelf.old))) head.now shown h → Mirrors sequencer.now h
         → IfErr result (LackRefusal (IsNextVersion h) shown (P.homes pages.old - P.next pages.old) head.now.root) }
+    ensures room { (start : Start) (shown : List (List ℕ)) (h : History) → P.shows pages.old start shown → O.honest (disk_of shelf.old) (pen_of shelf.old)
+        → Bears (TreeLies (O.block_count (disk_of shelf.old))) settings (settled_in (O.model (pen_of shelf.old))) head.now shown h → Mirrors sequencer.now h
+        → OnOk result (HasRoom (IsNextVersion h) shown (P.homes pages.old - P.next pages.old) head.now.root head.now.applied) }
     ensures shows { (start : Start) (shown : List (List ℕ)) → P.shows pages.old start shown → (after : List (List ℕ)) × P.shows pages.new start after }
     ensures shelf { KeepsBlocks O.OnceDisk 2000 shelf.old shelf.new (result ≡ Err ApplyError.OnceFull) }
     ensures homes { P.homes pages.new ≡ P.homes pages.old }

@@ -8,7 +8,7 @@ use Rattle.archive_pages.proofs.api.Passing.{Passes}
 use Rattle.disk_archive.specs.declared.apply_error.ApplyError.TheVariants as applies
 use Rattle.disk_archive.proofs.Failing.{reports_none, reports_as}
 use Rattle.disk_archive.proofs.Faults.{done_not_told, one_told}
-use Rattle.disk_archive.proofs.Lacking.{lacks_as, next_version}
+use Rattle.disk_archive.proofs.Lacking.{lacks_as, next_version, one_as, version_next}
 use Rattle.disk_archive.proofs.Limited.{on_told}
 use Rattle.disk_archive.proofs.Outcomes.{is_less}
 use Rattle.disk_archive.proofs.Plans.{lane_at}
@@ -79,6 +79,18 @@ returns-in_err-place-clause-lacks g c start shown h later shows honest b here =
     on_told c.from_residual.result e _ c.from_residual.ensures.1
     (lacks_as _ _ shown _ _ e (λ v is. next_version _ c.args.settings _ c.args.head.now shown h (placed c.args.collector c.args.admission.now) later v b here is)
     (c.in_err-place.ensures.lacks start shown _ c.args.collector b.versions shows honest b.tree))
+
+pub returns-clause-room : goal.returns-clause-room
+returns-clause-room g c start shown h later shows honest b here =
+    let head = c.args.head.now in
+    let first = placed c.args.collector c.args.admission.now in
+    let view = ap (λ (x : Contents). x.applied) c.head.view_is in
+    let most = c.if-head.false in
+    record {
+      counted = omega (arith, view, most);
+      version = one_as _ _ shown _ _ (λ v is. next_version _ c.args.settings _ head shown h first later v b here is) (λ v is. version_next _ c.args.settings _ head shown h first later v b here is)
+          (c.in_ok-place.ensures.room start shown _ c.args.collector b.versions shows honest b.tree);
+    }
 
 -- ---- how often both disks failed
 

@@ -1,4 +1,4 @@
-use Rattle.std.proofs.Common.{rules, [], ◌∷◌, sym, subst}
+use Rattle.std.proofs.Common.{rules, [], ◌∷◌, inr, sym, subst}
 use Rattle.disk_models.specs.Once.{settled_in}
 use Rattle.once_store.specs.Shelves.{disk_of, pen_of}
 use Rattle.archive_head.specs.Head.{Contents}
@@ -10,8 +10,8 @@ use Rattle.archive_pages.specs.Changes.{next_change}
 use Rattle.sequencer.proofs.api.Calls.{if_ok}
 use Rattle.disk_archive.specs.inner.Applications.{TakesNext}
 use Rattle.disk_archive.proofs.Failing.{reports_none}
-use Rattle.disk_archive.proofs.Lacking.{lacks_as}
-use Rattle.disk_archive.proofs.Outcomes.{if_err, if_none_at, if_some_at}
+use Rattle.disk_archive.proofs.Lacking.{lacks_as, none_versions}
+use Rattle.disk_archive.proofs.Outcomes.{if_err, if_none_at, if_some_at, ok_then}
 use Rattle.disk_archive.proofs.Stepping.{takes_none, takes_one}
 use Rattle.disk_archive.proofs.planning_application.take_next.Goals as goal
 
@@ -37,6 +37,16 @@ returns-in-Some-clause-lacks g c start shown low collector versions shows honest
     if_err c.take_version.result _ _
     (λ e. lacks_as _ _ shown _ _ e (λ v same. subst (λ (x : Version). AreVersions c.args.head.now.applied (next_change c.args.head.now.begun (placed collector c.args.admission.now)) (x ∷ [])) (sym same) is))
     (c.take_version.ensures.lacks start shown low versions shows honest t)
+
+-- ---- what there is enough of
+
+pub returns-in-Some-clause-room : goal.returns-in-Some-clause-room
+returns-in-Some-clause-room g c start shown low collector versions shows honest t =
+    let is = if_some_at c.in_ok-next.next c.in-Some.entry _ c.in-Some.is c.in_ok-next.ensures.some collector in
+    ok_then c.take_version.result _ _ (λ neither. inr (version_of c.in-Some.entry, is, neither)) (c.take_version.ensures.room start shown low versions shows honest t)
+
+pub returns-in-None-clause-room : goal.returns-in-None-clause-room
+returns-in-None-clause-room g c start shown low collector versions shows honest t = none_versions _ shown _ _ _ (if_none_at c.in_ok-next.next _ c.in-None.is c.in_ok-next.ensures.none collector)
 
 -- ---- how often both disks failed
 

@@ -9,7 +9,7 @@ use Rattle.version_model.specs.Entries.{version_of}
 use Rattle.once_store.specs.declared.error.AppendError.TheVariants as appends
 use Rattle.page_tx.specs.declared.error.PageError.TheVariants as pages
 use Rattle.tsb_tree.specs.declared.error.TreeError.TheVariants as trees
-use Rattle.tsb_tree.specs.Opened.{HasRootLevel}
+use Rattle.tsb_tree.specs.Opened.{HasRootLevel, ShowsRoot}
 use Rattle.tsb_tree.specs.NoRoom.{AtRoot}
 use Rattle.tsb_tree.specs.Needs.{NeedsLevel, NeedsPages}
 use Rattle.tsb_tree.specs.Refusals.{BlamesNone, InsertRefusal, ReadRefusal}
@@ -18,7 +18,8 @@ use Rattle.disk_archive.proofs.Failing.{reports_both, reports_first, reports_non
 use Rattle.disk_archive.proofs.Faults.{done_not_told, one_told}
 use Rattle.disk_archive.proofs.Keeping.{joined_few}
 use Rattle.tsb_tree.specs.Outlived.{LeadsToOutdated}
-use Rattle.disk_archive.proofs.Lacking.{lacks_by}
+use Rattle.tsb_tree.proofs.Roots.{tree_root}
+use Rattle.disk_archive.proofs.Lacking.{lacks_by, lacks_neither}
 use Rattle.disk_archive.proofs.Taking.{shown_at, taken_at}
 use Rattle.disk_archive.proofs.planning_application.take_version.Goals as goal
 
@@ -146,6 +147,7 @@ returns-in-Err-insert-clause-lacks g c start shown low versions shows honest t =
     record {
       version = v;
       its = refl;
+      highest = subst (λ (n : ℕ). ShowsRoot shown h.root n) (sym level ∙ seven) (tree_root shown t.store versions h.root t.level t.says t.has.stands);
       needs = subst (λ (n : ℕ). AtRoot (NeedsLevel shown v) h.root n) seven (subst (λ (r : ℕ). AtRoot (NeedsLevel shown v) r c.in-Ok.place.level) here (c.in-Err-insert.ensures.high start shown versions tree (ap Err (e.high high))));
     })
     (λ once. record {
@@ -154,6 +156,34 @@ returns-in-Err-insert-clause-lacks g c start shown low versions shows honest t =
       level = c.in-Ok.place.level;
       needs = subst (λ (r : ℕ). AtRoot (LeadsToOutdated shown v) r c.in-Ok.place.level) here (c.in-Err-insert.ensures.once start shown versions tree _ (ap Err (e.once once)));
     })
+
+pub returns-in-Ok-insert-clause-room : goal.returns-in-Ok-insert-clause-room
+returns-in-Ok-insert-clause-room g c start shown low versions shows honest t =
+    let P = g.P.Pages in
+    let O = g.O.OnceDisk in
+    let h = c.args.head.now in
+    let v = version_of c.args.entry.now in
+    let view = c.head.view_is in
+    let reads = c.open.ensures.reads in
+    let homes = reads.homes in
+    let next = reads.next in
+    let shows' = reads.shown start shown shows in
+    let count : length shown ≡ P.homes c.open.new.pages = g.met.P.Pages.count c.args.pages.now start shown shows ∙ sym reads.homes in
+    let next' = reads.next ∙ (c.requires.next ∙ ap (λ n. min h.fresh n) (sym reads.homes)) in
+    let root = ap (λ (x : Contents). x.root) view in
+    let least : c.new-least.result ≡ stamp_of h.last h.applied = c.new-least.ensures.number ∙ (ap (λ (t : ℕ). stamp_of t c.head.inside.applied) (c.seconds.ensures.seconds ∙ ap (λ (x : Contents). x.last) view) ∙ ap (λ (n : ℕ). stamp_of h.last n) (ap (λ (x : Contents). x.applied) view)) in
+    let level = c.in-Ok.ensures.opened start shown shows t.store versions t.level t.says (subst (λ (r : ℕ). TreeStands t.store versions r t.level) (sym root) t.has.stands) in
+    let here = c.in-Ok.ensures.root ∙ root in
+    let tree = shown_at P c.open.new.pages O c.args.shelf.now start shown low h.root h.fresh h.block (stamp_of h.last h.applied) versions shows' honest count next' c.requires.block t
+    c.in-Ok.place.root c.in-Ok.place.level c.in-Ok.place.least here level (c.in-Ok.ensures.least ∙ least) in
+    let i = c.in-Ok-insert.ensures in
+    let u = i.uses start shown versions tree in
+    let used = u.2 in
+    let last = g.met.P.Pages.last c.insert.new.pages in
+    let all = c.insert.ensures.homes in
+    lacks_neither v shown _ h.root c.in-Ok.place.level u.0 (subst (λ (r : ℕ). AtRoot (λ place. NeedsPages shown v place u.0) r c.in-Ok.place.level) here u.1) (omega (arith, used, last, all, homes, next)) c.in-Ok-insert.now.level
+    (subst (λ (r : ℕ). HasRootLevel shown r c.in-Ok.place.level) root (c.in-Ok.ensures.level start shown shows)) i.few
+    (λ needs. i.rises start shown versions tree (subst (λ (r : ℕ). AtRoot (NeedsLevel shown v) r c.in-Ok.place.level) (sym here) needs))
 
 -- ---- how often both disks failed
 

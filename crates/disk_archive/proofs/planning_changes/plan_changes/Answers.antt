@@ -15,7 +15,7 @@ use Rattle.disk_archive.proofs.Failing.{no_err, reports_first, reports_then, rep
 use Rattle.disk_archive.proofs.Faults.{done_not_told, one_told, told_as}
 use Rattle.disk_archive.proofs.Keeping.{joined_few, keeps_none, keeps_then, keeps_fewer, keeps_told}
 use Rattle.disk_archive.proofs.Reaching.{advances_then, plans_move}
-use Rattle.disk_archive.proofs.Lacking.{front_applies, front_lacks, front_limits, head_reads, lacks_at}
+use Rattle.disk_archive.proofs.Lacking.{front_applies, front_lacks, front_limits, head_reads, lacks_at, room_at}
 use Rattle.disk_archive.proofs.Limited.{limits_as, on_told}
 use Rattle.disk_archive.proofs.planning_changes.plan_changes.Goals as goal
 
@@ -151,6 +151,17 @@ returns-in_err-plan_step-clause-limits g c =
 
 pub returns-in-Err-clause-limits : goal.returns-in-Err-clause-limits
 returns-in-Err-clause-limits g c = c.of_pages.ensures.limits _ _ _ (λ e. absurd (subst (HeadRefusal _) e c.in-Err.ensures.refused))
+
+pub returns-in-Ok-clause-room : goal.returns-in-Ok-clause-room
+returns-in-Ok-clause-room g c start shown h shows honest b m =
+    let count = g.O.OnceDisk.block_count (disk_of c.args.shelf.now) in
+    let settled = settled_in (g.O.OnceDisk.model (pen_of c.args.shelf.now)) in
+    let head = c.in_ok-plan.ensures.head in
+    let was = c.in_ok-plan.ensures.reached count (g.O.OnceDisk.model (pen_of c.args.shelf.now)) start shown h shows b m in
+    let r : Reached count c.args.settings settled (g.P.Pages.shows c.begin_plan.new.pages start) c.args.sequencer.now c.in_ok-plan.plan h =
+    record { pages = shown; shown = c.begin_plan.ensures.reads start shown shows; bears = subst (λ (x : Contents). Bears (TreeLies count) c.args.settings settled x shown h) (sym head) b; mirrors = was.mirrors; first = was.first } in
+    room_at _ shown _ _ _ _ _ _ (let homes = c.begin_plan.ensures.homes in let next = c.begin_plan.ensures.next in omega (arith, homes, next)) (ap (λ (x : Contents). x.root) head) (ap (λ (x : Contents). x.applied) head)
+    (c.in_ok-plan_step.ensures.room start h honest r)
 
 -- ---- a device failed after the first change
 

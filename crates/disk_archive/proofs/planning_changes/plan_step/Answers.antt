@@ -81,6 +81,11 @@ returns-in_err-whole-clause-lacks g c start h honest r =
     let f = at_hand h c.args.plan.now.front c.admission-admission.result.now (r.first c.requires.hand) (sym c.admission-admission.ensures) in
     on_told c.from_residual.result c.in_err-whole.field-0.0 _ c.from_residual.ensures.1 (c.in_err-whole.ensures.lacks start r.pages h f.later r.shown honest r.bears f.here)
 
+pub returns-clause-room : goal.returns-clause-room
+returns-clause-room g c start h honest r =
+    let f = at_hand h c.args.plan.now.front c.admission-admission.result.now (r.first c.requires.hand) (sym c.admission-admission.ensures) in
+    c.in_ok-whole.ensures.room start r.pages h f.later r.shown honest r.bears f.here
+
 -- ---- how often both disks failed
 
 pub returns-in_err-whole-clause-failed : goal.returns-in_err-whole-clause-failed

@@ -1,4 +1,4 @@
-use Rattle.std.proofs.Common.{◌≡◌, ⊎_elim, ap, sym, ◌∙◌, arith}
+use Rattle.std.proofs.Common.{◌≡◌, ⊎_elim, ap, refl, sym, ◌∙◌, arith}
 use Rattle.page_journal.specs.Journal.{disk_of}
 use Rattle.disk_archive.proofs.Outcomes.{err_then}
 use Rattle.disk_archive.proofs.Lasting.{down_still, held_clock, held_err, lasts_by}
@@ -7,7 +7,7 @@ use Rattle.route_meaning.specs.History.{applied}
 use Rattle.disk_archive.proofs.Counts.{changes_are}
 use Rattle.disk_archive.specs.declared.apply_error.ApplyError.TheVariants as applies
 use Rattle.disk_archive.proofs.Faults.{one_told}
-use Rattle.disk_archive.proofs.Lacking.{lacks_block, lacks_level, lacks_pages}
+use Rattle.disk_archive.proofs.Lacking.{lacks_block, lacks_level, lacks_pages, room_at}
 use Rattle.disk_archive.proofs.Limited.{counter_of, pages_of}
 use Rattle.disk_archive.proofs.Telling.{borne_of}
 use Rattle.disk_archive.proofs.archive.Archive.apply_step.Goals as goal
@@ -92,4 +92,10 @@ pub returns-clause-block_needed : goal.returns-clause-block_needed
 returns-clause-block_needed g c honest h held told = ⊎_elim
     (λ k. (k.pages, k.maps, lacks_block _ k.pages _ _ c.try_apply.result (c.try_apply.ensures.lacks h k) told))
     (λ w. absurd (let other : applies.NeedsRecovery ≡ applies.OnceFull = one_told c.try_apply.result applies.NeedsRecovery applies.OnceFull (c.try_apply.ensures.told w.unusable) told in cc))
+    (held honest)
+
+pub returns-clause-room : goal.returns-clause-room
+returns-clause-room g c told honest h held = ⊎_elim
+    (λ k. (k.pages, k.maps, room_at _ k.pages _ _ _ _ _ _ refl refl (k.bears.numbered ∙ changes_are (applied h)) (c.try_apply.ensures.room told h k)))
+    (λ w. absurd (cc (c.try_apply.ensures.told w.unusable, told)))
     (held honest)

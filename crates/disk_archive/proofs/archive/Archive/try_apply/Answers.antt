@@ -14,7 +14,7 @@ use Rattle.disk_archive.proofs.Calling.{Ready, start_of, grows_none, unwritten, 
 use Rattle.disk_archive.proofs.Burning.{carries_more, refused_more, done_more}
 use Rattle.disk_archive.proofs.Applied.{begins_moved}
 use Rattle.disk_archive.proofs.Staying.{told_fault}
-use Rattle.disk_archive.proofs.Lacking.{lacks_at, lacks_commit}
+use Rattle.disk_archive.proofs.Lacking.{lacks_at, lacks_commit, room_at}
 use Rattle.disk_archive.proofs.Limited.{limits_as, limits_commit, limits_fresh, on_told}
 use Rattle.disk_archive.proofs.archive.Archive.try_apply.Goals as goal
 
@@ -180,6 +180,13 @@ returns-in_err-commit-clause-lacks g c h k = on_told c.from_residual-in_err-comm
 
 pub returns-in_err-head-clause-high : goal.returns-in_err-head-clause-high
 returns-in_err-head-clause-high g c honest pages maps told = c.plan_changes.ensures.high _ pages (c.in_ok-begin_from.ensures.shown honest.0 pages maps) (search (rules, told))
+
+pub returns-clause-room : goal.returns-clause-room
+returns-clause-room g c told h k =
+    let a = c.args.self.now in
+    let s0 = c.in_ok-begin_from.ensures.shown k.honest.0 k.pages k.maps in
+    room_at _ k.pages _ _ _ _ _ _ (let homes = ap home_pages c.begin_from.ensures.same in let next = c.in_ok-begin_from.ensures.next in omega (arith, homes, next)) refl refl
+    (c.in_ok-head.ensures.room (start_of a h k) k.pages h s0 k.honest.1 k.bears k.mirrors)
 
 -- ---- how often both disks failed
 
