@@ -1,10 +1,10 @@
 -- Ranges that are read and written part by part.
 use borrow.Rule.Slice.PartMut.{put_mid, post_of}
-use Rattle.std.proofs.Common.{◌≡◌, ◌≤◌, ◌<◌, ℕ, ◌+◌, List, [], ◌∷◌, ◌++◌, get_or, length, take, drop, refl, sym, ◌∙◌, ap, inr, arith}
+use Rattle.std.proofs.Common.{◌≡◌, ◌≤◌, ℕ, ◌+◌, List, [], ◌∷◌, ◌++◌, get_or, length, take, drop, refl, sym, ◌∙◌, ap, inr, arith}
 use Rattle.std.proofs.lemmas.List.{length-take-le, take-append-le}
 use Rattle.std.proofs.Math.Seq.{take-add, take-append-add}
-use Rattle.disk_models.specs.Octets.{octets, Within}
-use Rattle.disk_models.specs.Erase.{DiskState, Leaves, MayLeave, Stays, Lingers, Syncs, WritesWithin}
+use Rattle.disk_models.specs.Octets.{octets}
+use Rattle.disk_models.specs.Erase.{DiskState, MayLeave, Stays, Lingers, Syncs, WritesWithin}
 use Rattle.disk_files.specs.Marked.{IsMarked}
 use Rattle.disk_models.proofs.api.OctetLemmas.{octets-add, octets_agree}
 use Rattle.disk_models.proofs.api.Moments.{leaves_then, leaves_weaker, moves_then, stays_may_leave}

@@ -1,11 +1,12 @@
 //! The erasable disk over a file.
 
-ghost use Rattle.std.specs.Prelude.{◌≡◌, ◌≤◌, ◌<◌, ◌+◌, ◌↔◌, ℕ, length, min, true, false, IfOk, IfErr, IsErr, IsOk, Err, OnOk, OnErr};
+ghost use Rattle.std.specs.Prelude.{◌≡◌, ◌≢◌, ◌≤◌, ◌<◌, ◌+◌, ◌↔◌, ℕ, length, min, true, false, IfOk, IfErr, IsErr, IsOk, Err, OnOk, OnErr};
 ghost use Rattle.disk_models.specs.Octets.{octets};
 ghost use Rattle.disk_models.specs.Erase.{Counts, Lingers, Stays, Syncs, WritesWithin};
+ghost use Rattle.disk_files.specs.Files.{FileLingers, FileStays, IsReady};
 ghost use Rattle.disk_files.specs.Sizes.{ArePages};
 ghost use Rattle.disk_files.specs.Nothing.{no_octets};
-ghost use Rattle.disk_files.specs.Refusals.{IsOfSize};
+ghost use Rattle.disk_files.specs.Refusals.{ArePagesUnopened, IsUnmade, IsUnopened};
 
 use crate::error::{FileError, Part};
 use crate::failure::{Call, Failures, Reason};
@@ -13,6 +14,7 @@ use crate::file::{Access, OctetFile};
 use crate::folder;
 use crate::noting::NotedFile;
 use crate::opening::{open, prepare};
+use crate::refused::Refused;
 use crate::size::are_pages;
 use crate::transfer::{read_whole, sync_whole, write_whole};
 use disk_models::{EraseDisk, Fault};
@@ -35,14 +37,14 @@ pub struct FileErase<F = NotedFile> {
 }
 
 impl<F: OctetFile> FileErase<F> {
-    ghost use Rattle.disk_files.specs.Pages.{IsFresh, access_of, faults_of, file_of, is_broken, size_of};
+    ghost use Rattle.disk_files.specs.Pages.{IsNewErase, access_of, faults_of, file_left, file_of, is_broken, size_of};
 
     /// A disk over this file, which has this size and is held so.
     fn over(file: F, size: u64, access: Access) -> Self
+        requires { ArePages size }
         ensures file { file_of result ≡ file }
         ensures size { size_of result ≡ size }
-        ensures access { access_of result ≡ access }
-        ensures fresh { IsFresh result }
+        ensures new { IsNewErase access result }
     {
         FileErase {
             file,
@@ -56,59 +58,54 @@ impl<F: OctetFile> FileErase<F> {
     /// Makes a disk of `size` octets, a positive multiple of 16,384 below 2^63, in a new file that the caller gives. It is
     /// locked. One that has octets is refused, and keeps them; where the call is refused otherwise, what it then holds is
     /// left to the caller.
-    pub fn create_on(mut file: F, size: u64) -> Result<Self, FileError>
-    where
-        F: Drop,
+    #[tactic(auto, using(crate::proofs::Leaving::file_stays_none))]
+    pub fn create_on(mut file: F, size: u64) -> Result<Self, Refused<F>>
         ensures size { IfOk result (λ disk. size_of disk ≡ size) }
-        ensures access { IfOk result (λ disk. access_of disk ≡ Access.Alone) }
-        ensures fresh { IfOk result IsFresh }
-        ensures held { F.follows file → IfOk result (λ disk. F.is_held (file_of disk) Access.Alone) }
+        ensures new { IfOk result (IsNewErase Access.Alone) }
         ensures whole { F.follows file → IfOk result (λ disk. F.octet_count (file_of disk) ≡ size) }
-        ensures settled { F.follows file → IfOk result (λ disk. (i : ℕ) → ¬ (F.model (file_of disk)).unsynced i) }
+        ensures ready { IfOk result (λ disk. IsReady F.OctetFile Access.Alone file (file_of disk)) }
         ensures empty { F.follows file → IsOk result → F.octet_count file ≡ 0 }
-        ensures refused { ¬ ArePages size → result ≡ Err (FileError.Size Part.Pages) }
-        ensures right_size { ArePages size → IfErr result (λ e. ¬ IsOfSize e) }
+        ensures kept { F.follows file → F.octet_count file ≢ 0 → FileStays F.OctetFile file (file_left result) }
+        ensures refused { ¬ ArePages size → result ≡ Err (record { files = file; error = FileError.Size Part.Pages }) }
+        ensures unmade { ArePages size → IfErr result (λ refused. IsUnmade Part.Pages refused.error) }
     {
         if !are_pages(size) {
-            return Err(FileError::Size(Part::Pages));
+            return Err(Refused::of(file, FileError::Size(Part::Pages)));
         }
-        prepare(&mut file, size, Part::Pages)?;
-        Ok(FileErase::over(file, size, Access::Alone))
+        match prepare(&mut file, size, Part::Pages) {
+            Ok(()) => Ok(FileErase::over(file, size, Access::Alone)),
+            Err(error) => Err(Refused::of(file, error)),
+        }
     }
 
-    /// The disk in a file that the caller gives. It is locked with this access, and synced to the device.
-    pub fn open_on(mut file: F, access: Access) -> Result<Self, FileError>
-    where
-        F: Drop,
+    /// The disk in a file that the caller gives. It is locked with this access, and synced to the device. Nothing is written to it, also
+    /// where it is refused.
+    pub fn open_on(mut file: F, access: Access) -> Result<Self, Refused<F>>
         ensures size { F.follows file → IfOk result (λ disk. size_of disk ≡ F.octet_count file) }
-        ensures whole { F.follows file → IfOk result (λ disk. F.octet_count (file_of disk) ≡ F.octet_count file) }
-        ensures pages { IfOk result (λ disk. ArePages (size_of disk)) }
-        ensures access { IfOk result (λ disk. access_of disk ≡ access) }
-        ensures fresh { IfOk result IsFresh }
-        ensures held { F.follows file → IfOk result (λ disk. F.is_held (file_of disk) access) }
-        ensures settled { F.follows file → IfOk result (λ disk. (i : ℕ) → ¬ (F.model (file_of disk)).unsynced i) }
-        ensures lingers { F.follows file → IfOk result (λ disk. Lingers (F.model file) (F.model (file_of disk))) }
-        ensures right_size { F.follows file → ArePages (F.octet_count file) → IfErr result (λ e. ¬ IsOfSize e) }
+        ensures new { IfOk result (IsNewErase access) }
+        ensures ready { IfOk result (λ disk. IsReady F.OctetFile access file (file_of disk)) }
+        ensures left { FileLingers F.OctetFile file (file_left result) }
+        ensures unopened { IfErr result (λ refused. ArePagesUnopened refused.error) }
+        ensures right_size { F.follows file → ArePages (F.octet_count file) → IfErr result (λ refused. IsUnopened Part.Pages refused.error) }
     {
-        let size = open(&mut file, access, Part::Pages)?;
-        if !are_pages(size) {
-            return Err(FileError::Size(Part::Pages));
+        match open(&mut file, access, Part::Pages) {
+            Ok(size) if are_pages(size) => Ok(FileErase::over(file, size, access)),
+            Ok(_) => Err(Refused::of(file, FileError::Size(Part::Pages))),
+            Err(error) => Err(Refused::of(file, error)),
         }
-        Ok(FileErase::over(file, size, access))
     }
 
     /// Makes the disk usable again after a write or a sync that failed, as opening its file does: what a read gives from then
-    /// on stands on the device. Its file stays open and locked. Where it fails the disk is broken.
+    /// on stands on the device. Its file stays open and locked. Nothing is written to it, also where this fails; then the disk is broken.
+    #[tactic(auto, using(crate::proofs::Leaving::file_lingers_none))]
     pub fn renew(&mut self) -> Result<(), Fault>
         ensures size { size_of self.new ≡ size_of self.old }
         ensures access { access_of self.new ≡ access_of self.old }
         ensures counts { Counts (faults_of self.old) (faults_of self.new) result }
         ensures whole { OnOk result (is_broken self.new ≡ false) }
         ensures broken { OnErr result (is_broken self.new ≡ true) }
-        ensures follows { F.follows (file_of self.old) ↔ F.follows (file_of self.new) }
-        ensures held { F.follows (file_of self.old) → OnOk result (F.is_held (file_of self.new) (access_of self.old)) }
-        ensures settled { F.follows (file_of self.old) → OnOk result ((i : ℕ) → ¬ (F.model (file_of self.new)).unsynced i) }
-        ensures lingers { F.follows (file_of self.old) → OnOk result (Lingers (F.model (file_of self.old)) (F.model (file_of self.new))) }
+        ensures ready { OnOk result (IsReady F.OctetFile (access_of self.old) (file_of self.old) (file_of self.new)) }
+        ensures left { FileLingers F.OctetFile (file_of self.old) (file_of self.new) }
         ensures cut { F.follows (file_of self.old) → F.octet_count (file_of self.old) < size_of self.old → IsErr result }
     {
         match open(&mut self.file, self.access, Part::Pages) {
@@ -138,7 +135,7 @@ impl<F: OctetFile> FileErase<F> {
 }
 
 impl FileErase {
-    ghost use Rattle.disk_files.specs.Pages.{IsFresh, access_of, faults_of, is_broken, size_of};
+    ghost use Rattle.disk_files.specs.Pages.{IsNewErase, IsFresh, access_of, faults_of, is_broken, size_of};
 
     /// Makes `pages.rha` in a folder, of `size` octets: a positive multiple of 16,384, below 2^63. It takes no space on the
     /// device before it is written to.
@@ -151,10 +148,9 @@ impl FileErase {
         size: u64,
     ) -> Result<Self, FileError>
         ensures size { IfOk result (λ disk. size_of disk ≡ size) }
-        ensures access { IfOk result (λ disk. access_of disk ≡ Access.Alone) }
-        ensures fresh { IfOk result IsFresh }
+        ensures new { IfOk result (IsNewErase Access.Alone) }
         ensures refused { ¬ ArePages size → result ≡ Err (FileError.Size Part.Pages) }
-        ensures right_size { ArePages size → IfErr result (λ e. ¬ IsOfSize e) }
+        ensures unmade { ArePages size → IfErr result (IsUnmade Part.Pages) }
     {
         if !are_pages(size) {
             return Err(FileError::Size(Part::Pages));
@@ -171,9 +167,8 @@ impl FileErase {
         folder: &str,
         access: Access,
     ) -> Result<Self, FileError>
-        ensures pages { IfOk result (λ disk. ArePages (size_of disk)) }
-        ensures access { IfOk result (λ disk. access_of disk ≡ access) }
-        ensures fresh { IfOk result IsFresh }
+        ensures new { IfOk result (IsNewErase access) }
+        ensures unopened { IfErr result ArePagesUnopened }
     {
         let (file, size) = folder::open(alloc, files, folder, access, Part::Pages)?;
         if !are_pages(size) {
@@ -278,6 +273,7 @@ impl<F: OctetFile> EraseDisk for FileErase<F> {
 
     /// Beside the trait's clauses: where it fails the disk is broken, and fails from then on. What it does with a file that
     /// follows its model, and that it fails where it was cut.
+    #[tactic(auto, using(crate::proofs::Leaving::lingers_none))]
     fn sync(&mut self) -> Result<(), Fault>
         ensures size { size_of self.new ≡ size_of self.old }
         ensures access { access_of self.new ≡ access_of self.old }
@@ -287,7 +283,7 @@ impl<F: OctetFile> EraseDisk for FileErase<F> {
         ensures broken { OnErr result (is_broken self.new ≡ true) }
         ensures follows { F.follows (file_of self.old) ↔ F.follows (file_of self.new) }
         ensures syncs { F.follows (file_of self.old) → OnOk result (Syncs (F.model (file_of self.old)) (F.model (file_of self.new))) }
-        ensures lingers { F.follows (file_of self.old) → is_broken self.old ≡ false → Lingers (F.model (file_of self.old)) (F.model (file_of self.new)) }
+        ensures lingers { F.follows (file_of self.old) → Lingers (F.model (file_of self.old)) (F.model (file_of self.new)) }
         ensures cut { F.follows (file_of self.old) → F.octet_count (file_of self.old) < size_of self.old → IsErr result }
     {
         if self.is_broken {

@@ -1,12 +1,12 @@
 //! An archive is created in a new folder.
 
 ghost use Rattle.std.specs.Prelude.{◌≡◌, ◌≢◌, ◌+◌, ◌*◌, ◌<◌, ◌≤◌, ◌^◌, ◌↔◌, IfOk, IfErr, IsErr, Err};
-ghost use Rattle.disk_files.specs.Refusals.{IsOfSize};
 ghost use Rattle.disk_files.specs.Sizes.{AreBlocks, ArePages};
 ghost use Rattle.interleaving_core.specs.Steps.{empty};
 ghost use Rattle.archive_pages.specs.Places.{AreSettings, tree_low};
 ghost use Rattle.disk_archive.specs.Creations.{homes_on};
 ghost use Rattle.disk_archive.specs.Notes.{note_octets};
+ghost use Rattle.file_archive.specs.Faults.{IsUncreated};
 ghost use Rattle.file_archive.specs.FileArchives.{FollowModels, GoesOnWith, limit_for, limit_of, site_in};
 
 use crate::disks::{FileDisks, disk_size, take_away};
@@ -38,7 +38,7 @@ fn create_in<R: Files<File = File>>(
     ensures limit { IfOk result (λ archive. limit_of archive ≡ limit_for settings) }
     ensures large { result ≢ Err (CreateFault.Archive CreateError.PagesFull) }
     ensures no_blocks { ¬ AreBlocks blocks → IsErr result }
-    ensures right_size { AreBlocks blocks → (why : FileError) → result ≡ Err (CreateFault.File why) → ¬ IsOfSize why }
+    ensures uncreated { AreBlocks blocks → IfErr result IsUncreated }
 {
     let FileDisks {
         erase,
@@ -91,7 +91,7 @@ impl FileArchive {
         ensures full { (result ≡ Err (CreateFault.Archive CreateError.PagesFull)) ↔ (pages < tree_low settings + 2) }
         ensures large { tree_low settings + 2 ≤ pages → 2 ^ 49 ≤ 265 + pages → result ≡ Err (CreateFault.File (FileError.Size Part.Pages)) }
         ensures no_blocks { ¬ AreBlocks blocks → IsErr result }
-        ensures right_size { 265 + pages < 2 ^ 49 → AreBlocks blocks → (why : FileError) → result ≡ Err (CreateFault.File why) → ¬ IsOfSize why }
+        ensures uncreated { tree_low settings + 2 ≤ pages → 265 + pages < 2 ^ 49 → AreBlocks blocks → IfErr result IsUncreated }
     {
         if pages < settings.tree_low() + 2 {
             return Err(CreateFault::Archive(CreateError::PagesFull));

@@ -1,13 +1,16 @@
 //! Both disks over the files of a folder.
 
-ghost use Rattle.std.specs.Prelude.{◌≡◌, ◌+◌, ◌*◌, ◌≤◌, ◌^◌, ◌↔◌, IfOk, IfErr, IsErr, Err};
+ghost use Rattle.std.specs.Prelude.{◌≡◌, ◌⊎◌, ◌+◌, ◌*◌, ◌<◌, ◌≤◌, ◌^◌, ◌↔◌, ℕ, IfOk, IfErr, IsErrAnd, Err};
 ghost use Rattle.disk_files.specs.Pages.{IsFresh, access_of, size_of};
 ghost use Rattle.disk_files.specs.Pens.{IsFreshPen, KeepsIdentity, pen_access, pen_identity};
-ghost use Rattle.disk_files.specs.Refusals.{IsOfSize};
+ghost use Rattle.disk_files.specs.Refusals.{IsUnmade};
 ghost use Rattle.disk_files.specs.Sizes.{AreBlocks, ArePages};
+ghost use Rattle.page_journal.specs.Layout.{slots_end};
+ghost use Rattle.file_archive.specs.Faults.{AreFilesUnmade, AreFilesUnopened};
 
 use crate::faults::OpenFault;
 use crate::slots::check_slots;
+use disk_archive::OpenError;
 use disk_files::{Access, Failures, FileErase, FileError, FileOnce, FilePen, Part};
 use std::alloc::{AllocError, Global};
 use std::fs::File;
@@ -63,8 +66,10 @@ impl FileDisks {
         ensures blocks { IfOk result (λ disks. count_of (once_in disks) ≡ blocks) }
         ensures fresh { IfOk result AreDisks }
         ensures held { IfOk result (AreHeld Access.Alone) }
-        ensures few { AreBlocks blocks → ArePages size → IfErr result (λ why. ¬ IsOfSize why) }
-        ensures refused { ¬ AreBlocks blocks → IsErr result }
+        ensures unmade { AreBlocks blocks → ArePages size → IfErr result AreFilesUnmade }
+
+        // Pages are made first.
+        ensures no_blocks { ¬ AreBlocks blocks → ArePages size → IsErrAnd result (λ why. (why ≡ FileError.Size Part.Map) ⊎ IsUnmade Part.Pages why) }
     {
         let mut erase = FileErase::create(alloc, files, folder, size)?;
         let (once, mut pen) = match FileOnce::create(alloc, files, folder, blocks) {
@@ -103,6 +108,7 @@ impl FileDisks {
     ) -> Result<FileDisks, FileError>
         ensures fresh { IfOk result AreDisks }
         ensures held { IfOk result (AreHeld access) }
+        ensures unopened { IfErr result AreFilesUnopened }
     {
         let mut erase = FileErase::open(alloc, files, folder, access)?;
         let (once, mut pen) = FileOnce::open(alloc, files, folder, access)?;
@@ -128,6 +134,8 @@ impl FileDisks {
     pub fn check_slots(&mut self) -> Result<(), OpenFault>
         ensures size { size_of (erase_in self.new) ≡ size_of (erase_in self.old) }
         ensures blocks { once_in self.new ≡ once_in self.old }
+        ensures small { (result ≡ Err (OpenFault.Archive OpenError.NotAJournal)) ↔ (size_of (erase_in self.old) < slots_end) }
+        ensures no_file { (why : FileError) → ¬ (result ≡ Err (OpenFault.File why)) }
     {
         match check_slots(&mut self.erase) {
             Ok(()) => Ok(()),

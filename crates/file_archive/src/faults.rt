@@ -1,6 +1,6 @@
 //! Why no archive is created, or opened, in a folder.
 
-ghost use Rattle.std.specs.Prelude.{◌≡◌, ◌↔◌, IsTrue};
+ghost use Rattle.std.specs.Prelude.{◌≡◌, ◌≢◌, ◌↔◌, IsTrue};
 ghost use Rattle.file_archive.specs.Faults.{NeedsAlone};
 ghost use Rattle.file_archive.specs.declared.faults.CreateFault.TheVariants as create_faults;
 ghost use Rattle.file_archive.specs.declared.faults.OpenFault.TheVariants as open_faults;
@@ -66,6 +66,7 @@ impl OpenFault {
     /// Why no archive is opened on the files of a folder.
     pub(crate) fn of(error: OpenError, failures: &Failures) -> OpenFault
         ensures archive { (why : OpenError) → result ≡ open_faults.Archive why → why ≡ error }
+        ensures named { error ≢ OpenError.Fault → result ≡ open_faults.Archive error }
         ensures no_file { (why : FileError) → ¬ (result ≡ open_faults.File why) }
     {
         match (error, failures.first()) {

@@ -1,12 +1,13 @@
 //! The archive in a folder is opened.
 
-ghost use Rattle.std.specs.Prelude.{◌≡◌, IfOk};
+ghost use Rattle.std.specs.Prelude.{◌≡◌, IfOk, IfErr, Err};
+ghost use Rattle.file_archive.specs.Faults.{IsUnopened};
 
 use crate::disks::FileDisks;
 use crate::faults::OpenFault;
 use crate::files::FileArchive;
 use disk_archive::Archive;
-use disk_files::Access;
+use disk_files::{Access, FileError};
 use std::alloc::Global;
 use std::fs::File;
 use std::rt::Files;
@@ -28,6 +29,7 @@ impl FileArchive {
         ensures limit { IfOk result (λ archive. limit_of archive ≡ limit_for (site_in archive).settings) }
         ensures blocks { IfOk result (λ archive. (site_in archive).blocks ≡ count_of (once_in disks)) }
         ensures noted { IfOk result (λ archive. FollowModels archive → IsNoted (site_in archive)) }
+        ensures no_file { (why : FileError) → ¬ (result ≡ Err (OpenFault.File why)) }
     {
         let FileDisks {
             erase,
@@ -54,6 +56,7 @@ impl FileArchive {
     ) -> Result<FileArchive, OpenFault>
         ensures limit { IfOk result (λ archive. limit_of archive ≡ limit_for (site_in archive).settings) }
         ensures noted { IfOk result (λ archive. FollowModels archive → IsNoted (site_in archive)) }
+        ensures unopened { IfErr result IsUnopened }
     {
         let disks = FileDisks::open(alloc, files, folder, Access::Alone)?;
         FileArchive::on(alloc, disks)

@@ -359,7 +359,8 @@ fn is_pipe_irregular(rt: &HostRuntime, folder: &str) -> Option<bool> {
 
 /// The same of a file that is at hand.
 fn not_opened_on_device(rt: &HostRuntime) -> Option<FileError> {
-    FileErase::open_on(beside(rt, "/dev", "null")?, Access::Alone).err()
+    let refused = FileErase::open_on(beside(rt, "/dev", "null")?, Access::Alone).err()?;
+    Some(refused.error)
 }
 
 #[test]

@@ -120,12 +120,14 @@ fn a_failed_read_changes_nothing_and_a_failed_write_ends_the_disk(rt: HostRuntim
 
 /// Why no disk is created over a file that does this wrong, if none is.
 fn not_created(alloc: Global, wrong: Wrong) -> Option<FileError> {
-    FileErase::create_on(SlowFile::new(alloc, 99, wrong), PAGE).err()
+    let refused = FileErase::create_on(SlowFile::new(alloc, 99, wrong), PAGE).err()?;
+    Some(refused.error)
 }
 
 /// Why none is opened.
 fn not_opened(alloc: Global, wrong: Wrong) -> Option<FileError> {
-    FileErase::open_on(SlowFile::new(alloc, 99, wrong), Access::Alone).err()
+    let refused = FileErase::open_on(SlowFile::new(alloc, 99, wrong), Access::Alone).err()?;
+    Some(refused.error)
 }
 
 /// What a file does wrong, and why it is refused.
@@ -142,11 +144,12 @@ const REFUSED: [(Wrong, FileError); 3] = [
     ),
 ];
 
-/// Why a file that has an octet isn't made anew.
-fn not_created_anew(alloc: Global) -> Option<FileError> {
+/// Why a file that has an octet isn't made anew, and how many octets it has then.
+fn not_created_anew(alloc: Global) -> Option<(FileError, usize)> {
     let mut file = SlowFile::new(alloc, 99, Wrong::Nothing);
     file.octets.push(7).ok()?;
-    FileErase::create_on(file, PAGE).err()
+    let refused = FileErase::create_on(file, PAGE).err()?;
+    Some((refused.error, refused.files.octets.len()))
 }
 
 #[test]
@@ -170,7 +173,7 @@ fn what_stands_against_an_opening_is_told(rt: HostRuntime) {
         not_opened(alloc, Wrong::Nothing) == size,
         "an empty file",
     );
-    let there = Some(FileError::Exists(Part::Pages));
+    let there = Some((FileError::Exists(Part::Pages), 1));
     be(
         &rt,
         not_created_anew(alloc) == there,
