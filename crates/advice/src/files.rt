@@ -1,6 +1,6 @@
 //! Advice about a file that was loaded.
 
-ghost use Rattle.std.specs.Prelude.{◌≡◌};
+ghost use Rattle.std.specs.Prelude.{◌≡◌, ◌<◌, None, IfSome};
 
 use crate::packed::Packing;
 use crate::saying::advise;
@@ -36,6 +36,12 @@ pub enum FileAdvice<'a> {
         late: u64,
         records: u64,
         mark: Mark,
+    },
+    /// Some of its records aren't kept, since they are older than one before them or than the collector's mark.
+    PartLate {
+        file: &'a str,
+        late: u64,
+        records: u64,
     },
     /// Many of its records were refused.
     Refused {
@@ -81,6 +87,14 @@ impl fmt::Display for FileAdvice<'_> {
                     "{file}: {late} of {records} records are late, and none is kept: they are older than the collector's mark {date}",
                 )
             }
+            FileAdvice::PartLate {
+                file,
+                late,
+                records,
+            } => write!(
+                f,
+                "{file}: {late} of {records} records are late, and not kept: they are older than records before them, or than the collector's mark, as the L lines say"
+            ),
             FileAdvice::Refused {
                 file,
                 refused,
@@ -101,8 +115,36 @@ impl fmt::Display for FileAdvice<'_> {
     }
 }
 
+/// The advice about late records of a file, exactly if there are such.
+fn advice_if_late<'a>(
+    file: &'a str,
+    counts: &FeedCounts,
+    mark: Option<Mark>,
+) -> Option<FileAdvice<'a>>
+    ensures some { IfSome result (λ words. 0 < counts.now.late) }
+    ensures none { result ≡ None → counts.now.late ≡ 0 }
+{
+    let (late, records) = (counts.late, counts.records);
+    if late == 0 {
+        return None;
+    }
+    match mark {
+        Some(mark) if counts.admitted == 0 => Some(FileAdvice::Late {
+            file,
+            late,
+            records,
+            mark,
+        }),
+        _ => Some(FileAdvice::PartLate {
+            file,
+            late,
+            records,
+        }),
+    }
+}
+
 /// Prints what a person may not expect of a file whose feed has these counts, if the collector's mark was this one before: that it isn't
-/// MRT, or that nothing of it, or little, was taken.
+/// MRT, or that nothing of it, or not all, was taken.
 pub fn advise_file<E: Write>(
     alloc: Global,
     file: &str,
@@ -118,18 +160,8 @@ pub fn advise_file<E: Write>(
     if doubts.is_empty {
         advise(alloc, &FileAdvice::Empty { file }, err);
     }
-    if let (true, Some(mark)) = (doubts.is_late, mark) {
-        let (late, records) = (counts.late, counts.records);
-        advise(
-            alloc,
-            &FileAdvice::Late {
-                file,
-                late,
-                records,
-                mark,
-            },
-            err,
-        );
+    if let Some(words) = advice_if_late(file, counts, mark) {
+        advise(alloc, &words, err);
     }
     if doubts.is_refused {
         let (refused, records) = (counts.refused, counts.records);

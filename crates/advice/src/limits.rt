@@ -39,7 +39,7 @@ impl LimitAdvice {
             )?;
         }
         f.write_str(
-            "make an archive with a larger --ring, at most 65535, and load it anew (a table dump waits whole, 150 entries a page)",
+            "make an archive with a larger --ring, at most 65535, and load it anew (a table dump waits whole, 140 entries a page)",
         )
     }
 }

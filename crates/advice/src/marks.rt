@@ -40,11 +40,12 @@ fn write_far<W: fmt::Write>(
 ) -> fmt::Result {
     let (date, last) = (Date(mark), Date(present));
     let days = mark.saturating_sub(present) / DAY;
+    let unit = if days == 1 { "day" } else { "days" };
     match present {
         0 => write!(f, "--mark: {date}, and the collector gave no record yet: ")?,
         _ => write!(
             f,
-            "--mark: {date} is {days} days after the collector's last record or mark, {last}: "
+            "--mark: {date} is {days} {unit} after the collector's last record or mark, {last}: "
         )?,
     }
     f.write_str(if is_held {

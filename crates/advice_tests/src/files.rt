@@ -37,7 +37,7 @@ struct Said {
     text: &'static str,
 }
 
-const SAID: [Said; 8] = [
+const SAID: [Said; 9] = [
     Said {
         packing: None,
         counts: FeedCounts {
@@ -103,6 +103,17 @@ const SAID: [Said; 8] = [
             skipped: 0,
         },
         text: "rha: a.mrt: 6 of 6 records are late, and none is kept: they are older than the collector's mark 2024-01-01T00:15:00Z (1704068100)\n",
+    },
+    Said {
+        packing: None,
+        counts: FeedCounts {
+            records: 100,
+            admitted: 1,
+            late: 99,
+            refused: 0,
+            skipped: 0,
+        },
+        text: "rha: a.mrt: 99 of 100 records are late, and not kept: they are older than records before them, or than the collector's mark, as the L lines say\n",
     },
     Said {
         packing: None,

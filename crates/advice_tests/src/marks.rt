@@ -15,7 +15,12 @@ fn said<D: Display>(alloc: Global, words: &D) -> Vec<u8> {
 }
 
 /// A mark far ahead of a collector's, whether it was set, and what is said of it.
-const FAR: [(u64, bool, &str); 3] = [
+const FAR: [(u64, bool, &str); 4] = [
+    (
+        2_272_060_799,
+        true,
+        "rha: --mark: 2042-01-01T00:00:00Z (2272147200) is 1 day after the collector's last record or mark, 2041-12-30T23:59:59Z (2272060799): it isn't set\n",
+    ),
     (
         1_704_067_200,
         false,
