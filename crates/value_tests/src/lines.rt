@@ -4,44 +4,43 @@ use crate::be;
 use crate::readers::{Broken, Slow};
 use line_reader::{Found, LIMIT, LineError, LineReader};
 use std::alloc::Global;
-use std::io;
 use std::io::Read;
+use std::process::Abort;
 
 /// The lines of a stream until one isn't read: each between angle brackets, then `.` for the end, `!` for a line that is too
 /// long or `?` for a failure.
-fn push_lines<R: Read>(lines: &mut LineReader<R>, told: &mut Vec<u8>) -> io::Result<()> {
+fn push_lines<R: Read>(rt: &impl Abort, lines: &mut LineReader<R>, told: &mut Vec<u8>) {
     for _ in 0..100 {
         let mark = match lines.read_line() {
             Ok(Found::Line) => {
-                told.push(b'<')?;
-                told.extend_from_slice(lines.line())?;
-                told.push(b'>')?;
+                told.push(b'<').expect(rt, "memory");
+                told.extend_from_slice(lines.line()).expect(rt, "memory");
+                told.push(b'>').expect(rt, "memory");
                 continue;
             }
             Ok(Found::End) => b'.',
             Err(LineError::TooLong) => b'!',
             Err(LineError::Failed(_)) => b'?',
         };
-        told.push(mark)?;
+        told.push(mark).expect(rt, "memory");
         break;
     }
-    Ok(())
 }
 
 /// The lines of a stream, and what it gives behind them.
-fn told_of<R: Read + Drop>(alloc: Global, reader: R) -> io::Result<Vec<u8>> {
+fn told_of<R: Read + Drop>(rt: &impl Abort, alloc: Global, reader: R) -> Vec<u8> {
     let mut told = Vec::new(alloc);
     let mut lines = LineReader::new(reader);
-    push_lines(&mut lines, &mut told)?;
-    lines.read_to_end(&mut told)?;
-    Ok(told)
+    push_lines(rt, &mut lines, &mut told);
+    lines.read_to_end(&mut told).expect(rt, "a stream");
+    told
 }
 
 /// Whether a stream has these lines, at once and octet by octet.
-fn has_lines(alloc: Global, stream: &[u8], wanted: &[u8]) -> io::Result<bool> {
-    let at_once = told_of(alloc, stream)?;
-    let slowly = told_of(alloc, Slow::new(stream))?;
-    Ok(at_once.as_slice() == wanted && slowly.as_slice() == wanted)
+fn has_lines(rt: &impl Abort, alloc: Global, stream: &[u8], wanted: &[u8]) -> bool {
+    let at_once = told_of(rt, alloc, stream);
+    let slowly = told_of(rt, alloc, Slow::new(stream));
+    at_once.as_slice() == wanted && slowly.as_slice() == wanted
 }
 
 /// A line ends in LF, or in CR and LF; any other octet stands in it, and what has no end is no line.
@@ -61,23 +60,22 @@ const STREAMS: [(&[u8], &[u8]); 9] = [
 ];
 
 #[test]
-fn lines_end_in_line_feeds(rt: HostRuntime) -> io::Result<()> {
+fn lines_end_in_line_feeds(rt: HostRuntime) {
     for (stream, wanted) in STREAMS {
         be(
             &rt,
-            has_lines(rt.alloc(), stream, wanted)?,
+            has_lines(&rt, rt.alloc(), stream, wanted),
             "lines end in line feeds",
         );
     }
-    Ok(())
 }
 
 /// So many octets, then these.
-fn long(alloc: Global, count: usize, behind: &[u8]) -> io::Result<Vec<u8>> {
+fn long(rt: &impl Abort, alloc: Global, count: usize, behind: &[u8]) -> Vec<u8> {
     let mut octets = Vec::new(alloc);
-    octets.resize(count, b'a')?;
-    octets.extend_from_slice(behind)?;
-    Ok(octets)
+    octets.resize(count, b'a').expect(rt, "memory");
+    octets.extend_from_slice(behind).expect(rt, "memory");
+    octets
 }
 
 /// How many octets the first line has, where it is one; the mark of why it isn't, else.
@@ -103,10 +101,10 @@ const LONG: [(usize, &[u8], Result<usize, u8>); 7] = [
 ];
 
 #[test]
-fn lines_have_a_limit(rt: HostRuntime) -> io::Result<()> {
+fn lines_have_a_limit(rt: HostRuntime) {
     be(&rt, LIMIT == 4096, "lines have a limit");
     for (count, behind, wanted) in LONG {
-        let stream = long(rt.alloc(), count, behind)?;
+        let stream = long(&rt, rt.alloc(), count, behind);
         be(
             &rt,
             first_len(stream.as_slice()) == wanted,
@@ -118,54 +116,51 @@ fn lines_have_a_limit(rt: HostRuntime) -> io::Result<()> {
             "octets slowly",
         );
     }
-    Ok(())
 }
 
 /// What stands behind a line that was read, and what stands behind that.
-fn behind_first<R: Read + Drop>(alloc: Global, reader: R) -> io::Result<Vec<u8>> {
+fn behind_first<R: Read + Drop>(rt: &impl Abort, alloc: Global, reader: R) -> Vec<u8> {
     let mut lines = LineReader::new(reader);
     let _ = lines.read_line();
     let mut behind = Vec::new(alloc);
-    lines.read_to_end(&mut behind)?;
-    Ok(behind)
+    lines.read_to_end(&mut behind).expect(rt, "a stream");
+    behind
 }
 
 #[test]
-fn octets_behind_a_line_are_left(rt: HostRuntime) -> io::Result<()> {
-    let octets = long(rt.alloc(), 9000, b"\nend\n")?;
-    let mut stream = Vec::from_slice(rt.alloc(), b"feed 0 1\n")?;
-    stream.extend_from_slice(&octets)?;
-    let at_once = behind_first(rt.alloc(), stream.as_slice())?;
+fn octets_behind_a_line_are_left(rt: HostRuntime) {
+    let octets = long(&rt, rt.alloc(), 9000, b"\nend\n");
+    let mut stream = Vec::from_slice(rt.alloc(), b"feed 0 1\n").expect(&rt, "memory");
+    stream.extend_from_slice(&octets).expect(&rt, "memory");
+    let at_once = behind_first(&rt, rt.alloc(), stream.as_slice());
     be(
         &rt,
         at_once.as_slice() == octets.as_slice(),
         "octets behind a line are left",
     );
-    let slowly = behind_first(rt.alloc(), Slow::new(&stream))?;
+    let slowly = behind_first(&rt, rt.alloc(), Slow::new(&stream));
     be(
         &rt,
         slowly.as_slice() == octets.as_slice(),
         "octets behind a line are left",
     );
-    Ok(())
 }
 
 /// The lines of a stream that fails once, read on behind the failure.
-fn told_of_broken(alloc: Global, before: &[u8], after: &[u8]) -> io::Result<Vec<u8>> {
+fn told_of_broken(rt: &impl Abort, alloc: Global, before: &[u8], after: &[u8]) -> Vec<u8> {
     let mut told = Vec::new(alloc);
     let mut lines = LineReader::new(Broken::new(before, after));
-    push_lines(&mut lines, &mut told)?;
-    push_lines(&mut lines, &mut told)?;
-    Ok(told)
+    push_lines(rt, &mut lines, &mut told);
+    push_lines(rt, &mut lines, &mut told);
+    told
 }
 
 #[test]
-fn a_failed_read_loses_nothing(rt: HostRuntime) -> io::Result<()> {
-    let told = told_of_broken(rt.alloc(), b"quit\nma", b"rk 0 1\n")?;
+fn a_failed_read_loses_nothing(rt: HostRuntime) {
+    let told = told_of_broken(&rt, rt.alloc(), b"quit\nma", b"rk 0 1\n");
     be(
         &rt,
         told.as_slice() == b"<quit>?<mark 0 1>.".as_slice(),
         "a failed read loses nothing",
     );
-    Ok(())
 }

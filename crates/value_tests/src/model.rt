@@ -2,6 +2,6 @@
 
 mod admissions;
 mod keys;
-mod routes;
+pub(crate) mod routes;
 mod small;
 mod wire;

@@ -1,64 +1,48 @@
 //! Examples from RFC 4291, RFC 5952 and the rows of a feed.
 
 use crate::be;
-use route_model::{
-    Address, Aggregator, AsNumbers, Attribute, AttributeValue, Attributes, Mark, Moment, NextHop,
-    Origin, Path, Prefix, Route, Segment,
-};
+use crate::model::routes::{encoded, route};
+use route_model::{Address, Aggregator, Mark, Moment, Origin, Route, Segment};
 use route_text::{
     BadText, TextError, read_address, read_ipv4, read_ipv6, read_mark, read_moment, read_number,
     read_prefix, read_route, write_address, write_mark, write_moment, write_number, write_prefix,
     write_route,
 };
-use std::alloc::{AllocError, Global};
-use std::test::Fail;
+use std::alloc::Global;
+use std::process::Abort;
 
-fn number_text(alloc: Global, number: u64) -> Result<String, AllocError> {
+fn number_text(rt: &impl Abort, alloc: Global, number: u64) -> String {
     let mut out = String::new(alloc);
-    write_number(&mut out, number)?;
-    Ok(out)
+    write_number(&mut out, number).expect(rt, "memory");
+    out
 }
 
-fn address_text(alloc: Global, address: &Address) -> Result<String, AllocError> {
+fn address_text(rt: &impl Abort, alloc: Global, address: &Address) -> String {
     let mut out = String::new(alloc);
-    write_address(&mut out, address)?;
-    Ok(out)
+    write_address(&mut out, address).expect(rt, "memory");
+    out
 }
 
-fn route_text(alloc: Global, route: &Route) -> Result<String, AllocError> {
+fn route_text(rt: &impl Abort, alloc: Global, route: &Route) -> String {
     let mut out = String::new(alloc);
-    write_route(&mut out, route)?;
-    Ok(out)
+    write_route(&mut out, route).expect(rt, "memory");
+    out
 }
 
 #[test]
-fn numbers_are_written_and_read(rt: HostRuntime) -> Result<(), Fail> {
+fn numbers_are_written_and_read(rt: HostRuntime) {
+    let zero = number_text(&rt, rt.alloc(), 0);
+    be(&rt, zero.as_str() == "0", "0 is written");
+    let last = number_text(&rt, rt.alloc(), 18446744073709551615);
     be(
         &rt,
-        number_text(rt.alloc(), 0)?.as_str() == "0",
-        "numbers are written and read",
+        last.as_str() == "18446744073709551615",
+        "the last number is written",
     );
-    be(
-        &rt,
-        number_text(rt.alloc(), 18446744073709551615)?.as_str() == "18446744073709551615",
-        "numbers are written and read",
-    );
-    be(
-        &rt,
-        read_number("0", 9)? == 0,
-        "numbers are written and read",
-    );
-    be(
-        &rt,
-        read_number("18446744073709551615", u64::MAX)? == u64::MAX,
-        "numbers are written and read",
-    );
-    be(
-        &rt,
-        read_number("10", 10)? == 10,
-        "numbers are written and read",
-    );
-    Ok(())
+    be(&rt, read_number("0", 9) == Ok(0), "0 is read");
+    let last = read_number("18446744073709551615", u64::MAX);
+    be(&rt, last == Ok(u64::MAX), "the last number is read");
+    be(&rt, read_number("10", 10) == Ok(10), "the limit is read");
 }
 
 /// Texts of no number up to 10.
@@ -116,19 +100,18 @@ const IPV6_TEXTS: [([u16; 8], &str); 9] = [
 ];
 
 /// Whether the address has this text, and the text this address.
-fn same(alloc: Global, address: Address, text: &str) -> Result<bool, Fail> {
-    Ok(address_text(alloc, &address)?.as_str() == text && read_address(text)? == address)
+fn same(rt: &impl Abort, alloc: Global, address: Address, text: &str) -> bool {
+    address_text(rt, alloc, &address).as_str() == text && read_address(text) == Ok(address)
 }
 
 #[test]
-fn addresses_have_one_written_text(rt: HostRuntime) -> Result<(), Fail> {
+fn addresses_have_one_written_text(rt: HostRuntime) {
     for (octets, text) in &IPV4_TEXTS {
-        be(&rt, same(rt.alloc(), Address::V4(*octets), text)?, text);
+        be(&rt, same(&rt, rt.alloc(), Address::V4(*octets), text), text);
     }
     for (groups, text) in &IPV6_TEXTS {
-        be(&rt, same(rt.alloc(), of_groups(*groups), text)?, text);
+        be(&rt, same(&rt, rt.alloc(), of_groups(*groups), text), text);
     }
-    Ok(())
 }
 
 /// Texts of 2001:db8:0:0:1:0:0:1, as in RFC 5952 section 2.
@@ -143,25 +126,24 @@ const FURTHER_TEXTS: [&str; 7] = [
 ];
 
 #[test]
-fn addresses_are_read_from_other_texts(rt: HostRuntime) -> Result<(), Fail> {
+fn addresses_are_read_from_other_texts(rt: HostRuntime) {
     let address = of_groups([0x2001, 0xdb8, 0, 0, 1, 0, 0, 1]);
     for text in &FURTHER_TEXTS {
-        be(&rt, read_address(text)? == address, text);
+        be(&rt, read_address(text) == Ok(address), text);
     }
     // RFC 4291 section 2.2.
     let unicast = of_groups([
         0xabcd, 0xef01, 0x2345, 0x6789, 0xabcd, 0xef01, 0x2345, 0x6789,
     ]);
-    let read = read_address("ABCD:EF01:2345:6789:ABCD:EF01:2345:6789")?;
-    be(&rt, read == unicast, "addresses are read from other texts");
+    let read = read_address("ABCD:EF01:2345:6789:ABCD:EF01:2345:6789");
+    be(&rt, read == Ok(unicast), "eight groups");
     be(
         &rt,
-        read_ipv4("10.0.0.255")? == [10, 0, 0, 255],
-        "addresses are read from other texts",
+        read_ipv4("10.0.0.255") == Ok([10, 0, 0, 255]),
+        "10.0.0.255",
     );
-    let [.., last] = read_ipv6("::1")?;
-    be(&rt, last == 1, "addresses are read from other texts");
-    Ok(())
+    let [.., last] = read_ipv6("::1").expect(&rt, "::1");
+    be(&rt, last == 1, "::1");
 }
 
 /// Texts of no address.
@@ -214,19 +196,25 @@ const PREFIXES: [(&str, &str); 7] = [
     ("::/128", "::/128"),
 ];
 
+/// The written text of the prefix of a text.
+fn prefix_text(rt: &impl Abort, alloc: Global, text: &str) -> String {
+    let prefix = read_prefix(text).expect(rt, text);
+    let mut out = String::new(alloc);
+    write_prefix(&mut out, &prefix).expect(rt, text);
+    out
+}
+
 #[test]
-fn prefixes_are_read_and_written(rt: HostRuntime) -> Result<(), Fail> {
+fn prefixes_are_read_and_written(rt: HostRuntime) {
     for (text, written) in &PREFIXES {
-        let mut out = String::new(rt.alloc());
-        write_prefix(&mut out, &read_prefix(text)?)?;
-        be(&rt, out.as_str() == *written, text);
+        be(
+            &rt,
+            prefix_text(&rt, rt.alloc(), text).as_str() == *written,
+            text,
+        );
     }
-    be(
-        &rt,
-        read_prefix("10.255.3.4/9")?.length() == 9,
-        "prefixes are read and written",
-    );
-    Ok(())
+    let nine = read_prefix("10.255.3.4/9").expect(&rt, "a prefix");
+    be(&rt, nine.length() == 9, "the length of a prefix");
 }
 
 /// Texts of no prefix.
@@ -257,37 +245,45 @@ const MOMENTS: [(&str, u64); 5] = [
     ("2106-02-07T06:28:15Z", 4294967295),
 ];
 
-#[test]
-fn moments_and_marks_are_read(rt: HostRuntime) -> Result<(), Fail> {
-    for (text, seconds) in &MOMENTS {
-        be(&rt, read_moment(text)?.seconds() == *seconds, text);
-        be(&rt, read_mark(text)?.seconds() == *seconds, text);
-    }
-    be(
-        &rt,
-        read_mark("2106-02-07T06:28:16Z")?.seconds() == 4294967296,
-        "moments and marks are read",
-    );
-    be(
-        &rt,
-        read_mark("4294967296")?.seconds() == 4294967296,
-        "moments and marks are read",
-    );
-    Ok(())
+fn moment_of(rt: &impl Abort, text: &str) -> Moment {
+    read_moment(text).expect(rt, text)
+}
+
+fn mark_of(rt: &impl Abort, text: &str) -> Mark {
+    read_mark(text).expect(rt, text)
 }
 
 #[test]
-fn moments_and_marks_are_written(rt: HostRuntime) -> Result<(), Fail> {
+fn moments_and_marks_are_read(rt: HostRuntime) {
+    for (text, seconds) in &MOMENTS {
+        be(&rt, moment_of(&rt, text).seconds() == *seconds, text);
+        be(&rt, mark_of(&rt, text).seconds() == *seconds, text);
+    }
+    let above = mark_of(&rt, "2106-02-07T06:28:16Z");
+    be(
+        &rt,
+        above.seconds() == 4294967296,
+        "the last mark as a time",
+    );
+    let above = mark_of(&rt, "4294967296");
+    be(
+        &rt,
+        above.seconds() == 4294967296,
+        "the last mark as a number",
+    );
+}
+
+#[test]
+fn moments_and_marks_are_written(rt: HostRuntime) {
     let mut out = String::new(rt.alloc());
-    write_moment(&mut out, read_moment("2024-01-01T00:00:00Z")?)?;
-    out.push('|')?;
-    write_mark(&mut out, read_mark("4294967296")?)?;
+    write_moment(&mut out, moment_of(&rt, "2024-01-01T00:00:00Z")).expect(&rt, "memory");
+    out.push('|').expect(&rt, "memory");
+    write_mark(&mut out, mark_of(&rt, "4294967296")).expect(&rt, "memory");
     be(
         &rt,
         out.as_str() == "1704067200|4294967296",
-        "moments and marks are written",
+        "a moment and a mark",
     );
-    Ok(())
 }
 
 /// Texts of no moment.
@@ -320,135 +316,110 @@ fn other_moments_are_refused(rt: HostRuntime) {
 
 const ROW: &str = "65001 65002|IGP|192.0.2.1|||NAG||";
 
-/// The route of [`ROW`].
-fn row_route(alloc: Global) -> Result<Route, Fail> {
-    let numbers = [65001u32, 65002].to_vec(alloc)?;
-    let mut segments = Vec::new(alloc);
-    segments.push(Segment::Sequence(AsNumbers::new(numbers)))?;
-    let others = Attributes::try_new(Vec::new(alloc)).ok_or("order")?;
-    Ok(Route {
-        origin: Origin::Igp,
-        path: Path::new(segments),
-        next_hop: NextHop::One(Address::V4([192, 0, 2, 1])),
-        med: None,
-        local_pref: None,
-        atomic_aggregate: false,
-        aggregator: None,
-        others,
-    })
+fn route_in(rt: &impl Abort, alloc: Global, text: &str) -> Route {
+    read_route(alloc, text).expect(rt, text)
+}
+
+/// Whether the route has this text.
+fn has_text(rt: &impl Abort, alloc: Global, route: &Route, text: &str) -> bool {
+    route_text(rt, alloc, route).as_str() == text
 }
 
 #[test]
-fn a_row_is_written_and_read(rt: HostRuntime) -> Result<(), Fail> {
-    let route = row_route(rt.alloc())?;
+fn a_row_is_written_and_read(rt: HostRuntime) {
+    let route = route(&rt, rt.alloc(), &[65001, 65002], 0);
     be(
         &rt,
-        route_text(rt.alloc(), &route)?.as_str() == ROW,
-        "a row is written and read",
+        has_text(&rt, rt.alloc(), &route, ROW),
+        "a row is written",
     );
-    let read = read_route(rt.alloc(), ROW)?;
+    let read = route_in(&rt, rt.alloc(), ROW);
+    let octets = encoded(&rt, rt.alloc(), &read);
     be(
         &rt,
-        read.encode(rt.alloc())?.as_slice() == route.encode(rt.alloc())?.as_slice(),
-        "a row is written and read",
+        octets == encoded(&rt, rt.alloc(), &route),
+        "a row is read",
     );
-    Ok(())
 }
 
 /// A route with every field.
 const FULL: &str =
     "65001 {65002,65003} 4200000001|INCOMPLETE|2001:db8::1 fe80::1|10|4294967295|AG|64512 192.0.2.9|8/c0/fde90064 32/e0/";
 
+/// Whether the fields of a route are those of [`FULL`], and it has as many segments and other attributes.
+fn is_full(route: &Route) -> bool {
+    let aggregator = Aggregator {
+        as_number: 64512,
+        address: [192, 0, 2, 9],
+    };
+    route.origin == Origin::Incomplete
+        && route.med == Some(10)
+        && route.local_pref == Some(4294967295)
+        && route.atomic_aggregate
+        && route.aggregator == Some(aggregator)
+        && route.path.as_slice().len() == 3
+        && route.others.as_slice().len() == 2
+}
+
 #[test]
-fn a_route_with_every_field_is_read_and_written(rt: HostRuntime) -> Result<(), Fail> {
+fn a_route_with_every_field_is_read_and_written(rt: HostRuntime) {
     let alloc = rt.alloc();
-    let route = read_route(alloc, FULL)?;
+    let route = route_in(&rt, alloc, FULL);
     be(
         &rt,
-        route_text(alloc, &route)?.as_str() == FULL,
-        "a route with every field is read and written",
+        has_text(&rt, alloc, &route, FULL),
+        "every field is written",
     );
+    be(&rt, is_full(&route), "every field is read");
+    let empty = route_in(&rt, alloc, "-|EGP|::|||NAG||");
+    be(&rt, empty.path.as_slice().len() == 0, "no path is read");
     be(
         &rt,
-        route.origin == Origin::Incomplete,
-        "a route with every field is read and written",
+        has_text(&rt, alloc, &empty, "-|EGP|::|||NAG||"),
+        "no path is written",
     );
-    be(
-        &rt,
-        route.med == Some(10),
-        "a route with every field is read and written",
-    );
-    be(
-        &rt,
-        route.local_pref == Some(4294967295),
-        "a route with every field is read and written",
-    );
-    be(
-        &rt,
-        route.atomic_aggregate,
-        "a route with every field is read and written",
-    );
-    be(
-        &rt,
-        route.aggregator
-            == Some(Aggregator {
-                as_number: 64512,
-                address: [192, 0, 2, 9],
-            }),
-        "a route with every field is read and written",
-    );
-    be(
-        &rt,
-        route.path.as_slice().len() == 3,
-        "a route with every field is read and written",
-    );
-    be(
-        &rt,
-        route.others.as_slice().len() == 2,
-        "a route with every field is read and written",
-    );
-    let empty = read_route(alloc, "-|EGP|::|||NAG||")?;
-    be(
-        &rt,
-        empty.path.as_slice().len() == 0,
-        "a route with every field is read and written",
-    );
-    be(
-        &rt,
-        route_text(alloc, &empty)?.as_str() == "-|EGP|::|||NAG||",
-        "a route with every field is read and written",
-    );
-    Ok(())
+}
+
+/// A first piece, a further one COUNT times, and the other fields of a route.
+fn repeated(
+    rt: &impl Abort,
+    alloc: Global,
+    first: &str,
+    further: &str,
+    count: usize,
+    end: &str,
+) -> String {
+    let mut text = String::from_str(alloc, first).expect(rt, "memory");
+    for _ in 0..count {
+        text.push_str(further).expect(rt, "memory");
+    }
+    text.push_str(end).expect(rt, "memory");
+    text
 }
 
 /// A path of 300 numbers has a sequence of 255 and one of 45.
 #[test]
-fn a_long_path_is_read(rt: HostRuntime) -> Result<(), Fail> {
+fn a_long_path_is_read(rt: HostRuntime) {
     let alloc = rt.alloc();
-    let mut text = String::from_str(alloc, "1")?;
-    for _ in 1..300u16 {
-        text.push_str(" 1")?;
-    }
-    text.push_str("|IGP|192.0.2.1|||NAG||")?;
-    let route = read_route(alloc, text.as_str())?;
+    let text = repeated(&rt, alloc, "1", " 1", 299, "|IGP|192.0.2.1|||NAG||");
+    let route = route_in(&rt, alloc, &text);
     let segments = route.path.as_slice();
-    be(&rt, segments.len() == 2, "a long path is read");
+    be(&rt, segments.len() == 2, "two sequences");
     be(
         &rt,
         numbers_in(segments.first()) == 255,
-        "a long path is read",
+        "the first sequence",
     );
     be(
         &rt,
         numbers_in(segments.last()) == 45,
-        "a long path is read",
+        "the second sequence",
     );
     be(
         &rt,
-        route_text(alloc, &route)?.as_str() == text.as_str(),
-        "a long path is read",
+        has_text(&rt, alloc, &route, &text),
+        "a long path is written",
     );
-    Ok(())
 }
 
 /// How many numbers a sequence has.
@@ -503,25 +474,19 @@ fn other_routes_are_refused(rt: HostRuntime) {
 
 /// A set of 256 numbers is none.
 #[test]
-fn a_set_that_is_too_long_is_refused(rt: HostRuntime) -> Result<(), Fail> {
+fn a_set_that_is_too_long_is_refused(rt: HostRuntime) {
     let alloc = rt.alloc();
-    let mut text = String::from_str(alloc, "{1")?;
-    for _ in 1..255u16 {
-        text.push_str(",1")?;
-    }
-    let mut long = text.clone()?;
-    text.push_str("}|IGP|192.0.2.1|||NAG||")?;
-    long.push_str(",1}|IGP|192.0.2.1|||NAG||")?;
-    let route = read_route(alloc, text.as_str())?;
+    let text = repeated(&rt, alloc, "{1", ",1", 254, "}|IGP|192.0.2.1|||NAG||");
+    let long = repeated(&rt, alloc, "{1", ",1", 255, "}|IGP|192.0.2.1|||NAG||");
+    let route = route_in(&rt, alloc, &text);
     be(
         &rt,
-        route_text(alloc, &route)?.as_str() == text.as_str(),
-        "a set that is too long is refused",
+        has_text(&rt, alloc, &route, &text),
+        "a set of 255 numbers is read",
     );
     be(
         &rt,
-        is_refused(alloc, long.as_str()),
+        is_refused(alloc, &long),
         "a set that is too long is refused",
     );
-    Ok(())
 }

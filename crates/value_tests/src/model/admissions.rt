@@ -1,11 +1,11 @@
 //! Admissions.
 
-use super::routes::{ROUTE, route};
+use super::routes::{ROUTE, encoded as spelled, route, shared};
 use super::small::peer;
 use crate::be;
-use route_model::{Address, Admission, AdmissionError, Change, Moment, Peer, Prefix, SharedRoute};
-use std::alloc::{AllocError, Global};
-use std::test::Fail;
+use route_model::{Address, Admission, AdmissionError, Change, Moment, Peer, Prefix};
+use std::alloc::Global;
+use std::process::Abort;
 
 /// At 1704067200 peer 192.0.2.1 of AS 65001 announces 10.0.0.0/8.
 const VECTOR: [u8; 67] = [
@@ -30,10 +30,19 @@ fn moment() -> Moment {
     Moment::from(1_704_067_200u32)
 }
 
-/// The admission that the vector spells.
-fn vector(alloc: Global) -> Result<Admission, Fail> {
-    let admission = Admission::decode(alloc, &VECTOR)?.ok_or("no admission")?;
-    Ok(admission)
+/// The admission that octets spell.
+fn decoded(rt: &impl Abort, alloc: Global, octets: &[u8]) -> Admission {
+    let read = Admission::decode(alloc, octets).expect(rt, "memory");
+    read.expect(rt, "no admission")
+}
+
+fn encoded(rt: &impl Abort, alloc: Global, admission: &Admission) -> Vec<u8> {
+    admission.encode(alloc).expect(rt, "memory")
+}
+
+/// The admission of changes.
+fn admitted(rt: &impl Abort, changes: Vec<Change>) -> Admission {
+    Admission::new(moment(), changes).expect(rt, "an admission")
 }
 
 /// Whether there is one change, which announces the route for 10.0.0.0/8.
@@ -46,86 +55,68 @@ fn is_the_announcement(changes: &[Change]) -> bool {
     }
 }
 
-#[test]
-fn reads_the_vector(rt: HostRuntime) -> Result<(), Fail> {
-    let admission = vector(rt.alloc())?;
-    be(
-        &rt,
-        admission.time().seconds() == 1_704_067_200,
-        "reads the vector",
-    );
-    be(
-        &rt,
-        is_the_announcement(admission.changes()),
-        "reads the vector",
-    );
-    be(
-        &rt,
-        admission.encode(rt.alloc())?.as_slice() == VECTOR.as_slice(),
-        "reads the vector",
-    );
-    Ok(())
-}
-
-fn shared_vector(alloc: Global) -> Result<Admission, Fail> {
-    Ok(vector(alloc)?.share(alloc)?)
+/// Whether the vector spells it.
+fn is_the_vector(rt: &impl Abort, alloc: Global, admission: &Admission) -> bool {
+    encoded(rt, alloc, admission).as_slice() == VECTOR.as_slice()
 }
 
 #[test]
-fn a_shared_admission_is_the_same(rt: HostRuntime) -> Result<(), Fail> {
-    let shared = shared_vector(rt.alloc())?;
+fn reads_the_vector(rt: HostRuntime) {
+    let admission = decoded(&rt, rt.alloc(), &VECTOR);
+    let seconds = admission.time().seconds();
+    be(&rt, seconds == 1_704_067_200, "the time");
+    be(&rt, is_the_announcement(admission.changes()), "the change");
     be(
         &rt,
-        shared.encode(rt.alloc())?.as_slice() == VECTOR.as_slice(),
-        "a shared admission is the same",
+        is_the_vector(&rt, rt.alloc(), &admission),
+        "the octets",
     );
+}
+
+fn shared_vector(rt: &impl Abort, alloc: Global) -> Admission {
+    decoded(rt, alloc, &VECTOR)
+        .share(alloc)
+        .expect(rt, "memory")
+}
+
+/// The peer of what a change is shared as.
+fn peer_of_shared(rt: &impl Abort, change: &Change) -> Peer {
+    change.share().expect(rt, "memory").peer()
+}
+
+#[test]
+fn a_shared_admission_is_the_same(rt: HostRuntime) {
+    let shared = shared_vector(&rt, rt.alloc());
+    be(&rt, is_the_vector(&rt, rt.alloc(), &shared), "the octets");
     for change in shared.changes() {
-        be(
-            &rt,
-            change.share()?.peer() == peer(),
-            "a shared admission is the same",
-        );
+        be(&rt, peer_of_shared(&rt, change) == peer(), "the peer");
     }
-    Ok(())
 }
 
 /// A route for 10.0.0.0/8 with this path, and an attribute of so many octets, if any.
-fn announcement(alloc: Global, from: Peer, path: &[u32], other: usize) -> Result<Change, Fail> {
-    let route = SharedRoute::new(alloc, route(alloc, path, other)?)?;
-    Ok(Change::Announce(from, ten(), route))
-}
-
-/// The admission of one change.
-fn admission_of(alloc: Global, change: Change) -> Result<Admission, Fail> {
-    let mut changes = Vec::new(alloc);
-    changes.push(change)?;
-    Ok(Admission::new(moment(), changes)?)
+fn announcement(rt: &impl Abort, alloc: Global, from: Peer, path: &[u32], other: usize) -> Change {
+    let route = route(rt, alloc, path, other);
+    Change::Announce(from, ten(), shared(rt, alloc, route))
 }
 
 #[test]
-fn writes_the_vector(rt: HostRuntime) -> Result<(), Fail> {
+fn writes_the_vector(rt: HostRuntime) {
     let alloc = rt.alloc();
-    let change = announcement(alloc, peer(), &[65001, 65002], 0)?;
-    be(&rt, change.peer() == peer(), "writes the vector");
-    let admission = admission_of(alloc, change)?;
-    be(&rt, admission.encoded_len() == 67, "writes the vector");
-    be(
-        &rt,
-        admission.encode(alloc)?.as_slice() == VECTOR.as_slice(),
-        "writes the vector",
-    );
-    Ok(())
+    let change = announcement(&rt, alloc, peer(), &[65001, 65002], 0);
+    be(&rt, change.peer() == peer(), "the peer");
+    let admission = admitted(&rt, vec![in alloc; change].expect(&rt, "memory"));
+    be(&rt, admission.encoded_len() == 67, "67 octets");
+    be(&rt, is_the_vector(&rt, alloc, &admission), "the octets");
 }
 
 /// Five changes of two peers, with two routes.
-fn five_changes(alloc: Global) -> Result<Vec<Change>, Fail> {
-    let mut changes = Vec::new(alloc);
-    changes.push(Change::Down(later()))?;
-    changes.push(announcement(alloc, peer(), &[65002], 0)?)?;
-    changes.push(announcement(alloc, later(), &[65001], 0)?)?;
-    changes.push(Change::Withdraw(peer(), ten()))?;
-    changes.push(announcement(alloc, peer(), &[65002], 0)?)?;
-    Ok(changes)
+fn five_changes(rt: &impl Abort, alloc: Global) -> Vec<Change> {
+    let first = announcement(rt, alloc, peer(), &[65002], 0);
+    let second = announcement(rt, alloc, later(), &[65001], 0);
+    let third = announcement(rt, alloc, peer(), &[65002], 0);
+    let down = Change::Down(later());
+    let withdrawn = Change::Withdraw(peer(), ten());
+    vec![in alloc; down, first, second, withdrawn, third].expect(rt, "memory")
 }
 
 /// Octets of their spelling, from a place on: two peers, the second of the list first; then two routes of 17 octets; then
@@ -144,37 +135,24 @@ const TABLES: [(usize, &[u8]); 4] = [
 ];
 
 #[test]
-fn tables_list_each_value_once_in_the_order_of_first_use(rt: HostRuntime) -> Result<(), Fail> {
+fn tables_list_each_value_once_in_the_order_of_first_use(rt: HostRuntime) {
     let alloc = rt.alloc();
-    let admission = Admission::new(moment(), five_changes(alloc)?)?;
-    let octets = admission.encode(alloc)?;
-    be(
-        &rt,
-        octets.len() == admission.encoded_len(),
-        "tables list each value once in the order of first use",
-    );
+    let admission = admitted(&rt, five_changes(&rt, alloc));
+    let octets = encoded(&rt, alloc, &admission);
+    be(&rt, octets.len() == admission.encoded_len(), "the length");
     for (place, wanted) in &TABLES {
-        let found = octets
-            .as_slice()
-            .get(*place..place.wrapping_add(wanted.len()));
-        be(&rt, found == Some(*wanted), "a table of the encoding");
+        let (_, from) = octets.split_at_checked(*place).expect(&rt, "a place");
+        be(&rt, from.starts_with(wanted), "a table of the encoding");
     }
-    be(
-        &rt,
-        octets.len() == 94 + 35,
-        "tables list each value once in the order of first use",
-    );
-    let read = Admission::decode(alloc, &octets)?.ok_or("no admission")?;
-    be(
-        &rt,
-        read.changes().len() == 5,
-        "tables list each value once in the order of first use",
-    );
-    Ok(())
+    be(&rt, octets.len() == 94 + 35, "all octets");
+    let read = decoded(&rt, alloc, &octets);
+    be(&rt, read.changes().len() == 5, "the changes");
 }
 
-fn is_none(alloc: Global, octets: &[u8]) -> Result<bool, AllocError> {
-    Ok(Admission::decode(alloc, octets)?.is_none())
+fn is_none(rt: &impl Abort, alloc: Global, octets: &[u8]) -> bool {
+    Admission::decode(alloc, octets)
+        .expect(rt, "memory")
+        .is_none()
 }
 
 /// The vector with other octets from a place on.
@@ -191,15 +169,15 @@ fn changed(place: usize, octets: &[u8]) -> [u8; 67] {
 }
 
 /// The vector with octets put in at a place, and a count before it raised to two.
-fn grown(alloc: Global, count: usize, place: usize, octets: &[u8]) -> Result<Vec<u8>, AllocError> {
+fn grown(rt: &impl Abort, alloc: Global, count: usize, place: usize, octets: &[u8]) -> Vec<u8> {
     let mut all = Vec::new(alloc);
     if count < place && place < 67 {
-        all.extend_from_slice(&VECTOR[..place])?;
+        all.extend_from_slice(&VECTOR[..place]).expect(rt, "memory");
         all[count] = 2;
-        all.extend_from_slice(octets)?;
-        all.extend_from_slice(&VECTOR[place..])?;
+        all.extend_from_slice(octets).expect(rt, "memory");
+        all.extend_from_slice(&VECTOR[place..]).expect(rt, "memory");
     }
-    Ok(all)
+    all
 }
 
 /// What is wrong with the vector once other octets stand at a place.
@@ -213,55 +191,72 @@ const FAULTS: [(&str, usize, &[u8]); 6] = [
 ];
 
 #[test]
-fn other_octets_are_no_admission(rt: HostRuntime) -> Result<(), Fail> {
+fn other_octets_are_no_admission(rt: HostRuntime) {
     for (fault, place, octets) in &FAULTS {
-        be(&rt, is_none(rt.alloc(), &changed(*place, octets))?, fault);
+        be(
+            &rt,
+            is_none(&rt, rt.alloc(), &changed(*place, octets)),
+            fault,
+        );
     }
-    Ok(())
 }
 
 #[test]
-fn octets_that_are_cut_or_left_are_no_admission(rt: HostRuntime) -> Result<(), Fail> {
+fn octets_that_are_cut_or_left_are_no_admission(rt: HostRuntime) {
     let mut left = [0u8; 68];
     left[0..67].copy_from_slice(&VECTOR);
-    be(&rt, is_none(rt.alloc(), &left)?, "an octet left");
+    be(&rt, is_none(&rt, rt.alloc(), &left), "an octet left");
     for len in 0..67 {
-        be(&rt, is_none(rt.alloc(), &VECTOR[..len])?, "cut at");
+        be(&rt, is_none(&rt, rt.alloc(), &VECTOR[..len]), "cut at");
     }
-    Ok(())
 }
 
-#[test]
-fn tables_have_one_spelling(rt: HostRuntime) -> Result<(), Fail> {
-    let alloc = rt.alloc();
-    for (fault, place, other) in [
-        ("a peer listed twice", 32, peer()),
-        ("a peer that no change uses", 32, later()),
-        ("a first place that isn't 0", 10, later()),
-    ] {
-        let octets = grown(alloc, 9, place, &other.encode())?;
-        be(&rt, is_none(alloc, &octets)?, fault);
-    }
+/// Whether the vector with one more peer, at this place of its octets, is no admission.
+fn is_none_with(rt: &impl Abort, alloc: Global, place: usize, other: Peer) -> bool {
+    is_none(rt, alloc, &grown(rt, alloc, 9, place, &other.encode()))
+}
+
+/// The vector with its route listed twice.
+fn with_route_twice(rt: &impl Abort, alloc: Global) -> Vec<u8> {
     let mut row = [0u8; 23];
     row[1] = 21;
     row[2..23].copy_from_slice(&ROUTE);
-    let routes = grown(alloc, 33, 57, &row)?;
-    be(&rt, is_none(alloc, &routes)?, "a route listed twice");
-    Ok(())
+    grown(rt, alloc, 33, 57, &row)
 }
 
-fn announced(alloc: Global, other: usize) -> Result<Vec<Change>, Fail> {
-    let mut changes = Vec::new(alloc);
-    changes.push(announcement(alloc, peer(), &[65001], other)?)?;
-    Ok(changes)
+#[test]
+fn tables_have_one_spelling(rt: HostRuntime) {
+    let alloc = rt.alloc();
+    be(
+        &rt,
+        is_none_with(&rt, alloc, 32, peer()),
+        "a peer listed twice",
+    );
+    be(
+        &rt,
+        is_none_with(&rt, alloc, 32, later()),
+        "a peer that no change uses",
+    );
+    be(
+        &rt,
+        is_none_with(&rt, alloc, 10, later()),
+        "a first place that isn't 0",
+    );
+    let routes = with_route_twice(&rt, alloc);
+    be(&rt, is_none(&rt, alloc, &routes), "a route listed twice");
+}
+
+fn announced(rt: &impl Abort, alloc: Global, other: usize) -> Vec<Change> {
+    let change = announcement(rt, alloc, peer(), &[65001], other);
+    vec![in alloc; change].expect(rt, "memory")
 }
 
 /// Whether an admission of these changes has so many octets, and is read from them.
-fn is_read_again(alloc: Global, changes: Vec<Change>, len: usize) -> Result<bool, Fail> {
-    let admission = Admission::new(moment(), changes)?;
-    let octets = admission.encode(alloc)?;
+fn is_read_again(rt: &impl Abort, alloc: Global, changes: Vec<Change>, len: usize) -> bool {
+    let admission = admitted(rt, changes);
+    let octets = encoded(rt, alloc, &admission);
     let whole = admission.encoded_len() == len && octets.len() == len;
-    Ok(whole && !is_none(alloc, &octets)?)
+    whole && !is_none(rt, alloc, &octets)
 }
 
 /// Why changes are no admission, or none where they are one.
@@ -270,45 +265,47 @@ fn refusal_of(changes: Vec<Change>) -> Option<AdmissionError> {
 }
 
 #[test]
-fn routes_have_at_most_3072_octets(rt: HostRuntime) -> Result<(), Fail> {
+fn routes_have_at_most_3072_octets(rt: HostRuntime) {
     let alloc = rt.alloc();
     // A route with one AS number has 17 octets, and an attribute four and its value.
+    let below = announced(&rt, alloc, 3050);
     be(
         &rt,
-        is_read_again(alloc, announced(alloc, 3050)?, 46 + 3071)?,
-        "routes have at most 3072 octets",
+        is_read_again(&rt, alloc, below, 46 + 3071),
+        "3071 octets",
     );
+    let most = announced(&rt, alloc, 3051);
     be(
         &rt,
-        is_read_again(alloc, announced(alloc, 3051)?, 46 + 3072)?,
-        "routes have at most 3072 octets",
+        is_read_again(&rt, alloc, most, 46 + 3072),
+        "3072 octets",
     );
-    let above = refusal_of(announced(alloc, 3052)?);
+    let above = refusal_of(announced(&rt, alloc, 3052));
     be(
         &rt,
         above == Some(AdmissionError::RouteTooLarge),
-        "routes have at most 3072 octets",
+        "3073 octets",
     );
-    Ok(())
 }
 
 /// The spelling of a route that is one octet too large.
-fn large_route(alloc: Global) -> Result<Vec<u8>, Fail> {
-    Ok(route(alloc, &[65001], 3052)?.encode(alloc)?)
+fn large_route(rt: &impl Abort, alloc: Global) -> Vec<u8> {
+    let large = route(rt, alloc, &[65001], 3052);
+    spelled(rt, alloc, &large)
 }
 
 /// The vector with this spelling of 3,073 octets in place of its route's.
-fn with_large(alloc: Global, route: &[u8]) -> Result<Vec<u8>, AllocError> {
-    let mut octets = Vec::from_slice(alloc, &VECTOR[..34])?;
-    octets.extend_from_slice(&[12, 1])?;
-    octets.extend_from_slice(route)?;
-    octets.extend_from_slice(&VECTOR[57..])?;
-    Ok(octets)
+fn with_large(rt: &impl Abort, alloc: Global, route: &[u8]) -> Vec<u8> {
+    let mut octets = Vec::from_slice(alloc, &VECTOR[..34]).expect(rt, "memory");
+    octets.extend_from_slice(&[12, 1]).expect(rt, "memory");
+    octets.extend_from_slice(route).expect(rt, "memory");
+    octets.extend_from_slice(&VECTOR[57..]).expect(rt, "memory");
+    octets
 }
 
 #[test]
-fn a_route_above_the_limit_is_not_read(rt: HostRuntime) -> Result<(), Fail> {
-    let large = large_route(rt.alloc())?;
+fn a_route_above_the_limit_is_not_read(rt: HostRuntime) {
+    let large = large_route(&rt, rt.alloc());
     be(
         &rt,
         large.len() == 3073,
@@ -316,10 +313,9 @@ fn a_route_above_the_limit_is_not_read(rt: HostRuntime) -> Result<(), Fail> {
     );
     be(
         &rt,
-        is_none(rt.alloc(), &with_large(rt.alloc(), &large)?)?,
+        is_none(&rt, rt.alloc(), &with_large(&rt, rt.alloc(), &large)),
         "a route above the limit is not read",
     );
-    Ok(())
 }
 
 fn withdrawal(length: u8) -> Change {
@@ -330,54 +326,53 @@ fn withdrawal(length: u8) -> Change {
 }
 
 /// So many withdrawals of 9 octets each, and behind them of prefixes of these lengths.
-fn withdrawals(alloc: Global, count: usize, lengths: &[u8]) -> Result<Vec<Change>, AllocError> {
+fn withdrawals(rt: &impl Abort, alloc: Global, count: usize, lengths: &[u8]) -> Vec<Change> {
     let mut changes = Vec::new(alloc);
     for _ in 0..count {
-        changes.push(withdrawal(32))?;
+        changes.push(withdrawal(32)).expect(rt, "memory");
     }
     for length in lengths {
-        changes.push(withdrawal(*length))?;
+        changes.push(withdrawal(*length)).expect(rt, "memory");
     }
-    Ok(changes)
+    changes
 }
 
 #[test]
-fn admissions_have_at_most_131072_octets(rt: HostRuntime) -> Result<(), Fail> {
+fn admissions_have_at_most_131072_octets(rt: HostRuntime) {
     let alloc = rt.alloc();
     // 36 octets stand before the changes.
+    let below = withdrawals(&rt, alloc, 14_558, &[16, 8]);
     be(
         &rt,
-        is_read_again(alloc, withdrawals(alloc, 14_558, &[16, 8])?, 131_071)?,
-        "admissions have at most 131072 octets",
+        is_read_again(&rt, alloc, below, 131_071),
+        "131071 octets",
     );
+    let most = withdrawals(&rt, alloc, 14_559, &[0]);
     be(
         &rt,
-        is_read_again(alloc, withdrawals(alloc, 14_559, &[0])?, 131_072)?,
-        "admissions have at most 131072 octets",
+        is_read_again(&rt, alloc, most, 131_072),
+        "131072 octets",
     );
-    let above = refusal_of(withdrawals(alloc, 14_559, &[8])?);
+    let above = refusal_of(withdrawals(&rt, alloc, 14_559, &[8]));
     be(
         &rt,
         above == Some(AdmissionError::AdmissionTooLarge),
-        "admissions have at most 131072 octets",
+        "131073 octets",
     );
-    Ok(())
 }
 
 /// The octets of an admission of 131,072, of which the prefix of the last withdrawal becomes 10.0.0.0/8: one octet more.
-fn above_the_limit(alloc: Global) -> Result<Vec<u8>, Fail> {
-    let changes = withdrawals(alloc, 14_559, &[0])?;
-    let mut octets = Admission::new(moment(), changes)?.encode(alloc)?;
-    if octets.pop() != Some(0) {
-        return Err(Fail::from("another last prefix"));
-    }
-    octets.extend_from_slice(&[8, 10])?;
-    Ok(octets)
+fn above_the_limit(rt: &impl Abort, alloc: Global) -> Vec<u8> {
+    let admission = admitted(rt, withdrawals(rt, alloc, 14_559, &[0]));
+    let mut octets = encoded(rt, alloc, &admission);
+    be(rt, octets.pop() == Some(0), "another last prefix");
+    octets.extend_from_slice(&[8, 10]).expect(rt, "memory");
+    octets
 }
 
 #[test]
-fn octets_of_an_admission_above_the_limit_are_not_read(rt: HostRuntime) -> Result<(), Fail> {
-    let octets = above_the_limit(rt.alloc())?;
+fn octets_of_an_admission_above_the_limit_are_not_read(rt: HostRuntime) {
+    let octets = above_the_limit(&rt, rt.alloc());
     be(
         &rt,
         octets.len() == 131_073,
@@ -385,20 +380,20 @@ fn octets_of_an_admission_above_the_limit_are_not_read(rt: HostRuntime) -> Resul
     );
     be(
         &rt,
-        is_none(rt.alloc(), &octets)?,
+        is_none(&rt, rt.alloc(), &octets),
         "octets of an admission above the limit are not read",
     );
-    Ok(())
 }
 
 #[test]
-fn a_route_too_large_is_told_first(rt: HostRuntime) -> Result<(), Fail> {
-    let mut changes = withdrawals(rt.alloc(), 14_560, &[])?;
-    changes.push(announcement(rt.alloc(), peer(), &[65001], 3052)?)?;
+fn a_route_too_large_is_told_first(rt: HostRuntime) {
+    let mut changes = withdrawals(&rt, rt.alloc(), 14_560, &[]);
+    changes
+        .push(announcement(&rt, rt.alloc(), peer(), &[65001], 3052))
+        .expect(&rt, "memory");
     be(
         &rt,
         refusal_of(changes) == Some(AdmissionError::RouteTooLarge),
         "a route too large is told first",
     );
-    Ok(())
 }

@@ -3,7 +3,6 @@
 use super::small::peer;
 use crate::be;
 use route_model::{Address, Key, KeyParts, Peer, Prefix};
-use std::test::Fail;
 
 /// The key of 10.0.0.0/8 of peer 192.0.2.1, AS 65001, at collector 0.
 const KEY: [u8; 40] = [
@@ -16,7 +15,7 @@ fn ten() -> Prefix {
 }
 
 #[test]
-fn keys_are_made_and_taken_apart(rt: HostRuntime) -> Result<(), Fail> {
+fn keys_are_made_and_taken_apart(rt: HostRuntime) {
     let key = Key::prefix(&peer(), &ten());
     be(&rt, key.to_octets() == KEY, "keys are made and taken apart");
     be(
@@ -47,11 +46,10 @@ fn keys_are_made_and_taken_apart(rt: HostRuntime) -> Result<(), Fail> {
         session.parts() == Some(KeyParts::Session(peer())),
         "keys are made and taken apart",
     );
-    Ok(())
 }
 
 #[test]
-fn other_octets_are_no_key(rt: HostRuntime) -> Result<(), Fail> {
+fn other_octets_are_no_key(rt: HostRuntime) {
     let mut octets = KEY;
     octets[22] = 5;
     be(&rt, Key::from_octets(&octets).parts() == None, "no kind");
@@ -79,7 +77,6 @@ fn other_octets_are_no_key(rt: HostRuntime) -> Result<(), Fail> {
     let mut octets = KEY;
     octets[1] = 0;
     be(&rt, Key::from_octets(&octets).parts() == None, "no peer");
-    Ok(())
 }
 
 #[test]

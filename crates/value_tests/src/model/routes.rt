@@ -5,8 +5,8 @@ use route_model::{
     Address, Aggregator, AsNumbers, Attribute, AttributeValue, Attributes, NextHop, Origin, Path,
     Route, Segment, SharedRoute,
 };
-use std::alloc::{AllocError, Global};
-use std::test::Fail;
+use std::alloc::Global;
+use std::process::Abort;
 
 /// Path 65001 65002, IGP, next hop 192.0.2.1.
 pub(crate) const ROUTE: [u8; 21] = [
@@ -22,31 +22,33 @@ const FULL: [u8; 82] = [
     0, 1, 7, 0, 0,
 ];
 
-pub(crate) fn numbers(alloc: Global, of: &[u32]) -> Result<AsNumbers, Fail> {
-    let items = Vec::from_slice(alloc, of)?;
+pub(crate) fn numbers(rt: &impl Abort, alloc: Global, of: &[u32]) -> AsNumbers {
+    let items = Vec::from_slice(alloc, of).expect(rt, "memory");
     if items.is_empty() || items.len() > 255 {
-        return Err(Fail::from("no segment has so many numbers"));
+        panic!(rt; "no segment has so many numbers");
     }
-    Ok(AsNumbers::new(items))
+    AsNumbers::new(items)
 }
 
 /// A route whose path is these numbers in one sequence, with an attribute of so many octets, if any.
-pub(crate) fn route(alloc: Global, path: &[u32], other: usize) -> Result<Route, Fail> {
-    let segments = vec![in alloc; Segment::Sequence(numbers(alloc, path)?)]?;
+pub(crate) fn route(rt: &impl Abort, alloc: Global, path: &[u32], other: usize) -> Route {
+    let segments = vec![in alloc; Segment::Sequence(numbers(rt, alloc, path))].expect(rt, "memory");
     let mut items = Vec::new(alloc);
     if 0 < other && other < 65536 {
-        let value = AttributeValue::new(vec![in alloc; 7u8; other]?);
-        items.push(Attribute {
-            kind: 99,
-            flags: 0xC0,
-            value,
-        })?;
+        let value = AttributeValue::new(vec![in alloc; 7u8; other].expect(rt, "memory"));
+        items
+            .push(Attribute {
+                kind: 99,
+                flags: 0xC0,
+                value,
+            })
+            .expect(rt, "memory");
     }
     if items.len() > 1 || segments.len() > 1 {
-        return Err(Fail::from("too many"));
+        panic!(rt; "too many");
     }
-    let others = Attributes::try_new(items).ok_or("not ascending")?;
-    Ok(Route {
+    let others = Attributes::try_new(items).expect(rt, "not ascending");
+    Route {
         origin: Origin::Igp,
         path: Path::new(segments),
         next_hop: NextHop::One(Address::V4([192, 0, 2, 1])),
@@ -55,108 +57,93 @@ pub(crate) fn route(alloc: Global, path: &[u32], other: usize) -> Result<Route, 
         atomic_aggregate: false,
         aggregator: None,
         others,
-    })
-}
-
-#[test]
-fn routes_have_one_spelling(rt: HostRuntime) -> Result<(), Fail> {
-    let route = route(rt.alloc(), &[65001, 65002], 0)?;
-    be(&rt, route.encoded_len() == 21, "routes have one spelling");
-    be(
-        &rt,
-        route.encode(rt.alloc())?.as_slice() == ROUTE.as_slice(),
-        "routes have one spelling",
-    );
-    let read = Route::decode(rt.alloc(), &ROUTE)?.ok_or("no route")?;
-    be(&rt, read.origin == Origin::Igp, "routes have one spelling");
-    be(
-        &rt,
-        read.next_hop == NextHop::One(Address::V4([192, 0, 2, 1])),
-        "routes have one spelling",
-    );
-    match read.path.as_slice() {
-        [Segment::Sequence(path)] => be(
-            &rt,
-            path.as_slice() == [65001, 65002].as_slice(),
-            "routes have one spelling",
-        ),
-        _ => return Err(Fail::from("another path")),
     }
-    Ok(())
+}
+
+pub(crate) fn encoded(rt: &impl Abort, alloc: Global, route: &Route) -> Vec<u8> {
+    route.encode(alloc).expect(rt, "memory")
+}
+
+fn decoded(rt: &impl Abort, alloc: Global, octets: &[u8]) -> Route {
+    let read = Route::decode(alloc, octets).expect(rt, "memory");
+    read.expect(rt, "no route")
+}
+
+fn is_sequence(segment: Option<&Segment>, wanted: &[u32]) -> bool {
+    match segment {
+        Some(Segment::Sequence(numbers)) => numbers.as_slice() == wanted,
+        _ => false,
+    }
+}
+
+fn is_set(segment: Option<&Segment>, wanted: &[u32]) -> bool {
+    match segment {
+        Some(Segment::Set(numbers)) => numbers.as_slice() == wanted,
+        _ => false,
+    }
 }
 
 #[test]
-fn every_part_of_a_route_is_read(rt: HostRuntime) -> Result<(), Fail> {
-    let read = Route::decode(rt.alloc(), &FULL[..80])?.ok_or("no route")?;
+fn routes_have_one_spelling(rt: HostRuntime) {
+    let route = route(&rt, rt.alloc(), &[65001, 65002], 0);
+    be(&rt, route.encoded_len() == 21, "21 octets");
+    let octets = encoded(&rt, rt.alloc(), &route);
     be(
         &rt,
-        read.origin == Origin::Incomplete,
-        "every part of a route is read",
+        octets.as_slice() == ROUTE.as_slice(),
+        "a route is spelled",
     );
-    be(&rt, read.med == Some(10), "every part of a route is read");
-    be(
-        &rt,
-        read.local_pref == Some(100),
-        "every part of a route is read",
-    );
-    be(&rt, read.atomic_aggregate, "every part of a route is read");
+    let read = decoded(&rt, rt.alloc(), &ROUTE);
+    be(&rt, read.origin == Origin::Igp, "the origin");
+    let hop = NextHop::One(Address::V4([192, 0, 2, 1]));
+    be(&rt, read.next_hop == hop, "the next hop");
+    let path = read.path.as_slice();
+    be(&rt, path.len() == 1, "one segment");
+    be(&rt, is_sequence(path.first(), &[65001, 65002]), "the path");
+}
+
+/// Whether these are the two other attributes of the full route.
+fn are_the_others(others: &[Attribute]) -> bool {
+    match others {
+        [first, second] => {
+            first.kind == 8
+                && first.value.as_slice() == [0xFD, 0xE9, 0, 1].as_slice()
+                && second.kind == 32
+                && second.flags == 0xC0
+                && second.value.as_slice() == [7].as_slice()
+        }
+        _ => false,
+    }
+}
+
+#[test]
+fn every_part_of_a_route_is_read(rt: HostRuntime) {
+    let read = decoded(&rt, rt.alloc(), &FULL[..80]);
+    be(&rt, read.origin == Origin::Incomplete, "the origin");
+    be(&rt, read.med == Some(10), "the MED");
+    be(&rt, read.local_pref == Some(100), "the local preference");
+    be(&rt, read.atomic_aggregate, "ATOMIC_AGGREGATE");
     let aggregator = Aggregator {
         as_number: 65003,
         address: [192, 0, 2, 9],
     };
+    be(&rt, read.aggregator == Some(aggregator), "the aggregator");
+    let path = read.path.as_slice();
+    be(&rt, path.len() == 2, "two segments");
+    be(&rt, is_set(path.first(), &[65001]), "the set");
+    be(&rt, is_sequence(path.last(), &[65002]), "the sequence");
+    be(&rt, are_the_others(read.others.as_slice()), "the others");
+    let octets = encoded(&rt, rt.alloc(), &read);
     be(
         &rt,
-        read.aggregator == Some(aggregator),
-        "every part of a route is read",
+        octets.as_slice() == &FULL[..80],
+        "the route is spelled",
     );
-    match read.path.as_slice() {
-        [Segment::Set(set), Segment::Sequence(path)] => {
-            be(
-                &rt,
-                set.as_slice() == [65001].as_slice(),
-                "every part of a route is read",
-            );
-            be(
-                &rt,
-                path.as_slice() == [65002].as_slice(),
-                "every part of a route is read",
-            );
-        }
-        _ => return Err(Fail::from("another path")),
-    }
-    match read.others.as_slice() {
-        [first, second] => {
-            be(&rt, first.kind == 8, "every part of a route is read");
-            be(
-                &rt,
-                first.value.as_slice() == [0xFD, 0xE9, 0, 1].as_slice(),
-                "every part of a route is read",
-            );
-            be(&rt, second.kind == 32, "every part of a route is read");
-            be(&rt, second.flags == 0xC0, "every part of a route is read");
-            be(
-                &rt,
-                second.value.as_slice() == [7].as_slice(),
-                "every part of a route is read",
-            );
-        }
-        _ => return Err(Fail::from("other attributes")),
-    }
-    be(
-        &rt,
-        read.encode(rt.alloc())?.as_slice() == &FULL[..80],
-        "every part of a route is read",
-    );
-    be(
-        &rt,
-        read.encoded_len() == 80,
-        "every part of a route is read",
-    );
-    Ok(())
+    be(&rt, read.encoded_len() == 80, "80 octets");
 }
 
-fn is_none(alloc: Global, octets: &[u8]) -> Result<bool, AllocError> {
-    Ok(Route::decode(alloc, octets)?.is_none())
+fn is_none(rt: &impl Abort, alloc: Global, octets: &[u8]) -> bool {
+    Route::decode(alloc, octets).expect(rt, "memory").is_none()
 }
 
 fn changed(place: usize, octet: u8) -> [u8; 80] {
@@ -183,30 +170,29 @@ const FAULTS: [(&str, usize, u8); 10] = [
 ];
 
 #[test]
-fn other_octets_are_no_route(rt: HostRuntime) -> Result<(), Fail> {
+fn other_octets_are_no_route(rt: HostRuntime) {
     for (fault, place, octet) in &FAULTS {
-        be(&rt, is_none(rt.alloc(), &changed(*place, *octet))?, fault);
+        be(
+            &rt,
+            is_none(&rt, rt.alloc(), &changed(*place, *octet)),
+            fault,
+        );
     }
-    be(&rt, is_none(rt.alloc(), &FULL[..81])?, "an octet left");
+    be(&rt, is_none(&rt, rt.alloc(), &FULL[..81]), "an octet left");
     for len in 0..80 {
-        be(&rt, is_none(rt.alloc(), &FULL[..len])?, "cut at");
+        be(&rt, is_none(&rt, rt.alloc(), &FULL[..len]), "cut at");
     }
-    Ok(())
+}
+
+pub(crate) fn shared(rt: &impl Abort, alloc: Global, route: Route) -> SharedRoute {
+    SharedRoute::new(alloc, route).expect(rt, "memory")
 }
 
 #[test]
-fn a_shared_route_keeps_its_spelling(rt: HostRuntime) -> Result<(), Fail> {
-    let shared = SharedRoute::new(rt.alloc(), route(rt.alloc(), &[65001, 65002], 0)?)?;
-    let again = shared.share()?;
-    be(
-        &rt,
-        again.spelling() == ROUTE.as_slice(),
-        "a shared route keeps its spelling",
-    );
-    be(
-        &rt,
-        again.route().origin == Origin::Igp,
-        "a shared route keeps its spelling",
-    );
-    Ok(())
+fn a_shared_route_keeps_its_spelling(rt: HostRuntime) {
+    let route = route(&rt, rt.alloc(), &[65001, 65002], 0);
+    let shared = shared(&rt, rt.alloc(), route);
+    let again = shared.share().expect(&rt, "memory");
+    be(&rt, again.spelling() == ROUTE.as_slice(), "the spelling");
+    be(&rt, again.route().origin == Origin::Igp, "the route");
 }

@@ -3,8 +3,8 @@
 use crate::be;
 use route_model::octets::{u16_at, u32_at, u64_at};
 use route_model::{Address, Mark, Moment, Peer, Prefix};
-use std::alloc::{AllocError, Global};
-use std::test::Fail;
+use std::alloc::Global;
+use std::process::Abort;
 
 /// Peer 192.0.2.1 of AS 65001 at collector 0.
 pub(crate) const PEER: [u8; 22] = [
@@ -28,7 +28,7 @@ fn ipv6_peer() -> Peer {
 }
 
 #[test]
-fn peers_have_one_spelling(rt: HostRuntime) -> Result<(), Fail> {
+fn peers_have_one_spelling(rt: HostRuntime) {
     be(&rt, peer().encode() == PEER, "peers have one spelling");
     be(&rt, peer().encoded_len() == 22, "peers have one spelling");
     be(
@@ -49,11 +49,10 @@ fn peers_have_one_spelling(rt: HostRuntime) -> Result<(), Fail> {
         Peer::decode(&octets) == Some(ipv6_peer()),
         "peers have one spelling",
     );
-    Ok(())
 }
 
 #[test]
-fn other_octets_are_no_peer(rt: HostRuntime) -> Result<(), Fail> {
+fn other_octets_are_no_peer(rt: HostRuntime) {
     let mut octets = PEER;
     octets[1] = 5;
     be(&rt, Peer::decode(&octets) == None, "no family");
@@ -69,7 +68,6 @@ fn other_octets_are_no_peer(rt: HostRuntime) -> Result<(), Fail> {
     long[0..22].copy_from_slice(&PEER);
     be(&rt, Peer::decode(&long) == None, "an octet left");
     be(&rt, Peer::decode(&[]) == None, "other octets are no peer");
-    Ok(())
 }
 
 /// Addresses, lengths, and the spellings of the prefixes that contain them.
@@ -84,18 +82,16 @@ const PREFIXES: [(Address, u8, &[u8]); 4] = [
     ),
 ];
 
-/// Whether the prefix is spelled so, and read from it.
-fn is_spelled(alloc: Global, prefix: Prefix, octets: &[u8]) -> Result<bool, AllocError> {
-    let spelled = prefix.encode(alloc)?;
-    Ok(
-        spelled.as_slice() == octets
-            && prefix.encoded_len() == octets.len()
-            && Prefix::decode(octets) == Some(prefix),
-    )
+/// Whether the prefix is encoded so, and read from it.
+fn is_spelled(rt: &impl Abort, alloc: Global, prefix: Prefix, octets: &[u8]) -> bool {
+    let spelled = prefix.encode(alloc).expect(rt, "memory");
+    spelled.as_slice() == octets
+        && prefix.encoded_len() == octets.len()
+        && Prefix::decode(octets) == Some(prefix)
 }
 
 #[test]
-fn prefixes_have_one_spelling(rt: HostRuntime) -> Result<(), Fail> {
+fn prefixes_have_one_spelling(rt: HostRuntime) {
     let ten = Prefix::containing(Address::V4([10, 1, 2, 3]), 8);
     be(
         &rt,
@@ -107,11 +103,10 @@ fn prefixes_have_one_spelling(rt: HostRuntime) -> Result<(), Fail> {
         let prefix = Prefix::containing(*address, (*length).min(32));
         be(
             &rt,
-            is_spelled(rt.alloc(), prefix, octets)?,
+            is_spelled(&rt, rt.alloc(), prefix, octets),
             "a prefix is encoded so",
         );
     }
-    Ok(())
 }
 
 /// Octets that are no prefix, and why.
@@ -134,8 +129,8 @@ fn other_octets_are_no_prefix(rt: HostRuntime) {
 }
 
 #[test]
-fn moments_and_marks_have_their_range(rt: HostRuntime) -> Result<(), Fail> {
-    let last = Moment::new(4_294_967_295).ok_or("no moment")?;
+fn moments_and_marks_have_their_range(rt: HostRuntime) {
+    let last = Moment::new(4_294_967_295).expect(&rt, "no moment");
     be(
         &rt,
         last.seconds() == 4_294_967_295,
@@ -151,7 +146,7 @@ fn moments_and_marks_have_their_range(rt: HostRuntime) -> Result<(), Fail> {
         Moment::from(1_704_067_200u32).seconds() == 1_704_067_200,
         "moments and marks have their range",
     );
-    let end = Mark::new(4_294_967_296).ok_or("no mark")?;
+    let end = Mark::new(4_294_967_296).expect(&rt, "no mark");
     be(
         &rt,
         end.seconds() == 4_294_967_296,
@@ -172,7 +167,6 @@ fn moments_and_marks_have_their_range(rt: HostRuntime) -> Result<(), Fail> {
         Mark::at(last) < end,
         "moments and marks have their range",
     );
-    Ok(())
 }
 
 #[test]

@@ -3,7 +3,6 @@
 use crate::be;
 use route_model::wire::{AsWidth, Family, as_number_at, octets_of, prefix_at};
 use route_model::{Address, Prefix};
-use std::test::Fail;
 
 #[test]
 fn as_numbers_have_two_widths(rt: HostRuntime) {
@@ -31,7 +30,7 @@ fn as_numbers_have_two_widths(rt: HostRuntime) {
 }
 
 #[test]
-fn prefixes_are_read_at_the_front(rt: HostRuntime) -> Result<(), Fail> {
+fn prefixes_are_read_at_the_front(rt: HostRuntime) {
     let ten = Prefix::containing(Address::V4([10, 0, 0, 0]), 8);
     be(
         &rt,
@@ -68,5 +67,4 @@ fn prefixes_are_read_at_the_front(rt: HostRuntime) -> Result<(), Fail> {
         prefix_at(Family::Ipv4, &[]) == None,
         "prefixes are read at the front",
     );
-    Ok(())
 }

@@ -1,20 +1,20 @@
 //! Lists of attributes.
 
-use super::{PLAIN, gives, octets};
-use crate::be;
+use super::{PLAIN, gives, joined};
+use crate::{be, octets};
 use bgp_update::read_attributes;
 use route_model::octets::ReadFault;
 use route_model::wire::AsWidth;
 use std::alloc::Global;
-use std::test::Fail;
+use std::process::Abort;
 
 /// Whether these attributes are malformed.
-fn is_malformed(alloc: Global, text: &str, width: AsWidth) -> Result<bool, Fail> {
-    let bytes = octets(alloc, text)?;
-    Ok(match read_attributes(alloc, &bytes, width) {
+fn is_malformed(rt: &impl Abort, alloc: Global, text: &str, width: AsWidth) -> bool {
+    let bytes = octets(rt, alloc, text);
+    match read_attributes(alloc, &bytes, width) {
         Err(fault) => fault == ReadFault::Malformed,
         Ok(_) => false,
-    })
+    }
 }
 
 /// Attributes with one fault each.
@@ -44,11 +44,10 @@ const FAULTS: [&str; 22] = [
 ];
 
 #[test]
-fn each_attribute_has_its_faults(rt: HostRuntime) -> Result<(), Fail> {
+fn each_attribute_has_its_faults(rt: HostRuntime) {
     for text in &FAULTS {
-        be(&rt, is_malformed(rt.alloc(), text, AsWidth::Two)?, text);
+        be(&rt, is_malformed(&rt, rt.alloc(), text, AsWidth::Two), text);
     }
-    Ok(())
 }
 
 /// Attributes without a fault.
@@ -62,46 +61,64 @@ const WHOLE: [&str; 6] = [
 ];
 
 #[test]
-fn attributes_of_four_octets_are_no_fault(rt: HostRuntime) -> Result<(), Fail> {
+fn attributes_of_four_octets_are_no_fault(rt: HostRuntime) {
     for text in &WHOLE {
-        be(&rt, !is_malformed(rt.alloc(), text, AsWidth::Two)?, text);
-        be(&rt, !is_malformed(rt.alloc(), text, AsWidth::Four)?, text);
+        be(
+            &rt,
+            !is_malformed(&rt, rt.alloc(), text, AsWidth::Two),
+            text,
+        );
+        be(
+            &rt,
+            !is_malformed(&rt, rt.alloc(), text, AsWidth::Four),
+            text,
+        );
     }
-    Ok(())
 }
 
 #[test]
-fn optional_attributes_are_told(rt: HostRuntime) -> Result<(), Fail> {
-    let all = format!(in rt.alloc();
-        "{PLAIN} 80040400000064 400504000000C8 400600 C00706FDE9C0000202"
-    )?;
+fn optional_attributes_are_told(rt: HostRuntime) {
+    let all = joined(
+        &rt,
+        rt.alloc(),
+        &[
+            PLAIN,
+            "80040400000064 400504000000C8 400600 C00706FDE9C0000202",
+        ],
+    );
     be(
         &rt,
         gives(
+            &rt,
             rt.alloc(),
             &all,
             AsWidth::Two,
             "00 0001 0202 0000FDE9 0000FDEA 04C0000201 0F 00000064 000000C8 0000FDE9C0000202 0000",
-        )?,
+        ),
         "optional attributes are told",
     );
-    Ok(())
 }
 
 #[test]
-fn others_are_kept_by_type_with_three_flags(rt: HostRuntime) -> Result<(), Fail> {
-    let all = format!(in rt.alloc();
-        "FF20000C 0000FDE9 00000001 00000002 {PLAIN} C0080400010001 E00A0101"
-    )?;
+fn others_are_kept_by_type_with_three_flags(rt: HostRuntime) {
+    let all = joined(
+        &rt,
+        rt.alloc(),
+        &[
+            "FF20000C 0000FDE9 00000001 00000002",
+            PLAIN,
+            "C0080400010001 E00A0101",
+        ],
+    );
     be(
         &rt,
         gives(
+            &rt,
             rt.alloc(),
             &all,
             AsWidth::Two,
             "00 0001 0202 0000FDE9 0000FDEA 04C0000201 00 0003 08C0000400010001 0AE0000101 20E0000C 0000FDE9 00000001 00000002",
-        )?,
+        ),
         "others are kept by type with three flags",
     );
-    Ok(())
 }

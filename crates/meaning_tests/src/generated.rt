@@ -1,16 +1,17 @@
 //! Generated runs: whatever was answered in the middle of a run is what the plain program answers over all that was admitted at its end.
 
 use crate::be;
+use crate::examples::ran;
 use crate::said::{
     Said, admission_of, answer_text, events_text, moment_of, peer_of, prefix_of, rows_text, spot_of,
 };
-use interleaving_core::{Machine, Query, Ran, Reach, Reply, Step, run};
+use interleaving_core::{Query, Ran, Reach, Reply, Step};
 use route_meaning::{
     EventsQuestion, PlacedAdmission, RowsQuestion, Select, answer_events, answer_rows, merge,
 };
 use route_model::{Admission, Mark};
 use std::alloc::Global;
-use std::test::Fail;
+use std::process::Abort;
 
 /// How many runs are generated, of so many steps each, by so many collectors.
 const RUNS: u32 = 2000;
@@ -51,25 +52,27 @@ impl Generator {
         }
     }
 
-    fn admission(&mut self, alloc: Global, collector: u8) -> Result<Admission, Fail> {
+    fn admission(&mut self, rt: &impl Abort, alloc: Global, collector: u8) -> Admission {
         let seconds = self
             .clock
             .saturating_add(self.below(3))
             .saturating_sub(self.below(2));
         let mut said = Vec::new(alloc);
         for _ in 0..self.below(4) {
-            said.push(self.said())?;
+            said.push(self.said()).expect(rt, "memory");
         }
-        admission_of(alloc, collector, seconds, &said)
+        admission_of(rt, alloc, collector, seconds, &said)
     }
 
-    fn batch(&mut self, alloc: Global) -> Result<Step, Fail> {
+    fn batch(&mut self, rt: &impl Abort, alloc: Global) -> Step {
         let collector = self.octet_below(COLLECTORS);
         let mut batch = Vec::new(alloc);
         for _ in 0..self.below(4) {
-            batch.push(self.admission(alloc, collector)?)?;
+            batch
+                .push(self.admission(rt, alloc, collector))
+                .expect(rt, "memory");
         }
-        Ok(Step::Admit(collector, batch))
+        Step::Admit(collector, batch)
     }
 
     fn query(&mut self) -> Query {
@@ -108,9 +111,9 @@ impl Generator {
         }
     }
 
-    fn step(&mut self, alloc: Global) -> Result<Step, Fail> {
-        Ok(match self.below(32) {
-            0..=5 => self.batch(alloc)?,
+    fn step(&mut self, rt: &impl Abort, alloc: Global) -> Step {
+        match self.below(32) {
+            0..=5 => self.batch(rt, alloc),
             6..=10 => {
                 let mark = self.clock.saturating_add(self.below(3));
                 Step::Mark(self.octet_below(COLLECTORS), Mark::at(moment_of(mark)))
@@ -127,39 +130,41 @@ impl Generator {
             27 => Step::Flush,
             28 => Step::Crash,
             _ => Step::Recover,
-        })
+        }
     }
 
-    fn steps(&mut self, alloc: Global) -> Result<Vec<Step>, Fail> {
+    fn steps(&mut self, rt: &impl Abort, alloc: Global) -> Vec<Step> {
         let mut steps = Vec::new(alloc);
         for _ in 0..STEPS {
             self.clock = self.clock.saturating_add(self.below(2));
-            steps.push(self.step(alloc)?)?;
+            steps.push(self.step(rt, alloc)).expect(rt, "memory");
         }
-        Ok(steps)
+        steps
     }
 }
 
 /// Puts those of the batch at the end that are no earlier than the mark and than those before them; tells the mark behind them.
 fn add_timely(
+    rt: &impl Abort,
     alloc: Global,
     list: &mut Vec<Admission>,
     mark: u64,
     batch: &[Admission],
-) -> Result<u64, Fail> {
+) -> u64 {
     let mut mark = mark;
     for admission in batch {
         let seconds = admission.time().seconds();
         if seconds >= mark {
-            list.push(admission.share(alloc)?)?;
+            list.push(admission.share(alloc).expect(rt, "memory"))
+                .expect(rt, "memory");
             mark = seconds;
         }
     }
-    Ok(mark)
+    mark
 }
 
 /// What a collector gave in a run that wasn't late, as the steps alone tell it.
-fn admitted_by(alloc: Global, collector: u8, steps: &[Step]) -> Result<Vec<Admission>, Fail> {
+fn admitted_by(rt: &impl Abort, alloc: Global, collector: u8, steps: &[Step]) -> Vec<Admission> {
     let mut list = Vec::new(alloc);
     let mut mark = 0u64;
     let mut down = false;
@@ -174,23 +179,23 @@ fn admitted_by(alloc: Global, collector: u8, steps: &[Step]) -> Result<Vec<Admis
             }
             Step::Admit(number, batch) => {
                 if !down && *number == collector {
-                    mark = add_timely(alloc, &mut list, mark, batch)?;
+                    mark = add_timely(rt, alloc, &mut list, mark, batch);
                 }
             }
             _ => {}
         }
     }
-    Ok(list)
+    list
 }
 
 /// Whether the question is done in these steps, and something is applied before that.
 fn is_done_behind_an_application(number: usize, steps: &[Step], replies: &[Reply]) -> bool {
     let mut applied = false;
-    for (step, reply) in steps.iter().zip(replies) {
+    for (place, reply) in replies.iter().enumerate() {
         match reply {
             Reply::Applied => applied = true,
             Reply::Done(_) => {
-                if let Step::Turn(turned, _) = step
+                if let Some(Step::Turn(turned, _)) = steps.get(place)
                     && *turned == number
                 {
                     return applied;
@@ -215,48 +220,56 @@ fn is_interleaved(steps: &[Step], replies: &[Reply]) -> bool {
     false
 }
 
-/// The questions of a run, in the order in which they were begun.
-fn queries_of(alloc: Global, steps: &[Step]) -> Result<Vec<Query>, Fail> {
-    let mut queries = Vec::new(alloc);
+/// The question of a number, of those that a run begins.
+fn query_of(steps: &[Step], number: usize) -> Option<Query> {
+    let mut begun = 0usize;
     for step in steps {
         if let Step::Begin(query) = step {
-            queries.push(*query)?;
+            if begun == number {
+                return Some(*query);
+            }
+            begun = begun.saturating_add(1);
         }
     }
-    Ok(queries)
+    None
 }
 
 /// The answer of the plain program over a list.
-fn plain(alloc: Global, list: &[PlacedAdmission], query: &Query) -> Result<String, Fail> {
+fn plain(rt: &impl Abort, alloc: Global, list: &[PlacedAdmission], query: &Query) -> String {
     match query {
-        Query::Rows(question) => rows_text(alloc, &answer_rows(alloc, list, question)?),
-        Query::Events(question) => events_text(alloc, &answer_events(alloc, list, question)?),
+        Query::Rows(question) => {
+            let answer = answer_rows(alloc, list, question).expect(rt, "memory");
+            rows_text(rt, alloc, &answer.rows, answer.more)
+        }
+        Query::Events(question) => {
+            let answer = answer_events(alloc, list, question).expect(rt, "memory");
+            events_text(rt, alloc, &answer.events, answer.more)
+        }
     }
 }
 
 /// How many answers a run gave, where each is the plain one.
-fn agreed(alloc: Global, steps: &[Step], ran: &Ran) -> Result<u32, Fail> {
-    let first = admitted_by(alloc, 0, steps)?;
-    let second = admitted_by(alloc, 1, steps)?;
-    let list = merge(alloc, &[first.as_slice(), second.as_slice()])?;
-    let queries = queries_of(alloc, steps)?;
+fn agreed(rt: &impl Abort, alloc: Global, steps: &[Step], ran: &Ran) -> u32 {
+    let first = admitted_by(rt, alloc, 0, steps);
+    let second = admitted_by(rt, alloc, 1, steps);
+    let list = merge(alloc, &[first.as_slice(), second.as_slice()]).expect(rt, "memory");
     let mut count = 0u32;
-    for (step, reply) in steps.iter().zip(&ran.replies) {
+    for (place, step) in steps.iter().enumerate() {
         if let Step::Turn(number, _) = step
-            && let Reply::Done(answer) = reply
+            && let Some(Reply::Done(answer)) = ran.replies.get(place)
         {
-            let query = queries.get(*number).ok_or("an answer without a question")?;
-            if answer_text(alloc, answer)? != plain(alloc, &list, query)? {
-                return Err(Fail::from("an answer isn't that of the history at the end"));
+            let query = query_of(steps, *number).expect(rt, "an answer without a question");
+            if answer_text(rt, alloc, answer) != plain(rt, alloc, &list, &query) {
+                panic!(rt; "an answer isn't that of the history at the end");
             }
             count = count.saturating_add(1);
         }
     }
-    Ok(count)
+    count
 }
 
 #[test]
-fn answers_are_those_of_the_last_history(rt: HostRuntime) -> Result<(), Fail> {
+fn answers_are_those_of_the_last_history(rt: HostRuntime) {
     let alloc = rt.alloc();
     let mut answers = 0u32;
     let mut interleaved = 0u32;
@@ -266,9 +279,9 @@ fn answers_are_those_of_the_last_history(rt: HostRuntime) -> Result<(), Fail> {
             clock: 1,
             begun: 0,
         };
-        let steps = generator.steps(alloc)?;
-        let ran = run(alloc, Machine::created(alloc, COLLECTORS)?, &steps)?;
-        answers = answers.saturating_add(agreed(alloc, &steps, &ran)?);
+        let steps = generator.steps(&rt, alloc);
+        let ran = ran(&rt, alloc, COLLECTORS, &steps);
+        answers = answers.saturating_add(agreed(&rt, alloc, &steps, &ran));
         if is_interleaved(&steps, &ran.replies) {
             interleaved = interleaved.saturating_add(1);
         }
@@ -279,5 +292,4 @@ fn answers_are_those_of_the_last_history(rt: HostRuntime) -> Result<(), Fail> {
         interleaved > 20,
         "runs with an application between turns",
     );
-    Ok(())
 }

@@ -1,15 +1,15 @@
 //! Worked examples as runs.
 
 use crate::be;
-use crate::said::{Said, admission_of, moment_of, peer_of, prefix_of, reply_text, spot_of};
-use interleaving_core::{Machine, Query, Reach, Step, run};
+use crate::said::{Said, admission_of, moment_of, peer_of, prefix_of, put, put_reply, spot_of};
+use interleaving_core::{Machine, Query, Ran, Reach, Step, run};
 use route_meaning::{EventsQuestion, RowsQuestion, Select};
 use route_model::Mark;
 use std::alloc::Global;
-use std::test::Fail;
+use std::process::Abort;
 
 /// A step.
-enum Act {
+pub(crate) enum Act {
     /// A collector offers admissions, each at a time.
     Offer(u8, &'static [(u32, &'static [Said])]),
     Mark(u8, u32),
@@ -193,12 +193,14 @@ const SCRIPTS: [Script; 6] = [
     },
 ];
 
-fn batch_of(alloc: Global, collector: u8, offered: &[(u32, &[Said])]) -> Result<Step, Fail> {
+fn batch_of(rt: &impl Abort, alloc: Global, collector: u8, offered: &[(u32, &[Said])]) -> Step {
     let mut batch = Vec::new(alloc);
     for (seconds, said) in offered {
-        batch.push(admission_of(alloc, collector, *seconds, said)?)?;
+        batch
+            .push(admission_of(rt, alloc, collector, *seconds, said))
+            .expect(rt, "memory");
     }
-    Ok(Step::Admit(collector, batch))
+    Step::Admit(collector, batch)
 }
 
 fn all_rows(seconds: u32) -> Query {
@@ -219,9 +221,9 @@ fn all_events(seconds: u32, second: u8) -> Query {
     })
 }
 
-fn step_of(alloc: Global, act: &Act) -> Result<Step, Fail> {
-    Ok(match act {
-        Act::Offer(collector, offered) => batch_of(alloc, *collector, offered)?,
+fn step_of(rt: &impl Abort, alloc: Global, act: &Act) -> Step {
+    match act {
+        Act::Offer(collector, offered) => batch_of(rt, alloc, *collector, offered),
         Act::Mark(collector, seconds) => Step::Mark(*collector, Mark::at(moment_of(*seconds))),
         Act::Apply(more) => Step::Apply(*more),
         Act::Flush => Step::Flush,
@@ -234,52 +236,62 @@ fn step_of(alloc: Global, act: &Act) -> Result<Step, Fail> {
         Act::End(number) => Step::Turn(*number, Reach::End),
         Act::Crash => Step::Crash,
         Act::Recover => Step::Recover,
-    })
+    }
 }
 
-/// What the steps of a script answer, each in a line.
-fn played(alloc: Global, script: &Script) -> Result<String, Fail> {
+pub(crate) fn add_acts(rt: &impl Abort, alloc: Global, steps: &mut Vec<Step>, acts: &[Act]) {
+    for act in acts {
+        steps.push(step_of(rt, alloc, act)).expect(rt, "memory");
+    }
+}
+
+/// What a machine of this number of collectors comes to by these steps.
+pub(crate) fn ran(rt: &impl Abort, alloc: Global, collectors: u8, steps: &[Step]) -> Ran {
+    let machine = Machine::created(alloc, collectors).expect(rt, "memory");
+    run(alloc, machine, steps).expect(rt, "memory")
+}
+
+/// What the steps of a script reply, each in a line.
+fn played(rt: &impl Abort, alloc: Global, script: &Script) -> String {
     let mut steps = Vec::new(alloc);
     for (act, _) in script.acts {
-        steps.push(step_of(alloc, act)?)?;
+        steps.push(step_of(rt, alloc, act)).expect(rt, "memory");
     }
-    let ran = run(alloc, Machine::created(alloc, script.collectors)?, &steps)?;
+    let ran = ran(rt, alloc, script.collectors, &steps);
     let mut text = String::new(alloc);
     for reply in &ran.replies {
-        text.push_str(&reply_text(alloc, reply)?)?;
-        text.push_str("\n")?;
+        put_reply(rt, alloc, &mut text, reply);
+        put(rt, &mut text, "\n");
     }
-    Ok(text)
+    text
 }
 
-/// What they have to answer.
-fn wanted(alloc: Global, script: &Script) -> Result<String, Fail> {
+/// What they have to reply.
+fn wanted(rt: &impl Abort, alloc: Global, script: &Script) -> String {
     let mut text = String::new(alloc);
     for (_, reply) in script.acts {
-        text.push_str(reply)?;
-        text.push_str("\n")?;
+        put(rt, &mut text, reply);
+        put(rt, &mut text, "\n");
     }
-    Ok(text)
+    text
 }
 
 #[test]
-fn scripts_are_played(rt: HostRuntime) -> Result<(), Fail> {
+fn scripts_are_played(rt: HostRuntime) {
     let alloc = rt.alloc();
     for script in &SCRIPTS {
-        let told = played(alloc, script)?;
-        let wanted = wanted(alloc, script)?;
-        be(&rt, told == wanted, "scripts are played");
+        let replies = played(&rt, alloc, script);
+        be(&rt, replies == wanted(&rt, alloc, script), script.name);
     }
-    Ok(())
 }
 
 #[test]
-fn a_collector_goes_on_behind_what_it_offered(rt: HostRuntime) -> Result<(), Fail> {
+fn a_collector_goes_on_behind_what_it_offered(rt: HostRuntime) {
     let alloc = rt.alloc();
-    let offered = batch_of(alloc, 0, &[(100, &[]), (99, &[]), (100, &[])])?;
-    let steps = vec![in alloc; offered]?;
-    let ran = run(alloc, Machine::created(alloc, 1)?, &steps)?;
-    let resume = ran.machine.resume(0).ok_or("no collector")?;
+    let offered = batch_of(&rt, alloc, 0, &[(100, &[]), (99, &[]), (100, &[])]);
+    let steps = vec![in alloc; offered].expect(&rt, "memory");
+    let ran = ran(&rt, alloc, 1, &steps);
+    let resume = ran.machine.resume(0).expect(&rt, "no collector");
     be(
         &rt,
         resume.offered == 3,
@@ -300,11 +312,10 @@ fn a_collector_goes_on_behind_what_it_offered(rt: HostRuntime) -> Result<(), Fai
         ran.machine.resume(1).is_none(),
         "a collector goes on behind what it offered",
     );
-    Ok(())
 }
 
 #[test]
-fn a_question_asks_up_to_its_last_moment(rt: HostRuntime) -> Result<(), Fail> {
+fn a_question_asks_up_to_its_last_moment(rt: HostRuntime) {
     be(
         &rt,
         all_events(9, 0).last_moment() == moment_of(9),
@@ -315,5 +326,4 @@ fn a_question_asks_up_to_its_last_moment(rt: HostRuntime) -> Result<(), Fail> {
         all_rows(7).last_moment() == moment_of(7),
         "a question asks up to its last moment",
     );
-    Ok(())
 }

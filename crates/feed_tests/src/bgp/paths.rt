@@ -1,22 +1,22 @@
 //! AS paths of both widths.
 
-use super::{fault_of, gives, told, update};
-use crate::be;
+use super::{fault_of, gives, joined, put, put_count, told, update};
+use crate::{be, octets};
 use bgp_update::MessageFault;
 use route_model::wire::AsWidth;
 use std::alloc::Global;
-use std::test::Fail;
+use std::process::Abort;
 
 /// ORIGIN and NEXT_HOP, an AS_PATH, and further attributes.
-fn with_path(alloc: Global, own: &str, more: &str) -> Result<String, Fail> {
-    Ok(format!(in alloc; "40010100 400304C0000201 4002{own} {more}")?)
+fn with_path(rt: &impl Abort, alloc: Global, own: &str, more: &str) -> String {
+    joined(rt, alloc, &["40010100 400304C0000201 4002", own, more])
 }
 
-/// Whether the route of these attributes has the path that is spelled so.
-fn has_path(alloc: Global, own: &str, longer: &str, path: &str) -> Result<bool, Fail> {
-    let attributes = with_path(alloc, own, longer)?;
-    let route = format!(in alloc; "00 {path} 04C0000201 00 0000")?;
-    gives(alloc, &attributes, AsWidth::Two, &route)
+/// Whether the route of these attributes has the path that is encoded so.
+fn has_path(rt: &impl Abort, alloc: Global, own: &str, longer: &str, path: &str) -> bool {
+    let attributes = with_path(rt, alloc, own, longer);
+    let route = joined(rt, alloc, &["00", path, "04C0000201 00 0000"]);
+    gives(rt, alloc, &attributes, AsWidth::Two, &route)
 }
 
 /// AS_PATH, the attributes behind it, and the path of the route.
@@ -72,15 +72,14 @@ const PATHS: [(&str, &str, &str); 12] = [
 ];
 
 #[test]
-fn as4_path_is_laid_over_as_path(rt: HostRuntime) -> Result<(), Fail> {
+fn as4_path_is_laid_over_as_path(rt: HostRuntime) {
     for (own, longer, path) in &PATHS {
         be(
             &rt,
-            has_path(rt.alloc(), own, longer, path)?,
+            has_path(&rt, rt.alloc(), own, longer, path),
             "as4 path is laid over as path",
         );
     }
-    Ok(())
 }
 
 /// AGGREGATOR and AS4_AGGREGATOR, the path of the route, and its aggregator.
@@ -118,91 +117,97 @@ const AGGREGATORS: [(&str, &str, &str); 6] = [
 ];
 
 #[test]
-fn aggregators_decide_whether_as4_path_counts(rt: HostRuntime) -> Result<(), Fail> {
+fn aggregators_decide_whether_as4_path_counts(rt: HostRuntime) {
     for (aggregators, path, aggregator) in &AGGREGATORS {
-        let more = format!(in rt.alloc(); "{aggregators} C011060201FA56EA01")?;
-        let attributes = with_path(rt.alloc(), "060202FDE95BA0", &more)?;
-        let route = format!(in rt.alloc(); "00 {path} 04C0000201 08 {aggregator} 0000")?;
+        let more = joined(&rt, rt.alloc(), &[*aggregators, "C011060201FA56EA01"]);
+        let attributes = with_path(&rt, rt.alloc(), "060202FDE95BA0", &more);
+        let route = joined(
+            &rt,
+            rt.alloc(),
+            &["00", *path, "04C0000201 08", *aggregator, "0000"],
+        );
         be(
             &rt,
-            gives(rt.alloc(), &attributes, AsWidth::Two, &route)?,
+            gives(&rt, rt.alloc(), &attributes, AsWidth::Two, &route),
             aggregators,
         );
     }
-    Ok(())
 }
 
 #[test]
-fn as4_aggregator_alone_is_left_aside(rt: HostRuntime) -> Result<(), Fail> {
+fn as4_aggregator_alone_is_left_aside(rt: HostRuntime) {
     be(
         &rt,
         has_path(
+            &rt,
             rt.alloc(),
             "060202FDE95BA0",
             "C01208FA56EA01C0000202 C011060201FA56EA01",
             "0002 0201 0000FDE9 0201 FA56EA01",
-        )?,
+        ),
         "as4 aggregator alone is left aside",
     );
-    Ok(())
 }
 
 #[test]
-fn at_width_four_as4_attributes_are_left_aside(rt: HostRuntime) -> Result<(), Fail> {
+fn at_width_four_as4_attributes_are_left_aside(rt: HostRuntime) {
     let more = "C00708 00005BA0C0000201 C01208FA56EA01C0000202 C011060201FA56EA01";
-    let attributes = with_path(rt.alloc(), "0A0202 0000FDE9 00005BA0", more)?;
+    let attributes = with_path(&rt, rt.alloc(), "0A0202 0000FDE9 00005BA0", more);
     be(
         &rt,
         gives(
+            &rt,
             rt.alloc(),
             &attributes,
             AsWidth::Four,
             "00 0001 0202 0000FDE9 00005BA0 04C0000201 08 00005BA0C0000201 0000",
-        )?,
+        ),
         "at width four as4 attributes are left aside",
     );
-    Ok(())
+}
+
+/// Puts a sequence of COUNT times 65001.
+fn put_sequence(rt: &impl Abort, path: &mut Vec<u8>, count: u8) {
+    put(rt, path, &[2, count]);
+    for _ in 0..count {
+        put(rt, path, &[0, 0, 253, 233]);
+    }
 }
 
 /// An UPDATE at width four whose AS_PATH has sequences of 255, 255 and so many numbers.
-fn long_path(alloc: Global, last: u8, nlri: &str) -> Result<Vec<u8>, Fail> {
+fn long_path(rt: &impl Abort, alloc: Global, last: u8, nlri: &str) -> Vec<u8> {
     let mut path = Vec::new(alloc);
-    for count in [255u8, 255, last] {
-        path.push(2)?;
-        path.push(count)?;
-        for _ in 0..count {
-            path.extend_from_slice(&[0, 0, 253, 233])?;
-        }
-    }
-    let mut attributes = Vec::new(alloc);
-    attributes.extend_from_slice(&[0x40, 1, 1, 0, 0x40, 3, 4, 192, 0, 2, 1, 0x50, 2])?;
-    let len = u16::try_from(path.len()).map_err(|_| "long")?;
-    attributes.extend_from_slice(&len.to_be_bytes())?;
-    attributes.extend_from_slice(&path)?;
-    update(alloc, &attributes, nlri)
+    put_sequence(rt, &mut path, 255);
+    put_sequence(rt, &mut path, 255);
+    put_sequence(rt, &mut path, last);
+    let mut attributes = octets(rt, alloc, "40010100 400304C0000201 5002");
+    put_count(rt, &mut attributes, path.len());
+    put(rt, &mut attributes, &path);
+    update(rt, alloc, &attributes, nlri)
 }
 
 /// Why such an UPDATE is no message, or none where it is one.
-fn long_fault(alloc: Global, last: u8, nlri: &str) -> Result<Option<MessageFault>, Fail> {
-    Ok(fault_of(alloc, &long_path(alloc, last, nlri)?, AsWidth::Four))
+fn long_fault(rt: &impl Abort, alloc: Global, last: u8, nlri: &str) -> Option<MessageFault> {
+    fault_of(alloc, &long_path(rt, alloc, last, nlri), AsWidth::Four)
 }
 
 #[test]
-fn a_route_of_3073_octets_is_too_large(rt: HostRuntime) -> Result<(), Fail> {
-    let fits = long_fault(rt.alloc(), 253, "080A")?;
+fn a_route_of_3073_octets_is_too_large(rt: HostRuntime) {
+    let fits = long_fault(&rt, rt.alloc(), 253, "080A");
     be(&rt, fits == None, "763 numbers");
-    let large = long_fault(rt.alloc(), 254, "080A")?;
+    let large = long_fault(&rt, rt.alloc(), 254, "080A");
     be(
         &rt,
         large == Some(MessageFault::RouteTooLarge),
         "764 numbers",
     );
-    let silent = long_fault(rt.alloc(), 254, "")?;
+    let silent = long_fault(&rt, rt.alloc(), 254, "");
     be(&rt, silent == None, "nothing announced");
     be(
         &rt,
-        told(rt.alloc(), "", "", AsWidth::Two)?.announced.is_none(),
+        told(&rt, rt.alloc(), "", "", AsWidth::Two)
+            .announced
+            .is_none(),
         "a route of 3073 octets is too large",
     );
-    Ok(())
 }

@@ -1,12 +1,11 @@
 //! Records from outside, worked examples among them, and the spelling of what they mean.
 
-use crate::be;
+use crate::{be, octets};
 use mrt_records::{Framer, Item};
 use resolve::{ResolveFault, Resolver, WithoutHop};
 use route_model::Admission;
 use std::alloc::Global;
-use std::test::Fail;
-use test_octets::octets;
+use std::process::Abort;
 
 /// A message of 192.0.2.1, AS 65001: an UPDATE that announces 10.0.0.0/8 by 65001 65002.
 const UPDATE: &str = "65920080 0010 0001 0000003D FDE9 FC00 0000 0001 C0000201 C0000202
@@ -239,97 +238,85 @@ const FEEDS: [Feed; 8] = [
     },
 ];
 
-/// The item of a record.
-fn item(alloc: Global, record: &str) -> Result<Item, Fail> {
+/// The items of the records of a feed.
+fn items_of(rt: &impl Abort, alloc: Global, records: &[(&str, Meaning)]) -> Vec<Item> {
     let mut framer = Framer::new(alloc);
     let mut items: Vec<Item> = Vec::new(alloc);
-    framer.feed(&octets(alloc, record)?, &mut items)?;
-    framer.finish()?;
-    let item = items.pop().ok_or("no record")?;
-    Ok(item)
+    for (record, _) in records {
+        framer
+            .feed(&octets(rt, alloc, record), &mut items)
+            .expect(rt, "a record");
+    }
+    framer.finish().expect(rt, "a record's end");
+    items
+}
+
+/// Whether the admission is encoded so.
+fn is_spelled(rt: &impl Abort, alloc: Global, admission: &Admission, text: &str) -> bool {
+    let spelled = admission.encode(alloc).expect(rt, "memory");
+    spelled.as_slice() == octets(rt, alloc, text).as_slice()
 }
 
 /// Whether the next record means this.
 fn means(
+    rt: &impl Abort,
     alloc: Global,
     resolver: &mut Resolver,
     rule: WithoutHop,
-    record: &str,
+    item: &Item,
     wanted: &Meaning,
-) -> Result<bool, Fail> {
-    match (resolver.record(alloc, rule, &item(alloc, record)?), wanted) {
-        (Ok(Some(admission)), Ok(Some(text))) => {
-            Ok(admission.encode(alloc)?.as_slice() == octets(alloc, text)?.as_slice())
-        }
-        (Ok(None), Ok(None)) => Ok(true),
-        (Err(fault), Err(other)) => Ok(fault == *other),
-        _ => Ok(false),
+) -> bool {
+    match resolver.record(alloc, rule, item) {
+        Ok(Some(admission)) => match wanted {
+            Ok(Some(text)) => is_spelled(rt, alloc, &admission, text),
+            _ => false,
+        },
+        Ok(None) => matches!(wanted, Ok(None)),
+        Err(fault) => match wanted {
+            Err(other) => fault == *other,
+            _ => false,
+        },
     }
 }
 
-#[test]
-fn records_mean_what_they_say(rt: HostRuntime) -> Result<(), Fail> {
-    for feed in &FEEDS {
-        let mut resolver = Resolver::new(0);
-        for (record, wanted) in feed.records {
-            be(
-                &rt,
-                means(rt.alloc(), &mut resolver, feed.rule, record, wanted)?,
-                "records mean what they say",
-            );
-        }
+/// Each record of a feed means what it says, and this number of entries is left out.
+fn play(rt: &impl Abort, alloc: Global, feed: &Feed) {
+    let mut resolver = Resolver::new(0);
+    let items = items_of(rt, alloc, feed.records);
+    be(rt, items.len() == feed.records.len(), feed.name);
+    for (place, (_, wanted)) in feed.records.iter().enumerate() {
+        let item = items.get(place).expect(rt, "no record");
         be(
-            &rt,
-            resolver.left_out() == feed.left_out,
-            "entries that are left out are counted",
+            rt,
+            means(rt, alloc, &mut resolver, feed.rule, item, wanted),
+            feed.name,
         );
     }
-    Ok(())
-}
-
-/// Whether a RIB record without a peer table, a table, the record, a table that is cut, and the record again have these meanings.
-fn are_as_told(
-    alloc: Global,
-    results: &[Result<Option<Admission>, ResolveFault>],
-) -> Result<bool, Fail> {
-    match results {
-        [
-            Err(ResolveFault::NoPeerTable),
-            Ok(None),
-            Ok(Some(admission)),
-            Err(ResolveFault::Malformed),
-            Err(ResolveFault::NoPeerTable),
-        ] => Ok(admission.encode(alloc)?.as_slice() == octets(alloc, ANNOUNCED)?.as_slice()),
-        _ => Ok(false),
-    }
-}
-
-// What each record of a feed is resolved to.
-fn record_all(
-    alloc: Global,
-    items: &[Item],
-) -> Result<Vec<Result<Option<Admission>, ResolveFault>>, Fail> {
-    let mut resolver = Resolver::new(0);
-    let mut results = Vec::new(alloc);
-    for item in items {
-        results.push(resolver.record(alloc, WithoutHop::Refused, item))?;
-    }
-    Ok(results)
+    be(rt, resolver.left_out() == feed.left_out, feed.name);
 }
 
 #[test]
-fn a_feed_is_read_as_its_records_are(rt: HostRuntime) -> Result<(), Fail> {
-    let alloc = rt.alloc();
-    let mut framer = Framer::new(alloc);
-    let mut items: Vec<Item> = Vec::new(alloc);
-    for record in [RIB, PEER_TABLE, RIB, CUT_PEER_TABLE, RIB] {
-        framer.feed(&octets(alloc, record)?, &mut items)?;
+fn records_mean_what_they_say(rt: HostRuntime) {
+    for feed in &FEEDS {
+        play(&rt, rt.alloc(), feed);
     }
-    let results = record_all(alloc, &items)?;
-    be(
-        &rt,
-        are_as_told(alloc, results.as_slice())?,
-        "a feed is read as its records are",
-    );
-    Ok(())
+}
+
+/// A RIB record without a peer table, a table, the record, a table that is cut, and the record again.
+const FIVE: Feed = Feed {
+    name: "a feed is read as its records are",
+    rule: WithoutHop::Refused,
+    records: &[
+        (RIB, Err(ResolveFault::NoPeerTable)),
+        (PEER_TABLE, Ok(None)),
+        (RIB, Ok(Some(ANNOUNCED))),
+        (CUT_PEER_TABLE, Err(ResolveFault::Malformed)),
+        (RIB, Err(ResolveFault::NoPeerTable)),
+    ],
+    left_out: 0,
+};
+
+#[test]
+fn a_feed_is_read_as_its_records_are(rt: HostRuntime) {
+    play(&rt, rt.alloc(), &FIVE);
 }

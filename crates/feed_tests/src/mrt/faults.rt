@@ -2,31 +2,47 @@
 
 use super::{
     MESSAGE, MESSAGE_AS4, MESSAGE_ET, PEER_TABLE, RIB, RIB_IPV6, STATE_CHANGE, STATE_CHANGE_AS4_ET,
-    item, octets, record,
+    item, record,
 };
-use crate::be;
+use crate::{be, octets};
 use mrt_records::Item;
 use std::alloc::Global;
-use std::test::Fail;
+use std::process::Abort;
 
 /// Whether a record of this type and subtype with this body is told as malformed, with both.
-fn is_malformed(alloc: Global, kind: u16, subtype: u16, body: &[u8]) -> Result<bool, Fail> {
-    let found = item(alloc, &record(alloc, kind, subtype, body)?)?;
-    Ok(match found {
+fn is_malformed(rt: &impl Abort, alloc: Global, kind: u16, subtype: u16, body: &[u8]) -> bool {
+    let found = item(rt, alloc, &record(rt, alloc, kind, subtype, body));
+    match found {
         Item::Malformed {
             kind: found_kind,
             subtype: found_subtype,
         } => found_kind == kind && found_subtype == subtype,
         _ => false,
-    })
+    }
 }
 
 /// The octets behind a record's header.
-fn body_of(alloc: Global, text: &str) -> Result<Vec<u8>, Fail> {
-    let bytes = octets(alloc, text)?;
-    let (_, body) = bytes.split_at_checked(12).ok_or("no header")?;
-    let body = body.to_vec(alloc)?;
-    Ok(body)
+fn body_of(rt: &impl Abort, alloc: Global, text: &str) -> Vec<u8> {
+    let bytes = octets(rt, alloc, text);
+    let (_, body) = bytes.split_at_checked(12).expect(rt, "no header");
+    body.to_vec(alloc).expect(rt, "memory")
+}
+
+/// Whether the body is malformed wherever it is cut.
+fn are_cuts_malformed(
+    rt: &impl Abort,
+    alloc: Global,
+    kind: u16,
+    subtype: u16,
+    body: &[u8],
+) -> bool {
+    for len in 0..body.len() {
+        let (cut, _) = body.split_at_checked(len).expect(rt, "cut");
+        if !is_malformed(rt, alloc, kind, subtype, cut) {
+            return false;
+        }
+    }
+    true
 }
 
 /// Type, subtype and octets of a record of each kind.
@@ -42,41 +58,37 @@ const RECORDS: [(u16, u16, &str); 8] = [
 ];
 
 #[test]
-fn a_body_that_is_cut_or_has_octets_left(rt: HostRuntime) -> Result<(), Fail> {
+fn a_body_that_is_cut_or_has_octets_left(rt: HostRuntime) {
     for (kind, subtype, text) in &RECORDS {
-        let mut body = body_of(rt.alloc(), text)?;
-        body.push(0)?;
+        let mut body = body_of(&rt, rt.alloc(), text);
         be(
             &rt,
-            is_malformed(rt.alloc(), *kind, *subtype, &body)?,
-            "an octet left in",
+            are_cuts_malformed(&rt, rt.alloc(), *kind, *subtype, &body),
+            text,
         );
-        body.pop();
-        for len in 0..body.len() {
-            let (cut, _) = body.split_at_checked(len).ok_or("cut")?;
-            be(
-                &rt,
-                is_malformed(rt.alloc(), *kind, *subtype, cut)?,
-                "cut at",
-            );
-        }
+        body.push(0).expect(&rt, "memory");
+        be(
+            &rt,
+            is_malformed(&rt, rt.alloc(), *kind, *subtype, &body),
+            text,
+        );
     }
-    Ok(())
 }
 
 #[test]
-fn microseconds_are_counted_in_the_body(rt: HostRuntime) -> Result<(), Fail> {
-    let body = body_of(rt.alloc(), STATE_CHANGE)?;
+fn microseconds_are_counted_in_the_body(rt: HostRuntime) {
+    let body = body_of(&rt, rt.alloc(), STATE_CHANGE);
     be(
         &rt,
-        is_malformed(rt.alloc(), 17, 0, &body)?,
+        is_malformed(&rt, rt.alloc(), 17, 0, &body),
         "no microseconds",
     );
-    for len in 0..4 {
-        let (cut, _) = body.split_at_checked(len).ok_or("cut")?;
-        be(&rt, is_malformed(rt.alloc(), 17, 0, cut)?, "octets");
-    }
-    Ok(())
+    let (cut, _) = body.split_at_checked(4).expect(&rt, "cut");
+    be(
+        &rt,
+        are_cuts_malformed(&rt, rt.alloc(), 17, 0, cut),
+        "octets",
+    );
 }
 
 /// Type, subtype, fault and body.
@@ -178,14 +190,13 @@ const OUT_OF_RANGE: [(u16, u16, &str, &str); 19] = [
 ];
 
 #[test]
-fn values_out_of_range(rt: HostRuntime) -> Result<(), Fail> {
+fn values_out_of_range(rt: HostRuntime) {
     for (kind, subtype, fault, text) in &OUT_OF_RANGE {
-        let body = octets(rt.alloc(), text)?;
+        let body = octets(&rt, rt.alloc(), text);
         be(
             &rt,
-            is_malformed(rt.alloc(), *kind, *subtype, &body)?,
+            is_malformed(&rt, rt.alloc(), *kind, *subtype, &body),
             fault,
         );
     }
-    Ok(())
 }

@@ -4,10 +4,10 @@ mod faults;
 mod framing;
 mod records;
 
+use crate::octets;
 use mrt_records::{Framer, Item};
 use std::alloc::Global;
-use std::test::Fail;
-use test_octets::octets;
+use std::process::Abort;
 
 /// A message of 192.0.2.1, AS 65001: an UPDATE that announces 10.0.0.0/8.
 const MESSAGE: &str = "65920080 0010 0001 0000003D FDE9 FC00 0000 0001 C0000201 C0000202
@@ -44,32 +44,36 @@ const RIB_IPV6: &str =
     40020A02020000FDE90000FDEA 800E11 10 20010DB8000000000000000000000001";
 
 /// A record of this type and subtype, of 1704067200, whose body is these octets.
-fn record(alloc: Global, kind: u16, subtype: u16, body: &[u8]) -> Result<Vec<u8>, Fail> {
+fn record(rt: &impl Abort, alloc: Global, kind: u16, subtype: u16, body: &[u8]) -> Vec<u8> {
     let mut out = Vec::new(alloc);
-    out.extend_from_slice(&1_704_067_200u32.to_be_bytes())?;
-    out.extend_from_slice(&kind.to_be_bytes())?;
-    out.extend_from_slice(&subtype.to_be_bytes())?;
-    let len = u32::try_from(body.len()).map_err(|_| "long")?;
-    out.extend_from_slice(&len.to_be_bytes())?;
-    out.extend_from_slice(body)?;
-    Ok(out)
+    out.extend_from_slice(&1_704_067_200u32.to_be_bytes())
+        .expect(rt, "memory");
+    out.extend_from_slice(&kind.to_be_bytes())
+        .expect(rt, "memory");
+    out.extend_from_slice(&subtype.to_be_bytes())
+        .expect(rt, "memory");
+    let len = u32::try_from(body.len()).expect(rt, "long");
+    out.extend_from_slice(&len.to_be_bytes())
+        .expect(rt, "memory");
+    out.extend_from_slice(body).expect(rt, "memory");
+    out
 }
 
 /// The items of octets that are fed at once, and that end with a record's end.
-fn items(alloc: Global, bytes: &[u8]) -> Result<Vec<Item>, Fail> {
+fn items(rt: &impl Abort, alloc: Global, bytes: &[u8]) -> Vec<Item> {
     let mut out = Vec::new(alloc);
     let mut framer = Framer::new(alloc);
-    framer.feed(bytes, &mut out)?;
-    framer.finish()?;
-    Ok(out)
+    framer.feed(bytes, &mut out).expect(rt, "a record");
+    framer.finish().expect(rt, "a record");
+    out
 }
 
 /// The item of a record alone.
-fn item(alloc: Global, bytes: &[u8]) -> Result<Item, Fail> {
-    let mut out = items(alloc, bytes)?;
+fn item(rt: &impl Abort, alloc: Global, bytes: &[u8]) -> Item {
+    let mut out = items(rt, alloc, bytes);
     if out.len() > 1 {
-        return Err("more than one item".into());
+        panic!(rt; "more than one item");
     }
-    let item = out.pop().ok_or("no item")?;
-    Ok(item)
+    let item = out.pop().expect(rt, "no item");
+    item
 }

@@ -1,0 +1,25 @@
+//! Tests of route_meaning, sequencer and interleaving_core: histories, late records and runs of the machine, by tables worked out by
+//! hand and by generated runs.
+#![tactic(auto)]
+
+#[cfg(test)]
+mod examples;
+#[cfg(test)]
+mod generated;
+#[cfg(test)]
+mod meaning;
+#[cfg(test)]
+mod pages;
+#[cfg(test)]
+mod said;
+#[cfg(test)]
+mod sequence;
+
+#[cfg(test)]
+use std::process::Abort;
+
+/// Ends a test that is wrong, with what was tried. Proofs learn nothing of it, which keeps them short.
+#[cfg(test)]
+fn be(rt: &impl Abort, holds: bool, name: &str) {
+    assert!(rt; holds, "{name}");
+}
