@@ -17,17 +17,25 @@ _rha() {
   read -ra words <<<"$line"
   [ "${line: -1}" = " " ] || unset "words[-1]"
   case ${words[-1]} in
-    --collectors | --ring | --pages | --blocks | --collector | --batch | --mark | --listen | --workers | --wait)
+    --collectors | --ring | --pages | --blocks | --collector | --batch | --mark | --listen | --workers | --wait | --at | --peer | --within)
       compopt +o default
+      return
+      ;;
+    --format)
+      mapfile -t COMPREPLY < <(compgen -W "lines bgpdump json" -- "$word")
       return
       ;;
   esac
   case ${words[1]}/$word in
-    /*) offered="create load ask serve check info --help --version" ;;
+    /*) offered="create load ask serve check info dump peers diff --help --version" ;;
     create/-*) offered="--collectors --ring --pages --blocks --help" ;;
     load/-*) offered="--wait --collector --batch --mark --resume --lose-entries --strict --help" ;;
     serve/-*) offered="--wait --listen --workers --help" ;;
-    ask/-* | check/-*) offered="--wait --help" ;;
+    ask/-*) offered="--wait --all --human --help" ;;
+    check/-*) offered="--wait --help" ;;
+    dump/-*) offered="--wait --at --peer --format --help" ;;
+    peers/-*) offered="--wait --at --help" ;;
+    diff/-*) offered="--wait --within --help" ;;
     info/-*) offered="--wait --json --help" ;;
     ask/*) [ ${#words[@]} -lt 3 ] || offered=$(_rha_request "${words[@]:3}") ;;
   esac

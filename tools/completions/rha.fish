@@ -31,6 +31,9 @@ complete -c rha -n __fish_is_first_arg -a ask -d 'Answer a request line'
 complete -c rha -n __fish_is_first_arg -a serve -d 'Serve an archive on a socket'
 complete -c rha -n __fish_is_first_arg -a check -d 'Read through an archive'
 complete -c rha -n __fish_is_first_arg -a info -d 'Show how far an archive has come, and how much room it has left'
+complete -c rha -n __fish_is_first_arg -a dump -d 'Write the table of one moment'
+complete -c rha -n __fish_is_first_arg -a peers -d 'Count the routes of each peer at a moment'
+complete -c rha -n __fish_is_first_arg -a diff -d 'Compare the tables of two moments'
 
 complete -c rha -n '__rha_is create' -x -l collectors -d 'How many collectors there are, 1 to 16'
 complete -c rha -n '__rha_is create' -x -l ring -d 'Pages of the ring of each collector, 9 to 65535'
@@ -38,7 +41,7 @@ complete -c rha -n '__rha_is create' -x -l pages -d 'Pages of the archive, with 
 complete -c rha -n '__rha_is create' -x -l blocks -d 'Write-once blocks of the archive'
 complete -c rha -n '__rha_is create' -a '(__fish_complete_directories)'
 
-for command in load ask serve check info
+for command in load ask serve check info dump peers diff
     complete -c rha -n "__rha_is $command" -x -l wait -d 'Seconds to wait while the archive is in use, 0 to 1000000'
 end
 
@@ -59,5 +62,18 @@ complete -c rha -n '__rha_is check' -a '(__fish_complete_directories)'
 complete -c rha -n '__rha_is info' -l json -d 'Print one object of JSON'
 complete -c rha -n '__rha_is info' -a '(__fish_complete_directories)'
 
+for command in dump peers
+    complete -c rha -n "__rha_is $command" -x -l at -d 'The moment of the table'
+end
+for command in dump peers diff
+    complete -c rha -n "__rha_is $command" -a '(__fish_complete_directories)'
+end
+
+complete -c rha -n '__rha_is dump' -x -l peer -d 'Of this peer alone'
+complete -c rha -n '__rha_is dump' -x -l format -a 'lines bgpdump json' -d 'How a row is written'
+complete -c rha -n '__rha_is diff' -x -l within -d 'Only prefixes inside this one'
+
+complete -c rha -n '__rha_is ask' -l all -d 'Follow M to the end'
+complete -c rha -n '__rha_is ask' -l human -d 'Dates, and communities as texts'
 complete -c rha -n '__rha_is ask; and test (count (commandline -opc)) = 2' -a '(__fish_complete_directories)'
 complete -c rha -n '__rha_is ask' -a '(__rha_request)'

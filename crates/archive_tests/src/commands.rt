@@ -2,13 +2,14 @@
 
 use crate::be;
 use service::{
-    Checking, CommandError, Creation, Examining, Invocation, Loading, Question, Serving, command,
+    Checking, CommandError, Comparing, Creation, Dumping, Examining, Invocation, Listing, Loading,
+    Question, Serving, command,
 };
 use std::alloc::Global;
 
 /// Words, with lines between them, and what they ask for: the folder a, and each further thing that they say, or what takes its
 /// place where they don't.
-const ACCEPTED: [(&str, &str); 39] = [
+const ACCEPTED: [(&str, &str); 50] = [
     // What isn't chosen.
     ("rha|create|a", "create a 1 4096 10000000 100000000"),
     (
@@ -108,6 +109,23 @@ const ACCEPTED: [(&str, &str); 39] = [
     ("rha|check|--|a", "check a"),
     ("rha|info|a", "info a lines"),
     ("rha|info|--json|a", "info a json"),
+    ("rha|ask|a|--all|watermark", "ask a all watermark"),
+    ("rha|ask|--human|a|--all|x", "ask a all human x"),
+    ("rha|ask|a|x|--all", "ask a x --all"),
+    ("rha|dump|a", "dump a lines"),
+    (
+        "rha|dump|a|--at|7|--format|json|--peer|0|::1|65001",
+        "dump a at 7 peer 0 ::1 65001 json",
+    ),
+    (
+        "rha|dump|--peer|x|y|z|--format=xml|a|--wait|7",
+        "dump a peer x y z xml wait 7",
+    ),
+    ("rha|peers|a", "peers a"),
+    ("rha|peers|--at=x|a|--wait=7", "peers a at x wait 7"),
+    ("rha|diff|a|x|y", "diff a x y"),
+    ("rha|diff|--within|p|a|1|2", "diff a 1 2 within p"),
+    ("rha|diff|a|1|2|--wait|7", "diff a 1 2 wait 7"),
     // What an archive is waited for stands last, where it is.
     (
         "rha|load|a|--collector=0|--wait|1000000|a.mrt",
@@ -229,7 +247,48 @@ impl Line {
 
     fn question(&mut self, asked: &Question<'_>) {
         self.word(asked.folder);
+        if asked.all {
+            self.word("all");
+        }
+        if asked.human {
+            self.word("human");
+        }
         self.word(asked.line.as_str());
+        self.waits(asked.wait);
+    }
+
+    /// Adds a word and the text of an option, if that is there.
+    fn option(&mut self, word: &str, text: Option<&str>) {
+        if let Some(text) = text {
+            self.word(word);
+            self.word(text);
+        }
+    }
+
+    fn dumping(&mut self, asked: &Dumping<'_>) {
+        self.word(asked.folder);
+        self.option("at", asked.at);
+        if !asked.peer.is_empty() {
+            self.word("peer");
+        }
+        for word in asked.peer.as_slice() {
+            self.word(word);
+        }
+        self.word(asked.format);
+        self.waits(asked.wait);
+    }
+
+    fn listing(&mut self, asked: &Listing<'_>) {
+        self.word(asked.folder);
+        self.option("at", asked.at);
+        self.waits(asked.wait);
+    }
+
+    fn comparing(&mut self, asked: &Comparing<'_>) {
+        self.word(asked.folder);
+        self.word(asked.from);
+        self.word(asked.to);
+        self.option("within", asked.within);
         self.waits(asked.wait);
     }
 
@@ -283,6 +342,18 @@ fn line_of(alloc: Global, invocation: &Invocation<'_>) -> Line {
         Invocation::Info(asked) => {
             line.add("info");
             line.examining(asked);
+        }
+        Invocation::Dump(asked) => {
+            line.add("dump");
+            line.dumping(asked);
+        }
+        Invocation::Peers(asked) => {
+            line.add("peers");
+            line.listing(asked);
+        }
+        Invocation::Diff(asked) => {
+            line.add("diff");
+            line.comparing(asked);
         }
     }
     line

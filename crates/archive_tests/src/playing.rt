@@ -11,16 +11,19 @@ use crate::scripts::loads::LOADS;
 use crate::scripts::marks::MARKS;
 use crate::scripts::questions::QUESTIONS;
 use crate::scripts::several::SEVERAL;
-use crate::scripts::tables::TABLES;
+use crate::scripts::table_dumps::TABLES;
 use crate::scripts::updates::UPDATES;
+use crate::scripts::whole::WHOLE_TABLES;
 use crate::{be, be_at};
 use memory_archive::MemArchive;
 use service::{
-    FileLoad, Invocation, Loading, Output, Question, ask_line, check_archive, command, load_files,
+    Comparing, Dumping, FileLoad, Invocation, Listing, Loading, Output, Question, check_archive,
+    command, load_files,
 };
 use std::alloc::Global;
 use std::io::Read;
 use std::process::Abort;
+use tables::{ask, diff, dump, peers, read_comparison, read_listing, read_table};
 
 /// Octets that are read in pieces of this many at most.
 #[derive(Drop)]
@@ -84,20 +87,60 @@ fn load(
 }
 
 /// Answers the line that a command line asks: the exit status.
-fn ask(
+fn ask_of(
     alloc: Global,
     archive: &mut MemArchive,
     asked: &Question<'_>,
     out: &mut Vec<u8>,
     err: &mut Vec<u8>,
 ) -> u8 {
-    ask_line(
-        alloc,
-        archive,
-        asked,
-        &mut Output::new(out),
-        &mut Output::new(err),
-    )
+    let (mut lines, mut refusals) = (Output::new(out), Output::new(err));
+    ask(alloc, archive, asked, &mut lines, &mut refusals)
+}
+
+/// Writes the table that a command line asks for: the exit status. None where a text isn't valid.
+fn dump_of(
+    alloc: Global,
+    archive: &mut MemArchive,
+    asked: &Dumping<'_>,
+    out: &mut Vec<u8>,
+    err: &mut Vec<u8>,
+) -> Option<u8> {
+    let table = match read_table(asked) {
+        Ok(table) => table,
+        Err(_) => return None,
+    };
+    let (mut lines, mut refusals) = (Output::new(out), Output::new(err));
+    Some(dump(alloc, archive, &table, &mut lines, &mut refusals))
+}
+
+/// Counts the peers that a command line asks for: the exit status. None where a text isn't valid.
+fn peers_of(
+    alloc: Global,
+    archive: &mut MemArchive,
+    asked: &Listing<'_>,
+    out: &mut Vec<u8>,
+    err: &mut Vec<u8>,
+) -> Option<u8> {
+    let at = read_listing(asked).ok()?;
+    let (mut lines, mut refusals) = (Output::new(out), Output::new(err));
+    Some(peers(alloc, archive, at, &mut lines, &mut refusals))
+}
+
+/// Compares the tables that a command line asks for: the exit status. None where a text isn't valid.
+fn diff_of(
+    alloc: Global,
+    archive: &mut MemArchive,
+    asked: &Comparing<'_>,
+    out: &mut Vec<u8>,
+    err: &mut Vec<u8>,
+) -> Option<u8> {
+    let comparison = match read_comparison(asked) {
+        Ok(comparison) => comparison,
+        Err(_) => return None,
+    };
+    let (mut lines, mut refusals) = (Output::new(out), Output::new(err));
+    Some(diff(alloc, archive, &comparison, &mut lines, &mut refusals))
 }
 
 /// Checks the archive: the exit status.
@@ -116,7 +159,10 @@ fn run(
     let mut err = Vec::new(alloc);
     let code = match asked {
         Invocation::Load(asked) => load(alloc, archive, asked, most, &mut out, &mut err)?,
-        Invocation::Ask(asked) => ask(alloc, archive, asked, &mut out, &mut err),
+        Invocation::Ask(asked) => ask_of(alloc, archive, asked, &mut out, &mut err),
+        Invocation::Dump(asked) => dump_of(alloc, archive, asked, &mut out, &mut err)?,
+        Invocation::Peers(asked) => peers_of(alloc, archive, asked, &mut out, &mut err)?,
+        Invocation::Diff(asked) => diff_of(alloc, archive, asked, &mut out, &mut err)?,
         Invocation::Check(_) => check(alloc, archive, &mut out, &mut err),
         Invocation::Create(_) | Invocation::Serve(_) | Invocation::Info(_) => return None,
     };
@@ -256,6 +302,16 @@ fn updates_are_played(rt: HostRuntime) {
 fn tables_are_played(rt: HostRuntime) {
     let count = play_all(&rt, rt.alloc(), &TABLES, WHOLE);
     be(&rt, count.scripts == 16 && count.commands == 51, "tables");
+}
+
+#[test]
+fn whole_tables_are_played(rt: HostRuntime) {
+    let count = play_all(&rt, rt.alloc(), &WHOLE_TABLES, WHOLE);
+    be(
+        &rt,
+        count.scripts == 3 && count.commands == 27,
+        "whole tables",
+    );
 }
 
 #[test]

@@ -62,6 +62,8 @@ fn ask_to<W: Write + Drop>(
     let asked = Question {
         wait: 0,
         folder: "a",
+        all: false,
+        human: false,
         line: String::from_str(alloc, line).ok()?,
     };
     Some(ask_line(alloc, archive, &asked, out, &mut Output::new(err)))

@@ -29,6 +29,7 @@ fn status_line(code: u8) -> &'static str {
     match code {
         0 => "",
         1 => "status 1\n",
+        2 => "status 2\n",
         _ => "another status\n",
     }
 }

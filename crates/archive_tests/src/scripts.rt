@@ -7,8 +7,9 @@ pub(crate) mod loads;
 pub(crate) mod marks;
 pub(crate) mod questions;
 pub(crate) mod several;
-pub(crate) mod tables;
+pub(crate) mod table_dumps;
 pub(crate) mod updates;
+pub(crate) mod whole;
 
 use crate::disks::Made;
 

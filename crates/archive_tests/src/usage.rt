@@ -27,6 +27,9 @@ Commands:
   serve   Serves an archive on a socket, until a client asks it to stop
   check   Reads through an archive, and tells the first damage
   info    Shows how far an archive has come, and how much room it has left
+  dump    Writes the table of one moment
+  peers   Counts the routes of each peer that has one at a moment
+  diff    Compares the tables of two moments
 
 Options:
   -h, --help     Print help
@@ -38,6 +41,7 @@ Example:
   rha ask a at 2024-01-01T00:10:00Z prefix 10.0.0.0/8
   rha check a
   rha info a
+  rha dump a --format bgpdump
   rha serve a --listen 127.0.0.1:17900 --workers 4
 
 `rha COMMAND --help` has the limits of a command, its defaults and its exit statuses.
@@ -131,6 +135,8 @@ Arguments:
 
 Options:
       --wait <SECONDS>  How many seconds to wait for the archive while it is in use, 0 to 1000000 [default: 0]
+      --all             Follows `M` to the end: all rows or events, and not the first 256
+      --human           Dates, and communities as texts, for a person
   -h, --help            Print help
 
 The words are one request line:
@@ -143,12 +149,15 @@ The words are one request line:
   watermark                        the settled watermark
   durable COLLECTOR                how many records of the collector are admitted
 The last four of `at` may end with `after PEER PREFIX`, which goes on behind that row, and `history` with
-`skip N`, which leaves the first N events out: an answer has 256 rows or events at most.
+`skip N`, which leaves the first N events out: an answer has 256 rows or events at most. With --all each next line
+is asked, and the answer has all rows or events and one end, `E|COUNT`. With --human moments are dates, and
+communities are texts (65001:7); programs read the lines without it.
 PEER is COLLECTOR ADDRESS AS, and PREFIX is ADDRESS/LENGTH. T, FROM and TO are moments: seconds since 1970,
 or timestamps as 2024-01-01T00:00:00Z. T and TO have to be below the settled watermark.
 
-Example:
+Examples:
   rha ask a at 2024-01-01T00:10:00Z prefix 10.0.0.0/8
+  rha ask a --all at 2024-01-01T00:10:00Z cover 10.0.0.1
 
 Exit status: 0 where the line is answered; 1 where it is refused (`X|NUMBER|NAME`), or something else was
 refused or couldn't be written (told on standard error as `rha: NUMBER NAME`); 2 where the command line isn't
@@ -331,7 +340,7 @@ const WRONG: [Shown; 15] = [
         words: "rha",
         kind: ErrorKind::MissingSubcommand,
         code: 2,
-        text: "error: 'rha' requires a subcommand but one was not provided\n  [subcommands: create, load, ask, serve, check, info]",
+        text: "error: 'rha' requires a subcommand but one was not provided\n  [subcommands: create, load, ask, serve, check, info, dump, peers, diff]",
         end: USAGE_END,
     },
     Shown {

@@ -13,7 +13,7 @@ use disk_archive::CreateError;
 use disk_files::{Call, FileError};
 use file_archive::{CreateFault, FileArchive};
 use service::{
-    Checking, Creation, Output, Question, ask_line, check_archive, tell_created, tell_out_of_memory,
+    Checking, Creation, Output, Question, check_archive, tell_created, tell_out_of_memory,
 };
 use std::alloc::Global;
 use std::io::{BufWriter, Write};
@@ -74,7 +74,7 @@ pub(crate) fn ask<E: Write>(rt: &HostRuntime, asked: &Question<'_>, err: &mut Ou
         return tell_out_of_memory(err);
     };
     let mut out = Output::new(buffer);
-    let code = ask_line(alloc, &mut archive, asked, &mut out, err);
+    let code = tables::ask(alloc, &mut archive, asked, &mut out, err);
     if code != 0 {
         tell_unanswered(alloc, &archive, err);
         advise_question(alloc, &archive, asked.line.as_str(), err);

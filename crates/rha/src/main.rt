@@ -30,14 +30,17 @@ mod served;
 mod sizes;
 mod sources;
 mod streams;
+mod table_reading;
 
 use crate::commands::{ask, check, create};
 use crate::examining::info;
 use crate::loading::load;
 use crate::served::serve;
 use crate::streams::{DEV_NULL, open_closed_streams};
+use crate::table_reading::{diff, dump, peers};
 use advice::advise_text;
 use service::{Invocation, Output, command, tell_out_of_memory, tell_outside, tell_usage};
+use std::alloc::{AllocError, Global};
 use std::env;
 use std::io::Write;
 use std::net::{Net, TcpListener, TcpStream};
@@ -45,6 +48,18 @@ use std::process::ExitCode;
 use std::sync::Wait;
 use std::thread::Threads;
 use std::time::Clock;
+
+/// `rha help COMMAND` asks for what `rha COMMAND --help` does, and `rha help` for what `rha --help` does.
+fn put_help_last(alloc: Global, words: &mut Vec<String>) -> Result<(), AllocError> {
+    if words.len() < 2 || words[1].as_str() != "help" {
+        return Ok(());
+    }
+    let mut option = String::new(alloc);
+    option.push_str("--help")?;
+    words.push(option)?;
+    words.remove(1);
+    Ok(())
+}
 
 /// Reads the command line and runs its command. `host` starts the threads of a server.
 fn run<
@@ -56,9 +71,12 @@ fn run<
         Ok(words) => words,
         Err(why) => return tell_outside(alloc, err, "the command line", "read", &why),
     };
-    let Ok(words): Result<Vec<String>, _> = words.collect(alloc) else {
+    let Ok(mut words): Result<Vec<String>, _> = words.collect(alloc) else {
         return tell_out_of_memory(err);
     };
+    if put_help_last(alloc, &mut words).is_err() {
+        return tell_out_of_memory(err);
+    }
     match command(alloc, words.as_slice()) {
         Ok(Invocation::Create(asked)) => create(rt, &asked, err),
         Ok(Invocation::Load(asked)) => load(rt, &asked, err),
@@ -66,6 +84,9 @@ fn run<
         Ok(Invocation::Serve(asked)) => serve(rt, host, &asked, err),
         Ok(Invocation::Check(asked)) => check(rt, &asked, err),
         Ok(Invocation::Info(asked)) => info(rt, &asked, err),
+        Ok(Invocation::Dump(asked)) => dump(rt, &asked, err),
+        Ok(Invocation::Peers(asked)) => peers(rt, &asked, err),
+        Ok(Invocation::Diff(asked)) => diff(rt, &asked, err),
         Err(error) => {
             let code = tell_usage(alloc, rt, &error, err);
             advise_text(alloc, &error, err);

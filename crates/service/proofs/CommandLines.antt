@@ -1,10 +1,10 @@
 -- The words that are accepted are those of one of the commands.
-use Rattle.std.proofs.Common.{◌≡◌, ◌⊎◌, ℕ, Bool, true, false, List, [], ◌∷◌, ◌++◌, Option, Some, None, map, option_map, cond, is_some, unwrap_or, codes, refl, sym, ap, subst, inl, inr, ◌∙◌, ⊎_elim}
+use Rattle.std.proofs.Common.{◌≡◌, ◌⊎◌, ℕ, Bool, true, false, List, [], ◌∷◌, ◌++◌, Option, Some, None, find, map, option_map, cond, is_some, unwrap_or, codes, refl, sym, ap, subst, inl, inr, ◌∙◌, ⊎_elim}
 use Rattle.std.specs.List.{join_by, flat_map}
 use Rattle.clap.specs.Kinds.{Kinds, IsAmong, HasKind, or_else}
 use Rattle.clap.specs.Faults.{check_fault, defaults_fault, entered_fault, fault_of, settle_fault, walk_fault, is_simple_and_free}
-use Rattle.clap.specs.Walk.{Row, Text}
-use Rattle.clap.specs.Simple.{App, Shape, HasMatchesOf, rows_at, subcommand_rows, argument_words, built, entered, is_simple, names_of, subcommand_of, subcommand_rows_of}
+use Rattle.clap.specs.Walk.{Row, Text, answers_to}
+use Rattle.clap.specs.Simple.{App, Shape, HasMatchesOf, label_of, rows_at, subcommand_rows, argument_words, built, entered, is_simple, names_of, subcommand_of, subcommand_rows_of}
 use Rattle.clap.specs.Walk.{finished, nothing_held, settled, stop_after, walk, walk_from}
 use Rattle.clap.specs.Values.{kind_of}
 use Rattle.clap.specs.Matches.{subcommand_name_of}
@@ -18,7 +18,7 @@ use Rattle.std.specs.Box.{box_value}
 use Rattle.service.specs.CommandLines.{program, AreWordsOf, IsInvocation, HasBadMark, HasBadListen}
 use Rattle.service.specs.inner.Naming.{IsCommand, AsksFor, NamesNoMark, NamesNoListen}
 use Rattle.service.specs.declared.invocation.Invocation.{Invocation}
-use Rattle.service.specs.declared.invocation.Invocation.TheVariants.{Create, Load, Ask, Serve, Check, Info}
+use Rattle.service.specs.declared.invocation.Invocation.TheVariants.{Create, Load, Ask, Serve, Check, Info, Dump, Peers, Diff}
 use Rattle.service.specs.declared.invocation.CommandError.{CommandError}
 use Rattle.service.specs.declared.invocation.CommandError.TheVariants.{Usage, OutOfMemory}
 
@@ -58,37 +58,43 @@ has_entered words e =
     let defaults = last_fault (settle_fault top.rules top.args_override_self end) _ level in
     is_checked _ (finished top.rules end) (last_fault (defaults_fault (settled top.rules end).rows top.rules) _ defaults)
 
--- the first that is chosen of six
-abbrev first_of_six : {A : Type 0} (a b c d h i : Bool) (u v w x y z : A) → Option A
-first_of_six a b c d h i u v w x y z = cond a (Some u) (cond b (Some v) (cond c (Some w) (cond d (Some x) (cond h (Some y) (cond i (Some z) None)))))
-
--- where one of six is found, it is the first, the second, the third, the fourth, the fifth or the sixth
-one_of_six : {A B : Type 0} (f : A → B) (a b c d h i : Bool) (u v w x y z : A) → is_some (option_map f (first_of_six a b c d h i u v w x y z)) ≡ true
-    → (option_map f (first_of_six a b c d h i u v w x y z) ≡ Some (f u))
-    ⊎ ((option_map f (first_of_six a b c d h i u v w x y z) ≡ Some (f v))
-    ⊎ ((option_map f (first_of_six a b c d h i u v w x y z) ≡ Some (f w))
-    ⊎ ((option_map f (first_of_six a b c d h i u v w x y z) ≡ Some (f x))
-    ⊎ ((option_map f (first_of_six a b c d h i u v w x y z) ≡ Some (f y))
-    ⊎ (option_map f (first_of_six a b c d h i u v w x y z) ≡ Some (f z))))))
-one_of_six f true b c d h i u v w x y z e = inl refl
-one_of_six f false true c d h i u v w x y z e = inr (inl refl)
-one_of_six f false false true d h i u v w x y z e = inr (inr (inl refl))
-one_of_six f false false false true h i u v w x y z e = inr (inr (inr (inl refl)))
-one_of_six f false false false false true i u v w x y z e = inr (inr (inr (inr (inl refl))))
-one_of_six f false false false false false true u v w x y z e = inr (inr (inr (inr (inr refl))))
-one_of_six f false false false false false false u v w x y z e = absurd cc
+-- of these values, which the shapes have, it is one
+abbrev IsOneOf : {B : Type 0} → (Shape → B) → List Shape → Option B → Type 0
+IsOneOf f [] found = ⊥
+IsOneOf f (s ∷ []) found = found ≡ Some (f s)
+IsOneOf f (s ∷ t ∷ shapes) found = (found ≡ Some (f s)) ⊎ IsOneOf f (t ∷ shapes) found
 
 abbrev name_in : Option (Text × List Row) → Option Text
 name_in = option_map (λ (p : Text × List Row). p.0)
 
+-- the first, or what is found of the others
+first_or : {B : Type 0} (f : Shape → B) (s t : Shape) (shapes : List Shape) (rest : Option Shape) → (is_some (option_map f rest) ≡ true → IsOneOf f (t ∷ shapes) (option_map f rest))
+    → (b : Bool) → is_some (option_map f (cond b (Some s) rest)) ≡ true → IsOneOf f (s ∷ t ∷ shapes) (option_map f (cond b (Some s) rest))
+first_or f s t shapes rest others true e = inl refl
+first_or f s t shapes rest others false e = inr (others e)
+
+-- what is found is one of them
+one_found : {B : Type 0} (f : Shape → B) (P : Shape → Bool) (shapes : List Shape) → is_some (option_map f (find P shapes)) ≡ true → IsOneOf f shapes (option_map f (find P shapes))
+one_found f P [] e = absurd cc
+one_found f P (s ∷ []) e = only (P s) e
+  where
+    only : (b : Bool) → is_some (option_map f (cond b (Some s) None)) ≡ true → option_map f (cond b (Some s) None) ≡ Some (f s)
+    only true e = refl
+    only false e = absurd cc
+one_found f P (s ∷ t ∷ shapes) e = first_or f s t shapes (find P (t ∷ shapes)) (one_found f P (t ∷ shapes)) (P s) e
+
+-- the name of what is entered is that of its shape
+named_so : (words : List Text) (found : Option Shape) → option_map (λ s. s.name) found ≡ name_in (option_map (λ s. rows_at s words) found)
+named_so words None = refl
+named_so words (Some s) = refl
+
+has_name : (words : List Text) (found : Option Shape) → is_some (option_map (λ s. rows_at s words) found) ≡ true → is_some (option_map (λ s. s.name) found) ≡ true
+has_name words None e = e
+has_name words (Some s) e = refl
+
 enters_one : (found : Option (Text × List Text)) → is_some (entered (built program) found) ≡ true → IsCommand (name_in (entered (built program) found))
 enters_one None e = absurd cc
-enters_one (Some p) e = ⊎_elim (λ h. inl (ap name_in h))
-    (λ r. ⊎_elim (λ h. inr (inl (ap name_in h)))
-    (λ s. ⊎_elim (λ h. inr (inr (inl (ap name_in h))))
-    (λ t. ⊎_elim (λ h. inr (inr (inr (inl (ap name_in h)))))
-    (λ u. ⊎_elim (λ h. inr (inr (inr (inr (inl (ap name_in h)))))) (λ h. inr (inr (inr (inr (inr (ap name_in h)))))) u) t) s) r)
-    (one_of_six (λ (s : Shape). rows_at s p.1) _ _ _ _ _ _ _ _ _ _ _ _ e)
+enters_one (Some p) e = subst IsCommand (named_so p.1 _) (one_found (λ s. s.name) (λ s. answers_to p.0 (label_of s)) (built program).subs (has_name p.1 _ e))
 
 -- ---- what a parse that succeeds has met
 
@@ -126,6 +132,9 @@ asked_by app words m (Ask q) h a = (a.0, words_met app words m (codes "ask") a.0
 asked_by app words m (Serve s) h a = (a.0, words_met app words m (codes "serve") a.0 h a.1, a.2)
 asked_by app words m (Check c) h a = (a.0, words_met app words m (codes "check") a.0 h a.1, a.2)
 asked_by app words m (Info e) h a = (a.0, words_met app words m (codes "info") a.0 h a.1, a.2)
+asked_by app words m (Dump d) h a = (a.0, words_met app words m (codes "dump") a.0 h a.1, a.2)
+asked_by app words m (Peers l) h a = (a.0, words_met app words m (codes "peers") a.0 h a.1, a.2)
+asked_by app words m (Diff c) h a = (a.0, words_met app words m (codes "diff") a.0 h a.1, a.2)
 
 pub no_mark_by : (app : App) (words : List Text) (m : ArgMatches) → IsMet app words m → NamesNoMark (subcommand_rows_of m) → HasBadMark words
 no_mark_by app words m h a = (a.0, words_met app words m (codes "load") a.0 h a.1, a.2)

@@ -14,6 +14,7 @@ use Rattle.resolve.specs.Records.{Gives}
 use Rattle.resolve.specs.declared.fault.ResolveFault.{ResolveFault}
 use Rattle.resolve.specs.declared.fault.ResolveFault.TheVariants as faults
 use Rattle.service.proofs.Dropping.{meant_more, drops_more, still_wanting, taken_count}
+use Rattle.service.proofs.LeftOut.{lost_more}
 use Rattle.archive_calls.specs.Limits.{batch_octets}
 use Rattle.service.specs.Turns.{Turn, turns_at, waits_after, turns_for, waits_behind}
 use Rattle.service.specs.FeedTexts.{capped, skips}
@@ -77,6 +78,7 @@ behind_more rule c dropped limit h records r x next left old new archive later w
           })
           (takes.taken_is ∙ ap (λ (t : ℕ). taken_at t takes.meaning) b.drops);
       drops = drops_more dropped old.dropping new.dropping b.means.meanings takes.meaning b.drops (leaves ∙ takes.left_is);
+      lost = ap (λ (t : Feed). t.left_out) follows ∙ lost_more records b.means.meanings r takes.meaning old.resolver.left_out next.left_out b.means.means.count b.lost takes.lost;
       waits = waits ∙ (λ k. waits_after (b.limited k) (b.waits k) x) ∙ sym (waits_snoc limit [] b.results x);
       counted = counted;
       done =
@@ -111,11 +113,11 @@ done_counted c h turns old new archive was now admitted late refused d = record 
 
 -- no record came yet
 pub behind_none : (rule : WithoutHop) (c dropped : ℕ) (limit : BatchLimits) (h : History) (archive : Carried) (feeding : Feeding) (was : OutputState)
-    → feeding.collector ≡ c → feeding.limit ≡ limit → feeding.rule ≡ rule → feeding.resolver.collector ≡ c → feeding.resolver.table ≡ None → feeding.gathered.items ≡ [] → feeding.octets ≡ 0 → feeding.dropping ≡ dropped
+    → feeding.collector ≡ c → feeding.limit ≡ limit → feeding.rule ≡ rule → feeding.resolver.collector ≡ c → feeding.resolver.table ≡ None → feeding.resolver.left_out ≡ 0 → feeding.gathered.items ≡ [] → feeding.octets ≡ 0 → feeding.dropping ≡ dropped
     → feeding.counts ≡ record { records = 0; admitted = 0; late = 0; refused = 0; skipped = 0 }
     → 131076 ≤ feeding.limit.octets → feeding.limit.octets ≤ 262144
     → archive h → IsBehind rule c dropped limit h [] feeding archive was was
-behind_none rule c dropped limit h archive feeding was collector limits rules fed none empty octets drops counts one few carried = record {
+behind_none rule c dropped limit h archive feeding was collector limits rules fed none unlost empty octets drops counts one few carried = record {
   results = [];
   collector = collector;
   limited = limits;
@@ -124,6 +126,7 @@ behind_none rule c dropped limit h archive feeding was collector limits rules fe
   known = inl (tt, none);
   means = record { meanings = []; means = record { count = refl; each = λ n next result e f. absurd cc }; taken = refl };
   drops = drops;
+  lost = unlost;
   waits = empty;
   counted = record { octets = octets ∙ sym (ap batch_octets empty); fit = omega (arith, octets, one); one = one; few = few };
   done = record {

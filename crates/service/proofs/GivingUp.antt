@@ -1,5 +1,5 @@
 -- Feeds that are given up.
-use Rattle.std.proofs.Common.{◌≡◌, ℕ, ◌+◌, ◌<◌, ◌≤◌, List, [], ◌∷◌, ◌++◌, length, map, take, drop, get_or, Option, Result, Ok, Err, IfErr, OnErr, inl, refl, sym, ap, ◌∙◌, subst, append_assoc, arith}
+use Rattle.std.proofs.Common.{◌≡◌, ℕ, ◌+◌, ◌<◌, ◌≤◌, List, [], ◌∷◌, ◌++◌, length, map, take, drop, get_or, Option, None, Result, Ok, Err, IfErr, OnErr, inl, refl, sym, ap, ◌∙◌, subst, append_assoc, arith}
 use Rattle.std.specs.List.{AllByRecursion, slice_get}
 use Rattle.resolve.specs.declared.without_hop.WithoutHop.{WithoutHop}
 use Rattle.service.specs.Outputs.{OutputState, Tells}
@@ -30,7 +30,7 @@ use Rattle.service.specs.Resuming.{MeansFrom, taken_at}
 use Rattle.service.specs.Faults.{of_stop}
 use Rattle.service.specs.Turns.{Turn, Offer, offered, turns_at, turns_for, waits_behind, last_turns}
 use Rattle.service.specs.Refusals.{refusal_line}
-use Rattle.service.specs.Feeds.{IsReason, IsGivenUp}
+use Rattle.service.specs.Feeds.{IsReason, IsGivenUp, Sums}
 use Rattle.service.specs.inner.Feeding.{of_admit, HasDone, IsBehind, TakesNext, Reads, GivesUp, StopsAmong, StopsWithin}
 use Rattle.service.specs.declared.feed_lines.FeedCounts.{FeedCounts}
 use Rattle.service.specs.declared.feeding.Feeding.{Feeding}
@@ -247,9 +247,9 @@ stops_last rule c dropped limit h bytes rest feeding archive later was mid now w
     }
 
 -- the feed is given up, and the refusal was written
-pub given_up_told : (rule : WithoutHop) (c dropped : ℕ) (limit : BatchLimits) (h : History) (bytes : List ℕ) (archive : Carried) (was mid now : OutputState) (why : FeedStop)
-    → StopsWithin rule c dropped limit h bytes archive was mid why → Tells mid now (refusal_line (of_stop why)) → IsGivenUp rule c dropped limit h bytes why archive was now
-given_up_told rule c dropped limit h bytes archive was mid now why s line =
+pub given_up_told : (rule : WithoutHop) (c dropped : ℕ) (limit : BatchLimits) (h : History) (bytes : List ℕ) (sums : Sums) (archive : Carried) (was mid now : OutputState) (why : FeedStop)
+    → StopsWithin rule c dropped limit h bytes archive was mid why → Tells mid now (refusal_line (of_stop why)) → sums.counts ≡ None → IsGivenUp rule c dropped limit h bytes why sums archive was now
+given_up_told rule c dropped limit h bytes sums archive was mid now why s line none =
     let g = s.gives_up in
     record {
       seen = s.seen;
@@ -264,5 +264,6 @@ given_up_told rule c dropped limit h bytes archive was mid now why s line =
       carried = g.carried;
       reason = g.reason;
       wrote = Tells-trans was mid now _ (refusal_line (of_stop why)) g.wrote line;
+      uncounted = none;
       there = g.there;
     }

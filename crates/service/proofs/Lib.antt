@@ -3,6 +3,7 @@ pub mod Words
 pub mod Lines
 pub mod Turning
 pub mod Dropping
+pub mod LeftOut
 pub mod Gathering
 pub mod Following
 pub mod GivingUp
@@ -13,6 +14,7 @@ pub mod Files
 pub mod Batching
 pub mod ListenTexts
 pub mod CommandLines
+pub mod Subcommands
 pub mod Statuses
 pub mod OneRequest
 pub mod Answered

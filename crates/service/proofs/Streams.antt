@@ -1,6 +1,7 @@
 -- A stream that is read piece by piece.
 use Rattle.std.proofs.Common.{◌≡◌, ℕ, List, [], ◌++◌, Option, Some, None, Bool, true, false, map, arith, inl, refl, sym, ap, ◌∙◌, subst, append_assoc}
 use Rattle.std.specs.Io.KnownBytes.{Consumes, IsAtEnd}
+use Rattle.resolve.specs.Tables.{Feed}
 use Rattle.resolve.specs.declared.without_hop.WithoutHop.{WithoutHop}
 use Rattle.service.specs.Outputs.{OutputState, Tells}
 use Rattle.std.proofs.KnownBytes.{Consumes-nil, Consumes-trans}
@@ -15,8 +16,8 @@ use Rattle.mrt_records.specs.declared.item.Item.{Item}
 use Rattle.mrt_records.proofs.api.Pieces.{frames_then}
 use Rattle.mrt_records.proofs.api.Streams.{frames_none, part_begins_none, over_begins_none, over-append}
 use Rattle.interleaving_core.specs.Steps.{given}
-use Rattle.service.specs.Feeds.{IsCut, IsFed, IsReason, IsSummed, MayGive}
-use Rattle.service.specs.Turns.{Turn, turns_for, last_turns, feed_turns}
+use Rattle.service.specs.Feeds.{IsCut, IsFed, IsReason, MayGive}
+use Rattle.service.specs.Turns.{Turn, admissions_of, turns_for, last_turns, feed_turns}
 use Rattle.service.specs.FeedTexts.{intake_in, cut_line, counts_of}
 use Rattle.service.specs.FeedLines.{counts_line}
 use Rattle.service.specs.inner.Feeding.{IsBehind, HasDone, Reads, IsHeld, IsRead, IsReadOut, IsSameFeed, StopsWithin}
@@ -222,12 +223,12 @@ cut_short held rest false (Some cuts.Truncated) over is = absurd (is.1 over.2)
 cut_short held rest false (Some cuts.TooLong) over is = subst Over (sym over.1) (over-append held over.0 over.2)
 
 -- all is read, and its end is told
-pub all_fed : (rule : WithoutHop) (c dropped : ℕ) (limit : BatchLimits) (h : History) (bytes held : List ℕ) (cut : Option FeedCut) (old new : Feeding) (archive later : Carried) (was mid then now : OutputState)
+pub all_fed : (rule : WithoutHop) (c dropped lost : ℕ) (limit : BatchLimits) (h : History) (bytes held : List ℕ) (cut : Option FeedCut) (old new : Feeding) (archive later : Carried) (was mid then now : OutputState)
     → IsReadOut rule c dropped limit h bytes held old archive was mid → IsCut held cut → IsSameFeed old new
     → ((turns : List Turn) → old.collector ≡ c → HasDone c h turns old.counts archive was mid → HasDone c h (turns ++ last_turns old.gathered.items) new.counts later was then)
-    → Tells then now (cut_line cut new.counts.records ++ counts_line new.counts)
-    → IsFed rule c dropped limit h bytes cut later was now
-all_fed rule c dropped limit h bytes held cut old new archive later was mid then now out is same rest told_ =
+    → Tells then now (cut_line cut new.counts.records ++ counts_line new.counts) → lost ≡ new.resolver.left_out
+    → (mark : ℕ) × IsFed rule c dropped limit h bytes cut (record { counts = Some new.counts; left_out = lost; left = new.dropping; mark = mark }) later was now
+all_fed rule c dropped lost limit h bytes held cut old new archive later was mid then now out is same rest told_ losing =
     let read = out.1 in
     let b = read.reads.behind in
     let records = map told read.reads.items in
@@ -236,33 +237,19 @@ all_fed rule c dropped limit h bytes held cut old new archive later was mid then
     let turns : turns_for limit 0 [] b.results ++ last_turns old.gathered.items ≡ feed_turns limit b.results = ap (λ (t : List Admitted). turns_for limit 0 [] b.results ++ last_turns t) b.waits in
     let done = subst (λ (t : List Turn). HasDone c h t new.counts later was then) turns d in
     let counted : new.counts ≡ counts_of i records (feed_turns limit b.results) =
-    λ k. record { records = (same.records ∙ b.recorded) k; admitted = done.admitted k; late = done.late k; refused = done.refused k; skipped = (same.skipped ∙ b.skipped) k } in
-    record {
-      rest = read.rest;
-      records = records;
-      results = b.results;
-      feed = record { items = read.reads.items; framed = read.reads.framed; told_are = refl; means = b.means };
-      cut_is = cut_short held read.rest out.0 cut read.holds is;
-      carried = subst (λ (t : List Admitted). HasIntakes (given h c t).intakes later) (offered_feed limit b.results) done.carried;
-      there = λ some. done.there (λ none. some (sym (offered_feed limit b.results) ∙ none));
-      wrote =
-          Tells-trans was then now _ _ done.wrote
-          (subst (λ (t : List ℕ). Tells then now t) (λ k. cut_line cut ((same.records ∙ b.recorded) k) ++ counts_line (counted k)) told_);
-    }
-
--- what it says of itself
-pub all_summed : (rule : WithoutHop) (c dropped : ℕ) (limit : BatchLimits) (h : History) (bytes held : List ℕ) (cut : Option FeedCut) (old new : Feeding) (archive later : Carried) (was mid then now : OutputState)
-    → (out : IsReadOut rule c dropped limit h bytes held old archive was mid) → (is : IsCut held cut) → (same : IsSameFeed old new)
-    → (rest : (turns : List Turn) → old.collector ≡ c → HasDone c h turns old.counts archive was mid → HasDone c h (turns ++ last_turns old.gathered.items) new.counts later was then)
-    → (told_ : Tells then now (cut_line cut new.counts.records ++ counts_line new.counts))
-    → IsSummed c dropped limit h (all_fed rule c dropped limit h bytes held cut old new archive later was mid then now out is same rest told_).records (all_fed rule c dropped limit h bytes held cut old new archive later was mid then now out is same rest told_).results (all_fed rule c dropped limit h bytes held cut old new archive later was mid then now out is same rest told_).feed.means.meanings (Some new.counts) new.dropping
-unfolding all_fed
-all_summed rule c dropped limit h bytes held cut old new archive later was mid then now out is same rest told_ =
-    let b = out.1.reads.behind in
-    let d = rest _ b.collector b.done in
-    let turns : turns_for limit 0 [] b.results ++ last_turns old.gathered.items ≡ feed_turns limit b.results = ap (λ (t : List Admitted). turns_for limit 0 [] b.results ++ last_turns t) b.waits in
-    let done = subst (λ (t : List Turn). HasDone c h t new.counts later was then) turns d in
-    record {
-      counted = λ k. Some (record { records = (same.records ∙ b.recorded) k; admitted = done.admitted k; late = done.late k; refused = done.refused k; skipped = (same.skipped ∙ b.skipped) k });
-      drops = same.dropping ∙ b.drops;
-    }
+    λ k. record { records = (same.records ∙ b.recorded) k; admitted = done.admitted k; late = done.late k; refused = done.refused k; skipped = (same.skipped ∙ b.skipped) k } in (
+      (intake_in (given h c (admissions_of b.results)).intakes c).mark,
+      record {
+        rest = read.rest;
+        records = records;
+        results = b.results;
+        feed = record { items = read.reads.items; framed = read.reads.framed; told_are = refl; means = b.means };
+        cut_is = cut_short held read.rest out.0 cut read.holds is;
+        carried = subst (λ (t : List Admitted). HasIntakes (given h c t).intakes later) (offered_feed limit b.results) done.carried;
+        there = λ some. done.there (λ none. some (sym (offered_feed limit b.results) ∙ none));
+        wrote =
+            Tells-trans was then now _ _ done.wrote
+            (subst (λ (t : List ℕ). Tells then now t) (λ k. cut_line cut ((same.records ∙ b.recorded) k) ++ counts_line (counted k)) told_);
+        summed = record { counted = λ k. Some (counted k); lost = losing ∙ ap (λ (t : Feed). t.left_out) same.resolver ∙ b.lost; drops = same.dropping ∙ b.drops; marks = refl };
+      },
+    )

@@ -1,5 +1,5 @@
 -- The command line of the program: what clap reads of it, and what that asks for.
-use Rattle.std.specs.Prelude.{◌≡◌, ◌≤◌, ⊤, ℕ, Bool, true, false, List, [], ◌∷◌, Option, Some, None, codes, map, string_bytes, unwrap_or}
+use Rattle.std.specs.Prelude.{◌≡◌, ◌≤◌, ⊤, ℕ, Bool, true, false, List, [], ◌∷◌, Option, Some, None, codes, map, option_map, string_bytes, unwrap_or}
 use Rattle.std.specs.Str.Parse.{digits_value, without_leading_plus}
 use Rattle.std.specs.List.{join_by}
 use Rattle.clap.specs.Lexer.{usize_max}
@@ -16,8 +16,11 @@ use Rattle.service.specs.declared.invocation.Question.{Question}
 use Rattle.service.specs.declared.invocation.Serving.{Serving}
 use Rattle.service.specs.declared.invocation.Checking.{Checking}
 use Rattle.service.specs.declared.invocation.Examining.{Examining}
+use Rattle.service.specs.declared.invocation.Dumping.{Dumping}
+use Rattle.service.specs.declared.invocation.Listing.{Listing}
+use Rattle.service.specs.declared.invocation.Comparing.{Comparing}
 use Rattle.service.specs.declared.invocation.Invocation.{Invocation}
-use Rattle.service.specs.declared.invocation.Invocation.TheVariants.{Create, Load, Ask, Serve, Check, Info}
+use Rattle.service.specs.declared.invocation.Invocation.TheVariants.{Create, Load, Ask, Serve, Check, Info, Dump, Peers, Diff}
 use Rattle.service.specs.Listening.{IsListenText, IsNoListenText}
 
 -- a word with this name, which has to be there
@@ -44,21 +47,17 @@ number_or_rule name least most default = record (new_rule name) {
   defaults = default ∷ [];
 }
 
--- --mark M
-abbrev pub mark_rule : Rule
-mark_rule = record (new_rule (codes "mark")) { long = Some (codes "mark"); value_names = 1; action = Some Set }
+-- an option of this name, without a text of its own
+abbrev pub flag_rule : List ℕ → Rule
+flag_rule name = record (new_rule name) { long = Some name; action = Some SetTrue }
 
--- --resume
-abbrev pub resume_rule : Rule
-resume_rule = record (new_rule (codes "resume")) { long = Some (codes "resume"); action = Some SetTrue }
+-- an option of this name, and its text
+abbrev pub text_rule : List ℕ → Rule
+text_rule name = record (new_rule name) { long = Some name; value_names = 1; action = Some Set }
 
--- --strict
-abbrev pub strict_rule : Rule
-strict_rule = record (new_rule (codes "strict")) { long = Some (codes "strict"); action = Some SetTrue }
-
--- --lose-entries
-abbrev pub lose_entries_rule : Rule
-lose_entries_rule = record (new_rule (codes "lose-entries")) { long = Some (codes "lose-entries"); action = Some SetTrue }
+-- an option of this name, and its text, which is the default where the option isn't there
+abbrev pub text_or_rule : List ℕ → List ℕ → Rule
+text_or_rule name default = record (text_rule name) { defaults = default ∷ [] }
 
 -- FILE..: one file at least
 abbrev pub files_rule : Rule
@@ -68,13 +67,18 @@ files_rule = record (new_rule (codes "FILE")) {
   required = true;
 }
 
--- --json
-abbrev pub json_rule : Rule
-json_rule = record (new_rule (codes "json")) { long = Some (codes "json"); action = Some SetTrue }
-
 -- --listen ADDRESS:PORT, which has to be there
 abbrev pub listen_rule : Rule
 listen_rule = record (new_rule (codes "listen")) { long = Some (codes "listen"); value_names = 1; action = Some Set; required = true }
+
+-- --peer COLLECTOR ADDRESS AS
+abbrev pub peer_rule : Rule
+peer_rule = record (new_rule (codes "peer")) {
+  long = Some (codes "peer");
+  range = Some (record { start_inclusive = 3; end_inclusive = 3 });
+  value_names = 3;
+  action = Some Set;
+}
 
 -- WORD..: one word at least, and all that stand behind it
 abbrev pub words_rule : Rule
@@ -107,15 +111,15 @@ loading_of_batches = with_rule (with_rule (of_archive (codes "load")) (number_ru
 
 -- load DIR --collector C [--batch N] [--mark M] [--resume]
 abbrev pub loading_to_mark : App
-loading_to_mark = with_rule (with_rule loading_of_batches mark_rule) resume_rule
+loading_to_mark = with_rule (with_rule loading_of_batches (text_rule (codes "mark"))) (flag_rule (codes "resume"))
 
 -- load DIR --collector C [--batch N] [--mark M] [--resume] [--lose-entries] [--strict] FILE..
 abbrev pub loading : App
-loading = with_rule (with_rule (with_rule loading_to_mark lose_entries_rule) strict_rule) files_rule
+loading = with_rule (with_rule (with_rule loading_to_mark (flag_rule (codes "lose-entries"))) (flag_rule (codes "strict"))) files_rule
 
--- ask DIR [--wait SECONDS] WORD..
+-- ask DIR [--wait SECONDS] [--all] [--human] WORD..
 abbrev pub question : App
-question = with_rule (of_archive (codes "ask")) words_rule
+question = with_rule (with_rule (with_rule (of_archive (codes "ask")) (flag_rule (codes "all"))) (flag_rule (codes "human"))) words_rule
 
 -- serve DIR [--wait SECONDS] --listen ADDRESS:PORT --workers N
 abbrev pub serving : App
@@ -127,15 +131,35 @@ checking = of_archive (codes "check")
 
 -- info DIR [--wait SECONDS] [--json]
 abbrev pub examining : App
-examining = with_rule (of_archive (codes "info")) json_rule
+examining = with_rule (of_archive (codes "info")) (flag_rule (codes "json"))
+
+-- NAME DIR [--wait SECONDS] [--at T], of the table of one moment
+abbrev pub of_moment : List ℕ → App
+of_moment name = with_rule (of_archive name) (text_rule (codes "at"))
+
+-- dump DIR [--wait SECONDS] [--at T] [--peer COLLECTOR ADDRESS AS] [--format FORM]
+abbrev pub dumping : App
+dumping = with_rule (with_rule (of_moment (codes "dump")) peer_rule) (text_or_rule (codes "format") (codes "lines"))
+
+-- peers DIR [--wait SECONDS] [--at T]
+abbrev pub listing : App
+listing = of_moment (codes "peers")
+
+-- diff DIR [--wait SECONDS] FROM TO [--within PREFIX]
+abbrev pub comparing : App
+comparing = with_rule (with_rule (with_rule (of_archive (codes "diff")) (word_rule (codes "FROM"))) (word_rule (codes "TO"))) (text_rule (codes "within"))
 
 -- the program without its commands, of which one has to be there
 abbrev pub bare_program : App
 bare_program = on_top (λ s. record s { subcommand_required = true; disable_help_subcommand = true; has_version = true }) (new_app (codes "rha"))
 
+-- the program with the commands that keep and question an archive
+abbrev pub archive_program : App
+archive_program = with_subcommand (with_subcommand (with_subcommand (with_subcommand (with_subcommand (with_subcommand bare_program creation.top) loading.top) question.top) serving.top) checking.top) examining.top
+
 -- the program
 abbrev pub program : App
-program = with_subcommand (with_subcommand (with_subcommand (with_subcommand (with_subcommand (with_subcommand bare_program creation.top) loading.top) question.top) serving.top) checking.top) examining.top
+program = with_subcommand (with_subcommand (with_subcommand archive_program dumping.top) listing.top) comparing.top
 
 -- the words, with one space between two
 abbrev pub spaced : List (List ℕ) → List ℕ
@@ -193,6 +217,8 @@ pub record IsLoading (rows : List Row) (l : Loading) : Type 0 where
 pub record IsQuestion (rows : List Row) (q : Question) : Type 0 where
   pub folder : q.folder.now ≡ word_in (codes "DIR") rows
   pub wait : IsNumber 0 1000000 (first_of (codes "wait") rows) q.wait
+  pub all : IsThere (one_of (codes "all") rows) q.all
+  pub human : IsThere (one_of (codes "human") rows) q.human
   pub line : string_bytes q.line ≡ spaced (unwrap_or (all_of (codes "WORD") rows) [])
 
 -- what is read of the arguments of `serve`
@@ -213,6 +239,28 @@ pub record IsExamining (rows : List Row) (e : Examining) : Type 0 where
   pub wait : IsNumber 0 1000000 (first_of (codes "wait") rows) e.wait
   pub json : IsThere (one_of (codes "json") rows) e.json
 
+-- what is read of the arguments of `dump`
+pub record IsDumping (rows : List Row) (d : Dumping) : Type 0 where
+  pub folder : d.folder.now ≡ word_in (codes "DIR") rows
+  pub wait : IsNumber 0 1000000 (first_of (codes "wait") rows) d.wait
+  pub moment : option_map (λ t. t.now) d.at ≡ first_of (codes "at") rows
+  pub peer : map (λ t. t.now) d.peer.items ≡ unwrap_or (all_of (codes "peer") rows) []
+  pub format : d.format.now ≡ word_in (codes "format") rows
+
+-- what is read of the arguments of `peers`
+pub record IsListing (rows : List Row) (l : Listing) : Type 0 where
+  pub folder : l.folder.now ≡ word_in (codes "DIR") rows
+  pub wait : IsNumber 0 1000000 (first_of (codes "wait") rows) l.wait
+  pub moment : option_map (λ t. t.now) l.at ≡ first_of (codes "at") rows
+
+-- what is read of the arguments of `diff`
+pub record IsComparing (rows : List Row) (c : Comparing) : Type 0 where
+  pub folder : c.folder.now ≡ word_in (codes "DIR") rows
+  pub wait : IsNumber 0 1000000 (first_of (codes "wait") rows) c.wait
+  pub first : c.from.now ≡ word_in (codes "FROM") rows
+  pub second : c.to.now ≡ word_in (codes "TO") rows
+  pub prefix : option_map (λ t. t.now) c.within ≡ first_of (codes "within") rows
+
 -- the words are accepted: they are those of the command of this name with these arguments
 pub record AreWordsOf (name : List ℕ) (words : List (List ℕ)) (rows : List Row) : Type 0 where
   pub accepted : fault_of program words ≡ []
@@ -226,6 +274,9 @@ IsInvocation words (Ask q) = (rows : List Row) × AreWordsOf (codes "ask") words
 IsInvocation words (Serve s) = (rows : List Row) × AreWordsOf (codes "serve") words rows × IsServing rows s
 IsInvocation words (Check c) = (rows : List Row) × AreWordsOf (codes "check") words rows × IsChecking rows c
 IsInvocation words (Info e) = (rows : List Row) × AreWordsOf (codes "info") words rows × IsExamining rows e
+IsInvocation words (Dump d) = (rows : List Row) × AreWordsOf (codes "dump") words rows × IsDumping rows d
+IsInvocation words (Peers l) = (rows : List Row) × AreWordsOf (codes "peers") words rows × IsListing rows l
+IsInvocation words (Diff c) = (rows : List Row) × AreWordsOf (codes "diff") words rows × IsComparing rows c
 
 -- the words are accepted as those of `load`, but the text of the mark is that of no mark
 abbrev pub HasBadMark : List (List ℕ) → Type 0

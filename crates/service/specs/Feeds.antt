@@ -1,5 +1,5 @@
 -- What a feed of MRT records is, and what an archive carries once it took it in.
-use Rattle.std.specs.Prelude.{◌≡◌, ◌⊎◌, Bool, true, false, ℕ, map, length, List, [], ◌∷◌, ◌++◌, Option, Some, None, Result}
+use Rattle.std.specs.Prelude.{◌≡◌, ◌⊎◌, ◌+◌, Bool, true, false, ℕ, map, length, List, [], ◌∷◌, ◌++◌, Option, Some, None, Result}
 use Rattle.resolve.specs.declared.without_hop.WithoutHop.{WithoutHop}
 use Rattle.service.specs.Carried.{Carried, HasIntakes}
 use Rattle.service.specs.Resuming.{MeansFrom, left_behind}
@@ -10,11 +10,12 @@ use Rattle.mrt_records.specs.Values.{Told, told}
 use Rattle.mrt_records.specs.Records.{Over}
 use Rattle.mrt_records.specs.Streams.{GainsFrames}
 use Rattle.mrt_records.specs.declared.item.Item.{Item}
+use Rattle.resolve.specs.Records.{left_out}
 use Rattle.resolve.specs.declared.fault.ResolveFault.{ResolveFault}
 use Rattle.interleaving_core.specs.Steps.{given, IsCollector, NothingToApply}
 use Rattle.archive_calls.specs.Limits.{IsCounterFull}
 use Rattle.service.specs.Turns.{Turn, Offer, offered, admissions_of, feed_turns}
-use Rattle.service.specs.FeedTexts.{intake_in, turns_text, feed_text, counts_of}
+use Rattle.service.specs.FeedTexts.{capped, intake_in, turns_text, feed_text, counts_of}
 use Rattle.service.specs.Refusals.{refusal_line}
 use Rattle.service.specs.Faults.{of_stop}
 use Rattle.service.specs.declared.limits.BatchLimits.{BatchLimits}
@@ -49,9 +50,30 @@ IsCut rest None = rest ≡ []
 IsCut rest (Some cuts.Truncated) = (rest ≡ [] → ⊥) × (Over rest → ⊥)
 IsCut rest (Some cuts.TooLong) = Over rest
 
+-- how many entries of these records are left out, where they mean this
+abbrev pub entries_lost : List Told → List (Result (Option Admitted) ResolveFault) → ℕ
+entries_lost [] meanings = 0
+entries_lost (r ∷ records) [] = 0
+entries_lost (r ∷ records) (m ∷ meanings) = left_out r m + entries_lost records meanings
+
+-- What is known of a feed besides what it gave: what became of its records, where it came to its end; how many of their entries were left out; how many
+-- admissions are still dropped; the collector's mark after it.
+pub record Sums : Type 0 where
+  pub counts : Option FeedCounts
+  pub left_out : ℕ
+  pub left : ℕ
+  pub mark : ℕ
+
+-- that of a feed of these records, which mean this and of which this was taken, that came to its end
+pub record IsSummed (c dropped : ℕ) (limit : BatchLimits) (h : History) (records : List Told) (results meanings : List (Result (Option Admitted) ResolveFault)) (sums : Sums) : Type 0 where
+  pub counted : sums.counts ≡ Some (counts_of (intake_in h.intakes c) records (feed_turns limit results))
+  pub lost : sums.left_out ≡ capped (entries_lost records meanings)
+  pub drops : sums.left ≡ left_behind dropped meanings
+  pub marks : sums.mark ≡ (intake_in (given h c (admissions_of results)).intakes c).mark
+
 -- The archive carried h; now it carries all that the feed gives too, wherever it is applied, and what the feed writes was written. It
 -- was cut short for this, or it wasn't. Where the feed gives anything, there is the collector.
-pub record IsFed (rule : WithoutHop) (c dropped : ℕ) (limit : BatchLimits) (h : History) (bytes : List ℕ) (cut : Option FeedCut) (archive : Carried) (was now : OutputState) : Type 0 where
+pub record IsFed (rule : WithoutHop) (c dropped : ℕ) (limit : BatchLimits) (h : History) (bytes : List ℕ) (cut : Option FeedCut) (sums : Sums) (archive : Carried) (was now : OutputState) : Type 0 where
   pub rest : List ℕ
   pub records : List Told
   pub results : List (Result (Option Admitted) ResolveFault)
@@ -59,6 +81,7 @@ pub record IsFed (rule : WithoutHop) (c dropped : ℕ) (limit : BatchLimits) (h 
   pub cut_is : IsCut rest cut
   pub carried : HasIntakes (given h c (admissions_of results)).intakes archive
   pub wrote : Tells was now (feed_text (intake_in h.intakes c) limit records results cut)
+  pub summed : IsSummed c dropped limit h records results feed.means.meanings sums
   pub there : (admissions_of results ≡ [] → ⊥) → IsCollector h c
 
 -- why a feed is given up of which these turns were made and the next ones weren't: there is no such collector, the next batch would
@@ -73,7 +96,7 @@ IsReason c h made unmade stops.Outside = Unit {0}
 
 -- The archive carried h; now it carries what the first turns for the first records of the feed offer too, wherever it is applied. These
 -- turns were written and then the refusal.
-pub record IsGivenUp (rule : WithoutHop) (c dropped : ℕ) (limit : BatchLimits) (h : History) (bytes : List ℕ) (why : FeedStop) (archive : Carried) (was now : OutputState) : Type 0 where
+pub record IsGivenUp (rule : WithoutHop) (c dropped : ℕ) (limit : BatchLimits) (h : History) (bytes : List ℕ) (why : FeedStop) (sums : Sums) (archive : Carried) (was now : OutputState) : Type 0 where
   pub seen : List ℕ
   pub later : List ℕ
   pub parts : bytes ≡ seen ++ later
@@ -86,13 +109,14 @@ pub record IsGivenUp (rule : WithoutHop) (c dropped : ℕ) (limit : BatchLimits)
   pub carried : HasIntakes (given h c (offered made)).intakes archive
   pub reason : IsReason c h made unmade why
   pub wrote : Tells was now (turns_text (intake_in h.intakes c) made ++ refusal_line (of_stop why))
+  pub uncounted : sums.counts ≡ None
   pub there : (offered made ≡ [] → ⊥) → IsCollector h c
 
 -- how a feed of these octets ended: all of it was read, or it was cut short, or it was given up for this
-abbrev pub IsEnd : WithoutHop → ℕ → ℕ → BatchLimits → History → List ℕ → End → Carried → OutputState → OutputState → Type 0
-IsEnd rule c dropped limit h bytes ends.Well archive was now = IsFed rule c dropped limit h bytes None archive was now
-IsEnd rule c dropped limit h bytes ends.Cut archive was now = (why : FeedCut) × IsFed rule c dropped limit h bytes (Some why) archive was now
-IsEnd rule c dropped limit h bytes (ends.Refused why) archive was now = IsGivenUp rule c dropped limit h bytes why archive was now
+abbrev pub IsEnd : WithoutHop → ℕ → ℕ → BatchLimits → History → List ℕ → End → Sums → Carried → OutputState → OutputState → Type 0
+IsEnd rule c dropped limit h bytes ends.Well sums archive was now = IsFed rule c dropped limit h bytes None sums archive was now
+IsEnd rule c dropped limit h bytes ends.Cut sums archive was now = (why : FeedCut) × IsFed rule c dropped limit h bytes (Some why) sums archive was now
+IsEnd rule c dropped limit h bytes (ends.Refused why) sums archive was now = IsGivenUp rule c dropped limit h bytes why sums archive was now
 
 -- how a feed that ended so is answered: where not all of its lines were written, it is given up for the writer
 abbrev pub as_told : Bool → End → End
@@ -104,15 +128,3 @@ as_told false end = end
 pub record FitsFailures (end : End) (lost_was lost failed : Bool) : Type 0 where
   pub outside : end ≡ ends.Refused stops.Outside → (lost ≡ true) ⊎ (failed ≡ true)
   pub inside : (end ≡ ends.Refused stops.Outside → ⊥) → lost ≡ lost_was
-
--- What a feed of these records, of which this was taken, says of itself once it came to its end: the counts of what became of them, and how
--- many admissions are dropped of the next feed, where it goes on.
-pub record IsSummed (c dropped : ℕ) (limit : BatchLimits) (h : History) (records : List Told) (results meanings : List (Result (Option Admitted) ResolveFault)) (counts : Option FeedCounts) (left : ℕ) : Type 0 where
-  pub counted : counts ≡ Some (counts_of (intake_in h.intakes c) records (feed_turns limit results))
-  pub drops : left ≡ left_behind dropped meanings
-
--- the same by how the feed ended; one that was given up says nothing
-abbrev pub IsSummedEnd : (rule : WithoutHop) (c dropped : ℕ) (limit : BatchLimits) (h : History) (bytes : List ℕ) (end : End) (archive : Carried) (was now : OutputState) → IsEnd rule c dropped limit h bytes end archive was now → Option FeedCounts → ℕ → Type 0
-IsSummedEnd rule c dropped limit h bytes ends.Well archive was now f counts left = IsSummed c dropped limit h f.records f.results f.feed.means.meanings counts left
-IsSummedEnd rule c dropped limit h bytes ends.Cut archive was now f counts left = IsSummed c dropped limit h f.1.records f.1.results f.1.feed.means.meanings counts left
-IsSummedEnd rule c dropped limit h bytes (ends.Refused why) archive was now g counts left = Unit {0}

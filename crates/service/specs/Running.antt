@@ -5,8 +5,8 @@ use Rattle.resolve.specs.declared.without_hop.WithoutHop.{WithoutHop}
 use Rattle.resolve.specs.declared.without_hop.WithoutHop.TheVariants.{Refused, LeftOut}
 use Rattle.service.specs.Carried.{Carried}
 use Rattle.service.specs.Checks.{IsCheckEnd}
-use Rattle.service.specs.FileLoads.{AreLoaded}
-use Rattle.service.specs.Outputs.{InputState, OutputState, Tells}
+use Rattle.service.specs.FileLoads.{AreLoaded, FileState}
+use Rattle.service.specs.Outputs.{OutputState, Tells}
 use Rattle.service.specs.Refusals.{TellsFailure, line_end}
 use Rattle.service.specs.Replies.{IsAskEnd}
 use Rattle.service.specs.Statuses.{code_of}
@@ -35,7 +35,7 @@ settings_of asked = record { feed = record { collector = asked.collector; limit 
 
 -- The files were loaded as they were asked for, into an archive that carried h and takes batches of at most `most` octets, and what was buffered
 -- was written out.
-pub record AreFilesLoaded (asked : Loading) (most : ℕ) (h : History) (files files_now : List InputState) (code : ℕ) (archive : Carried) (was now err_was err_now : OutputState) : Type 0 where
+pub record AreFilesLoaded (asked : Loading) (most : ℕ) (h : History) (files files_now : List FileState) (code : ℕ) (archive : Carried) (was now err_was err_now : OutputState) : Type 0 where
   pub loaded : Status
   pub loaded_to : OutputState
   pub loaded_err : OutputState

@@ -9,7 +9,7 @@ use route_text::{write_address, write_number, write_prefix, write_route};
 use std::alloc::AllocError;
 
 /// Collector, address and AS number of the peer, and the prefix.
-fn write_place(out: &mut String, peer: &Peer, prefix: &Prefix) -> Result<(), AllocError>
+pub fn write_place(out: &mut String, peer: &Peer, prefix: &Prefix) -> Result<(), AllocError>
     ensures text { OnOk result (string_bytes out.new ≡ string_bytes out.old ++ place_text peer.now prefix.now) }
 {
     write_number(out, u64::from(peer.collector))?;
@@ -21,7 +21,8 @@ fn write_place(out: &mut String, peer: &Peer, prefix: &Prefix) -> Result<(), All
     write_prefix(out, prefix)
 }
 
-fn write_row(out: &mut String, row: &Row) -> Result<(), AllocError>
+/// `R|`, the place and the fields of the route, and LF. After an error nothing is said of `out`.
+pub fn write_row(out: &mut String, row: &Row) -> Result<(), AllocError>
     ensures line { OnOk result (string_bytes out.new ≡ string_bytes out.old ++ row_line row.now) }
 {
     out.push_str("R|")?;
@@ -31,8 +32,8 @@ fn write_row(out: &mut String, row: &Row) -> Result<(), AllocError>
     out.push('\n')
 }
 
-/// Whether more rows follow, and from where on.
-fn write_ending(out: &mut String, answer: &RowsAnswer) -> Result<(), AllocError>
+/// `E|ROWS`, or where more rows follow `M` and the place of the last one. After an error nothing is said of `out`.
+pub fn write_ending(out: &mut String, answer: &RowsAnswer) -> Result<(), AllocError>
     ensures line { OnOk result (string_bytes out.new ≡ string_bytes out.old ++ ending answer.now.rows.items answer.now.more (slice_get answer.now.rows.items (length answer.now.rows.items - 1))) }
 {
     match answer.rows.last() {

@@ -4,7 +4,7 @@ ghost use Rattle.std.specs.Prelude.{◌≡◌, IfOk, false, codes};
 ghost use Rattle.clap.specs.Simple.{app_of};
 ghost use Rattle.clap.specs.Walk.{rule_of};
 ghost use Rattle.clap.specs.declared.builder.command.Command.TheViews.{out-Command};
-ghost use Rattle.service.specs.CommandLines.{mark_rule, resume_rule, lose_entries_rule, strict_rule, listen_rule, files_rule, words_rule, word_rule, number_rule, number_or_rule, of_folder, of_archive, creation_of_rings, creation, loading_of_batches, loading_to_mark, loading, question, serving, checking, examining, json_rule, bare_program, program};
+ghost use Rattle.service.specs.CommandLines.{listen_rule, files_rule, words_rule, word_rule, number_rule, number_or_rule, of_folder, of_archive, creation_of_rings, creation, loading_of_batches, loading_to_mark, loading, question, serving, checking, examining, flag_rule, text_rule, text_or_rule, peer_rule, of_moment, dumping, listing, comparing, bare_program, archive_program, program};
 
 use crate::help;
 use clap::builder::ValueParser;
@@ -49,6 +49,29 @@ fn word<'a>(alloc: Global, name: &'a str, help: &'a str) -> Arg<'a>
         .action(ArgAction::Set)
 }
 
+/// `--NAME`
+fn flag<'a>(alloc: Global, name: &'a str, help: &'a str) -> Arg<'a>
+    ensures rule { rule_of result ≡ flag_rule name.entry.now }
+    ensures own { result.global ≡ false }
+{
+    Arg::new(alloc, name)
+        .long(name)
+        .help(help)
+        .action(ArgAction::SetTrue)
+}
+
+/// `--NAME LETTER`
+fn text<'a>(alloc: Global, name: &'a str, letter: &'a str, help: &'a str) -> Arg<'a>
+    ensures rule { rule_of result ≡ text_rule name.entry.now }
+    ensures own { result.global ≡ false }
+{
+    Arg::new(alloc, name)
+        .long(name)
+        .value_name(letter)
+        .help(help)
+        .action(ArgAction::Set)
+}
+
 /// `--NAME LETTER`, which has to be there: a number from the least to the most.
 fn number<'a>(
     alloc: Global,
@@ -90,47 +113,6 @@ fn number_or<'a>(
         .value_parser(ValueParser::unsigned(least, most))
         .default_value(default)
         .action(ArgAction::Set)
-}
-
-fn mark<'a>(alloc: Global) -> Arg<'a>
-    ensures rule { rule_of result ≡ mark_rule }
-    ensures own { result.global ≡ false }
-{
-    Arg::new(alloc, "mark")
-        .long("mark")
-        .value_name("M")
-        .help("The collector's mark once the last FILE is loaded")
-        .action(ArgAction::Set)
-}
-
-fn resume<'a>(alloc: Global) -> Arg<'a>
-    ensures rule { rule_of result ≡ resume_rule }
-    ensures own { result.global ≡ false }
-{
-    Arg::new(alloc, "resume")
-        .long("resume")
-        .help("Goes on after the records that were offered before")
-        .action(ArgAction::SetTrue)
-}
-
-fn lose_entries<'a>(alloc: Global) -> Arg<'a>
-    ensures rule { rule_of result ≡ lose_entries_rule }
-    ensures own { result.global ≡ false }
-{
-    Arg::new(alloc, "lose-entries")
-        .long("lose-entries")
-        .help("Leaves table entries without a next hop out")
-        .action(ArgAction::SetTrue)
-}
-
-fn strict<'a>(alloc: Global) -> Arg<'a>
-    ensures rule { rule_of result ≡ strict_rule }
-    ensures own { result.global ≡ false }
-{
-    Arg::new(alloc, "strict")
-        .long("strict")
-        .help("Ends at a FILE that gives cause for doubt, and sets no mark then")
-        .action(ArgAction::SetTrue)
 }
 
 fn files<'a>(alloc: Global) -> Arg<'a>
@@ -244,9 +226,11 @@ fn loading_to_mark<'a>(alloc: Global) -> Result<Command<'a>, AllocError>
     ensures app { IfOk result (λ c. app_of c ≡ loading_to_mark) }
     ensures own { IfOk result (λ c. (out-Command c).has_globals ≡ false) }
 {
+    let mark = "The collector's mark once the last FILE is loaded";
+    let resume = "Goes on after the records that were offered before";
     loading_of_batches(alloc)?
-        .arg(mark(alloc))?
-        .arg(resume(alloc))
+        .arg(text(alloc, "mark", "M", mark))?
+        .arg(flag(alloc, "resume", resume))
 }
 
 /// `load DIR --collector C [--batch N] [--mark M] [--resume] [--lose-entries] [--strict] FILE..`
@@ -254,18 +238,51 @@ fn loading<'a>(alloc: Global) -> Result<Command<'a>, AllocError>
     ensures app { IfOk result (λ c. app_of c ≡ loading) }
     ensures own { IfOk result (λ c. (out-Command c).has_globals ≡ false) }
 {
+    let lose = "Leaves table entries without a next hop out";
+    let strict = "Ends at a FILE that gives cause for doubt, and sets no mark then";
     loading_to_mark(alloc)?
-        .arg(lose_entries(alloc))?
-        .arg(strict(alloc))?
+        .arg(flag(alloc, "lose-entries", lose))?
+        .arg(flag(alloc, "strict", strict))?
         .arg(files(alloc))
 }
 
-/// `ask DIR [--wait SECONDS] WORD..`
+/// `--format FORM`: `lines` where it isn't there.
+fn format<'a>(alloc: Global) -> Arg<'a>
+    ensures rule { rule_of result ≡ text_or_rule (codes "format") (codes "lines") }
+    ensures own { result.global ≡ false }
+{
+    Arg::new(alloc, "format")
+        .long("format")
+        .value_name("FORM")
+        .help("How a row is written: lines, bgpdump or json")
+        .default_value("lines")
+        .action(ArgAction::Set)
+}
+
+/// `--peer COLLECTOR ADDRESS AS`
+fn peer<'a>(alloc: Global) -> Arg<'a>
+    ensures rule { rule_of result ≡ peer_rule }
+    ensures own { result.global ≡ false }
+{
+    Arg::new(alloc, "peer")
+        .long("peer")
+        .value_names(&["COLLECTOR", "ADDRESS", "AS"])
+        .num_args(3)
+        .help("Of this peer alone")
+        .action(ArgAction::Set)
+}
+
+/// `ask DIR [--wait SECONDS] [--all] [--human] WORD..`
 fn question<'a>(alloc: Global) -> Result<Command<'a>, AllocError>
     ensures app { IfOk result (λ c. app_of c ≡ question) }
     ensures own { IfOk result (λ c. (out-Command c).has_globals ≡ false) }
 {
-    of_archive(alloc, "ask", "Answers a request line", help::ASK)?.arg(words(alloc))
+    let all = "Follows `M` to the end: all rows or events, and not the first 256";
+    let human = "Dates, and communities as texts, for a person";
+    of_archive(alloc, "ask", "Answers a request line", help::ASK)?
+        .arg(flag(alloc, "all", all))?
+        .arg(flag(alloc, "human", human))?
+        .arg(words(alloc))
 }
 
 /// `serve DIR [--wait SECONDS] --listen ADDRESS:PORT --workers N`
@@ -289,23 +306,63 @@ fn checking<'a>(alloc: Global) -> Result<Command<'a>, AllocError>
     of_archive(alloc, "check", about, help::CHECK)
 }
 
-fn json<'a>(alloc: Global) -> Arg<'a>
-    ensures rule { rule_of result ≡ json_rule }
-    ensures own { result.global ≡ false }
-{
-    Arg::new(alloc, "json")
-        .long("json")
-        .help("Prints one object of JSON, for programs")
-        .action(ArgAction::SetTrue)
-}
-
 /// `info DIR [--wait SECONDS] [--json]`
 fn examining<'a>(alloc: Global) -> Result<Command<'a>, AllocError>
     ensures app { IfOk result (λ c. app_of c ≡ examining) }
     ensures own { IfOk result (λ c. (out-Command c).has_globals ≡ false) }
 {
     let about = "Shows how far an archive has come, and how much room it has left";
-    of_archive(alloc, "info", about, help::INFO)?.arg(json(alloc))
+    let json = "Prints one object of JSON, for programs";
+    of_archive(alloc, "info", about, help::INFO)?.arg(flag(alloc, "json", json))
+}
+
+/// `NAME DIR [--wait SECONDS] [--at T]`, of the table of one moment
+fn of_moment<'a>(
+    alloc: Global,
+    name: &'a str,
+    about: &'a str,
+    help: &'a str,
+) -> Result<Command<'a>, AllocError>
+    ensures app { IfOk result (λ c. app_of c ≡ of_moment name.entry.now) }
+    ensures own { IfOk result (λ c. (out-Command c).has_globals ≡ false) }
+{
+    let at = "The moment of the table; without it the last that is settled";
+    of_archive(alloc, name, about, help)?.arg(text(alloc, "at", "T", at))
+}
+
+/// `dump DIR [--wait SECONDS] [--at T] [--peer COLLECTOR ADDRESS AS] [--format FORM]`
+fn dumping<'a>(alloc: Global) -> Result<Command<'a>, AllocError>
+    ensures app { IfOk result (λ c. app_of c ≡ dumping) }
+    ensures own { IfOk result (λ c. (out-Command c).has_globals ≡ false) }
+{
+    of_moment(alloc, "dump", "Writes the table of one moment", help::DUMP)?
+        .arg(peer(alloc))?
+        .arg(format(alloc))
+}
+
+/// `peers DIR [--wait SECONDS] [--at T]`
+fn listing<'a>(alloc: Global) -> Result<Command<'a>, AllocError>
+    ensures app { IfOk result (λ c. app_of c ≡ listing) }
+    ensures own { IfOk result (λ c. (out-Command c).has_globals ≡ false) }
+{
+    let about = "Counts the routes of each peer that has one at a moment";
+    of_moment(alloc, "peers", about, help::PEERS)
+}
+
+/// `diff DIR [--wait SECONDS] FROM TO [--within PREFIX]`
+fn comparing<'a>(alloc: Global) -> Result<Command<'a>, AllocError>
+    ensures app { IfOk result (λ c. app_of c ≡ comparing) }
+    ensures own { IfOk result (λ c. (out-Command c).has_globals ≡ false) }
+{
+    of_archive(
+        alloc,
+        "diff",
+        "Compares the tables of two moments",
+        help::DIFF,
+    )?
+    .arg(word(alloc, "FROM", "The first moment"))?
+    .arg(word(alloc, "TO", "The second moment"))?
+    .arg(text(alloc, "within", "PREFIX", "Only prefixes inside this one"))
 }
 
 /// The program, without its commands.
@@ -320,9 +377,9 @@ fn bare_program<'a>(alloc: Global) -> Command<'a>
         .disable_help_subcommand(true)
 }
 
-/// The command line that the program takes.
-pub(crate) fn program<'a>(alloc: Global) -> Result<Command<'a>, AllocError>
-    ensures app { IfOk result (λ c. app_of c ≡ program) }
+/// The program with the commands that keep and question an archive.
+fn archive_program<'a>(alloc: Global) -> Result<Command<'a>, AllocError>
+    ensures app { IfOk result (λ c. app_of c ≡ archive_program) }
 {
     bare_program(alloc)
         .subcommand(creation(alloc)?)?
@@ -331,4 +388,14 @@ pub(crate) fn program<'a>(alloc: Global) -> Result<Command<'a>, AllocError>
         .subcommand(serving(alloc)?)?
         .subcommand(checking(alloc)?)?
         .subcommand(examining(alloc)?)
+}
+
+/// The command line that the program takes.
+pub(crate) fn program<'a>(alloc: Global) -> Result<Command<'a>, AllocError>
+    ensures app { IfOk result (λ c. app_of c ≡ program) }
+{
+    archive_program(alloc)?
+        .subcommand(dumping(alloc)?)?
+        .subcommand(listing(alloc)?)?
+        .subcommand(comparing(alloc)?)
 }

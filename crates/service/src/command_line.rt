@@ -8,7 +8,7 @@ ghost use Rattle.clap.specs.Simple.{subcommand_rows_of};
 ghost use Rattle.clap.specs.Walk.{Row, rows_of, first_of, one_of, all_of};
 ghost use Rattle.clap.specs.Values.{kind_of};
 ghost use Rattle.clap.specs.declared.error.Error.{Error};
-ghost use Rattle.service.specs.CommandLines.{program, spaced, word_in, IsMarkIf, IsNoMark, IsNumber, IsThere, IsCreation, IsLoading, IsQuestion, IsServing, IsChecking, IsExamining, IsInvocation, HasBadMark, HasBadListen};
+ghost use Rattle.service.specs.CommandLines.{program, spaced, word_in, IsMarkIf, IsNoMark, IsNumber, IsThere, IsCreation, IsLoading, IsQuestion, IsServing, IsChecking, IsExamining, IsDumping, IsListing, IsComparing, IsInvocation, HasBadMark, HasBadListen};
 ghost use Rattle.service.specs.Listening.{IsNoListenText};
 ghost use Rattle.service.specs.inner.Naming.{AsksFor, IsCommand, NamesNoListen, NamesNoMark};
 
@@ -17,7 +17,8 @@ use crate::arguments::{
     program,
 };
 use crate::invocation::{
-    Checking, CommandError, Creation, Examining, Invocation, Loading, Question, Serving,
+    Checking, CommandError, Comparing, Creation, Dumping, Examining, Invocation, Listing, Loading,
+    Question, Serving,
 };
 use crate::listening::read_listen;
 use clap::ArgMatches;
@@ -32,6 +33,13 @@ fn word_of<'a>(matches: &ArgMatches<'a>, name: &str) -> &'a str
     ensures word { result.now ≡ word_in name.now (rows_of (found_of matches.now)) }
 {
     matches.get_str(name).unwrap_or("")
+}
+
+/// The text of this name, if it is there.
+fn text_of<'a>(matches: &ArgMatches<'a>, name: &str) -> Option<&'a str>
+    ensures text { option_map (λ t. t.now) result ≡ first_of name.now (rows_of (found_of matches.now)) }
+{
+    matches.get_str(name)
 }
 
 /// The number that the text behind an option writes, which `clap` has read. No clause of its says that the text is there
@@ -95,11 +103,15 @@ fn creation_of<'a>(matches: &ArgMatches<'a>) -> Creation<'a>
     }
 }
 
-/// The files that `load` is given. No clause of `clap`'s says that there is one.
-fn files_of<'a>(alloc: Global, matches: &ArgMatches<'a>) -> Result<Vec<&'a str>, AllocError>
-    ensures files { IfOk result (λ files. map (λ f. f.now) files.items ≡ unwrap_or (all_of (codes "FILE") (rows_of (found_of matches.now))) []) }
+/// The texts of this name. No clause of `clap`'s says that there is one.
+fn texts_of<'a>(
+    alloc: Global,
+    matches: &ArgMatches<'a>,
+    name: &str,
+) -> Result<Vec<&'a str>, AllocError>
+    ensures texts { IfOk result (λ texts. map (λ t. t.now) texts.items ≡ unwrap_or (all_of name.now (rows_of (found_of matches.now))) []) }
 {
-    matches.get_strs("FILE").unwrap_or(&[]).to_vec(alloc)
+    matches.get_strs(name).unwrap_or(&[]).to_vec(alloc)
 }
 
 /// What the arguments of `load` say, whose files are these.
@@ -131,7 +143,15 @@ fn question_of<'a>(alloc: Global, matches: &ArgMatches<'a>) -> Result<Question<'
     let words = matches.get_strs("WORD").unwrap_or(&[]);
     let line = line_of(alloc, words)?;
     let wait = number_of(matches, "wait", 0, MAX_WAIT);
-    Ok(Question { wait, folder, line })
+    let all = is_there(matches, "all");
+    let human = is_there(matches, "human");
+    Ok(Question {
+        wait,
+        folder,
+        all,
+        human,
+        line,
+    })
 }
 
 /// What the arguments of `serve` say.
@@ -169,6 +189,44 @@ fn examining_of<'a>(matches: &ArgMatches<'a>) -> Examining<'a>
     }
 }
 
+/// What the arguments of `dump` say.
+fn dumping_of<'a>(alloc: Global, matches: &ArgMatches<'a>) -> Result<Dumping<'a>, AllocError>
+    ensures found { IfOk result (IsDumping (rows_of (found_of matches.now))) }
+{
+    let peer = texts_of(alloc, matches, "peer")?;
+    Ok(Dumping {
+        wait: number_of(matches, "wait", 0, MAX_WAIT),
+        folder: word_of(matches, "DIR"),
+        at: text_of(matches, "at"),
+        peer,
+        format: word_of(matches, "format"),
+    })
+}
+
+/// What the arguments of `peers` say.
+fn listing_of<'a>(matches: &ArgMatches<'a>) -> Listing<'a>
+    ensures found { IsListing (rows_of (found_of matches.now)) result }
+{
+    Listing {
+        wait: number_of(matches, "wait", 0, MAX_WAIT),
+        folder: word_of(matches, "DIR"),
+        at: text_of(matches, "at"),
+    }
+}
+
+/// What the arguments of `diff` say.
+fn comparing_of<'a>(matches: &ArgMatches<'a>) -> Comparing<'a>
+    ensures found { IsComparing (rows_of (found_of matches.now)) result }
+{
+    Comparing {
+        wait: number_of(matches, "wait", 0, MAX_WAIT),
+        folder: word_of(matches, "DIR"),
+        from: word_of(matches, "FROM"),
+        to: word_of(matches, "TO"),
+        within: text_of(matches, "within"),
+    }
+}
+
 /// What the command that is named asks for.
 fn invocation_of<'a>(
     alloc: Global,
@@ -184,7 +242,7 @@ fn invocation_of<'a>(
         return Ok(Invocation::Create(creation_of(matches)));
     }
     if let Some(matches) = matches.subcommand_matches("load") {
-        let Ok(files) = files_of(alloc, matches) else {
+        let Ok(files) = texts_of(alloc, matches, "FILE") else {
             return Err(CommandError::OutOfMemory);
         };
         return match loading_of(matches, files) {
@@ -207,10 +265,22 @@ fn invocation_of<'a>(
     if let Some(matches) = matches.subcommand_matches("check") {
         return Ok(Invocation::Check(checking_of(matches)));
     }
-    let Some(matches) = matches.subcommand_matches("info") else {
+    if let Some(matches) = matches.subcommand_matches("info") {
+        return Ok(Invocation::Info(examining_of(matches)));
+    }
+    if let Some(matches) = matches.subcommand_matches("dump") {
+        return match dumping_of(alloc, matches) {
+            Ok(dumping) => Ok(Invocation::Dump(dumping)),
+            Err(_) => Err(CommandError::OutOfMemory),
+        };
+    }
+    if let Some(matches) = matches.subcommand_matches("peers") {
+        return Ok(Invocation::Peers(listing_of(matches)));
+    }
+    let Some(matches) = matches.subcommand_matches("diff") else {
         unreachable!()
     };
-    Ok(Invocation::Info(examining_of(matches)))
+    Ok(Invocation::Diff(comparing_of(matches)))
 }
 
 /// What an error of `clap` is.
@@ -228,16 +298,20 @@ fn usage(error: clap::Error) -> CommandError
 ///
 /// - `rha create DIR [--collectors N] [--ring P] [--pages N] [--blocks N]`
 /// - `rha load DIR --collector C [--batch N] [--mark M] [--resume] [--lose-entries] [--strict] FILE..`
-/// - `rha ask DIR WORD..`
+/// - `rha ask DIR [--all] [--human] WORD..`
 /// - `rha serve DIR --listen ADDRESS:PORT --workers N`
 /// - `rha check DIR`
 /// - `rha info DIR [--json]`
+/// - `rha dump DIR [--at T] [--peer COLLECTOR ADDRESS AS] [--format FORM]`
+/// - `rha peers DIR [--at T]`
+/// - `rha diff DIR FROM TO [--within PREFIX]`
 ///
 /// Each but `create` takes `--wait SECONDS` too, 0 to 1000000; in `ask` it stands before the first WORD. Without it 0 counts.
 ///
 /// `clap` reads the words, and each number within its limits; an option that isn't there has its default: 1 collector, a ring of 4096
 /// pages, 10000000 pages, 100000000 blocks, batches of 1000. Then M is read as a mark, ADDRESS as an IPv4 address and PORT as a number
-/// of at most 65535, and the WORDs are joined to a line with one space between two; what stands after the first WORD is a WORD too, also
+/// of at most 65535, and the WORDs are joined to a line with one space between two; the texts of `dump`, `peers` and `diff` aren't read
+/// here. What stands after the first WORD is a WORD too, also
 /// where it looks like an option.
 ///
 /// # Errors

@@ -17,7 +17,8 @@ fn write_timed(out: &mut String, letter: &str, time: Moment) -> Result<(), Alloc
     write_moment(out, time)
 }
 
-fn write_change(out: &mut String, time: Moment, change: &Change) -> Result<(), AllocError>
+/// The line of an event. After an error nothing is said of `out`.
+pub fn write_change(out: &mut String, time: Moment, change: &Change) -> Result<(), AllocError>
     ensures line { OnOk result (string_bytes out.new ≡ string_bytes out.old ++ change_line time change.now) }
 {
     match change {
@@ -38,8 +39,12 @@ fn write_change(out: &mut String, time: Moment, change: &Change) -> Result<(), A
     }
 }
 
-/// Whether more events follow, and how many to skip then.
-fn write_events_ending(out: &mut String, skip: u64, answer: &EventsAnswer) -> Result<(), AllocError>
+/// `E|EVENTS`, or where more events follow `M` and how many the next question skips. After an error nothing is said of `out`.
+pub fn write_events_ending(
+    out: &mut String,
+    skip: u64,
+    answer: &EventsAnswer,
+) -> Result<(), AllocError>
     ensures line { OnOk result (string_bytes out.new ≡ string_bytes out.old ++ events_ending skip answer.now.events.items answer.now.more) }
 {
     let count = answer.events.len();

@@ -7,6 +7,7 @@ pub(crate) const PROGRAM: &str = "Example:
   rha ask a at 2024-01-01T00:10:00Z prefix 10.0.0.0/8
   rha check a
   rha info a
+  rha dump a --format bgpdump
   rha serve a --listen 127.0.0.1:17900 --workers 4
 
 `rha COMMAND --help` has the limits of a command, its defaults and its exit statuses.
@@ -70,12 +71,15 @@ pub(crate) const ASK: &str = "The words are one request line:
   watermark                        the settled watermark
   durable COLLECTOR                how many records of the collector are admitted
 The last four of `at` may end with `after PEER PREFIX`, which goes on behind that row, and `history` with
-`skip N`, which leaves the first N events out: an answer has 256 rows or events at most.
+`skip N`, which leaves the first N events out: an answer has 256 rows or events at most. With --all each next line
+is asked, and the answer has all rows or events and one end, `E|COUNT`. With --human moments are dates, and
+communities are texts (65001:7); programs read the lines without it.
 PEER is COLLECTOR ADDRESS AS, and PREFIX is ADDRESS/LENGTH. T, FROM and TO are moments: seconds since 1970,
 or timestamps as 2024-01-01T00:00:00Z. T and TO have to be below the settled watermark.
 
-Example:
+Examples:
   rha ask a at 2024-01-01T00:10:00Z prefix 10.0.0.0/8
+  rha ask a --all at 2024-01-01T00:10:00Z cover 10.0.0.1
 
 Exit status: 0 where the line is answered; 1 where it is refused (`X|NUMBER|NAME`), or something else was
 refused or couldn't be written (told on standard error as `rha: NUMBER NAME`); 2 where the command line isn't
@@ -127,3 +131,45 @@ Example:
 
 Exit status: 0 where the archive could be read; 1 where something was refused or couldn't be written (told on
 standard error as `rha: NUMBER NAME`); 2 where the command line isn't accepted.";
+
+/// Of `dump`.
+pub(crate) const DUMP: &str =
+    "Writes all routes of all peers at T, or of one peer, by peer and then by prefix. FORM is one of:
+  lines      the rows that `rha ask --all` prints, and E|ROWS
+  bgpdump    TABLE_DUMP2|T|B|ADDRESS|AS|PREFIX|PATH|ORIGIN|NEXTHOP|LOCAL_PREF|MED|COMMUNITY|AG|AGGREGATOR|
+             as `bgpdump -m` prints a table; a LOCAL_PREF or MED that isn't there is 0
+  json       an object a line, fields by name
+T has to be below the settled watermark; without --at it is the last moment that is. Memory doesn't grow with the table.
+
+Examples:
+  rha dump a --at 2024-01-01T00:10:00Z --format bgpdump
+  rha dump a --peer 0 192.0.2.1 64496
+
+Exit status: 0 where the whole table is written; 1 where something was refused or couldn't be written (on standard
+error as `rha: NUMBER NAME`, or the last line is `X|NUMBER|NAME`); 2 where the command line isn't accepted.";
+
+/// Of `peers`.
+pub(crate) const PEERS: &str =
+    "Prints P|COLLECTOR|ADDRESS|AS|ROUTES of each peer that has a route at T, in the order of peers, then E|PEERS. T has to be
+below the settled watermark; without --at it is the last moment that is.
+
+Example:
+  rha peers a --at 2024-01-01T00:10:00Z
+
+Exit status: 0 where all are printed; 1 where something was refused or couldn't be written (on standard error as
+`rha: NUMBER NAME`, or the last line is `X|NUMBER|NAME`); 2 where the command line isn't accepted.";
+
+/// Of `diff`.
+pub(crate) const DIFF: &str =
+    "Prints a line for each prefix of a peer whose route isn't the same at both moments, by peer and then by prefix:
+  +|COLLECTOR|ADDRESS|AS|PREFIX|ROUTE          it has a route at TO alone
+  -|COLLECTOR|ADDRESS|AS|PREFIX|ROUTE          it has a route at FROM alone
+  ~|COLLECTOR|ADDRESS|AS|PREFIX|ROUTE|ROUTE    it has another one: that of FROM, then that of TO
+and then E|LINES. ROUTE is the eight fields of a row. Both moments have to be below the settled watermark.
+
+Example:
+  rha diff a 2024-01-01T00:00:00Z 2024-01-01T00:10:00Z --within 10.0.0.0/8
+
+Exit status, as of diff(1): 0 where the tables are the same; 1 where they differ; 2 where something was refused or
+couldn't be written (on standard error as `rha: NUMBER NAME`, or the last line is `X|NUMBER|NAME`), or the command
+line isn't accepted.";

@@ -1,12 +1,12 @@
 //! Feeds: MRT records that are read, resolved and admitted (RFC 6396).
 
-ghost use Rattle.std.specs.Prelude.{◌≡◌, ◌⊎◌, ◌++◌, ℕ, true, List, [], OnOk, IfOk, IfErr};
+ghost use Rattle.std.specs.Prelude.{◌≡◌, ◌⊎◌, ◌++◌, ℕ, true, List, [], None, OnOk, OnErr, IfOk, IfErr};
 ghost use Rattle.route_meaning.specs.History.{History};
 ghost use Rattle.resolve.specs.declared.without_hop.WithoutHop.{WithoutHop};
 ghost use Rattle.service.specs.FeedLines.{counts_line};
 ghost use Rattle.service.specs.Faults.{of_stop};
 ghost use Rattle.service.specs.FeedTexts.{cut_line, intake_in};
-ghost use Rattle.service.specs.Feeds.{FitsFailures, IsCut, IsEnd, IsFed, IsSummed, IsSummedEnd, MayGive, as_told, limits_for};
+ghost use Rattle.service.specs.Feeds.{FitsFailures, IsCut, IsEnd, IsFed, MayGive, as_told, limits_for};
 ghost use Rattle.service.specs.declared.limits.BatchLimits.{BatchLimits};
 ghost use Rattle.service.specs.Outputs.{OutputState, Tells};
 ghost use Rattle.service.specs.Refusals.{refusal_line};
@@ -137,8 +137,8 @@ pub fn tell_stop<W: Write>(why: FeedStop, out: &mut Output<W>)
     out.flush();
 }
 
-/// Takes a feed in to its end. Answers why it is cut short, if it is; `counts` are those that were written then, and `dropping` is how many
-/// admissions are still to be dropped.
+/// Takes a feed in to its end. Returns why it is cut short, if it is; `counts` are those that were written then, none if it is given up, and
+/// `dropping` is how many admissions are still to be dropped.
 fn take_in<A: RouteArchive, R: Read, W: Write>(
     alloc: Global,
     archive: &mut A,
@@ -149,12 +149,14 @@ fn take_in<A: RouteArchive, R: Read, W: Write>(
     counts: &mut Option<FeedCounts>,
     left_out: &mut u64,
 ) -> Result<Option<FeedCut>, FeedStop>
-    ensures fed { (h : History) → A.carries archive.old h → IfOk result (λ cut. (bytes : List ℕ) × MayGive reader.old.left bytes × (f : IsFed how.rule how.collector dropping.old (limits_for how (A.most archive.old)) h bytes cut (A.carries archive.new) out.old out.new) × IsSummed how.collector dropping.old (limits_for how (A.most archive.old)) h f.records f.results f.feed.means.meanings counts.new dropping.new) }
+    ensures fed { (h : History) → A.carries archive.old h → IfOk result (λ cut. (bytes : List ℕ) × MayGive reader.old.left bytes × (mark : ℕ) × IsFed how.rule how.collector dropping.old (limits_for how (A.most archive.old)) h bytes cut (record { counts = counts.new; left_out = left_out.new; left = dropping.new; mark = mark }) (A.carries archive.new) out.old out.new) }
+    ensures uncounted { OnErr result (counts.new ≡ None) }
     ensures given_up { (h : History) → A.carries archive.old h → IfErr result (λ why. (bytes : List ℕ) × MayGive reader.old.left bytes × StopsWithin how.rule how.collector dropping.old (limits_for how (A.most archive.old)) h bytes (A.carries archive.new) out.old out.new why) }
     ensures most { A.most archive.new ≡ A.most archive.old }
     ensures outside { result ≡ Err FeedStop.Outside → (reader.new.failed ≡ true) ⊎ (out.new.failed ≡ true) }
     ensures sound { (result ≡ Err FeedStop.Outside → ⊥) → reader.new.failed ≡ reader.old.failed }
 {
+    *counts = None;
     let mut feeding = Feeding::new(alloc, archive, how, *dropping);
     let mut framer = Framer::new(alloc);
     feeding.take_stream(alloc, &mut framer, reader, archive, out)?;
@@ -186,7 +188,8 @@ fn as_told<W: Write>(end: End, out: &Output<W>) -> End
 /// is met, each batch what became of it, and the end the counts of the feed; where the feed ends inside a record or
 /// at a Length above the limit, a line before them. Another refusal writes its line and ends the feed. Each line is
 /// written out at once. Where not all lines can be written, the answer is that the feed is given up for the writer,
-/// `Outside`. `counts` become those of the feed where it came to its end, and `left_out` how many entries of its RIB records were left out.
+/// `Outside`. If it came to its end, `counts` become those of the feed, and `left_out` how many entries of its RIB records were left out; otherwise
+/// there are no counts.
 pub fn feed<A: RouteArchive, R: Read, W: Write>(
     alloc: Global,
     archive: &mut A,
@@ -197,7 +200,7 @@ pub fn feed<A: RouteArchive, R: Read, W: Write>(
     counts: &mut Option<FeedCounts>,
     left_out: &mut u64,
 ) -> End
-    ensures ended { (h : History) → A.carries archive.old h → (bytes : List ℕ) × MayGive reader.old.left bytes × (end : End) × (result ≡ as_told out.new.failed end) × (e : IsEnd how.rule how.collector dropping.old (limits_for how (A.most archive.old)) h bytes end (A.carries archive.new) out.old out.new) × FitsFailures end reader.old.failed reader.new.failed out.new.failed × IsSummedEnd how.rule how.collector dropping.old (limits_for how (A.most archive.old)) h bytes end (A.carries archive.new) out.old out.new e counts.new dropping.new }
+    ensures ended { (h : History) → A.carries archive.old h → (bytes : List ℕ) × MayGive reader.old.left bytes × (end : End) × (result ≡ as_told out.new.failed end) × (mark : ℕ) × IsEnd how.rule how.collector dropping.old (limits_for how (A.most archive.old)) h bytes end (record { counts = counts.new; left_out = left_out.new; left = dropping.new; mark = mark }) (A.carries archive.new) out.old out.new × FitsFailures end reader.old.failed reader.new.failed out.new.failed }
     ensures most { A.most archive.new ≡ A.most archive.old }
     ensures outside { result ≡ End.Refused FeedStop.Outside → (reader.new.failed ≡ true) ⊎ (out.new.failed ≡ true) }
     ensures sound { (result ≡ End.Refused FeedStop.Outside → ⊥) → reader.new.failed ≡ reader.old.failed }

@@ -54,8 +54,53 @@ pub struct Question<'a> {
     pub wait: u64,
     /// The folder of the archive.
     pub folder: &'a str,
+    /// Whether all rows or events are wanted, and not the first 256.
+    pub all: bool,
+    /// Whether the lines are for a person.
+    pub human: bool,
     /// The request line to answer.
     pub line: String,
+}
+
+/// What `dump` is given: texts, as they stand on the command line.
+#[derive(Debug, Drop)]
+pub struct Dumping<'a> {
+    /// How many seconds the archive is waited for while it is in use, 0 to 1000000.
+    pub wait: u64,
+    /// The folder of the archive.
+    pub folder: &'a str,
+    /// The moment of the table.
+    pub at: Option<&'a str>,
+    /// The peer whose table it is, by three words; none for the table of all peers.
+    pub peer: Vec<&'a str>,
+    /// How a row is written.
+    pub format: &'a str,
+}
+
+/// What `peers` is given.
+#[derive(Debug, Drop)]
+pub struct Listing<'a> {
+    /// How many seconds the archive is waited for while it is in use, 0 to 1000000.
+    pub wait: u64,
+    /// The folder of the archive.
+    pub folder: &'a str,
+    /// The text of the moment.
+    pub at: Option<&'a str>,
+}
+
+/// What `diff` is given: texts, as they stand on the command line.
+#[derive(Debug, Drop)]
+pub struct Comparing<'a> {
+    /// How many seconds the archive is waited for while it is in use, 0 to 1000000.
+    pub wait: u64,
+    /// The folder of the archive.
+    pub folder: &'a str,
+    /// The first moment.
+    pub from: &'a str,
+    /// The second moment.
+    pub to: &'a str,
+    /// The prefix in which those of the rows lie.
+    pub within: Option<&'a str>,
 }
 
 /// What `serve` is given.
@@ -106,6 +151,12 @@ pub enum Invocation<'a> {
     Check(Checking<'a>),
     /// How far an archive has come is shown.
     Info(Examining<'a>),
+    /// A table of one moment is written.
+    Dump(Dumping<'a>),
+    /// The peers of one moment are counted.
+    Peers(Listing<'a>),
+    /// The tables of two moments are compared.
+    Diff(Comparing<'a>),
 }
 
 /// Why a command line asks for nothing.

@@ -161,12 +161,12 @@ fn load_one<A: RouteArchive, R: Read, W: Write, E: Write>(
     out: &mut Output<W>,
     err: &mut Output<E>,
 ) -> Status
-    ensures ended { (h : History) → A.carries archive.old h → (bytes : List ℕ) × MayGive reader.old.left bytes × IsFileEnd how (A.most archive.old) dropping.old dropping.new h bytes reader.old.failed reader.new.failed result (A.carries archive.new) out.old out.new err.old err.new }
+    ensures ended { (h : History) → A.carries archive.old h → (bytes : List ℕ) × MayGive reader.old.left bytes × IsFileEnd how (A.most archive.old) dropping.old dropping.new h bytes reader.old.failed reader.new.failed result report.new (A.carries archive.new) out.old out.new err.old err.new }
     ensures most { A.most archive.new ≡ A.most archive.old }
     ensures sound { result ≡ Status.Done → reader.new.failed ≡ reader.old.failed }
 {
     let collector = how.feed.collector;
-    report.is_begun = true;
+    *report = LoadReport::new(true);
     if collector >= archive.collectors() {
         report.refusal = Some(Refusal::NoCollector);
         write_error(err, &Refusal::from(LoadStop::NoCollector));
@@ -213,23 +213,20 @@ fn load_next<A: RouteArchive, R: Read, W: Write, E: Write>(
     out: &mut Output<W>,
     err: &mut Output<E>,
 ) -> Status
-    ensures ended { (h : History) → A.carries archive.old h → (bytes : List ℕ) × MayGive file.old.input.left bytes × IsFileEnd how (A.most archive.old) dropping.old dropping.new h bytes file.old.input.failed file.new.input.failed result (A.carries archive.new) out.old out.new err.old err.new }
+    ensures ended { (h : History) → A.carries archive.old h → (bytes : List ℕ) × MayGive file.old.input.left bytes × IsFileEnd how (A.most archive.old) dropping.old dropping.new h bytes file.old.input.failed file.new.input.failed result file.new.report (A.carries archive.new) out.old out.new err.old err.new }
     ensures most { A.most archive.new ≡ A.most archive.old }
     ensures sound { result ≡ Status.Done → file.new.input.failed ≡ file.old.input.failed }
 {
-    let mut report = LoadReport::new();
-    let status = load_one(
+    load_one(
         alloc,
         archive,
         how,
         dropping,
         &mut file.input,
-        &mut report,
+        &mut file.report,
         out,
         err,
-    );
-    file.report = report;
-    status
+    )
 }
 
 /// Whether a load goes on after one of its files, whose load ended so.
@@ -268,7 +265,7 @@ pub fn load<A: RouteArchive, R: Read, W: Write, E: Write>(
     out: &mut Output<W>,
     err: &mut Output<E>,
 ) -> Status
-    ensures ended { (h : History) → A.carries archive.old h → AreLoaded how (A.most archive.old) h (map (λ f. f.input) files.old) (map (λ f. f.input) files.new) result (A.carries archive.new) out.old out.new err.old err.new }
+    ensures ended { (h : History) → A.carries archive.old h → AreLoaded how (A.most archive.old) h (map (λ f. record { input = f.input; report = f.report }) files.old) (map (λ f. record { input = f.input; report = f.report }) files.new) result (A.carries archive.new) out.old out.new err.old err.new }
     ensures sound { result ≡ Status.Done → map (λ f. f.input.failed) files.new ≡ map (λ f. f.input.failed) files.old }
 {
     let mut dropping = dropped_where(archive, how.feed.collector, how.resume);

@@ -1,5 +1,7 @@
 //! What is known of a load besides its lines and its status.
 
+ghost use Rattle.std.specs.Prelude.{◌≡◌, false, None};
+
 use crate::feed_lines::FeedCounts;
 use crate::output::Input;
 use crate::refusal::Refusal;
@@ -26,10 +28,15 @@ pub struct LoadReport {
 }
 
 impl LoadReport {
-    /// The report of a load that hasn't begun.
-    pub fn new() -> LoadReport {
+    /// The report of a load that has begun, or hasn't, of which nothing more is known.
+    pub(crate) fn new(is_begun: bool) -> LoadReport
+        ensures begun { result.is_begun ≡ is_begun }
+        ensures counts { result.counts ≡ None }
+        ensures left_out { result.left_out ≡ 0 }
+        ensures held { result.is_held ≡ false }
+    {
         LoadReport {
-            is_begun: false,
+            is_begun,
             before: None,
             counts: None,
             left_out: 0,
@@ -52,7 +59,7 @@ impl<R: Read> FileLoad<R> {
     pub fn new(reader: R) -> FileLoad<R> {
         FileLoad {
             input: Input::new(reader),
-            report: LoadReport::new(),
+            report: LoadReport::new(false),
         }
     }
 }

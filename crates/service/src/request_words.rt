@@ -33,7 +33,7 @@ pub(crate) fn read_only_number(words: &[&str], last: u64) -> Result<u64, BadText
 }
 
 /// The peer that three words name.
-pub(crate) fn read_peer(collector: &str, address: &str, as_number: &str) -> Result<Peer, BadText>
+pub fn read_peer(collector: &str, address: &str, as_number: &str) -> Result<Peer, BadText>
     ensures found { IfOk result (ArePeerWords collector.now address.now as_number.now) }
     ensures none { OnErr result ((peer : Peer) → ArePeerWords collector.now address.now as_number.now peer → ⊥) }
 {

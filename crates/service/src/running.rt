@@ -90,7 +90,7 @@ pub fn load_files<A: RouteArchive, R: Read, W: Write, E: Write>(
     out: &mut Output<W>,
     err: &mut Output<E>,
 ) -> u8
-    ensures ended { (h : History) → A.carries archive.old h → AreFilesLoaded asked.now (A.most archive.old) h (map (λ f. f.input) files.old) (map (λ f. f.input) files.new) result (A.carries archive.new) out.old out.new err.old err.new }
+    ensures ended { (h : History) → A.carries archive.old h → AreFilesLoaded asked.now (A.most archive.old) h (map (λ f. record { input = f.input; report = f.report }) files.old) (map (λ f. record { input = f.input; report = f.report }) files.new) result (A.carries archive.new) out.old out.new err.old err.new }
     ensures sound { result ≡ 0 → map (λ f. f.input.failed) files.new ≡ map (λ f. f.input.failed) files.old }
 {
     let loaded = load(alloc, archive, settings_of(asked), files, out, err);

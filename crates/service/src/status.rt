@@ -36,7 +36,7 @@ impl Status {
 
 /// The status of a command that has written its lines: `Failed` where not all of them could be written. Where that is
 /// so of `out`, `err` is told.
-pub(crate) fn told<W: Write, E: Write>(
+pub fn told<W: Write, E: Write>(
     alloc: Global,
     status: Status,
     out: &Output<W>,

@@ -13,13 +13,13 @@ use Rattle.mrt_records.specs.Records.{Over}
 use Rattle.mrt_records.specs.Streams.{GainsFrames}
 use Rattle.mrt_records.specs.declared.item.Item.{Item}
 use Rattle.resolve.specs.Tables.{LastTable, Feed}
-use Rattle.resolve.specs.Records.{Gives}
+use Rattle.resolve.specs.Records.{Gives, counted, left_out}
 use Rattle.resolve.specs.declared.fault.ResolveFault.{ResolveFault}
 use Rattle.resolve.specs.declared.fault.ResolveFault.TheVariants as faults
 use Rattle.interleaving_core.specs.Steps.{given, IsCollector}
 use Rattle.archive_calls.specs.Limits.{batch_octets}
 use Rattle.service.specs.Turns.{Turn, offered, refusals, turns_for, waits_behind, feed_turns}
-use Rattle.service.specs.Feeds.{IsReason}
+use Rattle.service.specs.Feeds.{IsReason, entries_lost}
 use Rattle.archive_calls.specs.declared.refusal.AdmitError.{AdmitError}
 use Rattle.archive_calls.specs.declared.refusal.AdmitError.TheVariants as admits
 use Rattle.archive_calls.specs.declared.refusal.Trouble.TheVariants as troubles
@@ -54,6 +54,7 @@ pub record TakesNext (rule : WithoutHop) (was now : Feed) (dropping left : ℕ) 
   pub taken_is : taken ≡ taken_at dropping meaning
   pub left_is : left ≡ left_after dropping meaning
   pub collector : now.collector ≡ was.collector
+  pub lost : now.left_out ≡ counted was.left_out (left_out r meaning)
   pub table : (meaning ≡ Err faults.OutOfMemory → ⊥) → (before : List Told) → LastTable before was.table → LastTable (before ++ r ∷ []) now.table
 
 -- of a feed under way all is the same but for what waits and what was done
@@ -83,6 +84,7 @@ pub record IsBehind (rule : WithoutHop) (c dropped : ℕ) (limit : BatchLimits) 
   pub known : LastTable records feeding.resolver.table
   pub means : MeansFrom rule c dropped records results
   pub drops : feeding.dropping ≡ left_behind dropped means.meanings
+  pub lost : feeding.resolver.left_out ≡ capped (entries_lost records means.meanings)
   pub waits : feeding.gathered.items ≡ waits_behind limit [] results
   pub counted : IsCounted feeding
   pub done : HasDone c h (turns_for limit 0 [] results) feeding.counts archive was now

@@ -1,14 +1,14 @@
 -- What the command that is named asks for. Contracts of private functions alone cite this file.
 use Rattle.std.specs.Prelude.{◌≡◌, ◌⊎◌, ℕ, List, Option, Some, codes}
 use Rattle.clap.specs.Walk.{Row, first_of}
-use Rattle.service.specs.CommandLines.{IsCreation, IsLoading, IsQuestion, IsServing, IsChecking, IsExamining, IsNoMark, word_in}
+use Rattle.service.specs.CommandLines.{IsCreation, IsLoading, IsQuestion, IsServing, IsChecking, IsExamining, IsDumping, IsListing, IsComparing, IsNoMark, word_in}
 use Rattle.service.specs.Listening.{IsNoListenText}
 use Rattle.service.specs.declared.invocation.Invocation.{Invocation}
-use Rattle.service.specs.declared.invocation.Invocation.TheVariants.{Create, Load, Ask, Serve, Check, Info}
+use Rattle.service.specs.declared.invocation.Invocation.TheVariants.{Create, Load, Ask, Serve, Check, Info, Dump, Peers, Diff}
 
 -- a command is named, and it is one of the program's
 abbrev pub IsCommand : Option (List ℕ) → Type 0
-IsCommand name = (name ≡ Some (codes "create")) ⊎ ((name ≡ Some (codes "load")) ⊎ ((name ≡ Some (codes "ask")) ⊎ ((name ≡ Some (codes "serve")) ⊎ ((name ≡ Some (codes "check")) ⊎ (name ≡ Some (codes "info"))))))
+IsCommand name = (name ≡ Some (codes "create")) ⊎ ((name ≡ Some (codes "load")) ⊎ ((name ≡ Some (codes "ask")) ⊎ ((name ≡ Some (codes "serve")) ⊎ ((name ≡ Some (codes "check")) ⊎ ((name ≡ Some (codes "info")) ⊎ ((name ≡ Some (codes "dump")) ⊎ ((name ≡ Some (codes "peers")) ⊎ (name ≡ Some (codes "diff")))))))))
 
 -- the command that is named asks for this, by its arguments
 abbrev pub AsksFor : Option (List ℕ × List Row) → Invocation → Type 0
@@ -18,6 +18,9 @@ AsksFor named (Ask q) = (rows : List Row) × (named ≡ Some (codes "ask", rows)
 AsksFor named (Serve s) = (rows : List Row) × (named ≡ Some (codes "serve", rows)) × IsServing rows s
 AsksFor named (Check c) = (rows : List Row) × (named ≡ Some (codes "check", rows)) × IsChecking rows c
 AsksFor named (Info e) = (rows : List Row) × (named ≡ Some (codes "info", rows)) × IsExamining rows e
+AsksFor named (Dump d) = (rows : List Row) × (named ≡ Some (codes "dump", rows)) × IsDumping rows d
+AsksFor named (Peers l) = (rows : List Row) × (named ≡ Some (codes "peers", rows)) × IsListing rows l
+AsksFor named (Diff c) = (rows : List Row) × (named ≡ Some (codes "diff", rows)) × IsComparing rows c
 
 -- `load` is named, and the text of its mark is that of no mark
 abbrev pub NamesNoMark : Option (List ℕ × List Row) → Type 0

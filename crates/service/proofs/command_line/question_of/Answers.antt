@@ -13,6 +13,8 @@ returns c = record {
   found = record {
     folder = c.word_of-folder.ensures.word;
     wait = c.number_of-wait.ensures.number;
+    all = c.is_there-all.ensures.there;
+    human = c.is_there-human.ensures.there;
     line = c.in_ok-line.ensures.spaced
         ∙ ap spaced (ap texts c.unwrap_or-words.ensures ∙ unwrapped texts c.get_strs.result _
         ∙ ap (λ (o : Option (List (List ℕ))). unwrap_or o []) (c.get_strs.ensures ∙ raw_values-rows (found_of c.args.matches.now) (codes "WORD")));

@@ -27,7 +27,7 @@ not_cut e = absurd cc
 
 pub returns-in-Ok-None : goal.returns-in-Ok-None
 returns-in-Ok-None g c = record {
-  ended = λ h carried. let fed = rw c.in-Ok-None.field-0-is at (c.in-Ok-None.ensures.fed h carried) in (fed.0, fed.1, Well, c.as_told.ensures.told, fed.2, record { outside = λ e. absurd (not_well e); inside = λ none. c.in-Ok-None.ensures.sound (λ e. absurd cc) }, fed.3);
+  ended = λ h carried. let fed = rw c.in-Ok-None.field-0-is at (c.in-Ok-None.ensures.fed h carried) in (fed.0, fed.1, Well, c.as_told.ensures.told, fed.2, fed.3, record { outside = λ e. absurd (not_well e); inside = λ none. c.in-Ok-None.ensures.sound (λ e. absurd cc) });
   most = c.in-Ok-None.ensures.most;
   outside = λ e. ⊎_elim (λ failed. inr failed) (λ same. absurd (not_well same)) (c.as_told.ensures.outside e);
   sound = λ none. c.in-Ok-None.ensures.sound (λ e. absurd cc);
@@ -35,7 +35,7 @@ returns-in-Ok-None g c = record {
 
 pub returns-in-Ok-Some : goal.returns-in-Ok-Some
 returns-in-Ok-Some g c = record {
-  ended = λ h carried. let fed = rw c.in-Ok-Some.field-0-is at (c.in-Ok-Some.ensures.fed h carried) in (fed.0, fed.1, Cut, c.as_told-in-Ok-Some.ensures.told, (_, fed.2), record { outside = λ e. absurd (not_cut e); inside = λ none. c.in-Ok-Some.ensures.sound (λ e. absurd cc) }, fed.3);
+  ended = λ h carried. let fed = rw c.in-Ok-Some.field-0-is at (c.in-Ok-Some.ensures.fed h carried) in (fed.0, fed.1, Cut, c.as_told-in-Ok-Some.ensures.told, fed.2, (_, fed.3), record { outside = λ e. absurd (not_cut e); inside = λ none. c.in-Ok-Some.ensures.sound (λ e. absurd cc) });
   most = c.in-Ok-Some.ensures.most;
   outside = λ e. ⊎_elim (λ failed. inr failed) (λ same. absurd (not_cut same)) (c.as_told-in-Ok-Some.ensures.outside e);
   sound = λ none. c.in-Ok-Some.ensures.sound (λ e. absurd cc);
@@ -49,12 +49,12 @@ returns-in-Err g c = record {
         up.1,
         Refused c.in-Err.why,
         c.as_told-in-Err.ensures.told,
-        given_up_told c.args.how.rule c.args.how.collector c.args.dropping.now (limits_for c.args.how (g.A.RouteArchive.most c.args.archive.now)) h up.0 (g.A.RouteArchive.carries c.take_in.new.archive) _ _ _ c.in-Err.why up.2 c.tell_stop.ensures.told,
+        0,
+        given_up_told c.args.how.rule c.args.how.collector c.args.dropping.now (limits_for c.args.how (g.A.RouteArchive.most c.args.archive.now)) h up.0 _ (g.A.RouteArchive.carries c.take_in.new.archive) _ _ _ c.in-Err.why up.2 c.tell_stop.ensures.told c.in-Err.ensures.uncounted,
         record {
           outside = λ e. ⊎_elim (λ failed. inl failed) (λ failed. inr (c.tell_stop.ensures.told.stays failed).0) (c.in-Err.ensures.outside (ap Err (same_stop c.in-Err.why e)));
           inside = λ none. c.in-Err.ensures.sound (λ e. none (ap (λ (t : FeedStop). Refused t) (err_is c.in-Err.why e)));
         },
-        tt,
       );
   most = c.in-Err.ensures.most;
   outside = λ e.

@@ -3,7 +3,7 @@ use Rattle.std.proofs.lemmas.Result.{err_from_is_err_and}
 use Rattle.service.specs.Turns.{turns_for}
 use Rattle.service.specs.Feeds.{limits_for}
 use Rattle.service.proofs.GivingUp.{stops_last}
-use Rattle.service.proofs.Streams.{reads_none, all_fed, all_summed}
+use Rattle.service.proofs.Streams.{reads_none, all_fed}
 use Rattle.service.specs.declared.limits.BatchLimits.{BatchLimits}
 use Rattle.service.proofs.intake.take_in.Goals as goal
 
@@ -16,15 +16,13 @@ returns g c = record {
       let limit : BatchLimits = limits_for c.args.how (g.A.RouteArchive.most c.args.archive.now) in
       let was = c.args.out.now in
       let begun = reads_none rule k dropped limit h c.new-framer.result c.new-feeding.result (g.A.RouteArchive.carries c.args.archive.now) was c.new-framer.ensures.empty (c.new-feeding.ensures.begins h was carried) in
-      let read = c.in_ok-take_stream.ensures.read rule k dropped limit h [] was begun in (
-        read.0,
-        read.1,
-        all_fed rule k dropped limit h read.0 c.take_stream.new.framer c.cut_of-cut.result c.take_stream.new.self c.offer_rest.new.self (g.A.RouteArchive.carries c.take_stream.new.archive) (g.A.RouteArchive.carries c.offer_rest.new.archive) was _ _ _
-            read.2 c.cut_of-cut.ensures.cut c.offer_rest.ensures.same (λ turns same d. c.in_ok-offer_rest.ensures.done k h turns was same d) c.tell_end.ensures.told,
-        all_summed rule k dropped limit h read.0 c.take_stream.new.framer c.cut_of-cut.result c.take_stream.new.self c.offer_rest.new.self (g.A.RouteArchive.carries c.take_stream.new.archive) (g.A.RouteArchive.carries c.offer_rest.new.archive) was _ _ _
-            read.2 c.cut_of-cut.ensures.cut c.offer_rest.ensures.same (λ turns same d. c.in_ok-offer_rest.ensures.done k h turns was same d) c.tell_end.ensures.told,
-      );
+      let read = c.in_ok-take_stream.ensures.read rule k dropped limit h [] was begun in
+      let fed =
+      all_fed rule k dropped c.left_out.result limit h read.0 c.take_stream.new.framer c.cut_of-cut.result c.take_stream.new.self c.offer_rest.new.self (g.A.RouteArchive.carries c.take_stream.new.archive) (g.A.RouteArchive.carries c.offer_rest.new.archive) was _ _ _
+      read.2 c.cut_of-cut.ensures.cut c.offer_rest.ensures.same (λ turns same d. c.in_ok-offer_rest.ensures.done k h turns was same d) c.tell_end.ensures.told c.left_out.ensures in
+      (read.0, read.1, fed.0, fed.1);
   given_up = λ h carried. tt;
+  uncounted = tt;
   most = c.in_ok-offer_rest.ensures.most ∙ c.in_ok-take_stream.ensures.most;
   outside = λ e. absurd cc;
   sound = λ none. c.in_ok-take_stream.ensures.sound (λ e. absurd cc);

@@ -3,8 +3,7 @@ use Rattle.std.proofs.lemmas.List.{length-map, length-set, map-set, nil_from_len
 use Rattle.std.proofs.Math.Seq.{map-set_same}
 use Rattle.std.proofs.lemmas.Bool.{eqb-true, eqb-false}
 use Rattle.service.specs.FeedTexts.{intake_in}
-use Rattle.service.specs.FileLoads.{IsLoadedTo, with_mark_at}
-use Rattle.service.specs.Outputs.{InputState}
+use Rattle.service.specs.FileLoads.{FileState, IsLoadedTo, with_mark_at}
 use Rattle.service.specs.Resuming.{dropped_where}
 use Rattle.service.specs.declared.status.Status.TheVariants as statuses
 use Rattle.service.proofs.Files.{IsAt, at_first, at_next, done_next, ended_at, file_at, marked_by, next_file, no_files, none_after, none_loaded}
@@ -17,7 +16,7 @@ loop-place-init g c = record {
   reads = refl;
   most = refl;
   stands = λ h carried.
-      subst (λ (n : ℕ). IsAt c.args.how (g.A.RouteArchive.most c.args.archive.now) (dropped_where c.args.how.resume (intake_in h.intakes c.args.how.feed.collector)) n h (map (λ f. f.input) c.args.files.now) (map (λ f. f.input) c.args.files.now) 0 (g.A.RouteArchive.carries c.args.archive.now) c.args.out.now c.args.out.now c.args.err.now c.args.err.now)
+      subst (λ (n : ℕ). IsAt c.args.how (g.A.RouteArchive.most c.args.archive.now) (dropped_where c.args.how.resume (intake_in h.intakes c.args.how.feed.collector)) n h (map (λ f. record { input = f.input; report = f.report }) c.args.files.now) (map (λ f. record { input = f.input; report = f.report }) c.args.files.now) 0 (g.A.RouteArchive.carries c.args.archive.now) c.args.out.now c.args.out.now c.args.err.now c.args.err.now)
       (sym (c.dropped_where-dropping.ensures.dropped h carried)) (at_first _ _ _ h _ _ _ _ carried);
 }
 
@@ -25,18 +24,18 @@ pub returns-then-not-goes_on-clause-ended : goal.returns-then-not-goes_on-clause
 returns-then-not-goes_on-clause-ended g c = λ h carried.
     let inv = c.loop-place.invariant in
     let k = c.loop-place.place in
-    let files : List InputState = map (λ f. f.input) c.args.files.now in
+    let files : List FileState = map (λ f. record { input = f.input; report = f.report }) c.args.files.now in
     let a = inv.stands h carried in
-    let counted : length files ≡ length c.args.files.now = length-map c.args.files.now (λ f. f.input) in
+    let counted : length files ≡ length c.args.files.now = length-map c.args.files.now (λ f. record { input = f.input; report = f.report }) in
     let test = c.loop-place-test.true in
     let lt : k < length files = omega (arith, test, counted) in
-    let there = next_file _ _ _ _ h files _ k _ _ _ _ _ _ _ a lt (file_at (λ f. f.input) c.loop-place.files k c.index-files-place.result) in
-    let marked = marked_by (nat_eq (k + 1) (length c.args.files.now)) c.args.how c.with_mark_if.result k files c.with_mark_if.ensures.last c.with_mark_if.ensures.other
+    let there = next_file _ _ _ _ h files _ k _ _ _ _ _ _ _ a lt (file_at (λ f. record { input = f.input; report = f.report }) c.loop-place.files k c.index-files-place.result) in
+    let marked = marked_by (nat_eq (k + 1) (length c.args.files.now)) c.args.how c.with_mark_if.result k files (record { input = c.load_next-status.new.file.input; report = c.load_next-status.new.file.report }) c.with_mark_if.ensures.last c.with_mark_if.ensures.other
     (λ e. eqb-true (k + 1) (length c.args.files.now) e ∙ sym counted) (λ e. let other = eqb-false (k + 1) (length c.args.files.now) e in omega (arith, other, counted, test)) in
     let last : c.load_next-status.result ≡ statuses.Done → drop (k + 1) files ≡ [] = λ done. none_after k files (eqb-true (k + 1) (length c.args.files.now) (c.goes_on.ensures.ends c.if-not-goes_on.true done) ∙ sym counted) in
     inr
-    (subst (λ (t : List InputState). IsLoadedTo c.args.how (g.A.RouteArchive.most c.args.archive.now) (dropped_where c.args.how.resume (intake_in h.intakes c.args.how.feed.collector)) h files t c.load_next-status.result (g.A.RouteArchive.carries c.load_next-status.new.archive) c.args.out.now c.load_next-status.new.out c.args.err.now c.load_next-status.new.err)
-    (sym (map-set (λ f. f.input) c.loop-place.files k c.load_next-status.new.file))
+    (subst (λ (t : List FileState). IsLoadedTo c.args.how (g.A.RouteArchive.most c.args.archive.now) (dropped_where c.args.how.resume (intake_in h.intakes c.args.how.feed.collector)) h files t c.load_next-status.result (g.A.RouteArchive.carries c.load_next-status.new.archive) c.args.out.now c.load_next-status.new.out c.args.err.now c.load_next-status.new.err)
+    (sym (map-set (λ f. record { input = f.input; report = f.report }) c.loop-place.files k c.load_next-status.new.file))
     (ended_at c.args.how c.with_mark_if.result _ _ _ _ _ h files _ k _ _ c.load_next-status.result _ _ _ _ _ _ _ _ a there marked inv.most last (c.load_next-status.ensures.ended a.next a.carried)))
 
 pub returns-then-not-goes_on-clause-sound : goal.returns-then-not-goes_on-clause-sound
@@ -47,8 +46,8 @@ pub loop-place-preserved : goal.loop-place-preserved
 loop-place-preserved g c =
     let inv = c.loop-place.invariant in
     let k = c.loop-place.place in
-    let files : List InputState = map (λ f. f.input) c.args.files.now in
-    let counted : length files ≡ length c.args.files.now = length-map c.args.files.now (λ f. f.input) in
+    let files : List FileState = map (λ f. record { input = f.input; report = f.report }) c.args.files.now in
+    let counted : length files ≡ length c.args.files.now = length-map c.args.files.now (λ f. record { input = f.input; report = f.report }) in
     let test = c.loop-place-test.true in
     let on = c.goes_on.ensures.on c.if-not-goes_on.false in
     let other : k + 1 ≢ length c.args.files.now = eqb-false (k + 1) (length c.args.files.now) on.0 in
@@ -61,18 +60,18 @@ loop-place-preserved g c =
       stands = λ h carried.
           let a = inv.stands h carried in
           let lt : k < length files = omega (arith, test, counted) in
-          let there = next_file _ _ _ _ h files _ k _ _ _ _ _ _ _ a lt (file_at (λ f. f.input) c.loop-place.files k c.index-files-place.result) in
+          let there = next_file _ _ _ _ h files _ k _ _ _ _ _ _ _ a lt (file_at (λ f. record { input = f.input; report = f.report }) c.loop-place.files k c.index-files-place.result) in
           let e = c.load_next-status.ensures.ended a.next a.carried in
-          subst (λ (t : List InputState). IsAt c.args.how (g.A.RouteArchive.most c.args.archive.now) (dropped_where c.args.how.resume (intake_in h.intakes c.args.how.feed.collector)) c.load_next-status.new.dropping h files t (k + 1) (g.A.RouteArchive.carries c.load_next-status.new.archive) c.args.out.now c.load_next-status.new.out c.args.err.now c.load_next-status.new.err)
-          (sym (map-set (λ f. f.input) c.loop-place.files k c.load_next-status.new.file))
-          (at_next c.args.how _ _ _ _ h files _ k _ _ _ _ _ _ _ _ _ _ a lt there (e.0, e.1, done_next c.load_next-status.result c.args.how c.with_mark_if.result _ _ _ _ _ _ _ _ _ _ _ _ _ (c.with_mark_if.ensures.other on.0) inv.most done e.2));
+          subst (λ (t : List FileState). IsAt c.args.how (g.A.RouteArchive.most c.args.archive.now) (dropped_where c.args.how.resume (intake_in h.intakes c.args.how.feed.collector)) c.load_next-status.new.dropping h files t (k + 1) (g.A.RouteArchive.carries c.load_next-status.new.archive) c.args.out.now c.load_next-status.new.out c.args.err.now c.load_next-status.new.err)
+          (sym (map-set (λ f. record { input = f.input; report = f.report }) c.loop-place.files k c.load_next-status.new.file))
+          (at_next c.args.how _ _ _ _ h files _ k _ _ _ _ _ _ _ _ _ _ a lt there (e.0, e.1, done_next c.load_next-status.result c.args.how c.with_mark_if.result _ _ _ _ _ _ _ _ _ _ _ _ _ _ (c.with_mark_if.ensures.other on.0) inv.most done e.2));
     }
 
 pub returns-clause-ended : goal.returns-clause-ended
 returns-clause-ended g c = λ h carried.
     let inv = c.loop-place.invariant in
-    let files : List InputState = map (λ f. f.input) c.args.files.now in
-    let counted : length files ≡ length c.args.files.now = length-map c.args.files.now (λ f. f.input) in
+    let files : List FileState = map (λ f. record { input = f.input; report = f.report }) c.args.files.now in
+    let counted : length files ≡ length c.args.files.now = length-map c.args.files.now (λ f. record { input = f.input; report = f.report }) in
     let ended = c.loop-place-test.false in
     let empty = no_files (length c.args.files.now) c.loop-place.place inv.goes (omega (arith, ended)) in
     let none : files ≡ [] = nil_from_length files (counted ∙ empty) in

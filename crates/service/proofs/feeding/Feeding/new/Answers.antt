@@ -7,5 +7,5 @@ pub returns : goal.returns
 returns g c = record {
   begins = λ h was carried.
       behind_none c.args.how.rule c.args.how.collector c.args.dropping (limits_for c.args.how (g.A.RouteArchive.most c.args.archive.now)) h (g.A.RouteArchive.carries c.args.archive.now) _ was refl
-      (λ k. record { records = c.args.how.limit; octets = c.batch_limit.ensures.most k }) refl c.new.ensures.collector c.new.ensures.none c.new-2.ensures.items refl refl refl c.batch_limit.ensures.one c.batch_limit.ensures.few carried;
+      (λ k. record { records = c.args.how.limit; octets = c.batch_limit.ensures.most k }) refl c.new.ensures.collector c.new.ensures.none c.new.ensures.left_out c.new-2.ensures.items refl refl refl c.batch_limit.ensures.one c.batch_limit.ensures.few carried;
 }

@@ -1,0 +1,125 @@
+//! Request lines, answered to their end, or for a person.
+
+ghost use Rattle.route_meaning.specs.History.{History};
+
+use crate::ending::{of_memory, refusal_of};
+use crate::events::{write_events, write_history};
+use crate::form::Form;
+use crate::lines::RowWriter;
+use crate::pages::{events_page, rows_page};
+use crate::rows::write_table;
+use archive_calls::{AskError, RouteArchive};
+use interleaving_core::Query;
+use route_meaning::{EventsQuestion, RowsQuestion};
+use service::{
+    Output, Request, Status, ask, read_request, told, write_ending, write_events_ending,
+    write_refusal,
+};
+use std::alloc::Global;
+use std::io::Write;
+
+/// What stands on standard error where an answer for a person has an end that isn't that of all.
+const MORE: &str = "rha: 256 lines shown, and more follow; --all prints all\n";
+
+/// The first rows for a person, and whether more follow.
+fn first_rows<A: RouteArchive>(
+    alloc: Global,
+    archive: &mut A,
+    question: RowsQuestion,
+    text: &mut String,
+) -> Result<bool, AskError>
+    ensures kept { (h : History) → A.carries archive.old h → A.carries archive.new h }
+{
+    let writer = of_memory(RowWriter::new(alloc, Form::Human, question.moment))?;
+    let answer = rows_page(archive, question)?;
+    of_memory(writer.write_all(alloc, text, &answer.rows))?;
+    of_memory(write_ending(text, &answer))?;
+    Ok(answer.more)
+}
+
+/// The first events for a person, and whether more follow.
+fn first_events<A: RouteArchive>(
+    alloc: Global,
+    archive: &mut A,
+    question: EventsQuestion,
+    text: &mut String,
+) -> Result<bool, AskError>
+    ensures kept { (h : History) → A.carries archive.old h → A.carries archive.new h }
+{
+    let skip = question.skip;
+    let answer = events_page(archive, question)?;
+    of_memory(write_events(alloc, text, Form::Human, &answer.events))?;
+    of_memory(write_events_ending(text, skip, &answer))?;
+    Ok(answer.more)
+}
+
+/// Answers a question for a person: its first rows or events.
+fn answer_first<A: RouteArchive, W: Write, E: Write>(
+    alloc: Global,
+    archive: &mut A,
+    query: Query,
+    out: &mut Output<W>,
+    err: &mut Output<E>,
+) -> Status
+    ensures kept { (h : History) → A.carries archive.old h → A.carries archive.new h }
+{
+    let mut text = String::new(alloc);
+    let answered = match query {
+        Query::Rows(question) => first_rows(alloc, archive, question, &mut text),
+        Query::Events(question) => first_events(alloc, archive, question, &mut text),
+    };
+    match answered {
+        Ok(more) => {
+            out.text(text.as_str());
+            if more {
+                err.text(MORE);
+            }
+            told(alloc, Status::Done, out, err)
+        }
+        Err(why) => {
+            write_refusal(out, &refusal_of(why));
+            told(alloc, Status::Refused, out, err)
+        }
+    }
+}
+
+/// Answers a question with all its rows or events.
+fn answer_all<A: RouteArchive, W: Write, E: Write>(
+    alloc: Global,
+    archive: &mut A,
+    form: Form,
+    query: Query,
+    out: &mut Output<W>,
+    err: &mut Output<E>,
+) -> Status
+    ensures kept { (h : History) → A.carries archive.old h → A.carries archive.new h }
+{
+    match query {
+        Query::Rows(question) => write_table(alloc, archive, form, question, out, err),
+        Query::Events(question) => write_history(alloc, archive, form, question, out, err),
+    }
+}
+
+/// Answers a request line with all its rows or events and one end, if `all` is wanted, and with dates and communities as texts if it is for
+/// a person. Other lines than questions are answered as [`ask`] does.
+pub(crate) fn ask_for<A: RouteArchive, W: Write, E: Write>(
+    alloc: Global,
+    archive: &mut A,
+    line: &str,
+    all: bool,
+    is_human: bool,
+    out: &mut Output<W>,
+    err: &mut Output<E>,
+) -> Status
+    ensures kept { (h : History) → A.carries archive.old h → A.carries archive.new h }
+{
+    let form = if is_human { Form::Human } else { Form::Lines };
+    let Ok(Request::Question(query)) = read_request(alloc, line) else {
+        return ask(alloc, archive, line, out, err);
+    };
+    if all {
+        answer_all(alloc, archive, form, query, out, err)
+    } else {
+        answer_first(alloc, archive, query, out, err)
+    }
+}

@@ -1,0 +1,89 @@
+//! What the program does of the commands that read whole tables, once the archive is open. The exit status of the program is that of the
+//! command, and what is buffered is written out before.
+
+ghost use Rattle.route_meaning.specs.History.{History};
+
+use crate::asking::ask_for;
+use crate::comparing::write_differences;
+use crate::counting::write_peers;
+use crate::reading::{Comparison, Table, moment_of};
+use crate::rows::write_table;
+use archive_calls::RouteArchive;
+use route_meaning::RowsQuestion;
+use route_model::Moment;
+use service::{Output, Question, ask_line, finish};
+use std::alloc::Global;
+use std::io::Write;
+
+/// Answers the line that the command line asks: as an answer has it, or to its end, or for a person.
+pub fn ask<A: RouteArchive, W: Write, E: Write>(
+    alloc: Global,
+    archive: &mut A,
+    asked: &Question<'_>,
+    out: &mut Output<W>,
+    err: &mut Output<E>,
+) -> u8
+    ensures kept { (h : History) → A.carries archive.old h → A.carries archive.new h }
+{
+    if !asked.all && !asked.human {
+        return ask_line(alloc, archive, asked, out, err);
+    }
+    let line = asked.line.as_str();
+    let ended = ask_for(alloc, archive, line, asked.all, asked.human, out, err);
+    finish(alloc, ended, out, err)
+}
+
+/// Writes a table.
+pub fn dump<A: RouteArchive, W: Write, E: Write>(
+    alloc: Global,
+    archive: &mut A,
+    table: &Table,
+    out: &mut Output<W>,
+    err: &mut Output<E>,
+) -> u8
+    ensures kept { (h : History) → A.carries archive.old h → A.carries archive.new h }
+{
+    let question = RowsQuestion {
+        moment: moment_of(archive, table.at),
+        select: table.select,
+        after: None,
+    };
+    let ended = write_table(alloc, archive, table.form, question, out, err);
+    finish(alloc, ended, out, err)
+}
+
+/// Counts the routes of each peer at a moment, or at the last that is settled.
+pub fn peers<A: RouteArchive, W: Write, E: Write>(
+    alloc: Global,
+    archive: &mut A,
+    at: Option<Moment>,
+    out: &mut Output<W>,
+    err: &mut Output<E>,
+) -> u8
+    ensures kept { (h : History) → A.carries archive.old h → A.carries archive.new h }
+{
+    let moment = moment_of(archive, at);
+    let ended = write_peers(alloc, archive, moment, out, err);
+    finish(alloc, ended, out, err)
+}
+
+/// The exit status of a comparison where something was refused or not all was written, as that of diff(1).
+pub const TROUBLE: u8 = 2;
+
+/// Compares the tables of two moments. The exit status is that of diff(1): 0 where nothing differs, 1 where something does, and [`TROUBLE`]
+/// where something was refused or not all could be written.
+pub fn diff<A: RouteArchive, W: Write, E: Write>(
+    alloc: Global,
+    archive: &mut A,
+    asked: &Comparison,
+    out: &mut Output<W>,
+    err: &mut Output<E>,
+) -> u8
+    ensures kept { (h : History) → A.carries archive.old h → A.carries archive.new h }
+{
+    let (count, ended) = write_differences(alloc, archive, asked, out, err);
+    if finish(alloc, ended, out, err) != 0 {
+        return TROUBLE;
+    }
+    if count == 0 { 0 } else { 1 }
+}
