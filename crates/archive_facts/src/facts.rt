@@ -32,8 +32,9 @@ pub struct Lane {
 pub struct Facts {
     pub version: &'static str,
     pub settled: u64,
-    /// How many changes are applied, and the time of the last of them.
+    /// How many changes are applied, and the times of the first and the last of them, in seconds since 1970.
     pub changes: u64,
+    pub first: Option<u64>,
     pub last: u64,
     pub pages: Use,
     pub blocks: Use,
@@ -50,16 +51,18 @@ impl Facts {
         Some(text)
     }
 
-    /// What the head of an archive of these sizes says, and what is settled.
+    /// What the head of an archive of these sizes says, what is settled, and the time of the first change, if there is one.
     pub fn of(
         alloc: Global,
         version: &'static str,
         sizes: Sizes,
         head: &Head,
         settled: Mark,
+        first: Option<u64>,
         open: u64,
     ) -> Result<Facts, AllocError>
         ensures settled { IfOk result (λ facts. facts.settled ≡ settled) }
+        ensures first { IfOk result (λ facts. facts.first ≡ first) }
         ensures changes { IfOk result (λ facts. facts.changes ≡ head.now.applied) }
         ensures pages { IfOk result (λ facts. facts.pages ≡ record { used = head.now.fresh; of = sizes.pages }) }
         ensures blocks { IfOk result (λ facts. facts.blocks ≡ record { used = head.now.block; of = sizes.blocks }) }
@@ -84,6 +87,7 @@ impl Facts {
             version,
             settled: settled.seconds(),
             changes: head.applied,
+            first,
             last: head.last.seconds(),
             pages: Use {
                 used: head.fresh,

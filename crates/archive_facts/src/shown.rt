@@ -42,12 +42,11 @@ impl fmt::Display for Facts {
     fn fmt<W: fmt::Write>(&self, f: &mut fmt::Formatter<W>) -> fmt::Result {
         writeln!(f, "version           {}", self.version)?;
         writeln!(f, "settled           {}", Date(self.settled))?;
-        writeln!(
-            f,
-            "applied           {} changes, the last of {}",
-            self.changes,
-            Date(self.last)
-        )?;
+        writeln!(f, "applied           {} changes", self.changes)?;
+        if let Some(first) = self.first {
+            writeln!(f, "from              {}", Date(first))?;
+            writeln!(f, "to                {}", Date(self.last))?;
+        }
         writeln!(f, "pages             {} used", self.pages)?;
         writeln!(f, "blocks            {} used", self.blocks)?;
         writeln!(f, "slots             {} open", self.slots)?;
