@@ -5,6 +5,7 @@ ghost use Rattle.route_meaning.specs.History.{History};
 use crate::ending::{of_memory, refusal_of};
 use crate::events::{write_events, write_history};
 use crate::form::Form;
+use crate::headings::{Columns, write_heading};
 use crate::lines::RowWriter;
 use crate::pages::{events_page, rows_page};
 use crate::rows::write_table;
@@ -21,16 +22,34 @@ use std::io::Write;
 /// What stands on standard error where an answer for a person has an end that isn't that of all.
 const MORE: &str = "rha: 256 lines shown, and more follow; --all prints all\n";
 
+/// How much of an answer is wanted, and for whom.
+#[derive(Clone, Copy, Debug, PartialEq, Eq)]
+pub struct Manner {
+    /// All rows or events, and not the first 256.
+    pub all: bool,
+    /// Dates, and communities as texts.
+    pub human: bool,
+    /// Standard output is a terminal: what helps a person stands on standard error.
+    pub terminal: bool,
+}
+
+impl Manner {
+    fn form(self) -> Form {
+        if self.human { Form::Human } else { Form::Lines }
+    }
+}
+
 /// The first rows for a person, and whether more follow.
 fn first_rows<A: RouteArchive>(
     alloc: Global,
     archive: &mut A,
+    form: Form,
     question: RowsQuestion,
     text: &mut String,
 ) -> Result<bool, AskError>
     ensures kept { (h : History) → A.carries archive.old h → A.carries archive.new h }
 {
-    let writer = of_memory(RowWriter::new(alloc, Form::Human, question.moment))?;
+    let writer = of_memory(RowWriter::new(alloc, form, question.moment))?;
     let answer = rows_page(archive, question)?;
     of_memory(writer.write_all(alloc, text, &answer.rows))?;
     of_memory(write_ending(text, &answer))?;
@@ -41,6 +60,7 @@ fn first_rows<A: RouteArchive>(
 fn first_events<A: RouteArchive>(
     alloc: Global,
     archive: &mut A,
+    form: Form,
     question: EventsQuestion,
     text: &mut String,
 ) -> Result<bool, AskError>
@@ -48,7 +68,7 @@ fn first_events<A: RouteArchive>(
 {
     let skip = question.skip;
     let answer = events_page(archive, question)?;
-    of_memory(write_events(alloc, text, Form::Human, &answer.events))?;
+    of_memory(write_events(alloc, text, form, &answer.events))?;
     of_memory(write_events_ending(text, skip, &answer))?;
     Ok(answer.more)
 }
@@ -57,6 +77,7 @@ fn first_events<A: RouteArchive>(
 fn answer_first<A: RouteArchive, W: Write, E: Write>(
     alloc: Global,
     archive: &mut A,
+    form: Form,
     query: Query,
     out: &mut Output<W>,
     err: &mut Output<E>,
@@ -65,8 +86,8 @@ fn answer_first<A: RouteArchive, W: Write, E: Write>(
 {
     let mut text = String::new(alloc);
     let answered = match query {
-        Query::Rows(question) => first_rows(alloc, archive, question, &mut text),
-        Query::Events(question) => first_events(alloc, archive, question, &mut text),
+        Query::Rows(question) => first_rows(alloc, archive, form, question, &mut text),
+        Query::Events(question) => first_events(alloc, archive, form, question, &mut text),
     };
     match answered {
         Ok(more) => {
@@ -100,26 +121,36 @@ fn answer_all<A: RouteArchive, W: Write, E: Write>(
     }
 }
 
-/// Answers a request line with all its rows or events and one end, if `all` is wanted, and with dates and communities as texts if it is for
-/// a person. Other lines than questions are answered as [`ask`] does.
+/// The columns of an answer.
+fn columns_of(query: &Query) -> Columns {
+    match query {
+        Query::Rows(_) => Columns::Rows,
+        Query::Events(_) => Columns::Events,
+    }
+}
+
+/// Answers a question in a manner that [`ask`] doesn't know: with all its rows or events and one end, or for a person. Other lines are
+/// answered as `ask` does.
 pub(crate) fn ask_for<A: RouteArchive, W: Write, E: Write>(
     alloc: Global,
     archive: &mut A,
     line: &str,
-    all: bool,
-    is_human: bool,
+    manner: Manner,
     out: &mut Output<W>,
     err: &mut Output<E>,
 ) -> Status
     ensures kept { (h : History) → A.carries archive.old h → A.carries archive.new h }
 {
-    let form = if is_human { Form::Human } else { Form::Lines };
+    let form = manner.form();
     let Ok(Request::Question(query)) = read_request(alloc, line) else {
         return ask(alloc, archive, line, out, err);
     };
-    if all {
+    if manner.terminal {
+        write_heading(columns_of(&query), form, err);
+    }
+    if manner.all {
         answer_all(alloc, archive, form, query, out, err)
     } else {
-        answer_first(alloc, archive, query, out, err)
+        answer_first(alloc, archive, form, query, out, err)
     }
 }

@@ -21,11 +21,15 @@ pub(crate) fn write_date(out: &mut String, moment: Moment) -> Result<(), AllocEr
     }
 }
 
-/// Writes the attributes that aren't communities, each after a space.
+/// Writes the attributes that aren't communities, with spaces between.
 fn write_unknown(out: &mut String, route: &Route, others: &str) -> Result<(), AllocError> {
+    let mut is_first = true;
     for (attribute, text) in route.others.as_slice().iter().zip(others.split(' ')) {
         if !is_known(attribute) {
-            out.push(' ')?;
+            if !is_first {
+                out.push(' ')?;
+            }
+            is_first = false;
             out.push_str(text)?;
         }
     }

@@ -14,6 +14,7 @@ mod ending;
 mod events;
 mod fields;
 mod form;
+mod headings;
 mod human;
 mod json;
 mod known;

@@ -3,9 +3,11 @@
 
 ghost use Rattle.route_meaning.specs.History.{History};
 
-use crate::asking::ask_for;
+use crate::asking::{Manner, ask_for};
 use crate::comparing::write_differences;
 use crate::counting::write_peers;
+use crate::form::Form;
+use crate::headings::{Columns, write_heading};
 use crate::reading::{Comparison, Table, moment_of};
 use crate::rows::write_table;
 use archive_calls::RouteArchive;
@@ -15,29 +17,37 @@ use service::{Output, Question, ask_line, finish};
 use std::alloc::Global;
 use std::io::Write;
 
-/// Answers the line that the command line asks: as an answer has it, or to its end, or for a person.
+/// Answers the line that the command line asks: as an answer has it, or to its end, or for a person. `terminal` is whether standard
+/// output is one: names of columns and what else helps a person stand on standard error then.
 pub fn ask<A: RouteArchive, W: Write, E: Write>(
     alloc: Global,
     archive: &mut A,
     asked: &Question<'_>,
+    terminal: bool,
     out: &mut Output<W>,
     err: &mut Output<E>,
 ) -> u8
     ensures kept { (h : History) → A.carries archive.old h → A.carries archive.new h }
 {
-    if !asked.all && !asked.human {
+    let manner = Manner {
+        all: asked.all,
+        human: asked.human,
+        terminal,
+    };
+    if !manner.all && !manner.human && !manner.terminal {
         return ask_line(alloc, archive, asked, out, err);
     }
     let line = asked.line.as_str();
-    let ended = ask_for(alloc, archive, line, asked.all, asked.human, out, err);
+    let ended = ask_for(alloc, archive, line, manner, out, err);
     finish(alloc, ended, out, err)
 }
 
-/// Writes a table.
+/// Writes a table, on a terminal under the names of its columns.
 pub fn dump<A: RouteArchive, W: Write, E: Write>(
     alloc: Global,
     archive: &mut A,
     table: &Table,
+    terminal: bool,
     out: &mut Output<W>,
     err: &mut Output<E>,
 ) -> u8
@@ -48,21 +58,28 @@ pub fn dump<A: RouteArchive, W: Write, E: Write>(
         select: table.select,
         after: None,
     };
+    if terminal {
+        write_heading(Columns::Rows, table.form, err);
+    }
     let ended = write_table(alloc, archive, table.form, question, out, err);
     finish(alloc, ended, out, err)
 }
 
-/// Counts the routes of each peer at a moment, or at the last that is settled.
+/// Counts the routes of each peer at a moment, or at the last that is settled, on a terminal under the names of the columns.
 pub fn peers<A: RouteArchive, W: Write, E: Write>(
     alloc: Global,
     archive: &mut A,
     at: Option<Moment>,
+    terminal: bool,
     out: &mut Output<W>,
     err: &mut Output<E>,
 ) -> u8
     ensures kept { (h : History) → A.carries archive.old h → A.carries archive.new h }
 {
     let moment = moment_of(archive, at);
+    if terminal {
+        write_heading(Columns::Peers, Form::Lines, err);
+    }
     let ended = write_peers(alloc, archive, moment, out, err);
     finish(alloc, ended, out, err)
 }
@@ -71,16 +88,20 @@ pub fn peers<A: RouteArchive, W: Write, E: Write>(
 pub const TROUBLE: u8 = 2;
 
 /// Compares the tables of two moments. The exit status is that of diff(1): 0 where nothing differs, 1 where something does, and [`TROUBLE`]
-/// where something was refused or not all could be written.
+/// where something was refused or not all could be written. On a terminal the names of the columns stand before.
 pub fn diff<A: RouteArchive, W: Write, E: Write>(
     alloc: Global,
     archive: &mut A,
     asked: &Comparison,
+    terminal: bool,
     out: &mut Output<W>,
     err: &mut Output<E>,
 ) -> u8
     ensures kept { (h : History) → A.carries archive.old h → A.carries archive.new h }
 {
+    if terminal {
+        write_heading(Columns::Differences, Form::Lines, err);
+    }
     let (count, ended) = write_differences(alloc, archive, asked, out, err);
     if finish(alloc, ended, out, err) != 0 {
         return TROUBLE;
