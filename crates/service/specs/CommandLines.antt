@@ -122,8 +122,16 @@ abbrev pub question : App
 question = with_rule (with_rule (with_rule (of_archive (codes "ask")) (flag_rule (codes "all"))) (flag_rule (codes "human"))) words_rule
 
 -- serve DIR [--wait SECONDS] --listen ADDRESS:PORT --workers N
+abbrev pub serving_by_workers : App
+serving_by_workers = with_rule (with_rule (of_archive (codes "serve")) listen_rule) (number_rule (codes "workers") 1 16)
+
+-- serve DIR --listen ADDRESS:PORT --workers N [--read-only] [--close-on-http]
+abbrev pub serving_on_port : App
+serving_on_port = with_rule (with_rule serving_by_workers (flag_rule (codes "read-only"))) (flag_rule (codes "close-on-http"))
+
+-- serve DIR --listen ADDRESS:PORT --workers N [--read-only] [--close-on-http] [--admin PATH] [--idle SECONDS]
 abbrev pub serving : App
-serving = with_rule (with_rule (of_archive (codes "serve")) listen_rule) (number_rule (codes "workers") 1 16)
+serving = with_rule (with_rule serving_on_port (text_rule (codes "admin"))) (number_or_rule (codes "idle") 1 1000000 (codes "300"))
 
 -- check DIR [--wait SECONDS]
 abbrev pub checking : App
@@ -177,6 +185,11 @@ pub record IsThere (text : Option (List ℕ)) (there : Bool) : Type 0 where
   pub left_out : text ≡ Some (codes "false") → there ≡ false
   pub unknown : text ≡ None → there ≡ false
 
+-- Whether an option is there, or another one that implies it.
+pub record IsThereOr (implied : Bool) (text : Option (List ℕ)) (there : Bool) : Type 0 where
+  pub meant : implied ≡ true → there ≡ true
+  pub itself : implied ≡ false → IsThere text there
+
 -- the text is that of a mark, and both may be missing
 abbrev pub IsMarkIf : Option (List ℕ) → Option ℕ → Type 0
 IsMarkIf None None = ⊤
@@ -227,6 +240,10 @@ pub record IsServing (rows : List Row) (s : Serving) : Type 0 where
   pub wait : IsNumber 0 1000000 (first_of (codes "wait") rows) s.wait
   pub listen : IsListenText (word_in (codes "listen") rows) s.listen
   pub workers : IsNumber 1 16 (first_of (codes "workers") rows) s.workers
+  pub read_only : IsThere (one_of (codes "read-only") rows) s.read_only
+  pub close_on_http : IsThereOr s.read_only (one_of (codes "close-on-http") rows) s.close_on_http
+  pub admin : option_map (λ t. t.now) s.admin ≡ first_of (codes "admin") rows
+  pub idle : IsNumber 1 1000000 (first_of (codes "idle") rows) s.idle
 
 -- what is read of the arguments of `check`
 pub record IsChecking (rows : List Row) (c : Checking) : Type 0 where

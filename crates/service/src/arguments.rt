@@ -4,7 +4,7 @@ ghost use Rattle.std.specs.Prelude.{◌≡◌, IfOk, false, codes};
 ghost use Rattle.clap.specs.Simple.{app_of};
 ghost use Rattle.clap.specs.Walk.{rule_of};
 ghost use Rattle.clap.specs.declared.builder.command.Command.TheViews.{out-Command};
-ghost use Rattle.service.specs.CommandLines.{listen_rule, files_rule, words_rule, word_rule, number_rule, number_or_rule, of_folder, of_archive, creation_of_rings, creation, loading_of_batches, loading_to_mark, loading, question, serving, checking, examining, flag_rule, text_rule, text_or_rule, peer_rule, of_moment, dumping, listing, comparing, bare_program, archive_program, program};
+ghost use Rattle.service.specs.CommandLines.{listen_rule, files_rule, words_rule, word_rule, number_rule, number_or_rule, of_folder, of_archive, creation_of_rings, creation, loading_of_batches, loading_to_mark, loading, question, serving_by_workers, serving_on_port, serving, checking, examining, flag_rule, text_rule, text_or_rule, peer_rule, of_moment, dumping, listing, comparing, bare_program, archive_program, program};
 
 use crate::help;
 use clap::builder::ValueParser;
@@ -34,6 +34,9 @@ pub(crate) const MAX_WAIT: u64 = 1_000_000;
 
 /// The most workers of a server.
 pub(crate) const MAX_WORKERS: u64 = 16;
+
+/// The most seconds that a connection may be told to stay idle.
+pub(crate) const MAX_IDLE: u64 = 1_000_000;
 
 /// The version of the program.
 pub const VERSION: &str = "0.3.0";
@@ -286,8 +289,8 @@ fn question<'a>(alloc: Global) -> Result<Command<'a>, AllocError>
 }
 
 /// `serve DIR [--wait SECONDS] --listen ADDRESS:PORT --workers N`
-fn serving<'a>(alloc: Global) -> Result<Command<'a>, AllocError>
-    ensures app { IfOk result (λ c. app_of c ≡ serving) }
+fn serving_by_workers<'a>(alloc: Global) -> Result<Command<'a>, AllocError>
+    ensures app { IfOk result (λ c. app_of c ≡ serving_by_workers) }
     ensures own { IfOk result (λ c. (out-Command c).has_globals ≡ false) }
 {
     let about = "Serves an archive on a socket, until a client asks it to stop";
@@ -295,6 +298,30 @@ fn serving<'a>(alloc: Global) -> Result<Command<'a>, AllocError>
     of_archive(alloc, "serve", about, help::SERVE)?
         .arg(listen(alloc))?
         .arg(number(alloc, "workers", "N", workers, 1, MAX_WORKERS))
+}
+
+/// `serve DIR --listen ADDRESS:PORT --workers N [--read-only] [--close-on-http]`
+fn serving_on_port<'a>(alloc: Global) -> Result<Command<'a>, AllocError>
+    ensures app { IfOk result (λ c. app_of c ≡ serving_on_port) }
+    ensures own { IfOk result (λ c. (out-Command c).has_globals ≡ false) }
+{
+    let read_only = "Refuses feed, mark and stop there; implies --close-on-http";
+    let close = "Ends a connection after a request of HTTP";
+    serving_by_workers(alloc)?
+        .arg(flag(alloc, "read-only", read_only))?
+        .arg(flag(alloc, "close-on-http", close))
+}
+
+/// `serve DIR --listen ADDRESS:PORT --workers N [--read-only] [--close-on-http] [--admin PATH] [--idle SECONDS]`
+fn serving<'a>(alloc: Global) -> Result<Command<'a>, AllocError>
+    ensures app { IfOk result (λ c. app_of c ≡ serving) }
+    ensures own { IfOk result (λ c. (out-Command c).has_globals ≡ false) }
+{
+    let admin = "A Unix socket to make, which takes every line, also feed, mark and stop";
+    let idle = "After how many seconds an idle connection is ended, 1 to 1000000";
+    serving_on_port(alloc)?
+        .arg(text(alloc, "admin", "PATH", admin))?
+        .arg(number_or(alloc, "idle", "SECONDS", idle, 1, MAX_IDLE, "300"))
 }
 
 /// `check DIR [--wait SECONDS]`

@@ -8,13 +8,13 @@ ghost use Rattle.clap.specs.Simple.{subcommand_rows_of};
 ghost use Rattle.clap.specs.Walk.{Row, rows_of, first_of, one_of, all_of};
 ghost use Rattle.clap.specs.Values.{kind_of};
 ghost use Rattle.clap.specs.declared.error.Error.{Error};
-ghost use Rattle.service.specs.CommandLines.{program, spaced, word_in, IsMarkIf, IsNoMark, IsNumber, IsThere, IsCreation, IsLoading, IsQuestion, IsServing, IsChecking, IsExamining, IsDumping, IsListing, IsComparing, IsInvocation, HasBadMark, HasBadListen};
+ghost use Rattle.service.specs.CommandLines.{program, spaced, word_in, IsMarkIf, IsNoMark, IsNumber, IsThere, IsThereOr, IsCreation, IsLoading, IsQuestion, IsServing, IsChecking, IsExamining, IsDumping, IsListing, IsComparing, IsInvocation, HasBadMark, HasBadListen};
 ghost use Rattle.service.specs.Listening.{IsNoListenText};
 ghost use Rattle.service.specs.inner.Naming.{AsksFor, IsCommand, NamesNoListen, NamesNoMark};
 
 use crate::arguments::{
-    LAST_COLLECTOR, MAX_BATCH, MAX_COLLECTORS, MAX_RING, MAX_SIZE, MAX_WAIT, MAX_WORKERS, MIN_RING,
-    program,
+    LAST_COLLECTOR, MAX_BATCH, MAX_COLLECTORS, MAX_IDLE, MAX_RING, MAX_SIZE, MAX_WAIT, MAX_WORKERS,
+    MIN_RING, program,
 };
 use crate::invocation::{
     Checking, CommandError, Comparing, Creation, Dumping, Examining, Invocation, Listing, Loading,
@@ -90,6 +90,16 @@ fn is_there(matches: &ArgMatches<'_>, name: &str) -> bool
     matches.get_flag(name)
 }
 
+/// Whether an option without a text of its own is there, or implied by another one.
+fn is_there_or(matches: &ArgMatches<'_>, is_implied: bool, name: &str) -> bool
+    ensures there { IsThereOr is_implied (one_of name.now (rows_of (found_of matches.now))) result }
+{
+    if is_implied {
+        return true;
+    }
+    is_there(matches, name)
+}
+
 /// What the arguments of `create` say.
 fn creation_of<'a>(matches: &ArgMatches<'a>) -> Creation<'a>
     ensures found { IsCreation (rows_of (found_of matches.now)) result }
@@ -160,11 +170,16 @@ fn serving_of<'a>(matches: &ArgMatches<'a>) -> Result<Serving<'a>, BadText>
     ensures none { OnErr result (IsNoListenText (word_in (codes "listen") (rows_of (found_of matches.now)))) }
 {
     let listen = read_listen(word_of(matches, "listen"))?;
+    let read_only = is_there(matches, "read-only");
     Ok(Serving {
         folder: word_of(matches, "DIR"),
         listen,
         workers: number_of(matches, "workers", 1, MAX_WORKERS) as u8,
         wait: number_of(matches, "wait", 0, MAX_WAIT),
+        read_only,
+        close_on_http: is_there_or(matches, read_only, "close-on-http"),
+        admin: text_of(matches, "admin"),
+        idle: number_of(matches, "idle", 1, MAX_IDLE) as u32,
     })
 }
 
@@ -299,7 +314,7 @@ fn usage(error: clap::Error) -> CommandError
 /// - `rha create DIR [--collectors N] [--ring P] [--pages N] [--blocks N]`
 /// - `rha load DIR --collector C [--batch N] [--mark M] [--resume] [--lose-entries] [--strict] FILE..`
 /// - `rha ask DIR [--all] [--human] WORD..`
-/// - `rha serve DIR --listen ADDRESS:PORT --workers N`
+/// - `rha serve DIR --listen ADDRESS:PORT --workers N [--read-only] [--close-on-http] [--admin PATH] [--idle SECONDS]`
 /// - `rha check DIR`
 /// - `rha info DIR [--json]`
 /// - `rha dump DIR [--at T] [--peer COLLECTOR ADDRESS AS] [--format FORM]`
@@ -309,7 +324,7 @@ fn usage(error: clap::Error) -> CommandError
 /// Each but `create` takes `--wait SECONDS` too, 0 to 1000000; in `ask` it stands before the first WORD. Without it 0 counts.
 ///
 /// `clap` reads the words, and each number within its limits; an option that isn't there has its default: 1 collector, a ring of 4096
-/// pages, 10000000 pages, 100000000 blocks, batches of 1000. Then M is read as a mark, ADDRESS as an IPv4 address and PORT as a number
+/// pages, 10000000 pages, 100000000 blocks, batches of 1000, 300 idle seconds. `--read-only` implies `--close-on-http`. Then M is read as a mark, ADDRESS as an IPv4 address and PORT as a number
 /// of at most 65535, and the WORDs are joined to a line with one space between two; the texts of `dump`, `peers` and `diff` aren't read
 /// here. What stands after the first WORD is a WORD too, also
 /// where it looks like an option.

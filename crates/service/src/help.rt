@@ -8,7 +8,7 @@ pub(crate) const PROGRAM: &str = "Example:
   rha check a
   rha info a
   rha dump a --format bgpdump
-  rha serve a --listen 127.0.0.1:17900 --workers 4
+  rha serve a --listen 127.0.0.1:17900 --workers 4 --read-only --admin a.sock
 
 `rha COMMAND --help` has the limits of a command, its defaults and its exit statuses.
 
@@ -99,13 +99,20 @@ A connection sends request lines (`rha ask --help`), of which `watermark` and `d
   stop                             ok, and the server ends once all connections have ended
 A line ends in LF, and has 4096 octets at most with it.
 
-Example:
-  rha serve a --listen 127.0.0.1:17900 --workers 4
-  (echo feed 0 1000; cat updates.mrt) | nc -N 127.0.0.1 17900
+There are no users: who can connect can send all of these. With --read-only the port refuses mark, feed and stop
+(X|28|BadRequest), and the operator sends them to the socket PATH, which is its owner's alone (mode 0600) and has
+workers of its own. With --close-on-http a line that ends in HTTP/1.0 or HTTP/1.1 ends its connection, so that a
+page in a browser can't send lines by HTTP. --idle ends a connection that sends nothing, or doesn't read, for so
+long, since it keeps a worker.
 
-Exit status: 0 where a client stopped the server; 1 where the archive can't be opened, the address can't be
-listened on or something else was refused (told on standard error as `rha: NUMBER NAME`); 2 where the command
-line isn't accepted.";
+Examples:
+  rha serve a --listen 127.0.0.1:17900 --workers 4 --read-only --admin a.sock
+  (echo feed 0 1000; cat updates.mrt) | nc -NU a.sock
+  echo at 2024-01-01T00:10:00Z all | nc -N 127.0.0.1 17900
+
+Exit status: 0 where a client stopped the server; 1 where the archive can't be opened, the address or PATH
+can't be listened on or something else was refused (told on standard error as `rha: NUMBER NAME`); 2 where the
+command line isn't accepted.";
 
 /// Of `check`.
 pub(crate) const CHECK: &str =

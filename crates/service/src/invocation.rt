@@ -114,6 +114,14 @@ pub struct Serving<'a> {
     pub listen: SocketAddrV4,
     /// How many connections are served at once, 1 to 16.
     pub workers: u8,
+    /// Whether lines that change something are refused there: `feed`, `mark` and `stop`.
+    pub read_only: bool,
+    /// Whether a connection is ended there after a request of HTTP, as where it is read-only.
+    pub close_on_http: bool,
+    /// The path of a Unix socket that takes every line.
+    pub admin: Option<&'a str>,
+    /// After how many seconds a connection is ended that sends nothing, or doesn't read, 1 to 1000000.
+    pub idle: u32,
 }
 
 /// What `check` is given.

@@ -12,4 +12,8 @@ returns-clause-found c = record {
   listen = subst (λ (t : List ℕ). IsListenText t c.in_ok-listen.listen) c.word_of.ensures.word c.in_ok-listen.ensures.found;
   workers = c.number_of.ensures.number;
   wait = c.number_of-2.ensures.number;
+  read_only = c.is_there-read_only.ensures.there;
+  close_on_http = c.is_there_or.ensures.there;
+  admin = c.text_of.ensures.text;
+  idle = c.number_of-3.ensures.number;
 }
