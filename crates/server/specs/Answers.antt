@@ -13,9 +13,10 @@ use Rattle.server.specs.declared.answering.Next.{Next}
 use Rattle.server.specs.declared.answering.Next.TheVariants as nexts
 use Rattle.server.specs.declared.command.Command.{Command}
 use Rattle.server.specs.declared.command.Command.TheVariants as commands
-use Rattle.server.specs.Commands.{IsCommandLine}
+use Rattle.server.specs.declared.port.Port.{Port}
 use Rattle.server.specs.Lines.{ok_line}
 use Rattle.server.specs.Marks.{MarksAndApplies, IsUnmarked}
+use Rattle.server.specs.Ports.{AsksOn, ClosesAfter}
 use Rattle.server.specs.Replies.{IsReplyOver, IsRefusedOver, IsNotBelow, SeesBy}
 
 -- The line of why there is no reply is written, over what the pass sees then. No question is refused as above the watermark that is below
@@ -56,21 +57,35 @@ pub record TellsUnmarked (promised : Type 0) (collector mark : ℕ) (v w : View)
 abbrev pub AnswersMark : Type 0 → ℕ → ℕ → View → View → OutputState → OutputState → Type 0
 AnswersMark promised collector mark v w was now = TellsMarked promised collector mark v w was now ⊎ TellsUnmarked promised collector mark v w was now
 
--- the line asks nothing, and that is written, or there was no memory to read it
-pub record TellsNone (line : List ℕ) (v w : View) (was now : OutputState) : Type 0 where
+-- the line asks nothing on the port, and that is written, or there was no memory to read it
+pub record TellsNone (port : Port) (line : List ℕ) (v w : View) (was now : OutputState) : Type 0 where
   pub same : w ≡ v
-  pub tells : (((command : Command) → IsCommandLine line command → ⊥) × Tells was now (refusal_line refusals.BadRequest)) ⊎ Tells was now (refusal_line refusals.OutOfMemory)
+  pub tells : (((command : Command) → AsksOn port line command → ⊥) × Tells was now (refusal_line refusals.BadRequest)) ⊎ Tells was now (refusal_line refusals.OutOfMemory)
+
+-- the line is one of HTTP, it is refused as no request, and nothing changes
+pub record RefusesHttp (port : Port) (line : List ℕ) (v w : View) (was now : OutputState) : Type 0 where
+  pub closes : ClosesAfter port line
+  pub same : w ≡ v
+  pub tells : Tells was now (refusal_line refusals.BadRequest)
 
 -- How a line is answered after which the next one is read: a request, a mark, or a line that asks nothing.
-abbrev pub AnswersOne : Type 0 → ℕ → List ℕ → View → View → OutputState → OutputState → Type 0
-AnswersOne promised collectors line v w was now =
-    ((request : Request) × IsCommandLine line (commands.Request request) × AnswersRequest promised collectors request v w was now)
-    ⊎ (((collector : ℕ) × (mark : ℕ) × IsCommandLine line (commands.Mark collector mark) × AnswersMark promised collector mark v w was now)
-    ⊎ TellsNone line v w was now)
+abbrev pub AnswersOne : Type 0 → Port → ℕ → List ℕ → View → View → OutputState → OutputState → Type 0
+AnswersOne promised port collectors line v w was now =
+    ((request : Request) × AsksOn port line (commands.Request request) × AnswersRequest promised collectors request v w was now)
+    ⊎ (((collector : ℕ) × (mark : ℕ) × AsksOn port line (commands.Mark collector mark) × AnswersMark promised collector mark v w was now)
+    ⊎ TellsNone port line v w was now)
 
--- How a line is answered, by what the connection does then: nothing is written before a feed, and `ok` before an end.
-abbrev pub AnswersLine : Type 0 → ℕ → List ℕ → Next → View → View → OutputState → OutputState → Type 0
-AnswersLine promised collectors line nexts.Line v w was now = AnswersOne promised collectors line v w was now
-AnswersLine promised collectors line (nexts.Feed collector limit) v w was now = IsCommandLine line (commands.Feed collector limit) × (w ≡ v) × (now ≡ was)
-AnswersLine promised collectors line nexts.Quit v w was now = IsCommandLine line commands.Quit × (w ≡ v) × Tells was now ok_line
-AnswersLine promised collectors line nexts.Stop v w was now = IsCommandLine line commands.Stop × (w ≡ v) × Tells was now ok_line
+-- How a line is answered that doesn't end the connection as one of HTTP, by what the connection does then: nothing is written before a feed, and
+-- `ok` before an end.
+abbrev pub AnswersRead : Type 0 → Port → ℕ → List ℕ → Next → View → View → OutputState → OutputState → Type 0
+AnswersRead promised port collectors line nexts.Line v w was now = AnswersOne promised port collectors line v w was now
+AnswersRead promised port collectors line (nexts.Feed collector limit) v w was now = AsksOn port line (commands.Feed collector limit) × (w ≡ v) × (now ≡ was)
+AnswersRead promised port collectors line nexts.Quit v w was now = AsksOn port line commands.Quit × (w ≡ v) × Tells was now ok_line
+AnswersRead promised port collectors line nexts.Stop v w was now = AsksOn port line commands.Stop × (w ≡ v) × Tells was now ok_line
+AnswersRead promised port collectors line nexts.Close v w was now = ⊥
+
+-- How a line is answered on a port: one of HTTP is refused, and the connection ends, if the port closes HTTP; any other by what it asks there.
+abbrev pub AnswersLine : Type 0 → Port → ℕ → List ℕ → Next → View → View → OutputState → OutputState → Type 0
+AnswersLine promised port collectors line next v w was now =
+    ((next ≡ nexts.Close) × RefusesHttp port line v w was now)
+    ⊎ ((ClosesAfter port line → ⊥) × AnswersRead promised port collectors line next v w was now)

@@ -1,4 +1,5 @@
 pub mod Commands
+pub mod Ports
 pub mod CommandLaws
 pub mod Troubles
 pub mod Replies
@@ -6,4 +7,5 @@ pub mod Marks
 pub mod Lines
 pub mod Answers
 pub mod Connections
+pub mod PortLaws
 pub mod inner

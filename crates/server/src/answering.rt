@@ -1,15 +1,18 @@
 //! The lines of a connection, answered by a shared archive.
 
-ghost use Rattle.std.specs.Prelude.{◌≡◌, IsSome};
+ghost use Rattle.std.specs.Prelude.{◌≡◌, Err, IfOk, IsSome};
 ghost use Rattle.board.specs.Past.{Among, GoesOnAs};
 ghost use Rattle.service.specs.AnswerLines.{number_line};
 ghost use Rattle.service.specs.Outputs.{Tells};
 ghost use Rattle.service.specs.Refusals.{refusal_line};
-ghost use Rattle.server.specs.Answers.{AnswersLine, AnswersMark, AnswersRequest};
+ghost use Rattle.server.specs.Answers.{AnswersLine, AnswersMark, AnswersRead, AnswersRequest};
 ghost use Rattle.server.specs.Lines.{of_request};
+ghost use Rattle.server.specs.Ports.{AsksOn};
+ghost use Rattle.server.specs.declared.command.Command.{Command};
 
 use crate::command::{Command, read_command};
 use crate::marking::set_mark;
+use crate::port::Port;
 use crate::replying::{load_watermark, reply_to};
 use board::{Named, Pass};
 use query_threads::{Gate, OnDisk, Reader, Shared, Store};
@@ -31,6 +34,8 @@ pub enum Next {
     Quit,
     /// It ends, and the server with it.
     Stop,
+    /// It ends, since the line is one of HTTP.
+    Close,
 }
 
 /// The refusal of a line that isn't read.
@@ -104,12 +109,27 @@ fn answer_mark<A: Store, N: Named + OnDisk<A::Disk>, G: Gate + Drop, W: Write>(
     }
 }
 
-/// Answers a line of a connection, which is without its end, and returns what the connection does then. A line that is none is refused,
-/// and the next one is read.
-pub fn answer_line<A: Store, N: Named + OnDisk<A::Disk>, G: Gate + Drop, W: Write>(
+/// What a line asks on a port.
+fn read_on(alloc: Global, port: Port, line: &[u8]) -> Result<Command, RequestError>
+    ensures found { IfOk result (AsksOn port line.now) }
+    ensures none { result ≡ Err RequestError.BadRequest → (command : Command) → AsksOn port line.now command → ⊥ }
+{
+    let command = match read_command(alloc, line) {
+        Ok(command) => command,
+        Err(why) => return Err(why),
+    };
+    if port.takes(&command) {
+        return Ok(command);
+    }
+    Err(RequestError::BadRequest)
+}
+
+/// Answers a line that doesn't end the connection as one of HTTP.
+fn answer_read<A: Store, N: Named + OnDisk<A::Disk>, G: Gate + Drop, W: Write>(
     rt: &impl Wait,
     alloc: Global,
     shared: &Shared<A, N, G>,
+    port: Port,
     pass: &mut Pass<N>,
     reader: &mut Reader<A, N>,
     numbers: &AtomicU64,
@@ -118,9 +138,9 @@ pub fn answer_line<A: Store, N: Named + OnDisk<A::Disk>, G: Gate + Drop, W: Writ
 ) -> Next
     requires reader { IsSome N.disk → Among reader.old pass.old.past.blocks }
     ensures reader { IsSome N.disk → Among reader.new pass.new.past.blocks }
-    ensures answers { AnswersLine (IsSome N.disk) shared.now.collectors line.now result pass.old pass.new out.old out.new }
+    ensures answers { AnswersRead (IsSome N.disk) port shared.now.collectors line.now result pass.old pass.new out.old out.new }
 {
-    let command = match read_command(alloc, line) {
+    let command = match read_on(alloc, port, line) {
         Ok(command) => command,
         Err(why) => {
             write_refusal(out, &refusal_of(why));
@@ -146,4 +166,28 @@ pub fn answer_line<A: Store, N: Named + OnDisk<A::Disk>, G: Gate + Drop, W: Writ
             Next::Stop
         }
     }
+}
+
+/// Answers a line of a connection to a port, the line being without its end, and returns what the connection does then. A line that asks nothing
+/// there is refused, and the next one is read; but one of HTTP ends the connection if the port closes HTTP.
+pub fn answer_line<A: Store, N: Named + OnDisk<A::Disk>, G: Gate + Drop, W: Write>(
+    rt: &impl Wait,
+    alloc: Global,
+    shared: &Shared<A, N, G>,
+    port: Port,
+    pass: &mut Pass<N>,
+    reader: &mut Reader<A, N>,
+    numbers: &AtomicU64,
+    line: &[u8],
+    out: &mut Output<W>,
+) -> Next
+    requires reader { IsSome N.disk → Among reader.old pass.old.past.blocks }
+    ensures reader { IsSome N.disk → Among reader.new pass.new.past.blocks }
+    ensures answers { AnswersLine (IsSome N.disk) port shared.now.collectors line.now result pass.old pass.new out.old out.new }
+{
+    if port.closes_after(line) {
+        write_refusal(out, &Refusal::BadRequest);
+        return Next::Close;
+    }
+    answer_read(rt, alloc, shared, port, pass, reader, numbers, line, out)
 }

@@ -7,6 +7,7 @@ ghost use Rattle.server.specs.Connections.{EndsSo};
 ghost use Rattle.server.specs.inner.Ends.{TellsEnd};
 
 use crate::answering::{Next, answer_line};
+use crate::port::Port;
 use board::{Named, Pass};
 use line_reader::{Found, LineError, LineReader};
 use query_threads::{Gate, OnDisk, Reader, Shared, Store};
@@ -19,7 +20,7 @@ use std::sync::atomic::AtomicU64;
 /// Why the lines of a connection end.
 #[derive(Clone, Copy, Debug, PartialEq, Eq)]
 pub enum Ending {
-    /// The client ended it, or a line of it was too long.
+    /// The client ended it, or a line of it was too long, or one of HTTP.
     Done,
     /// The octets after the last line are records of the collector of this number, to be taken in in batches of at most this many
     /// admissions.
@@ -50,6 +51,7 @@ pub fn serve_lines<A: Store, N: Named + OnDisk<A::Disk>, G: Gate + Drop, R: Read
     rt: &impl Wait,
     alloc: Global,
     shared: &Shared<A, N, G>,
+    port: Port,
     pass: &mut Pass<N>,
     reader: &mut Reader<A, N>,
     numbers: &AtomicU64,
@@ -58,7 +60,7 @@ pub fn serve_lines<A: Store, N: Named + OnDisk<A::Disk>, G: Gate + Drop, R: Read
 ) -> Ending
     requires reader { IsSome N.disk → Among reader.old pass.old.past.blocks }
     ensures reader { IsSome N.disk → Among reader.new pass.new.past.blocks }
-    ensures ended { (gave : List ℕ) × Consumes (R.remaining lines.old.reader) (R.remaining lines.new.reader) gave × EndsSo (IsSome N.disk) shared.now.collectors result (lines.old.behind ++ gave) pass.old out.old lines.new.behind pass.new out.new (R.remaining lines.new.reader) }
+    ensures ended { (gave : List ℕ) × Consumes (R.remaining lines.old.reader) (R.remaining lines.new.reader) gave × EndsSo (IsSome N.disk) port shared.now.collectors result (lines.old.behind ++ gave) pass.old out.old lines.new.behind pass.new out.new (R.remaining lines.new.reader) }
 {
     for _ in rt.forever() {
         match lines.read_line() {
@@ -66,7 +68,17 @@ pub fn serve_lines<A: Store, N: Named + OnDisk<A::Disk>, G: Gate + Drop, R: Read
             Ok(Found::End) => return Ending::Done,
             Err(why) => return end_of(why, out),
         }
-        let next = answer_line(rt, alloc, shared, pass, reader, numbers, lines.line(), out);
+        let next = answer_line(
+            rt,
+            alloc,
+            shared,
+            port,
+            pass,
+            reader,
+            numbers,
+            lines.line(),
+            out,
+        );
         out.flush();
         if out.has_failed() {
             return Ending::Failed;
@@ -75,6 +87,7 @@ pub fn serve_lines<A: Store, N: Named + OnDisk<A::Disk>, G: Gate + Drop, R: Read
             Next::Line => {}
             Next::Feed(collector, limit) => return Ending::Feed(collector, limit),
             Next::Quit => return Ending::Done,
+            Next::Close => return Ending::Done,
             Next::Stop => return Ending::Stop,
         }
     }

@@ -6,6 +6,10 @@
 //! counts what others applied. What is promised of an archive is an argument of the relations (`promised`): lines are
 //! written in the same way over files, of which nothing is promised, so one theorem on a connection serves both.
 //!
+//! What a line asks depends on the port that it came over: a read-only one takes no line that changes the archive or
+//! ends the server, and one that closes HTTP ends a connection at a request line of HTTP, so that lines in what a web
+//! page makes a browser send are never read.
+//!
 //! A connection is a theorem on octets: those that came are lines, each answered before the next, and what follows
 //! them. So replies can be neither lost nor mixed up, wherever the stream was cut.
 #![tactic(auto)]
@@ -16,6 +20,8 @@ mod command_laws;
 mod command_words;
 mod connection;
 mod marking;
+mod port;
+mod port_laws;
 mod replying;
 mod troubles;
 
@@ -24,5 +30,7 @@ pub use command::{Command, read_command};
 pub use command_laws::lines_are_one_command;
 pub use connection::{Ending, serve_lines};
 pub use marking::{apply_all, set_mark};
+pub use port::Port;
+pub use port_laws::read_only_ports_change_nothing;
 pub use replying::reply_to;
 pub use troubles::trouble_of;

@@ -1,27 +1,8 @@
-use Rattle.std.proofs.Common.{◌≡◌, ◌⊎◌, ℕ, List, Result, Err, inl, inr, refl, subst}
-use Rattle.service.specs.Outputs.{OutputState, Tells}
-use Rattle.service.specs.Refusals.{refusal_line}
-use Rattle.service.specs.declared.refusal.Refusal.{Refusal}
-use Rattle.service.specs.declared.refusal.Refusal.TheVariants as refusals
-use Rattle.service.specs.declared.request.RequestError.{RequestError}
-use Rattle.service.specs.declared.request.RequestError.TheVariants as errors
-use Rattle.server.specs.declared.command.Command.{Command}
-use Rattle.server.specs.Commands.{IsCommandLine}
-use Rattle.server.specs.Lines.{of_request}
+use Rattle.std.proofs.Common.{◌∙◌, inl, inr, refl, sym, true≢false}
 use Rattle.server.proofs.answering.answer_line.Goals as goal
 
--- what is written about a line that isn't read
-refused : (line : List ℕ) (why : RequestError) (was now : OutputState) → (◌≡◌ {A = Result Command RequestError} (Err why) (Err errors.BadRequest) → (command : Command) → IsCommandLine line command → ⊥) → Tells was now (refusal_line (of_request why))
-    → (((command : Command) → IsCommandLine line command → ⊥) × Tells was now (refusal_line refusals.BadRequest)) ⊎ Tells was now (refusal_line refusals.OutOfMemory)
-refused line errors.BadRequest was now none told = inl (none refl, told)
-refused line errors.OutOfMemory was now none told = inr told
+pub returns-then-closes_after-clause-answers : goal.returns-then-closes_after-clause-answers
+returns-then-closes_after-clause-answers g c = inl (refl, record { closes = c.closes_after.ensures.closes.0 c.if-closes_after.true; same = refl; tells = c.write_refusal.ensures.line })
 
-pub returns-in-Err-clause-answers : goal.returns-in-Err-clause-answers
-returns-in-Err-clause-answers g c = inr (inr (record {
-  same = refl;
-  tells = refused c.args.line.now c.in-Err.why c.args.out.now c.write_refusal.new.out c.in-Err.ensures.none
-      (subst (λ (r : Refusal). Tells c.args.out.now c.write_refusal.new.out (refusal_line r)) c.refusal_of.ensures c.write_refusal.ensures.line);
-}))
-
-pub returns-in-Mark-clause-reader : goal.returns-in-Mark-clause-reader
-returns-in-Mark-clause-reader g c named n octets is = c.answer_mark.ensures.goes_on.blocks n octets (c.requires.reader named n octets is)
+pub returns-clause-answers : goal.returns-clause-answers
+returns-clause-answers g c = inr ((λ closes. true≢false (sym (c.closes_after.ensures.closes.1 closes) ∙ c.if-closes_after.false)), c.answer_read.ensures.answers)
