@@ -5,6 +5,7 @@ use Rattle.board.specs.Views.{View}
 use Rattle.server.specs.Connections.{EndsSo}
 use Rattle.server.specs.declared.connection.Ending.{Ending}
 use Rattle.server.specs.declared.connection.Ending.TheVariants as endings
+use Rattle.server.specs.declared.port.Port.{Port}
 use Rattle.service.specs.Feeds.{MayGive}
 use Rattle.service.specs.Outputs.{OutputState}
 use Rattle.service.specs.declared.faults.FeedStop.{FeedStop}
@@ -42,20 +43,20 @@ closing_behind ends.Cut failed = done_unless failed
 closing_behind (ends.Refused why) failed = closing_for why failed
 
 -- The connection sent these octets, whose lines were answered until they ended.
-pub record IsAnswered (promised : Type 0) (collectors : ℕ) (closing : Closing) (octets : List ℕ) (left : Option (List ℕ)) (v : View) (was : OutputState) (w : View) (now : OutputState) : Type 0 where
+pub record IsAnswered (promised : Type 0) (port : Port) (collectors : ℕ) (closing : Closing) (octets : List ℕ) (left : Option (List ℕ)) (v : View) (was : OutputState) (w : View) (now : OutputState) : Type 0 where
   pub ending : Ending
   pub rest : List ℕ
-  pub ended : EndsSo promised collectors ending octets v was rest w now left
+  pub ended : EndsSo promised port collectors ending octets v was rest w now left
   pub closes : EndsAs ending now.failed closing
 
 -- The connection sent these octets, of which the last line announced a feed; what followed was taken in as that.
-pub record IsFed (promised : Type 0) (collectors ring : ℕ) (closing : Closing) (octets : List ℕ) (left : Option (List ℕ)) (v : View) (was : OutputState) (w : View) (now : OutputState) : Type 0 where
+pub record IsFed (promised : Type 0) (port : Port) (collectors ring : ℕ) (closing : Closing) (octets : List ℕ) (left : Option (List ℕ)) (v : View) (was : OutputState) (w : View) (now : OutputState) : Type 0 where
   pub collector : ℕ
   pub limit : ℕ
   pub rest : List ℕ
   pub u : View
   pub then : OutputState
-  pub announced : EndsSo promised collectors (endings.Feed collector limit) octets v was rest u then left
+  pub announced : EndsSo promised port collectors (endings.Feed collector limit) octets v was rest u then left
   pub bytes : List ℕ
   pub given : MayGive (prepend_known rest left) bytes
   pub end : End
@@ -63,5 +64,5 @@ pub record IsFed (promised : Type 0) (collectors ring : ℕ) (closing : Closing)
   pub closes : closing ≡ closing_behind end now.failed
 
 -- how a connection was served that sent these octets, up to the end of its lines
-abbrev pub IsServed : Type 0 → ℕ → ℕ → Closing → List ℕ → Option (List ℕ) → View → OutputState → View → OutputState → Type 0
-IsServed promised collectors ring closing octets left v was w now = IsAnswered promised collectors closing octets left v was w now ⊎ IsFed promised collectors ring closing octets left v was w now
+abbrev pub IsServed : Type 0 → Port → ℕ → ℕ → Closing → List ℕ → Option (List ℕ) → View → OutputState → View → OutputState → Type 0
+IsServed promised port collectors ring closing octets left v was w now = IsAnswered promised port collectors closing octets left v was w now ⊎ IsFed promised port collectors ring closing octets left v was w now

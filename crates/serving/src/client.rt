@@ -12,7 +12,7 @@ ghost use Rattle.serving.specs.Clients.{IsServed, closing_behind, closing_for, d
 use board::{Named, Pass};
 use line_reader::LineReader;
 use query_threads::{Gate, OnDisk, Reader, Shared, Store};
-use server::{Ending, serve_lines};
+use server::{Ending, Port, serve_lines};
 use service::{End, FeedStop, Output};
 use shared_feed::feed;
 use std::alloc::Global;
@@ -83,11 +83,12 @@ fn take_feed<A: Store, N: Named + OnDisk<A::Disk>, G: Gate + Drop, R: Read, W: W
     closing_behind(end, out.has_failed())
 }
 
-/// Serves a connection to its end: its lines, one after another, and the feed that one of them announces, which ends it.
+/// Serves a connection to a port to its end: its lines, one after another, and the feed that one of them announces, which ends it.
 pub fn serve_client<A: Store, N: Named + OnDisk<A::Disk>, G: Gate + Drop, R: Read, W: Write>(
     rt: &impl Wait,
     alloc: Global,
     shared: &Shared<A, N, G>,
+    port: Port,
     pass: &mut Pass<N>,
     reader: &mut Reader<A, N>,
     numbers: &AtomicU64,
@@ -96,9 +97,9 @@ pub fn serve_client<A: Store, N: Named + OnDisk<A::Disk>, G: Gate + Drop, R: Rea
 ) -> Closing
     requires reader { IsSome N.disk → Among reader.old pass.old.past.blocks }
     ensures reader { IsSome N.disk → Among reader.new pass.new.past.blocks }
-    ensures served { (gave : List ℕ) × (left : Option (List ℕ)) × Consumes (R.remaining lines.old.reader) left gave × IsServed (IsSome N.disk) shared.now.collectors shared.now.ring result (lines.old.behind ++ gave) left pass.old out.old pass.new out.new }
+    ensures served { (gave : List ℕ) × (left : Option (List ℕ)) × Consumes (R.remaining lines.old.reader) left gave × IsServed (IsSome N.disk) port shared.now.collectors shared.now.ring result (lines.old.behind ++ gave) left pass.old out.old pass.new out.new }
 {
-    match serve_lines(rt, alloc, shared, pass, reader, numbers, lines, out) {
+    match serve_lines(rt, alloc, shared, port, pass, reader, numbers, lines, out) {
         Ending::Done => done_unless(out.has_failed()),
         Ending::Feed(collector, limit) => {
             take_feed(rt, alloc, shared, pass, collector, limit, lines, out)

@@ -1,15 +1,23 @@
-//! An archive that is served on a socket: one acceptor, workers that serve connections, one applier and one flusher.
+//! An archive that is served on sockets: acceptors, workers that serve connections, one applier and one flusher.
 //!
-//!     acceptor, the thread that calls   takes connections; 16 may wait for a worker
-//!     workers                           serve one connection each, to its end
+//!     acceptor, the thread that calls   takes connections; 900 may wait for a worker, and further ones are closed
+//!     workers                           serve one connection each, to its end, under what the port takes
+//!     acceptor of the admin socket      the same of its connections, which may do all
+//!     its workers                       one for each collector, and two more
 //!     applier                           applies what may be applied; opens the archive again after a failure
 //!     flusher                           writes pages home
 //!
 //! The acceptor begins last: the others are started before it in a scope. If one can't be made, those that were end,
-//! and `serve` returns `Threads` with no connection taken. Once all are made `ready` is called, by which the program
+//! and `serve` returns `Threads` with no connection served. Once all are made `ready` is called, by which the program
 //! prints `listening`. The acceptor waits for connections alone: to stop it, the worker that was asked to sets a flag
 //! and makes a last connection, which nobody serves. (A listener that doesn't block would look for connections again
-//! and again.)
+//! and again.) The admin socket, whose file may be gone by then, is shut down instead, which ends its acceptor's wait.
+//!
+//! The admin socket has workers of its own, so that a `stop` gets through whatever clients do on the other port: feeds
+//! of all collectors leave two of them.
+//!
+//! Each read and write of a connection waits a second and is made again, as often as a client may be idle, or once more
+//! after a stop. So no clock is needed, no client keeps a worker for good, and a stop isn't held up.
 //!
 //! Applier and flusher rest for 10 milliseconds if there is nothing to do: a thread that waits to be woken would have
 //! to be woken by each admission, under the lock. A connection is closed after what its client still sends (64 reads
@@ -25,9 +33,11 @@
 #![tactic(auto)]
 
 mod client;
+mod doors;
 mod house;
 mod jobs;
 mod keeping;
+mod link;
 mod outage;
 mod serving;
 mod socket;
@@ -35,4 +45,5 @@ mod stopping;
 mod warning;
 
 pub use client::{Closing, serve_client};
+pub use doors::Doors;
 pub use serving::{ServeError, serve};

@@ -5,24 +5,32 @@ ghost use Rattle.board.specs.Opened.{name_of};
 ghost use Rattle.board.specs.Past.{Past, GoesOnAs};
 ghost use Rattle.serving.specs.declared.serving.ServeError.TheVariants as serves;
 
+use crate::doors::{ADMIN, Doors};
 use crate::house::Signals;
 use crate::jobs::{Desk, Job, run_job};
 use crate::keeping::flush_all;
-use crate::stopping::take_connections;
+use crate::link::Link;
+use crate::stopping::{stop_taking, take_connections};
 use board::{Named, Opened, Pass};
 use crossbeam_channel::{Receiver, bounded};
 use log::Log;
 use query_threads::{Gate, OnDisk, Shared, Store, Trouble};
+use server::Port;
 use std::alloc::{AllocError, Global};
 use std::net::{Net, TcpListener, TcpStream};
+use std::os::unix::net::UnixListener;
 use std::sync::Wait;
 use std::thread;
 use std::thread::{Scope, Threads};
 use std::time::Clock;
 use thiserror::Error;
 
-/// How many connections wait for a worker, beside those that the system keeps.
-const QUEUE: usize = 16;
+/// How many connections of each kind wait for a worker; further ones are closed. A process has 1,024 descriptors by default, and the admin socket and files have
+/// to have some.
+const QUEUE: usize = 900;
+
+/// How many workers the admin socket has beside one for each collector.
+const SPARE: u8 = 2;
 
 /// Why a server ended otherwise than by `stop`, or not all was done at its end. What was acknowledged stays.
 #[derive(Clone, Copy, Debug, PartialEq, Eq, Error)]
@@ -46,20 +54,54 @@ impl From<AllocError> for ServeError {
     }
 }
 
-/// What the threads of a server with `workers` workers do, each with a pass of its own. Workers come last.
-fn jobs_of<'a, A: Store, N: Named + OnDisk<A::Disk>, G: Gate + Drop>(
-    alloc: Global,
+/// Adds workers who serve connections of this queue under a port, each with a pass of its own.
+fn add_workers<'a, A: Store, N: Named + OnDisk<A::Disk>, G: Gate + Drop>(
+    jobs: &mut Vec<Job<'a, N>>,
     shared: &Shared<A, N, G>,
     pass: &mut Pass<N>,
     signals: &'a Signals,
-    queue: &Receiver<TcpStream>,
+    queue: &Receiver<Link>,
+    port: Port,
+    workers: u8,
+) -> Result<(), AllocError> {
+    for _ in 0..workers {
+        jobs.push(Job::Work(queue.clone()?, port, shared.split(pass), signals.place()))?;
+    }
+    Ok(())
+}
+
+/// Adds who takes connections of the admin socket and serves them.
+fn add_admin<'a, A: Store, N: Named + OnDisk<A::Disk>, G: Gate + Drop>(
+    alloc: Global,
+    jobs: &mut Vec<Job<'a, N>>,
+    shared: &Shared<A, N, G>,
+    pass: &mut Pass<N>,
+    signals: &'a Signals,
+    listener: &'a UnixListener,
+) -> Result<(), AllocError> {
+    let (sender, receiver) = bounded(alloc, QUEUE)?;
+    let workers = shared.collectors().saturating_add(SPARE);
+    add_workers(jobs, shared, pass, signals, &receiver, ADMIN, workers)?;
+    jobs.push(Job::Admit(sender, listener))?;
+    Ok(())
+}
+
+/// What the threads of a server with `workers` workers do beside the calling one, which takes the connections of this queue. Who takes those of the
+/// admin socket comes last: a thread waits there for a connection, and no thread is started after one that can't be made.
+fn jobs_of<'a, A: Store, N: Named + OnDisk<A::Disk>, G: Gate + Drop, R, L>(
+    desk: &Desk<'a, R, L>,
+    shared: &Shared<A, N, G>,
+    pass: &mut Pass<N>,
+    queue: &Receiver<Link>,
     workers: u8,
 ) -> Result<Vec<Job<'a, N>>, AllocError> {
-    let mut jobs = Vec::new(alloc);
+    let mut jobs = Vec::new(desk.alloc);
     jobs.push(Job::Apply(shared.split(pass)))?;
     jobs.push(Job::Flush(shared.split(pass)))?;
-    for _ in 0..workers {
-        jobs.push(Job::Work(queue.clone()?, shared.split(pass), signals.place()))?;
+    let port = desk.doors.port;
+    add_workers(&mut jobs, shared, pass, desk.signals, queue, port, workers)?;
+    if let Some(listener) = desk.doors.admin {
+        add_admin(desk.alloc, &mut jobs, shared, pass, desk.signals, listener)?;
     }
     Ok(jobs)
 }
@@ -106,7 +148,7 @@ fn run_threads<
     requires { F.IsAlwaysCallable ready }
 {
     let (sender, receiver) = bounded(desk.alloc, QUEUE)?;
-    let jobs = jobs_of(desk.alloc, shared, pass, desk.signals, &receiver, workers)?;
+    let jobs = jobs_of(desk, shared, pass, &receiver, workers)?;
     drop(receiver);
     thread::scope(
         thread::scope_env(),
@@ -116,8 +158,10 @@ fn run_threads<
         {
             start_threads(scope, desk, shared, jobs)?;
             if ready() {
-                take_connections(desk.rt, desk.log, desk.listener, sender, desk.signals);
+                let listener = desk.doors.listener;
+                take_connections(desk.rt, desk.log, listener, sender, desk.signals);
             }
+            stop_taking(desk.rt, desk.doors, desk.signals);
             Ok(())
         },
     )
@@ -168,10 +212,11 @@ fn hand_back<A: Store, N: Named + OnDisk<A::Disk>, G: Gate + Drop>(
 
 /// Serves an archive on a socket, with `workers` workers, until a connection asks it to stop. The calling thread takes connections and
 /// hands them to the workers, each of which serves one to its end before it takes the next; one more thread applies changes, and one
-/// flushes pages. Once all of these are made, `ready` is called: connections are taken if it returns true. Where a thread can't be made
-/// it isn't called, and no connection is taken. A connection whose socket fails ends with a warning, `29 Outside`, of which there is no
-/// more than one a second. To stop, no connection is taken any more, those that are open are served to their end, what may be applied is
-/// applied, and all pages are written home. The archive is handed back.
+/// flushes pages. An admin socket has an acceptor and workers of its own. Once all of these are made, `ready` is called: connections are
+/// taken if it returns true. Where a thread can't be made it isn't called, and no connection is served. A connection is ended that sends
+/// nothing for `doors.idle` seconds, or takes nothing of its answers. One whose socket fails ends with a warning, `29 Outside`, of which
+/// there is no more than one a second. To stop, no connection is taken any more, those that are open are served until they end or send
+/// nothing for a second, what may be applied is applied, and all pages are written home. The archive is handed back.
 pub fn serve<
     A: Store + Send,
     N: Named + OnDisk<A::Disk> + Send + Sync,
@@ -185,7 +230,7 @@ pub fn serve<
     opened: Opened,
     archive: A,
     gate: G,
-    listener: &TcpListener,
+    doors: &Doors<'_>,
     workers: u8,
     log: &L,
     ready: F,
@@ -210,7 +255,7 @@ pub fn serve<
         rt,
         alloc,
         signals: &signals,
-        listener,
+        doors,
         log,
     };
     let ended = serve_shared(&desk, &shared, &mut pass, workers, ready);

@@ -1,10 +1,10 @@
 //! What a server warns of: sockets that fail.
 
+use crate::link::Peer;
 use crate::socket::Lapse;
 use jiff::Timestamp;
 use log::{Log, warn};
 use std::fmt;
-use std::net::SocketAddr;
 use std::sync::atomic::{AtomicU64, Ordering};
 use std::time::{Clock, Duration};
 
@@ -15,7 +15,7 @@ const PERIOD: u64 = 1_000;
 /// left out before it.
 #[derive(Drop)]
 struct Warning<'a> {
-    address: Option<SocketAddr>,
+    peer: Peer,
     lapse: &'a Lapse,
     moment: Moment,
     left_out: u64,
@@ -23,11 +23,7 @@ struct Warning<'a> {
 
 impl fmt::Display for Warning<'_> {
     fn fmt<W: fmt::Write>(&self, f: &mut fmt::Formatter<W>) -> fmt::Result {
-        match self.address {
-            Some(address) => write!(f, "{address}")?,
-            None => f.write_str("an unknown address")?,
-        }
-        write!(f, ": {}: {}", self.lapse.call, self.lapse.why)?;
+        write!(f, "{}: {}: {}", self.peer, self.lapse.call, self.lapse.why)?;
         write!(f, "{}", self.moment)?;
         if self.left_out > 0 {
             write!(f, ", {} more before", self.left_out)?;
@@ -105,14 +101,8 @@ impl Warnings {
         Some(self.left_out.swap(0, Ordering::SeqCst))
     }
 
-    /// Warns that the socket of this address failed, unless such a warning was written a moment ago. Without a clock each is written.
-    pub(crate) fn warn<R: Clock, L: Log>(
-        &self,
-        rt: &R,
-        log: &L,
-        address: Option<SocketAddr>,
-        lapse: &Lapse,
-    ) {
+    /// Warns that the socket of this peer failed, unless such a warning was written a moment ago. Without a clock each is written.
+    pub(crate) fn warn<R: Clock, L: Log>(&self, rt: &R, log: &L, peer: Peer, lapse: &Lapse) {
         let turn = match rt.monotonic() {
             Ok(now) => self.take_turn(milliseconds(now)),
             Err(_) => Some(0),
@@ -121,7 +111,7 @@ impl Warnings {
             return;
         };
         let warning = Warning {
-            address,
+            peer,
             lapse,
             moment: Moment::present(rt),
             left_out,

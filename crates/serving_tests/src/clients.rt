@@ -9,6 +9,7 @@ use crate::records::{EARLIER, FRONT, LONG_PREFIX, RIB, SKIPPED, TOO_LONG, UPDATE
 use board::{Named, Opened, Pass};
 use line_reader::LineReader;
 use query_threads::{NoGate, Reader, Shared, Unpromised};
+use server::Port;
 use service::Output;
 use serving::{Closing, serve_client};
 use shared_archive::MemStore;
@@ -32,6 +33,12 @@ struct Conversation {
     told: &'static str,
     closing: Closing,
 }
+
+/// What the connections may ask.
+const PORT: Port = Port {
+    read_only: false,
+    closes_http: true,
+};
 
 const CONVERSATIONS: [Conversation; 13] = [
     Conversation {
@@ -157,6 +164,7 @@ fn serve_sent<B: Named>(
         rt,
         alloc,
         stage,
+        PORT,
         &mut pass,
         &mut reader,
         &numbers,

@@ -8,7 +8,7 @@ use crate::made::{COLLECTORS, empty_store};
 use board::{Named, Opened, Pass};
 use line_reader::LineReader;
 use query_threads::{NoGate, Reader, Shared, Unpromised};
-use server::{Ending, serve_lines};
+use server::{Ending, Port, serve_lines};
 use service::Output;
 use shared_archive::MemStore;
 use std::alloc::Global;
@@ -18,50 +18,106 @@ use std::sync::atomic::AtomicU64;
 
 type Stage<B> = Shared<MemStore, Unpromised<B>, NoGate>;
 
-/// A connection: what it sends, what it receives, and how it ends.
+/// A connection: the port that it is served under, what it sends, what it receives, and how it ends.
 #[derive(Drop)]
 struct Conversation {
+    port: Port,
     sent: &'static [u8],
     told: &'static str,
     ending: Ending,
 }
 
+/// Takes all lines.
+const ALL: Port = Port {
+    read_only: false,
+    closes_http: false,
+};
+
+/// Takes no `feed`, `mark` or `stop`.
+const READ_ONLY: Port = Port {
+    read_only: true,
+    closes_http: false,
+};
+
+/// Ends connections of HTTP.
+const CLOSES_HTTP: Port = Port {
+    read_only: false,
+    closes_http: true,
+};
+
 /// Connections to one archive, one after another.
-const CONVERSATIONS: [Conversation; 7] = [
+const CONVERSATIONS: [Conversation; 12] = [
     Conversation {
+        port: ALL,
         sent: b"watermark\ndurable 0\nat 0 all\nquit\nwatermark\n",
         told: "S|0\nN|0\nX|24|AboveWatermark|0\nok\n",
         ending: Ending::Done,
     },
     Conversation {
+        port: ALL,
         sent: b"mark 0 1704067201\r\nat 1704067200 all\r\nat 1704067201 all\r\nwatermark\r\n",
         told: "S|1704067201\nE|0\nX|24|AboveWatermark|1704067201\nS|1704067201\n",
         ending: Ending::Done,
     },
     Conversation {
+        port: ALL,
         sent: b"mark 0 1704067200\nmark 1 5\ndurable 1\nmark 0 2024-01-01T00:00:02Z\n",
         told: "X|21|MarkBack\nX|22|NoCollector\nX|22|NoCollector\nS|1704067202\n",
         ending: Ending::Done,
     },
     Conversation {
+        port: ALL,
         sent: b"\nhello\nmark 0\n\xff\nat 1704067200 route 0 192.0.2.1 65001\ndurable 0",
         told: "X|28|BadRequest\nX|28|BadRequest\nX|28|BadRequest\nX|28|BadRequest\nX|28|BadRequest\n",
         ending: Ending::Done,
     },
     Conversation {
+        port: ALL,
         sent: b"durable 0\nfeed 0 7\nwatermark\n",
         told: "N|0\n",
         ending: Ending::Feed(0, 7),
     },
     Conversation {
+        port: ALL,
         sent: b"stop\nwatermark\n",
         told: "ok\n",
         ending: Ending::Stop,
     },
     Conversation {
+        port: ALL,
         sent: b"",
         told: "",
         ending: Ending::Done,
+    },
+    Conversation {
+        port: READ_ONLY,
+        sent: b"mark 0 1704067300\nfeed 0 7\nstop\nwatermark\ndurable 0\nquit\n",
+        told: "X|28|BadRequest\nX|28|BadRequest\nX|28|BadRequest\nS|1704067202\nN|0\nok\n",
+        ending: Ending::Done,
+    },
+    Conversation {
+        port: READ_ONLY,
+        sent: b"POST / HTTP/1.1\r\n\r\nmark 0 4294967296\nwatermark\n",
+        told: "X|28|BadRequest\nX|28|BadRequest\nX|28|BadRequest\nS|1704067202\n",
+        ending: Ending::Done,
+    },
+    Conversation {
+        port: CLOSES_HTTP,
+        sent: b"watermark\nPOST / HTTP/1.1\r\n\r\nmark 0 4294967296\nstop\n",
+        told: "S|1704067202\nX|28|BadRequest\n",
+        ending: Ending::Done,
+    },
+    Conversation {
+        port: CLOSES_HTTP,
+        sent: b"GET / HTTP/1.0\nstop\n",
+        told: "X|28|BadRequest\n",
+        ending: Ending::Done,
+    },
+    Conversation {
+        port: CLOSES_HTTP,
+        sent: b"GET / HTTP/1.1 \nHTTP/1.1\nGET /\nstop\n",
+        told: "X|28|BadRequest\nX|28|BadRequest\nX|28|BadRequest\nok\n",
+        ending: Ending::Stop,
     },
 ];
 
@@ -83,6 +139,7 @@ fn is_so<B: Named>(
         rt,
         alloc,
         stage,
+        it.port,
         &mut pass,
         &mut reader,
         &numbers,

@@ -11,7 +11,8 @@ use board::{Named, Opened};
 use log::Log;
 use log::sink::Locked;
 use query_threads::{Flush, Gate, NoGate, Step, Store, Unpromised};
-use serving::serve;
+use server::Port;
+use serving::{Doors, serve};
 use shared_archive::MemStore;
 use std::alloc::Global;
 use std::marker::Brand;
@@ -23,6 +24,44 @@ use std::time::Clock;
 
 /// How many connections are served at a time.
 const WORKERS: u8 = 2;
+
+/// How many seconds a client may be idle: more than a question is held, or a client waits.
+const IDLE: u32 = 60;
+
+/// Serves an archive behind these doors until a client stops the server. The archive that is handed back, if the server ended well.
+pub(crate) fn serve_behind<
+    A: Store + Drop + Send,
+    B: Named + Send + Sync,
+    G: Gate + Drop + Send + Sync,
+    R: Threads + Wait + Clock + Net<Listener = TcpListener, Stream = TcpStream> + Sync,
+    L: Log + Sync,
+>(
+    rt: &R,
+    alloc: Global,
+    opened: Opened,
+    store: A,
+    gate: G,
+    doors: &Doors<'_>,
+    workers: u8,
+    log: &L,
+) -> Option<A>
+    requires named { name_of opened ≡ B.table }
+    requires some { 1 ≤ opened.collectors }
+{
+    let (store, ended) = serve::<A, Unpromised<B>, G, R, L, _>(
+        rt,
+        alloc,
+        opened,
+        store,
+        gate,
+        doors,
+        workers,
+        log,
+        || true,
+    );
+    ended.ok()?;
+    Some(store)
+}
 
 /// Serves an archive until a client stops the server. The archive that is handed back, if the server ended well.
 pub(crate) fn serve_store<
@@ -43,19 +82,16 @@ pub(crate) fn serve_store<
     requires named { name_of opened ≡ B.table }
     requires some { 1 ≤ opened.collectors }
 {
-    let (store, ended) = serve::<A, Unpromised<B>, G, R, L, _>(
-        rt,
-        alloc,
-        opened,
-        store,
-        gate,
+    let doors = Doors {
         listener,
-        WORKERS,
-        log,
-        || true,
-    );
-    ended.ok()?;
-    Some(store)
+        port: Port {
+            read_only: false,
+            closes_http: false,
+        },
+        admin: None,
+        idle: IDLE,
+    };
+    serve_behind::<A, B, G, R, L>(rt, alloc, opened, store, gate, &doors, WORKERS, log)
 }
 
 /// Whether a line of a log is the warning of a socket that failed, with its client, the call and the moment.

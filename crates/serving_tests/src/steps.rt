@@ -3,6 +3,9 @@
 use std::alloc::Global;
 use std::io::{Read, Write, read_to_string};
 use std::net::{Net, OpenStream, Shutdown, SocketAddr, TcpListener, TcpStream};
+use std::os::fd::OwnedFd;
+use std::os::unix::net as unix;
+use std::os::unix::net::UnixStream;
 use std::thread;
 use std::time::{Clock, Duration};
 use test_octets::octets;
@@ -22,6 +25,8 @@ const ASKS: u32 = 4_000;
 pub(crate) enum Step {
     /// It connects.
     Connect,
+    /// It connects to the admin socket.
+    ConnectAdmin,
     /// It sends a text.
     Send(usize, &'static str),
     /// It sends octets, given as hexadecimal digits.
@@ -38,12 +43,21 @@ pub(crate) enum Step {
     Hear(usize, &'static str),
     /// It receives this, and then its connection ends.
     HearLast(usize, &'static str),
+    /// It receives until its connection ends, whatever comes.
+    Drain(usize),
     /// It sends a line until it receives this; what it receives before is as long.
     AskUntil(usize, &'static str, &'static str),
     /// It sends a line this many times, and receives exactly this each time.
     AskOften(usize, &'static str, &'static str, usize),
     /// It goes away, whatever it receives.
     GoAway(usize),
+}
+
+/// Where a server takes connections.
+#[derive(Clone, Drop)]
+pub(crate) struct Place {
+    pub(crate) address: SocketAddr,
+    pub(crate) admin: Option<unix::SocketAddr>,
 }
 
 /// The connections of clients.
@@ -59,7 +73,21 @@ impl Clients {
         rt: &R,
         address: SocketAddr,
     ) -> Option<()> {
-        let stream = TcpStream::connect(rt, address).ok()?;
+        self.add(TcpStream::connect(rt, address).ok()?)
+    }
+
+    /// One more connects to the admin socket. None where it can't.
+    fn connect_admin(&mut self, rt: &impl Net, admin: &Option<unix::SocketAddr>) -> Option<()> {
+        let Some(admin) = admin else {
+            return None;
+        };
+        let stream = UnixStream::connect_addr(rt, admin).ok()?;
+        // A socket is a socket: both kinds are read, written and shut down alike.
+        self.add(TcpStream::from(OwnedFd::from(stream)))
+    }
+
+    /// One more is connected.
+    fn add(&mut self, stream: TcpStream) -> Option<()> {
         let patience = Some(Duration::from_secs(PATIENCE));
         stream.set_read_timeout(patience).ok()?;
         stream.set_write_timeout(patience).ok()?;
@@ -91,6 +119,13 @@ impl Clients {
         let stream = self.stream(number)?;
         let heard = read_to_string(alloc, &*stream).ok()?;
         Some(heard.as_str() == text)
+    }
+
+    /// Receives until a connection ends, whatever comes.
+    fn drain(&self, alloc: Global, number: usize) -> Option<()> {
+        let stream = self.stream(number)?;
+        let _ = read_to_string(alloc, &*stream);
+        Some(())
     }
 
     /// Lets a connection go.
@@ -168,12 +203,13 @@ fn ask_often(
 fn take_step<R: Net<Listener = TcpListener, Stream = TcpStream> + Clock>(
     rt: &R,
     alloc: Global,
-    address: SocketAddr,
+    place: &Place,
     clients: &mut Clients,
     step: &Step,
 ) -> Option<bool> {
     match step {
-        Step::Connect => clients.connect(rt, address)?,
+        Step::Connect => clients.connect(rt, place.address)?,
+        Step::ConnectAdmin => clients.connect_admin(rt, &place.admin)?,
         Step::Send(number, text) => clients.send(*number, text.as_bytes())?,
         Step::SendOctets(number, digits) => {
             clients.send(*number, &octets(alloc, digits).ok()?)?;
@@ -194,6 +230,7 @@ fn take_step<R: Net<Listener = TcpListener, Stream = TcpStream> + Clock>(
             clients.go_away(*number)?;
             return is_right;
         }
+        Step::Drain(number) => clients.drain(alloc, *number)?,
         Step::AskUntil(number, line, text) => {
             return ask_until(rt, alloc, clients, *number, line, text);
         }
@@ -205,37 +242,55 @@ fn take_step<R: Net<Listener = TcpListener, Stream = TcpStream> + Clock>(
     Some(true)
 }
 
-/// Stops a server whose clients went wrong.
+/// Stops a server whose clients went wrong, over the admin socket if there is one.
 fn stop<R: Net<Listener = TcpListener, Stream = TcpStream>>(
     rt: &R,
     alloc: Global,
-    address: SocketAddr,
+    place: &Place,
 ) -> Option<()> {
     let mut clients = Clients {
         streams: Vec::new(alloc),
     };
-    clients.connect(rt, address)?;
+    if place.admin.is_some() {
+        clients.connect_admin(rt, &place.admin)?;
+    } else {
+        clients.connect(rt, place.address)?;
+    }
     clients.send(0, b"stop\n")?;
     clients.hears_last(alloc, 0, "ok\n")?;
     Some(())
 }
 
 /// How many of the steps went as they have to, before the first that didn't. Then the server is stopped, if it still serves.
+pub(crate) fn count_right_at<R: Net<Listener = TcpListener, Stream = TcpStream> + Clock>(
+    rt: &R,
+    alloc: Global,
+    place: &Place,
+    steps: &[Step],
+) -> usize {
+    let mut clients = Clients {
+        streams: Vec::new(alloc),
+    };
+    for (count, step) in steps.iter().enumerate() {
+        if take_step(rt, alloc, place, &mut clients, step) != Some(true) {
+            drop(clients);
+            let _ = stop(rt, alloc, place);
+            return count;
+        }
+    }
+    steps.len()
+}
+
+/// The same with a server that has no admin socket.
 pub(crate) fn count_right<R: Net<Listener = TcpListener, Stream = TcpStream> + Clock>(
     rt: &R,
     alloc: Global,
     address: SocketAddr,
     steps: &[Step],
 ) -> usize {
-    let mut clients = Clients {
-        streams: Vec::new(alloc),
+    let place = Place {
+        address,
+        admin: None,
     };
-    for (place, step) in steps.iter().enumerate() {
-        if take_step(rt, alloc, address, &mut clients, step) != Some(true) {
-            drop(clients);
-            let _ = stop(rt, alloc, address);
-            return place;
-        }
-    }
-    steps.len()
+    count_right_at(rt, alloc, &place, steps)
 }
