@@ -9,7 +9,7 @@ use std::alloc::Global;
 
 /// Words, with lines between them, and what they ask for: the folder a, and each further thing that they say, or what takes its
 /// place where they don't.
-const ACCEPTED: [(&str, &str); 50] = [
+const ACCEPTED: [(&str, &str); 52] = [
     // What isn't chosen.
     ("rha|create|a", "create a 1 4096 10000000 100000000"),
     (
@@ -104,6 +104,14 @@ const ACCEPTED: [(&str, &str); 50] = [
         "rha|serve|--listen|255.254.10.9:80|--workers=7|--|a",
         "serve a 255.254.10.9:80 7",
     ),
+    (
+        "rha|serve|a|--close-on-http|--listen=127.0.0.1:0|--workers=1|--idle|1000000",
+        "serve a 127.0.0.1:0 1 closing idle 1000000",
+    ),
+    (
+        "rha|serve|--read-only|a|--admin=s|--idle=1|--listen=127.0.0.1:0|--workers=1",
+        "serve a 127.0.0.1:0 1 read-only closing admin s idle 1",
+    ),
     ("rha|check|a", "check a"),
     ("rha|check|", "check "),
     ("rha|check|--|a", "check a"),
@@ -171,6 +179,9 @@ const NO_MARKS: [&str; 6] = [
     "2024-01-01T00:00:00.5Z",
     "now",
 ];
+
+/// How many seconds a connection may be idle where nothing else is chosen. It isn't written.
+const IDLE: u32 = 300;
 
 /// A line that is put together, and whether there was memory for all of it.
 #[derive(Drop)]
@@ -300,6 +311,17 @@ impl Line {
             Err(_) => self.is_whole = false,
         }
         self.number(u64::from(asked.workers));
+        if asked.read_only {
+            self.word("read-only");
+        }
+        if asked.close_on_http {
+            self.word("closing");
+        }
+        self.option("admin", asked.admin);
+        if asked.idle != IDLE {
+            self.word("idle");
+            self.number(u64::from(asked.idle));
+        }
         self.waits(asked.wait);
     }
 

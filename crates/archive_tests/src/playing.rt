@@ -95,7 +95,7 @@ fn ask_of(
     err: &mut Vec<u8>,
 ) -> u8 {
     let (mut lines, mut refusals) = (Output::new(out), Output::new(err));
-    ask(alloc, archive, asked, &mut lines, &mut refusals)
+    ask(alloc, archive, asked, false, &mut lines, &mut refusals)
 }
 
 /// Writes the table that a command line asks for: the exit status. None where a text isn't valid.
@@ -111,7 +111,7 @@ fn dump_of(
         Err(_) => return None,
     };
     let (mut lines, mut refusals) = (Output::new(out), Output::new(err));
-    Some(dump(alloc, archive, &table, &mut lines, &mut refusals))
+    Some(dump(alloc, archive, &table, false, &mut lines, &mut refusals))
 }
 
 /// Counts the peers that a command line asks for: the exit status. None where a text isn't valid.
@@ -124,7 +124,7 @@ fn peers_of(
 ) -> Option<u8> {
     let at = read_listing(asked).ok()?;
     let (mut lines, mut refusals) = (Output::new(out), Output::new(err));
-    Some(peers(alloc, archive, at, &mut lines, &mut refusals))
+    Some(peers(alloc, archive, at, false, &mut lines, &mut refusals))
 }
 
 /// Compares the tables that a command line asks for: the exit status. None where a text isn't valid.
@@ -140,7 +140,14 @@ fn diff_of(
         Err(_) => return None,
     };
     let (mut lines, mut refusals) = (Output::new(out), Output::new(err));
-    Some(diff(alloc, archive, &comparison, &mut lines, &mut refusals))
+    Some(diff(
+        alloc,
+        archive,
+        &comparison,
+        false,
+        &mut lines,
+        &mut refusals,
+    ))
 }
 
 /// Checks the archive: the exit status.

@@ -42,7 +42,7 @@ Example:
   rha check a
   rha info a
   rha dump a --format bgpdump
-  rha serve a --listen 127.0.0.1:17900 --workers 4
+  rha serve a --listen 127.0.0.1:17900 --workers 4 --read-only --admin a.sock
 
 `rha COMMAND --help` has the limits of a command, its defaults and its exit statuses.
 
@@ -175,6 +175,10 @@ Options:
       --wait <SECONDS>         How many seconds to wait for the archive while it is in use, 0 to 1000000 [default: 0]
       --listen <ADDRESS:PORT>  The IPv4 address to listen on, and the port, 0 to 65535
       --workers <N>            How many connections are served at once, 1 to 16
+      --read-only              Refuses feed, mark and stop there; implies --close-on-http
+      --close-on-http          Ends a connection after a request of HTTP
+      --admin <PATH>           A Unix socket to make, which takes every line, also feed, mark and stop
+      --idle <SECONDS>         After how many seconds an idle connection is ended, 1 to 1000000 [default: 300]
   -h, --help                   Print help
 
 Prints `listening ADDRESS:PORT` as soon as connections are taken; the system chooses a free port where PORT
@@ -189,13 +193,20 @@ A connection sends request lines (`rha ask --help`), of which `watermark` and `d
   stop                             ok, and the server ends once all connections have ended
 A line ends in LF, and has 4096 octets at most with it.
 
-Example:
-  rha serve a --listen 127.0.0.1:17900 --workers 4
-  (echo feed 0 1000; cat updates.mrt) | nc -N 127.0.0.1 17900
+There are no users: who can connect can send all of these. With --read-only the port refuses mark, feed and stop
+(X|28|BadRequest), and the operator sends them to the socket PATH, which is its owner's alone (mode 0600) and has
+workers of its own. With --close-on-http a line that ends in HTTP/1.0 or HTTP/1.1 ends its connection, so that a
+page in a browser can't send lines by HTTP. --idle ends a connection that sends nothing, or doesn't read, for so
+long, since it keeps a worker.
 
-Exit status: 0 where a client stopped the server; 1 where the archive can't be opened, the address can't be
-listened on or something else was refused (told on standard error as `rha: NUMBER NAME`); 2 where the command
-line isn't accepted.
+Examples:
+  rha serve a --listen 127.0.0.1:17900 --workers 4 --read-only --admin a.sock
+  (echo feed 0 1000; cat updates.mrt) | nc -NU a.sock
+  echo at 2024-01-01T00:10:00Z all | nc -N 127.0.0.1 17900
+
+Exit status: 0 where a client stopped the server; 1 where the archive can't be opened, the address or PATH
+can't be listened on or something else was refused (told on standard error as `rha: NUMBER NAME`); 2 where the
+command line isn't accepted.
 ";
 
 const CHECK_HELP: &str = "Reads through an archive, and tells the first damage
@@ -335,7 +346,7 @@ const ASKED_FOR: [Shown; 9] = [
 ];
 
 /// Words that aren't accepted.
-const WRONG: [Shown; 15] = [
+const WRONG: [Shown; 16] = [
     Shown {
         words: "rha",
         kind: ErrorKind::MissingSubcommand,
@@ -400,6 +411,13 @@ const WRONG: [Shown; 15] = [
         end: SERVE_OPTIONS_END,
     },
     Shown {
+        words: "rha|serve|a|--listen=127.0.0.1:0|--workers=1|--admin",
+        kind: ErrorKind::InvalidValue,
+        code: 2,
+        text: "error: a value is required for '--admin <PATH>' but none was supplied",
+        end: MORE_END,
+    },
+    Shown {
         words: "rha|check",
         kind: ErrorKind::MissingRequiredArgument,
         code: 2,
@@ -444,7 +462,7 @@ const WRONG: [Shown; 15] = [
 ];
 
 /// An option whose number is beyond its limits, or is none, behind words that want it, and what is told of it.
-const BEYOND: [(&str, &str); 18] = [
+const BEYOND: [(&str, &str); 20] = [
     (
         "rha|create|a|--collectors=0",
         "'0' for '--collectors <N>': 0 is not in 1..=16",
@@ -508,6 +526,14 @@ const BEYOND: [(&str, &str); 18] = [
     (
         "rha|serve|a|--workers=17",
         "'17' for '--workers <N>': 17 is not in 1..=16",
+    ),
+    (
+        "rha|serve|a|--idle=0",
+        "'0' for '--idle <SECONDS>': 0 is not in 1..=1000000",
+    ),
+    (
+        "rha|serve|a|--idle=1000001",
+        "'1000001' for '--idle <SECONDS>': 1000001 is not in 1..=1000000",
     ),
     (
         "rha|ask|a|--wait=1000001|watermark",

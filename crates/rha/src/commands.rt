@@ -16,7 +16,7 @@ use service::{
     Checking, Creation, Output, Question, check_archive, tell_created, tell_out_of_memory,
 };
 use std::alloc::Global;
-use std::io::{BufWriter, Write};
+use std::io::{BufWriter, IsTerminal, Write};
 
 /// Prints what helps if an archive isn't made because of its sizes: how many pages it needs, or that its files are too large.
 fn advise_unmade<E: Write>(
@@ -70,11 +70,12 @@ pub(crate) fn ask<E: Write>(rt: &HostRuntime, asked: &Question<'_>, err: &mut Ou
     let Some(mut archive) = open_to_read(rt, asked.folder, asked.wait, First::Nothing, err) else {
         return 1;
     };
+    let is_seen = rt.stdout().is_terminal();
     let Ok(buffer) = BufWriter::new(alloc, rt.stdout()) else {
         return tell_out_of_memory(err);
     };
     let mut out = Output::new(buffer);
-    let code = tables::ask(alloc, &mut archive, asked, &mut out, err);
+    let code = tables::ask(alloc, &mut archive, asked, is_seen, &mut out, err);
     if code != 0 {
         tell_unanswered(alloc, &archive, err);
         advise_question(alloc, &archive, asked.line.as_str(), err);

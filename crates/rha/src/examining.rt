@@ -2,7 +2,10 @@
 
 use crate::opening::{First, open_to_read};
 use archive_calls::RouteArchive;
-use archive_facts::{Facts, HEAD_PLACE, OPEN_GATE, SIZES_LEN, SLOTS, Sizes, gate_place};
+use archive_facts::{
+    FIRST_LEN, Facts, HEAD_PLACE, JOURNAL_PAGES, OPEN_GATE, PAGE, SIZES_LEN, SLOTS, Sizes,
+    first_change, gate_place,
+};
 use archive_head::Head;
 use disk_models::Page;
 use file_archive::FileArchive;
@@ -39,10 +42,40 @@ fn open_slots(file: &File) -> io::Result<u64> {
     Ok(open)
 }
 
-/// What the file of an archive's pages says, once no slot is open any more.
+/// The time of the first change, if the leaf that stands in the file's page or block of this number begins with it.
+fn first_at(file: &File, number: u64) -> io::Result<Option<u64>> {
+    let mut octets = [0; FIRST_LEN];
+    file.read_exact_at(&mut octets, number.saturating_mul(PAGE))?;
+    Ok(first_change(&octets))
+}
+
+/// The time of the first change. The leaves of the tree are gone through until one begins with it: a block and a page in turn, since the
+/// blocks that were burnt first are mostly of the first leaves.
+fn first_time(pages: &File, once: &File, sizes: &Sizes, head: &Head) -> io::Result<Option<u64>> {
+    let rings = u64::from(sizes.collectors).saturating_mul(u64::from(sizes.ring));
+    let begin = rings.saturating_add(1);
+    let count = head.fresh.saturating_sub(begin).max(head.block);
+    for number in 0..count {
+        let page = begin.saturating_add(number);
+        let mut found = None;
+        if number < head.block {
+            found = first_at(once, number)?;
+        }
+        if found.is_none() && page < head.fresh {
+            found = first_at(pages, page.saturating_add(JOURNAL_PAGES))?;
+        }
+        if found.is_some() {
+            return Ok(found);
+        }
+    }
+    Ok(None)
+}
+
+/// What the files of an archive's pages and blocks say, once no slot is open any more.
 fn facts_in(
     alloc: Global,
     file: &File,
+    once: &File,
     archive: &FileArchive,
     open: u64,
 ) -> Result<Facts, Unshown> {
@@ -60,7 +93,9 @@ fn facts_in(
         Ok(None) => return Err(Unshown::Refused(Refusal::BadNode(0))),
         Err(_) => return Err(Unshown::Refused(Refusal::OutOfMemory)),
     };
-    Facts::of(alloc, VERSION, sizes, &head, archive.settled(), open).map_err(|_| Unshown::Refused(
+    let first = first_time(file, once, &sizes, &head)?;
+    let settled = archive.settled();
+    Facts::of(alloc, VERSION, sizes, &head, settled, first, open).map_err(|_| Unshown::Refused(
         Refusal::OutOfMemory,
     ))
 }
@@ -83,25 +118,41 @@ fn show<E: Write>(rt: &HostRuntime, facts: &Facts, json: bool, err: &mut Output<
     finish(rt.alloc(), Status::Done, &mut out, err)
 }
 
+/// Opens a file of an archive to read it. None once standard error has why it can't be opened.
+fn open_file<E: Write>(rt: &HostRuntime, path: &str, err: &mut Output<E>) -> Option<File> {
+    match File::open(rt, path) {
+        Ok(file) => Some(file),
+        Err(why) => {
+            tell_outside(rt.alloc(), err, path, "open", &why);
+            None
+        }
+    }
+}
+
 /// Prints how far the archive of a folder has come, and how much room it has left. Its slots are counted before it is opened, which
-/// closes them; what its file says is read while the archive is held.
+/// closes them; what its files say is read while the archive is held.
 pub(crate) fn info<E: Write>(rt: &HostRuntime, asked: &Examining<'_>, err: &mut Output<E>) -> u8 {
     let alloc = rt.alloc();
     let Ok(path) = format!(in alloc; "{}/pages.rha", asked.folder) else {
         return tell_out_of_memory(err);
     };
-    let file = File::open(rt, path.as_str());
-    let slots = file.as_ref().ok().and_then(|it| open_slots(it).ok());
+    let Ok(once_path) = format!(in alloc; "{}/once.rha", asked.folder) else {
+        return tell_out_of_memory(err);
+    };
+    let before = File::open(rt, path.as_str());
+    let slots = before.as_ref().ok().and_then(|it| open_slots(it).ok());
     let Some(archive) = open_to_read(rt, asked.folder, asked.wait, First::Nothing, err) else {
         return 1;
     };
-    let file = match file {
-        Ok(file) => file,
-        Err(why) => return tell_outside(alloc, err, path.as_str(), "open", &why),
+    let Some(file) = open_file(rt, path.as_str(), err) else {
+        return 1;
     };
-    match facts_in(alloc, &file, &archive, slots.unwrap_or(0)) {
+    let Some(once) = open_file(rt, once_path.as_str(), err) else {
+        return 1;
+    };
+    match facts_in(alloc, &file, &once, &archive, slots.unwrap_or(0)) {
         Ok(facts) => show(rt, &facts, asked.json, err),
-        Err(Unshown::Failed(why)) => tell_outside(alloc, err, path.as_str(), "read", &why),
+        Err(Unshown::Failed(why)) => tell_outside(alloc, err, asked.folder, "read", &why),
         Err(Unshown::Refused(refusal)) => tell_refusal(&refusal, err),
     }
 }

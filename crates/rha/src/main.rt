@@ -10,10 +10,11 @@
 //! `pages.rha`. `info` reads the head in the file of the pages, while it holds the archive: an opening brings all pages
 //! home and closes the slots, so the file has what the archive has.
 //!
-//!     serve:   open the archive   listen   make all threads   print `listening`   take connections
+//!     serve:   open the archive   listen   make the socket of `--admin`   make all threads   print `listening`
+//!              take connections   remove the socket
 //!
-//! The program starts threads through a second handle (`host`), since the compiler gives a runtime's threads only to
-//! `main`. What a file that isn't MRT is, is printed after the load, by its first 16 octets, and only if nothing of it was
+//! The program starts threads and makes that socket through a second handle (`host`), since the compiler gives a runtime's
+//! threads and sockets only to `main`. What a file that isn't MRT is, is printed after the load, by its first 16 octets, and only if nothing of it was
 //! admitted.
 //!
 //! `main` has no contract: there is no model of what a process is given, nor of its exit status. That it opens the folder's
@@ -25,6 +26,7 @@ mod examining;
 mod holder;
 mod loading;
 mod opening;
+mod operator;
 mod refusals;
 mod served;
 mod sizes;
@@ -42,6 +44,7 @@ use advice::advise_text;
 use service::{Invocation, Output, command, tell_out_of_memory, tell_outside, tell_usage};
 use std::alloc::{AllocError, Global};
 use std::env;
+use std::fs::Files;
 use std::io::Write;
 use std::net::{Net, TcpListener, TcpStream};
 use std::process::ExitCode;
@@ -63,7 +66,7 @@ fn put_help_last(alloc: Global, words: &mut Vec<String>) -> Result<(), AllocErro
 
 /// Reads the command line and runs its command. `host` starts the threads of a server.
 fn run<
-    H: Threads + Wait + Clock + Net<Listener = TcpListener, Stream = TcpStream> + Sync,
+    H: Threads + Wait + Clock + Files + Net<Listener = TcpListener, Stream = TcpStream> + Sync,
     E: Write,
 >(rt: &HostRuntime, host: &H, err: &mut Output<E>) -> u8 {
     let alloc = rt.alloc();

@@ -8,7 +8,7 @@ use file_archive::FileArchive;
 use route_model::Moment;
 use service::{Comparing, Dumping, Listing, Output, Refusal, tell_out_of_memory, tell_refusal};
 use std::alloc::Global;
-use std::io::{BufWriter, Write};
+use std::io::{BufWriter, IsTerminal, Write};
 use tables::{BadArgument, TROUBLE, moment_of, read_comparison, read_listing, read_table};
 
 /// What is expected of an argument.
@@ -54,11 +54,12 @@ pub(crate) fn dump<E: Write>(rt: &HostRuntime, asked: &Dumping<'_>, err: &mut Ou
     let Some(mut archive) = open_to_read(rt, asked.folder, asked.wait, First::Nothing, err) else {
         return 1;
     };
+    let is_seen = rt.stdout().is_terminal();
     let Ok(buffer) = BufWriter::new(alloc, rt.stdout()) else {
         return tell_out_of_memory(err);
     };
     let mut out = Output::new(buffer);
-    let code = tables::dump(alloc, &mut archive, &table, &mut out, err);
+    let code = tables::dump(alloc, &mut archive, &table, is_seen, &mut out, err);
     if code != 0 {
         tell_unread(alloc, &archive, moment_of(&archive, table.at), err);
     }
@@ -75,12 +76,13 @@ pub(crate) fn peers<E: Write>(rt: &HostRuntime, asked: &Listing<'_>, err: &mut O
     let Some(mut archive) = open_to_read(rt, asked.folder, asked.wait, First::Nothing, err) else {
         return 1;
     };
+    let is_seen = rt.stdout().is_terminal();
     let Ok(buffer) = BufWriter::new(alloc, rt.stdout()) else {
         return tell_out_of_memory(err);
     };
     let mut out = Output::new(buffer);
     let moment = moment_of(&archive, at);
-    let code = tables::peers(alloc, &mut archive, Some(moment), &mut out, err);
+    let code = tables::peers(alloc, &mut archive, Some(moment), is_seen, &mut out, err);
     if code != 0 {
         tell_unread(alloc, &archive, moment, err);
     }
@@ -100,12 +102,13 @@ pub(crate) fn diff<E: Write>(rt: &HostRuntime, asked: &Comparing<'_>, err: &mut 
     let Some(mut archive) = open_to_read(rt, asked.folder, asked.wait, First::Nothing, err) else {
         return TROUBLE;
     };
+    let is_seen = rt.stdout().is_terminal();
     let Ok(buffer) = BufWriter::new(alloc, rt.stdout()) else {
         tell_out_of_memory(err);
         return TROUBLE;
     };
     let mut out = Output::new(buffer);
-    let code = tables::diff(alloc, &mut archive, &comparison, &mut out, err);
+    let code = tables::diff(alloc, &mut archive, &comparison, is_seen, &mut out, err);
     if code == TROUBLE {
         tell_unread(alloc, &archive, comparison.from.max(comparison.to), err);
     }
