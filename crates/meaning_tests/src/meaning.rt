@@ -364,7 +364,7 @@ fn many(rt: &impl Abort, alloc: Global, more: bool) -> Vec<Admission> {
     list
 }
 
-// Are 256 rows answered, and more told only where there is one more?
+// Are 256 rows returned, and that more follow only where there is one more?
 fn is_cut(rt: &impl Abort, alloc: Global, more: bool) -> bool {
     let told = many(rt, alloc, more);
     let list = merged(rt, alloc, &[told.as_slice()]);

@@ -35,7 +35,7 @@ pub(crate) const MAX_WAIT: u64 = 1_000_000;
 /// The most workers of a server.
 pub(crate) const MAX_WORKERS: u64 = 16;
 
-/// The most seconds that a connection may be told to stay idle.
+/// The most seconds after which an idle connection is ended.
 pub(crate) const MAX_IDLE: u64 = 1_000_000;
 
 /// The version of the program.
