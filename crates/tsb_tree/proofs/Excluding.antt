@@ -3,7 +3,7 @@ use Rattle.std.proofs.Common.{◌≡◌, ℕ, inl, inr, List, [], ◌∷◌, ◌
 use Rattle.std.proofs.lemmas.Bool.{cases_lt, cases_order}
 use Rattle.std.proofs.lemmas.Option.{same_Some}
 use Rattle.version_model.specs.declared.child.Child.{Child}
-use Rattle.version_model.specs.Pages.{Keys, ColumnNode, CurrentLeaf, KeyNode, AreChildren, IsChildOf}
+use Rattle.version_model.specs.Pages.{Keys, ColumnNode, CurrentLeaf, KeyNode, AreChildren, IsChildOf, child_keys}
 use Rattle.version_model.specs.Shows.{IsFrom}
 use Rattle.version_model.specs.Sizes.{octets}
 use Rattle.version_model.specs.Versions.{Version, Has}
@@ -91,10 +91,17 @@ module _ (shown : List (List ℕ)) (key : ℕ) (a b : PagePlace) (page : a.page 
           ]
         ]
 
-    one_child : next.page ≡ other.page
-    one_child =
+    same_child : child ≡ second
+    same_child =
         let at : slice_get lower.children lower.child.place ≡ Some second = subst (λ (i : ℕ). slice_get lower.children i ≡ Some second) (sym one_place) under.at in
-        ap (λ (c : Child). c.page) (same_Some child second (sym lower.child.at ∙ at))
+        same_Some child second (sym lower.child.at ∙ at)
+
+    pub one_child : next.page ≡ other.page
+    one_child = ap (λ (c : Child). c.page) same_child
+
+    pub one_keys : keys_at next ≡ keys_at other
+    one_keys =
+        sym lower.child.range ∙ ap (λ (i : ℕ). child_keys (keys_at a) lower.children i child) one_place ∙ ap (λ (c : Child). child_keys (keys_at a) lower.children under.place c) same_child ∙ under.range
 
 -- a node that stays one doesn't become two
 pub one_not_two : (shown : List (List ℕ)) (v : Version) (a b : PagePlace) (n m : ℕ) → a.page ≡ b.page → StaysOne shown v a n → BecomesTwo shown v b m → ⊥

@@ -5,17 +5,20 @@ use Rattle.once_store.specs.declared.shelf.Shelf.{Shelf}
 use Rattle.once_store.specs.Shelves.{next_of}
 use Rattle.version_model.specs.Blocks.{BlockNode}
 use Rattle.version_model.specs.Ranges.{high_or}
+use Rattle.version_model.specs.Shows.{IsFrom}
 use Rattle.version_model.specs.Sizes.{octets, entry_octets, value_octets}
-use Rattle.version_model.specs.Versions.{Version, Has}
+use Rattle.version_model.specs.Versions.{Version, Has, IsAbove}
 use Rattle.version_model.proofs.api.Pushed.{Has-push_cases}
 use Rattle.tsb_node.specs.Leaves.{IsLeafPage, IsShortOf, value_spelled}
 use Rattle.tsb_node.proofs.ViewLaws.{entries-octets}
 use Rattle.worm_migration.specs.Settled.{ShelfSays}
 use Rattle.tsb_tree.specs.declared.whole.Whole.{Whole}
 use Rattle.tsb_tree.specs.Needs.{IsWhatStays}
+use Rattle.tsb_tree.specs.Outlived.{HasOutlived}
 use Rattle.tsb_tree.specs.Shapes.{IsWhole, bounds_from, leaf_in_page}
 use Rattle.tsb_tree.specs.Shelves.{TakesOn}
 use Rattle.tsb_tree.specs.Wholes.{Takes}
+use Rattle.tsb_tree.proofs.Outliving.{none_outlived}
 use Rattle.tsb_tree.proofs.Shaping.{whole_with, short_push}
 use Rattle.tsb_tree.proofs.Taking.{takes_in_leaf, octets-push}
 
@@ -46,6 +49,10 @@ module _ (w w' : Whole) (v : Version) (taken : w' ≡ record w { leaf = w.leaf +
 
   pub taken_stays : (stays : List Version) → IsWhatStays w'.leaf v.stamp stays → IsWhatStays (w.leaf ++ v ∷ []) v.stamp stays
   taken_stays stays what = subst (λ (l : List Version). IsWhatStays l v.stamp stays) leaf_is what
+
+  -- where all of it stays, nothing was outlived
+  pub taken_none : IsAbove w.leaf v.stamp → IsWhatStays w'.leaf v.stamp w'.leaf → HasOutlived w.leaf v → ⊥
+  taken_none above what = none_outlived w.leaf v above (subst (λ (l : List Version). IsFrom l v.stamp l) leaf_is what.from)
 
   pub taken_on : {O Pen Seen : Type 0} (device : Ghosts O Pen Seen) (shelf : Shelf O Pen Seen) (blocks : ℕ → Option BlockNode) → ShelfSays device shelf blocks → TakesOn device shelf blocks blocks (next_of shelf) v w w'
   taken_on device shelf blocks says = record {

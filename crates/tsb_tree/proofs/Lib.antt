@@ -29,3 +29,4 @@ pub mod Wanting
 pub mod Needing
 pub mod Outliving
 pub mod Excluding
+pub mod OneWay

@@ -80,6 +80,12 @@ outdated_read place image v w keys leaf out =
     let said : PageSays image (CurrentLeaf (keys_of_whole w) w.start w.leaf) = says_leaf (leaf_in_page w) leaf in
     record { start = w.start; versions = w.leaf; says = subst (λ (k : Keys). PageSays image (CurrentLeaf k w.start w.leaf)) keys said; outlived = out }
 
+pub outdated_whole : (place : PagePlace) (image : List ℕ) (v : Version) (w : Whole) → IsOutdated place image v → IsLeafPage (leaf_in_page w) image → HasOutlived w.leaf v
+outdated_whole place image v w outdated leaf =
+    let said : CurrentLeaf (keys_at place) outdated.start outdated.versions ≡ leaf_node w = one_said image _ _ outdated.says (says_leaf (leaf_in_page w) leaf) in
+    let same : outdated.versions ≡ w.leaf = cc in
+    subst (λ (l : List Version). HasOutlived l v) same outdated.outlived
+
 -- a column whose leaf has no room
 module _ (shown : List (List ℕ)) (v : Version) (place : PagePlace) (leaf stays : List Version) (has : HasLeaf shown place leaf) (filled : 16232 < octets leaf + entry_octets v) (what : IsWhatStays (leaf ++ v ∷ []) v.stamp stays) where
   pub leaf_uses : (next unused : ℕ) (o : Option Child) → UsesForLeaf (octets stays) next unused o → UsesPages shown v place next unused o

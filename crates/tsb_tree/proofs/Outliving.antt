@@ -1,11 +1,11 @@
 -- Whether a leaf has a version that isn't needed any more once it takes another one.
 use Rattle.std.proofs.Common.{◌≡◌, ℕ, ◌<◌, ◌≤◌, ◌⊎◌, inl, inr, List, [], ◌∷◌, ◌++◌, length, Option, Some, None, refl, sym, ◌∙◌, ap, subst, arith}
-use Rattle.std.proofs.lemmas.Bool.{cases_lt}
+use Rattle.std.proofs.lemmas.Bool.{cases_lt, false≢true}
 use Rattle.std.specs.Prelude.{IsSome}
 use Rattle.version_model.specs.Versions.{Version, Has, IsAbove, IsRising}
 use Rattle.version_model.specs.Shows.{IsFrom}
 use Rattle.version_model.proofs.api.LooksShown.{Has-head, Has-cases, Has-tail, rising_one}
-use Rattle.version_model.proofs.api.Pushed.{Has-nil, Has-push_cases}
+use Rattle.version_model.proofs.api.Pushed.{Has-nil, Has-push_cases, Has-push_old}
 use Rattle.tsb_tree.specs.Outlived.{IsOutlived, HasOutlived}
 
 -- a later one of the same key is among these
@@ -68,6 +68,23 @@ outlived_of leaf front newer v at is stamp above rising from rising_newer fewer 
       | inl old ↦ (let early : x.stamp < at = above.above x old in from.spanning x early
           (record { has = h; of_key = refl; not_after = omega (arith, early); greatest = λ w hw e le. (stay x old).1 w (subst (λ (l : List Version). Has l w) is hw) e }) (stay x old).0)
       | inr new ↦ (let s : x.stamp ≡ v.stamp = ap (λ (y : Version). y.stamp) new in from.each x h (omega (arith, s, stamp)))
+    ]
+
+-- where all of them go on, none was outlived
+pub none_outlived : (front : List Version) (v : Version) → IsAbove front v.stamp → IsFrom (front ++ v ∷ []) v.stamp (front ++ v ∷ []) → HasOutlived front v → ⊥
+none_outlived front v above from out =
+    let old : Version = out.0 in
+    let early : old.stamp < v.stamp = above.above old out.1 in
+    let has : Has (front ++ v ∷ []) old = Has-push_old front v old out.1 in
+    elim out.2 [
+      | inl ended ↦ (let some = from.values old has early in false≢true (subst (λ (o : Option (List ℕ)). IsSome o) ended some))
+      | inr later ↦ (let last = (from.copies old has early).greatest later.0 later.1 later.2 (not_later later.0 later.1) in let after = later.3 in omega (arith, last, after))
+    ]
+  where
+    not_later : (w : Version) → Has (front ++ v ∷ []) w → w.stamp ≤ v.stamp
+    not_later w h = elim (Has-push_cases front v w h) [
+      | inl old ↦ (let early = above.above w old in omega (arith, early))
+      | inr new ↦ (let s : w.stamp ≡ v.stamp = ap (λ (y : Version). y.stamp) new in omega (arith, s))
     ]
 
 -- what is so of nothing or of a thing, where from the one follows the other

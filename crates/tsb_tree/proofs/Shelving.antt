@@ -1,5 +1,6 @@
 -- What calls leave of a shelf.
-use Rattle.std.proofs.Common.{◌≡◌, ℕ, pred, ◌+◌, ◌≤◌, inl, inr, List, [], ◌∷◌, ◌++◌, length-append, Option, Result, Ok, Err, min, refl, sym, ◌∙◌, ap, subst, arith}
+use Rattle.std.proofs.Common.{◌≡◌, ℕ, pred, ◌+◌, ◌<◌, ◌≤◌, inl, inr, List, [], ◌∷◌, ◌++◌, length-append, Option, Result, Ok, Err, min, refl, sym, ◌∙◌, ap, subst, arith}
+use Rattle.std.proofs.lemmas.Bool.{false≢true}
 use Rattle.page_journal.specs.Recovers.{IsListed}
 use Rattle.disk_models.specs.declared.once.OnceDisk.{Ghosts}
 use Rattle.disk_models.specs.Once.{OnceState}
@@ -14,7 +15,7 @@ use Rattle.version_model.specs.Blocks.{BlockNode}
 use Rattle.tsb_tree.specs.declared.error.TreeError.{TreeError}
 use Rattle.tsb_tree.specs.declared.error.TreeError.TheVariants as errors
 use Rattle.tsb_tree.specs.Refusals.{of_migration}
-use Rattle.tsb_tree.specs.Shelves.{KeepsShelf as TreeKeeps, LeavesShelf, LeavesDisk, SpendsAtMost, SpendsOne}
+use Rattle.tsb_tree.specs.Shelves.{HasNoneBlank, KeepsShelf as TreeKeeps, LeavesShelf, LeavesDisk, SpendsAtMost, SpendsOne}
 
 -- nothing was called
 pub leaves_none : {O Pen Seen : Type 0} (device : Ghosts O Pen Seen) (most : ℕ) (s : Shelf O Pen Seen) (F G : Type 0) → (F → ⊥) → (G → ⊥) → LeavesShelf device most s s F G
@@ -182,3 +183,12 @@ spends_leaves device a b F G leaves honest = (leaves.leaves honest).spends
 
 pub spends_on : {O Pen Seen : Type 0} (device : Ghosts O Pen Seen) (a b c : Shelf O Pen Seen) (F G : Type 0) → b ≡ a → LeavesShelf device 1 b c F G → SpendsOne device a c
 spends_on {O} {Pen} {Seen} device a b c F G same leaves = subst (λ (s : Shelf O Pen Seen). SpendsOne device s c) same (spends_leaves device b c F G leaves)
+
+-- where no block was blank before a call, none is after it
+pub none_blank_on : {O Pen Seen : Type 0} (device : Ghosts O Pen Seen) (most : ℕ) (old new : Shelf O Pen Seen) (F G : Type 0) → LeavesShelf device most old new F G → device.honest (disk_of old) (pen_of old) → HasNoneBlank device old → HasNoneBlank device new
+none_blank_on device most old new F G leaves honest none i from to =
+    (leaves.leaves honest).grows.tried i (none i (omega (arith, leaves.forward, from)) (subst (λ d. i < device.block_count d) leaves.disk to))
+
+-- where none is blank, none is put on the shelf
+pub none_put : {O Pen Seen : Type 0} (device : Ghosts O Pen Seen) (old new : Shelf O Pen Seen) (n : ℕ) → KeepsShelf device old new (Ok n) → device.honest (disk_of old) (pen_of old) → HasNoneBlank device old → ⊥
+none_put device old new n keeps honest none = false≢true ((keeps.puts honest).none_left none)

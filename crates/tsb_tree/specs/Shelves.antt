@@ -19,6 +19,10 @@ use Rattle.tsb_tree.specs.declared.burning.Burnt.{Burnt}
 use Rattle.tsb_tree.specs.declared.whole.Whole.{Whole}
 use Rattle.tsb_tree.specs.Wholes.{Takes, keys_of_whole}
 
+-- no block is blank from the one on that the shelf tries next
+abbrev pub HasNoneBlank : {O Pen Seen : Type 0} (device : OnceGhosts O Pen Seen) → Shelf O Pen Seen → Type 0
+HasNoneBlank device shelf = AllTried (device.model (pen_of shelf)) (next_of shelf) (device.block_count (disk_of shelf))
+
 -- at most this many blocks became tried or burnt
 pub record SpendsAtMost (most : ℕ) (old new : OnceState) : Type 0 where
   pub spent : List ℕ

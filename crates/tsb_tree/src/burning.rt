@@ -1,5 +1,5 @@
 //! A column's leaf as it was until a stamp becomes a block, and its whole past where its page has no room for a part more.
-ghost use Rattle.std.specs.Prelude.{◌≡◌, ◌+◌, ◌^◌, ◌<◌, ◌≤◌, ◌⊎◌, ◌++◌, ◌∷◌, [], ℕ, List, Option, Some, IfOk, IfErr, OnOk, length, vec_len};
+ghost use Rattle.std.specs.Prelude.{◌≡◌, ◌+◌, ◌^◌, ◌<◌, ◌≤◌, ◌⊎◌, ◌++◌, ◌∷◌, [], ℕ, List, Option, Some, IfOk, IfErr, IsErr, OnOk, length, vec_len};
 ghost use Rattle.once_store.specs.Shelves.{disk_of, next_of, pen_of};
 ghost use Rattle.version_model.specs.Blocks.{BlockNode};
 ghost use Rattle.version_model.specs.Shows.{IsFrom};
@@ -8,7 +8,7 @@ ghost use Rattle.tsb_node.specs.Leaves.{IsLeafPage};
 ghost use Rattle.worm_migration.specs.Settled.{ShelfSays};
 ghost use Rattle.tsb_tree.specs.Refusals.{BurnRefusal};
 ghost use Rattle.tsb_tree.specs.Shapes.{IsWhole, IsSameButParts, leaf_in_page, with_leaf};
-ghost use Rattle.tsb_tree.specs.Shelves.{KeepsShelf, MakesRoom, SpendsOne, TakesOn, burnt as burnt_blocks, packed, packed_parts};
+ghost use Rattle.tsb_tree.specs.Shelves.{HasNoneBlank, KeepsShelf, MakesRoom, SpendsOne, TakesOn, burnt as burnt_blocks, packed, packed_parts};
 
 use crate::error::TreeError;
 use crate::whole::Whole;
@@ -109,6 +109,7 @@ pub fn split_by_time<O: OnceDisk + Drop>(
     requires end { at + 1 < 256 ^ 16 }
     ensures shelf { KeepsShelf O.OnceDisk 2 shelf.old shelf.new result }
     ensures one_block { SpendsOne O.OnceDisk shelf.old shelf.new ⊎ (648 ≤ length whole.old.parts.items) }
+    ensures none_left { O.honest (disk_of shelf.old) (pen_of shelf.old) → HasNoneBlank O.OnceDisk shelf.old → IsErr result }
     ensures takes { O.honest (disk_of shelf.old) (pen_of shelf.old) → (leaf : List Version) (v : Version) → IsLeafPage (leaf_in_page (with_leaf whole.old leaf)) page.now
         → whole.old.leaf ≡ leaf ++ v ∷ [] → v.stamp ≡ at → IsFrom whole.old.leaf at newer
         → IfOk result (λ burnt. (blocks : ℕ → Option BlockNode) → ShelfSays O.OnceDisk shelf.old blocks

@@ -1,5 +1,5 @@
 //! A version goes down through key nodes to the column that has its key, and what is planned there comes up again.
-ghost use Rattle.std.specs.Prelude.{◌≡◌, ◌<◌, ◌≤◌, ◌+◌, ◌^◌, ◌⊎◌, ℕ, suc, List, Some, None, Ok, Err, length, IfOk, OnOk, IfErr, IsSome};
+ghost use Rattle.std.specs.Prelude.{◌≡◌, ◌<◌, ◌≤◌, ◌+◌, ◌^◌, ◌⊎◌, ℕ, suc, List, Some, None, Ok, Err, length, IfOk, OnOk, IfErr, IsErr, IsSome};
 ghost use Rattle.std.specs.List.{insert};
 ghost use Rattle.once_store.specs.declared.error.AppendError.{AppendError};
 ghost use Rattle.page_journal.specs.Layout.{pages_of};
@@ -21,7 +21,7 @@ ghost use Rattle.tsb_tree.specs.Plans.{CanBeLaid, Plans};
 ghost use Rattle.tsb_tree.specs.Puts.{PutsChild};
 ghost use Rattle.tsb_tree.specs.Raises.{HasRoomBehind, RaiseRefusal};
 ghost use Rattle.tsb_tree.specs.Refusals.{IsHonest, PlanRefusal, ReadRefusal};
-ghost use Rattle.tsb_tree.specs.Shelves.{KeepsShelf, SpendsOne};
+ghost use Rattle.tsb_tree.specs.Shelves.{HasNoneBlank, KeepsShelf, SpendsOne};
 ghost use Rattle.tsb_tree.specs.Stores.{ReadsAlone};
 ghost use Rattle.tsb_tree.specs.Takers.{CanTake};
 ghost use Rattle.tsb_tree.specs.inner.Uses.{UsesForHalf, UsesPages, WantsPages};
@@ -138,6 +138,8 @@ pub fn plan_under<P: Pages, O: OnceDisk + Drop>(
     ensures burns { (s : Store) (all : List Version) → (can : CanTake P.Pages pages.old O.OnceDisk shelf.old s all place.now (version_of entry.now)) → (shelf.new ≡ shelf.old) ⊎ LeadsToOutdated can.shown (version_of entry.now) place.now }
     ensures once { (s : Store) (all : List Version) → (can : CanTake P.Pages pages.old O.OnceDisk shelf.old s all place.now (version_of entry.now))
         → (refusal : AppendError) → result ≡ Err (TreeError.Once refusal) → LeadsToOutdated can.shown (version_of entry.now) place.now }
+    ensures none_left { (s : Store) (all : List Version) → (can : CanTake P.Pages pages.old O.OnceDisk shelf.old s all place.now (version_of entry.now))
+        → HasNoneBlank O.OnceDisk shelf.old → LeadsToOutdated can.shown (version_of entry.now) place.now → IsErr result }
     ensures laid { IfOk result (λ change. CanBeLaid (P.homes pages.old) (P.next pages.old) place.now.level change) }
     ensures refused { IfErr result (PlanRefusal (P.homes pages.old) (P.next pages.old) place.now.level (P.down pages.old)) }
     ensures reads { ReadsAlone P.Pages pages.old pages.new result }

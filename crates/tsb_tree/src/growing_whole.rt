@@ -1,5 +1,5 @@
 //! A column in memory takes a version for which its leaf has no room in its page.
-ghost use Rattle.std.specs.Prelude.{◌≡◌, ◌+◌, ◌^◌, ◌<◌, ◌≤◌, ◌⊎◌, ◌++◌, ◌∷◌, [], ℕ, Option, IfErr, OnOk, Err, length};
+ghost use Rattle.std.specs.Prelude.{◌≡◌, ◌+◌, ◌^◌, ◌<◌, ◌≤◌, ◌⊎◌, ◌++◌, ◌∷◌, [], ℕ, Option, IfErr, IsErr, OnOk, Err, length};
 ghost use Rattle.once_store.specs.declared.error.AppendError.{AppendError};
 ghost use Rattle.once_store.specs.Shelves.{disk_of, next_of, pen_of};
 ghost use Rattle.version_model.specs.Blocks.{BlockNode};
@@ -13,7 +13,7 @@ ghost use Rattle.tsb_tree.specs.Needs.{IsWhatStays};
 ghost use Rattle.tsb_tree.specs.Outlived.{HasOutlived};
 ghost use Rattle.tsb_tree.specs.Refusals.{IsHonest, GrowRefusal};
 ghost use Rattle.tsb_tree.specs.Shapes.{IsWhole, leaf_in_page};
-ghost use Rattle.tsb_tree.specs.Shelves.{KeepsShelf, SpendsOne, TakesOn};
+ghost use Rattle.tsb_tree.specs.Shelves.{HasNoneBlank, KeepsShelf, SpendsOne, TakesOn};
 
 use crate::burning::split_by_time;
 use crate::current_leaf::LeafImage;
@@ -50,6 +50,7 @@ pub fn grow<O: OnceDisk + Drop>(
     ensures honest { IsAbove whole.old.leaf entry.now.stamp → whole.old.start < entry.now.stamp → IsHonest result }
     ensures burns { (shelf.new ≡ shelf.old) ⊎ HasOutlived whole.old.leaf (version_of entry.now) }
     ensures once { (refusal : AppendError) → result ≡ Err (TreeError.Once refusal) → HasOutlived whole.old.leaf (version_of entry.now) }
+    ensures none_left { O.honest (disk_of shelf.old) (pen_of shelf.old) → HasNoneBlank O.OnceDisk shelf.old → HasOutlived whole.old.leaf (version_of entry.now) → IsErr result }
     ensures refused { IfErr result GrowRefusal }
     ensures shelf { KeepsShelf O.OnceDisk 2 shelf.old shelf.new result }
     ensures one_block { (shelf.new ≡ shelf.old) ⊎ (SpendsOne O.OnceDisk shelf.old shelf.new ⊎ (648 ≤ length whole.old.parts.items)) }

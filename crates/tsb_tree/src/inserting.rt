@@ -1,5 +1,5 @@
 //! A tree takes a version.
-ghost use Rattle.std.specs.Prelude.{◌≡◌, ◌↔◌, ◌<◌, ◌≤◌, ◌+◌, ◌*◌, ◌^◌, ◌⊎◌, ◌++◌, ◌∷◌, [], ℕ, suc, List, length, Err, IfOk, OnOk, OnErr, IfErr, IsErrOf};
+ghost use Rattle.std.specs.Prelude.{◌≡◌, ◌↔◌, ◌<◌, ◌≤◌, ◌+◌, ◌*◌, ◌^◌, ◌⊎◌, ◌++◌, ◌∷◌, [], ℕ, suc, List, length, Err, IfOk, OnOk, OnErr, IfErr, IsErr, IsErrOf};
 ghost use Rattle.once_store.specs.declared.error.AppendError.{AppendError};
 ghost use Rattle.page_tx.specs.Device.{KeepsDevice};
 ghost use Rattle.page_tx.specs.Images.{joined};
@@ -15,7 +15,7 @@ ghost use Rattle.tsb_tree.specs.NoRoom.{AtRoot, IsForWant, LeadsToFullColumn, Le
 ghost use Rattle.tsb_tree.specs.Outlived.{LeadsToOutdated};
 ghost use Rattle.tsb_tree.specs.Raises.{TreeCanBeLaid};
 ghost use Rattle.tsb_tree.specs.Refusals.{IsHonest, InsertRefusal};
-ghost use Rattle.tsb_tree.specs.Shelves.{KeepsShelf, SpendsOne};
+ghost use Rattle.tsb_tree.specs.Shelves.{HasNoneBlank, KeepsShelf, SpendsOne};
 ghost use Rattle.tsb_tree.specs.Stores.{ReadsAlone};
 ghost use Rattle.tsb_tree.specs.Trees.{TreeShown};
 
@@ -67,6 +67,8 @@ fn planned<P: Pages, O: OnceDisk + Drop>(
         → result ≡ Err (TreeError.Pages PageError.PagesFull) → (n : ℕ) × AtRoot (λ root. NeedsPages shown (version_of entry.now) root n) place.root place.level × (P.homes pages.old < P.next pages.old + n) }
     ensures once { (start : Start) (shown : List (List ℕ)) (all : List Version) → TreeShown P.Pages pages.old O.OnceDisk shelf.old start shown all place.root place.level place.least → place.least ≤ entry.now.stamp
         → (refusal : AppendError) → result ≡ Err (TreeError.Once refusal) → AtRoot (LeadsToOutdated shown (version_of entry.now)) place.root place.level }
+    ensures none_left { (start : Start) (shown : List (List ℕ)) (all : List Version) → TreeShown P.Pages pages.old O.OnceDisk shelf.old start shown all place.root place.level place.least → place.least ≤ entry.now.stamp
+        → HasNoneBlank O.OnceDisk shelf.old → AtRoot (LeadsToOutdated shown (version_of entry.now)) place.root place.level → IsErr result }
     ensures uses { (start : Start) (shown : List (List ℕ)) (all : List Version) → TreeShown P.Pages pages.old O.OnceDisk shelf.old start shown all place.root place.level place.least → place.least ≤ entry.now.stamp
         → IfOk result (λ plan. (n : ℕ) × AtRoot (λ root. NeedsPages shown (version_of entry.now) root n) place.root place.level × (plan.0.unused ≡ P.next pages.old + n)) }
     ensures light { (start : Start) (shown : List (List ℕ)) (all : List Version) → TreeShown P.Pages pages.old O.OnceDisk shelf.old start shown all place.root place.level place.least → place.least ≤ entry.now.stamp
@@ -145,6 +147,8 @@ pub fn insert<P: Pages, O: OnceDisk + Drop>(
         → result ≡ Err (TreeError.Pages PageError.PagesFull) → (n : ℕ) × AtRoot (λ root. NeedsPages shown (version_of entry.now) root n) place.root place.level × (P.homes pages.old < P.next pages.old + n) }
     ensures once { (start : Start) (shown : List (List ℕ)) (all : List Version) → TreeShown P.Pages pages.old O.OnceDisk shelf.old start shown all place.root place.level place.least
         → (refusal : AppendError) → result ≡ Err (TreeError.Once refusal) → AtRoot (LeadsToOutdated shown (version_of entry.now)) place.root place.level }
+    ensures none_left { (start : Start) (shown : List (List ℕ)) (all : List Version) → TreeShown P.Pages pages.old O.OnceDisk shelf.old start shown all place.root place.level place.least
+        → HasNoneBlank O.OnceDisk shelf.old → AtRoot (LeadsToOutdated shown (version_of entry.now)) place.root place.level → IsErr result }
     ensures uses { (start : Start) (shown : List (List ℕ)) (all : List Version) → TreeShown P.Pages pages.old O.OnceDisk shelf.old start shown all place.root place.level place.least
         → IfOk result (λ now. (n : ℕ) × AtRoot (λ root. NeedsPages shown (version_of entry.now) root n) place.root place.level × (P.next pages.new ≡ P.next pages.old + n)) }
     ensures in_place { (start : Start) (shown : List (List ℕ)) (all : List Version) → TreeShown P.Pages pages.old O.OnceDisk shelf.old start shown all place.root place.level place.least

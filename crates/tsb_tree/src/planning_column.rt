@@ -1,6 +1,7 @@
 //! What a column becomes that takes a version is planned.
-ghost use Rattle.std.specs.Prelude.{◌≡◌, ◌+◌, ◌^◌, ◌<◌, ◌≤◌, ◌⊎◌, ℕ, List, IfOk, IfErr, OnOk, Err, Some, slice_get};
+ghost use Rattle.std.specs.Prelude.{◌≡◌, ◌+◌, ◌^◌, ◌<◌, ◌≤◌, ◌⊎◌, ℕ, List, IfOk, IfErr, IsErr, OnOk, Err, Some, slice_get};
 ghost use Rattle.once_store.specs.declared.error.AppendError.{AppendError};
+ghost use Rattle.once_store.specs.Shelves.{disk_of, pen_of};
 ghost use Rattle.page_tx.specs.Start.{Start};
 ghost use Rattle.version_model.specs.Entries.{version_of};
 ghost use Rattle.version_model.specs.Pages.{Store};
@@ -13,7 +14,7 @@ ghost use Rattle.tsb_tree.specs.Outlived.{IsOutdated, LeadsToOutdated};
 ghost use Rattle.tsb_tree.specs.Plans.{CanBeLaid, Plans};
 ghost use Rattle.tsb_tree.specs.Read.{IsFilled, IsLeafOf};
 ghost use Rattle.tsb_tree.specs.Refusals.{IsHonest, PlanRefusal};
-ghost use Rattle.tsb_tree.specs.Shelves.{KeepsShelf, SpendsOne};
+ghost use Rattle.tsb_tree.specs.Shelves.{HasNoneBlank, KeepsShelf, SpendsOne};
 ghost use Rattle.tsb_tree.specs.Stores.{ReadsAlone};
 ghost use Rattle.tsb_tree.specs.Takers.{CanTake};
 ghost use Rattle.tsb_tree.specs.inner.Uses.{UsesPages, WantsPages};
@@ -55,6 +56,7 @@ fn plan_splits<P: Pages, O: OnceDisk + Drop>(
         → result ≡ Err (TreeError.Pages PageError.PagesFull) → WantsPages shown (version_of entry.now) place.now (P.homes pages.old) (P.next pages.old) }
     ensures burns { (shelf.new ≡ shelf.old) ⊎ IsOutdated place.now leaf.now.image (version_of entry.now) }
     ensures once { (refusal : AppendError) → result ≡ Err (TreeError.Once refusal) → IsOutdated place.now leaf.now.image (version_of entry.now) }
+    ensures none_left { O.honest (disk_of shelf.old) (pen_of shelf.old) → HasNoneBlank O.OnceDisk shelf.old → IsOutdated place.now leaf.now.image (version_of entry.now) → IsErr result }
     ensures laid { IfOk result (λ change. CanBeLaid (P.homes pages.old) (P.next pages.old) place.now.level change) }
     ensures inside { OnOk result (place.now.page < P.homes pages.old) }
     ensures refused { IfErr result (PlanRefusal (P.homes pages.old) (P.next pages.old) place.now.level (P.down pages.old)) }
@@ -99,6 +101,8 @@ pub fn plan_column<P: Pages, O: OnceDisk + Drop>(
     ensures burns { (s : Store) (all : List Version) → (can : CanTake P.Pages pages.old O.OnceDisk shelf.old s all place.now (version_of entry.now)) → (shelf.new ≡ shelf.old) ⊎ LeadsToOutdated can.shown (version_of entry.now) place.now }
     ensures once { (s : Store) (all : List Version) → (can : CanTake P.Pages pages.old O.OnceDisk shelf.old s all place.now (version_of entry.now))
         → (refusal : AppendError) → result ≡ Err (TreeError.Once refusal) → LeadsToOutdated can.shown (version_of entry.now) place.now }
+    ensures none_left { (s : Store) (all : List Version) → (can : CanTake P.Pages pages.old O.OnceDisk shelf.old s all place.now (version_of entry.now))
+        → HasNoneBlank O.OnceDisk shelf.old → LeadsToOutdated can.shown (version_of entry.now) place.now → IsErr result }
     ensures laid { IfOk result (λ change. CanBeLaid (P.homes pages.old) (P.next pages.old) place.now.level change) }
     ensures inside { OnOk result (place.now.page < P.homes pages.old) }
     ensures refused { IfErr result (PlanRefusal (P.homes pages.old) (P.next pages.old) place.now.level (P.down pages.old)) }

@@ -1,5 +1,5 @@
 //! A column takes a version for which its leaf has no room, and is laid out as one or as two.
-ghost use Rattle.std.specs.Prelude.{◌≡◌, ◌+◌, ◌^◌, ◌<◌, ◌≤◌, ◌⊎◌, ◌++◌, ◌∷◌, [], ℕ, Bool, List, Option, IfOk, IfErr, Err, IsErrOf, length};
+ghost use Rattle.std.specs.Prelude.{◌≡◌, ◌+◌, ◌^◌, ◌<◌, ◌≤◌, ◌⊎◌, ◌++◌, ◌∷◌, [], ℕ, Bool, List, Option, IfOk, IfErr, Err, IsErr, IsErrOf, length};
 ghost use Rattle.once_store.specs.declared.error.AppendError.{AppendError};
 ghost use Rattle.once_store.specs.Shelves.{disk_of, next_of, pen_of};
 ghost use Rattle.version_model.specs.Blocks.{BlockNode};
@@ -15,7 +15,7 @@ ghost use Rattle.tsb_tree.specs.Outlived.{HasOutlived};
 ghost use Rattle.tsb_tree.specs.Plans.{CanBeLaid};
 ghost use Rattle.tsb_tree.specs.Refusals.{IsHonest, LayoutRefusal, PlanRefusal};
 ghost use Rattle.tsb_tree.specs.Shapes.{IsWhole, leaf_in_page};
-ghost use Rattle.tsb_tree.specs.Shelves.{KeepsShelf, SpendsOne};
+ghost use Rattle.tsb_tree.specs.Shelves.{HasNoneBlank, KeepsShelf, SpendsOne};
 ghost use Rattle.tsb_tree.specs.inner.Uses.{UsesForLeaf};
 
 use crate::change::Change;
@@ -100,6 +100,7 @@ pub fn split_column<O: OnceDisk + Drop>(
     ensures wants_pages { result ≡ Err (TreeError.Pages PageError.PagesFull) → (stays : List Version) × IsWhatStays (whole.leaf ++ version_of entry.now ∷ []) entry.now.stamp stays × (10821 < octets stays) × (unused.homes < unused.next + 2) }
     ensures burns { (shelf.new ≡ shelf.old) ⊎ HasOutlived whole.leaf (version_of entry.now) }
     ensures once { (refusal : AppendError) → result ≡ Err (TreeError.Once refusal) → HasOutlived whole.leaf (version_of entry.now) }
+    ensures none_left { O.honest (disk_of shelf.old) (pen_of shelf.old) → HasNoneBlank O.OnceDisk shelf.old → HasOutlived whole.leaf (version_of entry.now) → IsErr result }
     ensures refused { (down : Bool) → IfErr result (PlanRefusal unused.homes unused.next 1 down) }
     ensures read { IsErrOf result (TreeError.Pages PageError.Fault) → ⊥ }
     ensures shelf { KeepsShelf O.OnceDisk 2 shelf.old shelf.new result }

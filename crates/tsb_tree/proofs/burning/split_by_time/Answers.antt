@@ -3,7 +3,7 @@ use Rattle.std.proofs.lemmas.Bool.{cases_lt}
 use Rattle.tsb_tree.specs.declared.burning.Burnt.{Burnt}
 use Rattle.tsb_tree.specs.Shapes.{leaf_in_page, with_leaf}
 use Rattle.tsb_tree.proofs.Shaping.{whole_split}
-use Rattle.tsb_tree.proofs.Shelving.{err_shelf, ok_shelf, leaves_then, honest_on, spends_leaves, spends_on}
+use Rattle.tsb_tree.proofs.Shelving.{err_shelf, ok_shelf, leaves_then, honest_on, none_blank_on, none_put, spends_leaves, spends_on}
 use Rattle.tsb_tree.proofs.Rooms.{took}
 use Rattle.tsb_tree.proofs.burning.split_by_time.Goals as goal
 
@@ -47,3 +47,9 @@ returns-in-Err-clause-one_block g c = elim (cases_lt (length c.args.whole.now.pa
       (err_shelf {A = Burnt} g.O.OnceDisk c.make_room.new.shelf c.settle_part.new.shelf c.in-Err.refusal (Err c.from.result) (ap Err c.from.ensures) c.in-Err.ensures.shelf))
   | inr full ↦ inr full
 ]
+
+pub returns-in-Ok-clause-none_left : goal.returns-in-Ok-clause-none_left
+returns-in-Ok-clause-none_left g c honest none =
+    let room = c.in_ok-column.ensures.shelf in
+    absurd (none_put g.O.OnceDisk c.make_room.new.shelf c.settle_part.new.shelf c.in-Ok.leaf c.in-Ok.ensures.shelf (honest_on g.O.OnceDisk 1 c.args.shelf.now c.make_room.new.shelf _ _ room honest)
+    (none_blank_on g.O.OnceDisk 1 c.args.shelf.now c.make_room.new.shelf _ _ room honest none))

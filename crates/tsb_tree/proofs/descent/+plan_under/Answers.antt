@@ -1,4 +1,5 @@
 use Rattle.std.proofs.Common.{◌≡◌, ◌<◌, ◌≤◌, ℕ, suc, inl, Result, rules, sym, ◌∙◌, subst, arith}
+use Rattle.std.proofs.lemmas.Bool.{false≢true}
 use Rattle.std.proofs.lemmas.Result.{err_from_is_err_and}
 use Rattle.std.specs.Prelude.{IfOk, IfErr, OnOk}
 use Rattle.version_model.specs.Entries.{version_of}
@@ -7,12 +8,14 @@ use Rattle.tsb_walk.specs.declared.page_place.PagePlace.{PagePlace}
 use Rattle.tsb_tree.specs.declared.change.Change.{Change}
 use Rattle.tsb_tree.specs.declared.error.TreeError.{TreeError}
 use Rattle.tsb_tree.specs.NoRoom.{IsForWant, LeadsToFullColumn, full_column_below, LeadsToFullLeaf, in_child}
+use Rattle.tsb_tree.specs.Outlived.{LeadsToOutdated}
 use Rattle.tsb_tree.specs.Plans.{Plans, CanBeLaid}
 use Rattle.tsb_tree.specs.Raises.{RaiseRefusal}
 use Rattle.tsb_tree.specs.inner.Uses.{UsesPages, WantsPages}
 use Rattle.tsb_tree.proofs.Needing.{half_leads, uses_up, wants_up, wants_half, read_never_full, read_never_once}
 use Rattle.tsb_tree.proofs.Raising.{take_lower, at_lower, leads_lower, outdated_lower, can_said, raised, raise_never, half_room}
 use Rattle.tsb_walk.specs.Shown.{keys_at}
+use Rattle.tsb_tree.proofs.OneWay.{outdated_on}
 use Rattle.tsb_tree.proofs.Outliving.{or_else}
 use Rattle.tsb_tree.proofs.Shelving.{spends_none}
 use Rattle.tsb_tree.proofs.Wanting.{is_half, raised_light, raised_wants, read_wants_none}
@@ -236,3 +239,17 @@ returns-clause-one_block g t c s all can =
     let can' = take_lower pages c.args.pages.now c.child_at.new.pages _ g.O.OnceDisk c.args.shelf.now s all place next v c.in_ok-next.ensures.reads can above lower in
     or_else (λ (full : LeadsToFullColumn can'.shown v next). full_column_below place next lower (at_lower pages c.args.pages.now c.child_at.new.pages _ g.O.OnceDisk c.args.shelf.now s all place next v c.in_ok-next.ensures.reads can above lower (λ shown. LeadsToFullColumn shown v next) full))
     (c.in_ok-change.ensures.one_block s all can')
+
+pub returns-clause-none_left : goal.returns-clause-none_left
+returns-clause-none_left g t c s all can none leads =
+    let pages = g.P.Pages in
+    let place : PagePlace = c.args.place.now in
+    let next : PagePlace = c.in_ok-next.next in
+    let v : Version = version_of c.args.entry.now in
+    let above : 1 < place.level = omega (arith, c.requires.level, c.if-place-eq1.false) in
+    let said = can_said g.P.Pages c.args.pages.now g.O.OnceDisk c.args.shelf.now s all c.args.place.now (version_of c.args.entry.now) can above in
+    let lower = c.in_ok-next.ensures.lower can.start can.shown said.0 can.is.shows said.1 in
+    let can' = take_lower pages c.args.pages.now c.child_at.new.pages _ g.O.OnceDisk c.args.shelf.now s all place next v c.in_ok-next.ensures.reads can above lower in
+    let never = at_lower pages c.args.pages.now c.child_at.new.pages _ g.O.OnceDisk c.args.shelf.now s all place next v c.in_ok-next.ensures.reads can above lower (λ shown. LeadsToOutdated shown v next → ⊥)
+    (λ rest. false≢true (c.in_ok-change.ensures.none_left s all can' none rest)) in
+    absurd (never (outdated_on can.shown v place next lower leads))

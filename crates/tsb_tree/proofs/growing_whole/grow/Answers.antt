@@ -1,11 +1,12 @@
 use Rattle.std.proofs.Common.{rules, ◌≤◌, inr, List, length, sym, ap, subst, arith}
+use Rattle.std.proofs.lemmas.Bool.{false≢true}
 use Rattle.version_model.specs.Entries.{version_of}
 use Rattle.version_model.specs.Shows.{IsFrom}
 use Rattle.version_model.specs.Sizes.{octets}
-use Rattle.version_model.specs.Versions.{Version, Has}
+use Rattle.version_model.specs.Versions.{Version, Has, IsAbove}
 use Rattle.tsb_tree.specs.declared.whole.Whole.{Whole}
 use Rattle.tsb_tree.specs.Needs.{IsWhatStays}
-use Rattle.tsb_tree.proofs.GrowingWhole.{taken_whole, taken_most, taken_only, taken_stays, taken_on}
+use Rattle.tsb_tree.proofs.GrowingWhole.{taken_whole, taken_most, taken_none, taken_only, taken_stays, taken_on}
 use Rattle.tsb_tree.proofs.Outliving.{or_else}
 use Rattle.tsb_tree.proofs.growing_whole.grow.Goals as goal
 
@@ -56,3 +57,12 @@ returns-in-Ok-clause-one_block g c = inr (or_else (λ (full : 648 ≤ length c.t
 
 pub returns-in-Err-clause-one_block : goal.returns-in-Err-clause-one_block
 returns-in-Err-clause-one_block g c = inr (or_else (λ (full : 648 ≤ length c.take.new.whole.parts.items). subst (λ (w : Whole). 648 ≤ length w.parts.items) c.in_ok-take.ensures.taken full) c.split_by_time.ensures.one_block)
+
+pub returns-in_default-clause-none_left : goal.returns-in_default-clause-none_left
+returns-in_default-clause-none_left g c honest none outlived =
+    let above : IsAbove c.args.whole.now.leaf c.args.entry.now.stamp = search rules in
+    let what : IsWhatStays c.take.new.whole.leaf c.args.entry.now.stamp c.take.new.whole.leaf = search rules in
+    absurd (taken_none c.args.whole.now c.take.new.whole (version_of c.args.entry.now) c.in_ok-take.ensures.taken above what outlived)
+
+pub returns-in-Ok-clause-none_left : goal.returns-in-Ok-clause-none_left
+returns-in-Ok-clause-none_left g c honest none outlived = absurd (false≢true (c.in-Ok.ensures.none_left honest none))

@@ -1,4 +1,5 @@
 use Rattle.std.proofs.Common.{◌≡◌, ◌≤◌, ℕ, length, rules, inl, inr, sym, ◌∙◌, ap, subst, arith}
+use Rattle.std.proofs.lemmas.Bool.{false≢true}
 use Rattle.std.proofs.lemmas.Result.{err_from_is_err_and}
 use Rattle.page_journal.specs.Layout.{pages_of}
 use Rattle.page_tx.proofs.Laying.{length_pages_of}
@@ -195,3 +196,8 @@ returns-in-Err-clause-one_block g c start shown all tree =
 
 pub returns-then-lt-clause-one_block : goal.returns-then-lt-clause-one_block
 returns-then-lt-clause-one_block g c start shown all tree = inl (spends_none g.O.OnceDisk c.args.shelf.now)
+
+pub returns-in-Ok-clause-none_left : goal.returns-in-Ok-clause-none_left
+returns-in-Ok-clause-none_left g c start shown all tree none leads =
+    let later : c.args.place.least ≤ c.args.entry.now.stamp = not_less c.lt.result _ _ c.lt.ensures c.if-lt.false in
+    absurd (false≢true (c.in_ok-change.ensures.none_left start shown all tree later none leads))

@@ -1,4 +1,5 @@
 use Rattle.std.proofs.Common.{◌≡◌, ◌<◌, ℕ, Option, rules, inl, inr, refl, sym, ◌∙◌, subst, arith}
+use Rattle.std.proofs.lemmas.Bool.{false≢true}
 use Rattle.std.proofs.lemmas.Result.{err_from_is_err_and}
 use Rattle.std.specs.Prelude.{IsSome}
 use Rattle.version_model.specs.declared.child.Child.{Child}
@@ -12,6 +13,7 @@ use Rattle.tsb_tree.specs.Raises.{TreeCanBeLaid}
 use Rattle.tsb_tree.specs.inner.Uses.{UsesPages, WantsPages}
 use Rattle.tsb_tree.proofs.Excluding.{root_stays}
 use Rattle.tsb_tree.proofs.Needing.{tree_wants, tree_same_uses, tree_grown_uses, tree_grown_wants, tree_level, tree_leads, root_full, root_never_once}
+use Rattle.tsb_tree.proofs.OneWay.{outdated_root}
 use Rattle.tsb_tree.proofs.Outliving.{or_else}
 use Rattle.tsb_tree.proofs.Wanting.{plan_full, plan_never_high}
 use Rattle.tsb_tree.proofs.Insertion.{root_can, root_so, root_plans, tree_same, tree_grown, half_above, not_highest}
@@ -329,3 +331,23 @@ returns-clause-one_block g c start shown all tree later =
     let can = root_can g.P.Pages c.args.pages.now g.O.OnceDisk c.args.shelf.now start shown all root.result place.root place.level place.least v root.ensures.page root.ensures.level root.ensures.keys tree later c.requires.inside in
     or_else (root_so g.P.Pages c.args.pages.now g.O.OnceDisk c.args.shelf.now start shown all root.result place.root place.level place.least v (λ pages at. LeadsToFullColumn pages v at) root.ensures.page root.ensures.level root.ensures.keys tree later c.requires.inside)
     (c.in_ok-change.ensures.one_block tree.store all can)
+
+pub returns-in_default-clause-none_left : goal.returns-in_default-clause-none_left
+returns-in_default-clause-none_left g c start shown all tree later none leads =
+    let root = c.root-root in
+    let place = c.args.place in
+    let v : Version = version_of c.args.entry.now in
+    let can = root_can g.P.Pages c.args.pages.now g.O.OnceDisk c.args.shelf.now start shown all root.result place.root place.level place.least v root.ensures.page root.ensures.level root.ensures.keys tree later c.requires.inside in
+    let never = root_so g.P.Pages c.args.pages.now g.O.OnceDisk c.args.shelf.now start shown all root.result place.root place.level place.least v (λ pages at. LeadsToOutdated pages v at → ⊥) root.ensures.page root.ensures.level root.ensures.keys tree later c.requires.inside
+    (λ way. false≢true (c.in_ok-change.ensures.none_left tree.store all can none way)) in
+    absurd (outdated_root shown v place.root place.level leads never)
+
+pub returns-clause-none_left : goal.returns-clause-none_left
+returns-clause-none_left g c start shown all tree later none leads =
+    let root = c.root-root in
+    let place = c.args.place in
+    let v : Version = version_of c.args.entry.now in
+    let can = root_can g.P.Pages c.args.pages.now g.O.OnceDisk c.args.shelf.now start shown all root.result place.root place.level place.least v root.ensures.page root.ensures.level root.ensures.keys tree later c.requires.inside in
+    let never = root_so g.P.Pages c.args.pages.now g.O.OnceDisk c.args.shelf.now start shown all root.result place.root place.level place.least v (λ pages at. LeadsToOutdated pages v at → ⊥) root.ensures.page root.ensures.level root.ensures.keys tree later c.requires.inside
+    (λ way. false≢true (c.in_ok-change.ensures.none_left tree.store all can none way)) in
+    absurd (outdated_root shown v place.root place.level leads never)

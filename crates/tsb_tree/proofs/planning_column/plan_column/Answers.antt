@@ -16,6 +16,7 @@ use Rattle.tsb_tree.specs.Refusals.{IsHonest}
 use Rattle.tsb_tree.specs.inner.Uses.{UsesPages}
 use Rattle.tsb_tree.proofs.Columns.{column_shown}
 use Rattle.tsb_tree.proofs.Needing.{leaf_shown, uses_none, read_never_full, read_never_once}
+use Rattle.tsb_tree.proofs.OneWay.{filled_no_room, outdated_here}
 use Rattle.tsb_tree.proofs.Outliving.{or_else}
 use Rattle.tsb_tree.proofs.Pushing.{can_after, leaf_here, within, above_leaf, pushed_says, filled_here, current_is, standing, pushed_true, pushed_false, stays_false, room_here}
 use Rattle.tsb_tree.proofs.Shelving.{spends_none}
@@ -205,3 +206,24 @@ returns-then-branch-clause-one_block g c s all can = inl (spends_none g.O.OnceDi
 
 pub returns-clause-one_block : goal.returns-clause-one_block
 returns-clause-one_block g c s all can = c.plan_splits.ensures.one_block can.start can.shown (c.in_ok-leaf.ensures.reads.shown can.start can.shown can.is.shows)
+
+pub returns-then-branch-clause-none_left : goal.returns-then-branch-clause-none_left
+returns-then-branch-clause-none_left g c s all can none leads =
+    let place = c.args.place.now in
+    let v = version_of c.args.entry.now in
+    let of = c.in_ok-leaf.ensures.leaf can.start can.shown can.is.shows (column_shown s all c.args.place.now can.shown c.requires.level can.is.tells can.stands c.args.entry.now.stamp can.above.above) in
+    let l = leaf_here s all c.args.place.now can.shown c.requires.level can.is.tells can.stands c.in_ok-leaf.leaf.page c.in_ok-leaf.leaf.image of in
+    let yes : c.in_ok-push_entry.field-0 ≡ true = search rules in
+    let pushed = pushed_true TreeError l.leaf v c.push_entry.new.image c.in_ok-push_entry.field-0 yes (c.in_ok-push_entry.ensures.pushed l.leaf l.page (within s all c.args.place.now can.shown c.requires.level can.is.tells can.stands c.in_ok-leaf.leaf.page c.in_ok-leaf.leaf.image of c.args.entry.now.key c.requires.has) (above_leaf s all c.args.place.now can.shown c.requires.level can.is.tells can.stands c.in_ok-leaf.leaf.page c.in_ok-leaf.leaf.image of c.args.entry.now.stamp can.above)) in
+    let room = room_here s all c.args.place.now can.shown c.requires.level can.is.tells can.stands c.in_ok-leaf.leaf.page c.in_ok-leaf.leaf.image of v c.push_entry.new.image pushed in
+    absurd (filled_no_room can.shown place c.in_ok-leaf.leaf.page c.in_ok-leaf.leaf.image v of (outdated_here can.shown v place c.in_ok-leaf.leaf.page c.in_ok-leaf.leaf.image of leads).0 room)
+
+pub returns-clause-none_left : goal.returns-clause-none_left
+returns-clause-none_left g c s all can none leads =
+    let place = c.args.place.now in
+    let v = version_of c.args.entry.now in
+    let of = c.in_ok-leaf.ensures.leaf can.start can.shown can.is.shows (column_shown s all c.args.place.now can.shown c.requires.level can.is.tells can.stands c.args.entry.now.stamp can.above.above) in
+    let no : c.in_ok-push_entry.field-0 ≡ false = search rules in
+    let same : c.push_entry.new.image ≡ c.in_ok-leaf.leaf.image = stays_false TreeError _ _ c.in_ok-push_entry.field-0 no c.in_ok-push_entry.ensures.stays in
+    let outdated = (outdated_here can.shown v place c.in_ok-leaf.leaf.page c.in_ok-leaf.leaf.image of leads).1 in
+    c.plan_splits.ensures.none_left can.is.honest none (subst (λ (i : List ℕ). IsOutdated place i v) (sym same) outdated)

@@ -14,7 +14,7 @@ use Rattle.tsb_tree.specs.Wholes.{IsAt}
 use Rattle.tsb_tree.specs.inner.Uses.{UsesPages}
 use Rattle.tsb_tree.proofs.Columns.{is_at, ok_both}
 use Rattle.tsb_tree.proofs.LayingOut.{plans_taken, read_plan, keeps_none}
-use Rattle.tsb_tree.proofs.Needing.{column_read, leaf_read, filled_read, leaf_uses, leaf_wants, outdated_read, read_never_full, read_never_once}
+use Rattle.tsb_tree.proofs.Needing.{column_read, leaf_read, filled_read, leaf_uses, leaf_wants, outdated_read, outdated_whole, read_never_full, read_never_once}
 use Rattle.tsb_tree.proofs.Outliving.{or_else}
 use Rattle.tsb_tree.proofs.Pushing.{whole_among, whole_forward}
 use Rattle.tsb_tree.proofs.Shelving.{spends_none, spends_same}
@@ -143,3 +143,7 @@ returns-clause-one_block g c start shown shows =
       | inl same ↦ inl (spends_same g.O.OnceDisk c.args.shelf.now c.split_column.new.shelf same)
       | inr rest ↦ or_else (full_column place w.parts.items w.start c.args.leaf.now.page says) rest
     ]
+
+pub returns-clause-none_left : goal.returns-clause-none_left
+returns-clause-none_left g c honest none outdated =
+    c.split_column.ensures.none_left honest none (outdated_whole c.args.place.now c.args.leaf.now.image (version_of c.args.entry.now) c.in_ok-whole.whole outdated c.in_ok-whole.ensures.leaf)

@@ -1,4 +1,5 @@
 use Rattle.std.proofs.Common.{inl, inr, ap, arith}
+use Rattle.std.proofs.lemmas.Bool.{false≢true}
 use Rattle.version_model.specs.Versions.{Version}
 use Rattle.tsb_tree.proofs.LayingOut.{can_be_laid}
 use Rattle.tsb_tree.proofs.Needing.{layout_full}
@@ -23,3 +24,6 @@ returns-in-Ok-clause-uses g c = (c.grow.new.whole.leaf, c.in_ok-grow.ensures.sta
 pub returns-in-Err-clause-wants_pages : goal.returns-in-Err-clause-wants_pages
 returns-in-Err-clause-wants_pages g c is =
     (c.grow.new.whole.leaf, c.in_ok-grow.ensures.stays, c.in-Err.ensures.wants_pages is, layout_full _ _ _ c.in-Err.ensures.refused (cc))
+
+pub returns-in-Ok-clause-none_left : goal.returns-in-Ok-clause-none_left
+returns-in-Ok-clause-none_left g c honest none outlived = absurd (false≢true (c.in_ok-grow.ensures.none_left honest none outlived))
