@@ -12,7 +12,12 @@ use Rattle.route_meaning.specs.History.{History, waiting}
 use Rattle.route_history.specs.Kept.{Timed, AreVersions}
 use Rattle.tsb_tree.specs.Needs.{NeedsLevel, NeedsPages}
 use Rattle.tsb_tree.specs.NoRoom.{AtRoot}
-use Rattle.tsb_tree.specs.Opened.{HasRootLevel}
+use Rattle.tsb_tree.specs.Opened.{HasRootLevel, is_key_node}
+use Rattle.tsb_tree.specs.Outlived.{LeadsToOutdated, outdated_leaf, outdated_below}
+use Rattle.tsb_node.specs.Views.{PageSays}
+use Rattle.tsb_walk.specs.declared.page_place.PagePlace.{PagePlace}
+use Rattle.tsb_walk.specs.Shown.{keys_at}
+use Rattle.version_model.specs.Pages.{Keys, KeyNode, all_keys}
 use Rattle.version_model.specs.Versions.{Version}
 use Rattle.archive_head.specs.Head.{Contents}
 use Rattle.archive_pages.specs.declared.settings.Settings.{Settings}
@@ -21,7 +26,7 @@ use Rattle.archive_pages.specs.Changes.{next_change}
 use Rattle.archive_pages.specs.Carried.{Bears}
 use Rattle.disk_archive.specs.declared.apply_error.ApplyError.{ApplyError}
 use Rattle.disk_archive.specs.declared.apply_error.ApplyError.TheVariants as applies
-use Rattle.disk_archive.specs.Lacks.{HasRoom, IsNextVersion, LacksBlock, LacksLevel, LacksNeither, LacksPages, OneLacksNeither}
+use Rattle.disk_archive.specs.Lacks.{HasRoom, IsNextVersion, LacksLevel, LacksNone, LacksPages, NeedsBlock, OneLacksNone}
 use Rattle.disk_archive.specs.Trees.{TreeLies}
 use Rattle.disk_archive.specs.inner.Applications.{ApplyRefusal, FrontRefusal, LackRefusal, LimitRefusal, apply_of_use}
 use Rattle.disk_archive.proofs.OneNeed.{tree_need}
@@ -70,7 +75,7 @@ head_reads down n pages.OutOfMemory few r = tt
 
 -- only pages, a level and a block are to be looked at
 pub lacks_by : (is : Version → Type 0) (shown : List (List ℕ)) (left root : ℕ) (e : ApplyError) → (e ≡ applies.PagesFull → LacksPages is shown left root) → (e ≡ applies.TooHigh → LacksLevel is shown root)
-    → (e ≡ applies.OnceFull → LacksBlock is shown root) → LackRefusal is shown left root e
+    → (e ≡ applies.OnceFull → NeedsBlock is shown root) → LackRefusal is shown left root e
 lacks_by is shown left root applies.NeedsRecovery full high once = tt
 lacks_by is shown left root applies.CounterFull full high once = tt
 lacks_by is shown left root applies.TooHigh full high once = high refl
@@ -122,6 +127,24 @@ version_next count s settled head shown h first later v b here is =
 
 -- ---- a version is taken
 
+-- the way from a place of all keys is that from one of the same page and of its root's level
+level_of : (shown : List (List ℕ)) (v : Version) (level : ℕ) (place : PagePlace) → keys_at place ≡ all_keys → HasRootLevel shown place.page level → LeadsToOutdated shown v place
+    → (at : PagePlace) × (at.page ≡ place.page) × (at.level ≡ level) × (keys_at at ≡ keys_at place) × LeadsToOutdated shown v at
+level_of shown v level _ keys is (outdated_leaf column page image of filled outdated) =
+    let at : PagePlace = record { page = column.page; level = level; low = column.low; high = column.high } in (
+      at,
+      refl,
+      refl,
+      refl,
+      outdated_leaf at page image (record { parts = of.parts; start = of.start; versions = of.versions; column = of.column; at = of.at; says = of.says })
+          (record { start = filled.start; versions = filled.versions; says = filled.says; filled = filled.filled })
+          (record { start = outdated.start; versions = outdated.versions; says = outdated.says; outlived = outdated.outlived }),
+    )
+level_of shown v level _ keys is (outdated_below place next lower rest) =
+    let said : PageSays lower.says.octets (KeyNode place.level all_keys lower.children) = subst (λ (k : Keys). PageSays lower.says.octets (KeyNode place.level k lower.children)) keys lower.says.says in
+    let same : level ≡ place.level = is place.level (lower.says.octets, lower.says.at, is_key_node place.level lower.children said) in
+    (place, refl, sym same, refl, outdated_below place next lower rest)
+
 -- where the tree was given as many pages as it needs, and rises where it has to
 module _ (v : Version) (shown : List (List ℕ)) (left root level n : ℕ) (at : AtRoot (λ place. NeedsPages shown v place n) root level) where
   enough_of : n ≤ left → LacksPages (λ w. w ≡ v) shown left root → ⊥
@@ -138,22 +161,29 @@ module _ (v : Version) (shown : List (List ℕ)) (left root level n : ℕ) (at :
       let up = rises (subst (λ (k : ℕ). AtRoot (NeedsLevel shown v) root k) (sym seven) needs) in
       omega (arith, seven, up, most)
 
-  pub lacks_neither : n ≤ left → (now : ℕ) → HasRootLevel shown root level → now ≤ 7 → (AtRoot (NeedsLevel shown v) root level → now ≡ suc level) → LacksNeither v shown left root
-  lacks_neither few now is most rises = record { enough = enough_of few; below = below_of now is most rises }
+  block_of : (none_blank : Type 0) → HasRootLevel shown root level → (none_blank → AtRoot (LeadsToOutdated shown v) root level → ⊥) → NeedsBlock (λ w. w ≡ v) shown root → none_blank → ⊥
+  block_of none_blank is never l none =
+      let needs : AtRoot (LeadsToOutdated shown v) root l.level = subst (λ (w : Version). AtRoot (LeadsToOutdated shown w) root l.level) l.its l.needs in
+      let found = level_of shown v level needs.0 needs.3 (subst (λ (r : ℕ). HasRootLevel shown r level) (sym needs.1) is) needs.4 in
+      never none (found.0, found.1 ∙ needs.1, found.2, found.3 ∙ needs.3, found.4)
+
+  pub lacks_none : (none_blank : Type 0) → n ≤ left → (now : ℕ) → HasRootLevel shown root level → now ≤ 7 → (AtRoot (NeedsLevel shown v) root level → now ≡ suc level) → (none_blank → AtRoot (LeadsToOutdated shown v) root level → ⊥)
+      → LacksNone v shown left root none_blank
+  lacks_none none_blank few now is most rises never = record { enough = enough_of few; below = below_of now is most rises; block = block_of none_blank is never }
 
 -- the same of one of the versions of which more is known
-pub one_as : (was is : Version → Type 0) (shown : List (List ℕ)) (left root : ℕ) → ((v : Version) → was v → is v) → ((v : Version) → is v → was v) → OneLacksNeither was shown left root → OneLacksNeither is shown left root
-one_as was is shown left root more back (inl none) = inl (λ v h. none v (back v h))
-one_as was is shown left root more back (inr one) = inr (one.0, more one.0 one.1, one.2)
+pub one_as : (was is : Version → Type 0) (shown : List (List ℕ)) (left root : ℕ) (none_blank : Type 0) → ((v : Version) → was v → is v) → ((v : Version) → is v → was v) → OneLacksNone was shown left root none_blank → OneLacksNone is shown left root none_blank
+one_as was is shown left root none_blank more back (inl none) = inl (λ v h. none v (back v h))
+one_as was is shown left root none_blank more back (inr one) = inr (one.0, more one.0 one.1, one.2)
 
 -- a change that isn't there has no version
-pub none_versions : (n : ℕ) (shown : List (List ℕ)) (left root : ℕ) (ts : List Timed) → ts ≡ [] → OneLacksNeither (λ v. AreVersions n ts (v ∷ [])) shown left root
-none_versions n shown left root ts none = inl (λ v is. subst (λ (us : List Timed). AreVersions n us (v ∷ [])) none is)
+pub none_versions : (n : ℕ) (shown : List (List ℕ)) (left root : ℕ) (none_blank : Type 0) (ts : List Timed) → ts ≡ [] → OneLacksNone (λ v. AreVersions n ts (v ∷ [])) shown left root none_blank
+none_versions n shown left root none_blank ts none = inl (λ v is. subst (λ (us : List Timed). AreVersions n us (v ∷ [])) none is)
 
 -- the same where as many pages are left, of the same tree, and as many changes are applied
-pub room_at : (is : Version → Type 0) (shown : List (List ℕ)) (left root count left' root' count' : ℕ) → left' ≡ left → root' ≡ root → count' ≡ count → HasRoom is shown left' root' count' → HasRoom is shown left root count
-room_at is shown left root count left' root' count' n r c room =
-    subst (λ m. HasRoom is shown m root count) n (subst (λ m. HasRoom is shown left' m count) r (subst (λ m. HasRoom is shown left' root' m) c room))
+pub room_at : (is : Version → Type 0) (shown : List (List ℕ)) (left root count left' root' count' : ℕ) (none_blank : Type 0) → left' ≡ left → root' ≡ root → count' ≡ count → HasRoom is shown left' root' count' none_blank → HasRoom is shown left root count none_blank
+room_at is shown left root count left' root' count' none_blank n r c room =
+    subst (λ m. HasRoom is shown m root count none_blank) n (subst (λ m. HasRoom is shown left' m count none_blank) r (subst (λ m. HasRoom is shown left' root' m none_blank) c room))
 
 -- ---- what is returned
 
@@ -165,6 +195,6 @@ pub lacks_level : {X : Type 0} (is : Version → Type 0) (shown : List (List ℕ
 lacks_level is shown left root (Ok x) l told = absurd cc
 lacks_level is shown left root (Err e) l told = let same : e ≡ applies.TooHigh = cc in subst (LackRefusal is shown left root) same l
 
-pub lacks_block : {X : Type 0} (is : Version → Type 0) (shown : List (List ℕ)) (left root : ℕ) (r : Result X ApplyError) → IfErr r (LackRefusal is shown left root) → r ≡ Err applies.OnceFull → LacksBlock is shown root
+pub lacks_block : {X : Type 0} (is : Version → Type 0) (shown : List (List ℕ)) (left root : ℕ) (r : Result X ApplyError) → IfErr r (LackRefusal is shown left root) → r ≡ Err applies.OnceFull → NeedsBlock is shown root
 lacks_block is shown left root (Ok x) l told = absurd cc
 lacks_block is shown left root (Err e) l told = let same : e ≡ applies.OnceFull = cc in subst (LackRefusal is shown left root) same l

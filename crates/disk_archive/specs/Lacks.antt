@@ -36,24 +36,26 @@ pub record LacksLevel (is : Version → Type 0) (pages : List (List ℕ)) (root 
 
 -- To take the version of which this holds, the tree with this root on these pages has to split a full leaf by time, which moves versions
 -- into a block.
-pub record LacksBlock (is : Version → Type 0) (pages : List (List ℕ)) (root : ℕ) : Type 0 where
+pub record NeedsBlock (is : Version → Type 0) (pages : List (List ℕ)) (root : ℕ) : Type 0 where
   pub version : Version
   pub its : is version
   pub level : ℕ
   pub needs : AtRoot (LeadsToOutdated pages version) root level
 
--- To take the version, the tree with this root on these pages lacks neither pages, of which `left` were never used, nor a level.
-pub record LacksNeither (v : Version) (pages : List (List ℕ)) (left root : ℕ) : Type 0 where
+-- To take the version, the tree with this root on these pages lacks nothing: neither pages, of which `left` were never used, nor a level; and
+-- it doesn't need a block where none is blank.
+pub record LacksNone (v : Version) (pages : List (List ℕ)) (left root : ℕ) (none_blank : Type 0) : Type 0 where
   pub enough : LacksPages (λ w. w ≡ v) pages left root → ⊥
   pub below : LacksLevel (λ w. w ≡ v) pages root → ⊥
+  pub block : NeedsBlock (λ w. w ≡ v) pages root → none_blank → ⊥
 
--- one of the versions of which this holds, where there is one, lacks neither: a change has one, but for the end of a session, at which any
+-- one of the versions of which this holds, where there is one, lacks nothing: a change has one, but for the end of a session, at which any
 -- value stands
-abbrev pub OneLacksNeither : (Version → Type 0) → List (List ℕ) → ℕ → ℕ → Type 0
-OneLacksNeither is pages left root = ((v : Version) → is v → ⊥) ⊎ ((v : Version) × is v × LacksNeither v pages left root)
+abbrev pub OneLacksNone : (Version → Type 0) → List (List ℕ) → ℕ → ℕ → Type 0 → Type 0
+OneLacksNone is pages left root none_blank = ((v : Version) → is v → ⊥) ⊎ ((v : Version) × is v × LacksNone v pages left root none_blank)
 
 -- What is there where the next change is applied, after `count` others: one more can be counted, and its version, where it has one, lacks
--- neither pages nor a level.
-pub record HasRoom (is : Version → Type 0) (pages : List (List ℕ)) (left root count : ℕ) : Type 0 where
+-- neither pages nor a level, nor a block that it needs.
+pub record HasRoom (is : Version → Type 0) (pages : List (List ℕ)) (left root count : ℕ) (none_blank : Type 0) : Type 0 where
   pub counted : count < 18446744073709551615
-  pub version : OneLacksNeither is pages left root
+  pub version : OneLacksNone is pages left root none_blank

@@ -49,7 +49,7 @@ impl<E: EraseDisk + Drop, O: OnceDisk + Drop> Archive<E, O> {
     ghost use Rattle.disk_archive.specs.Blanks.{NoneBlank, unused_pages};
     ghost use Rattle.disk_archive.specs.Checks.{HasPages, root_in};
     ghost use Rattle.disk_archive.specs.Failures.{ReportsOne};
-    ghost use Rattle.disk_archive.specs.Lacks.{HasRoom, IsNextVersion, LacksBlock, LacksLevel, LacksPages};
+    ghost use Rattle.disk_archive.specs.Lacks.{HasRoom, IsNextVersion, NeedsBlock, LacksLevel, LacksPages};
     ghost use Rattle.tsb_tree.specs.Opened.{HasRootLevel};
     ghost use Rattle.tsb_tree.specs.Shelves.{SpendsAtMost};
     ghost use Rattle.disk_archive.specs.Sites.{LeftEither};
@@ -69,7 +69,7 @@ impl<E: EraseDisk + Drop, O: OnceDisk + Drop> Archive<E, O> {
         ensures refused { IfErr result (ApplyRefusal (is_down self.old)) }
         ensures limits { IfErr result (LimitRefusal (home_pages (journal_of (pool_of self.old.tx))) self.old.head.fresh self.old.head.applied) }
         ensures lacks { (h : History) (k : Carries self.old h) → IfErr result (LackRefusal (IsNextVersion h) k.pages (unused_pages self.old) (root_in self.old)) }
-        ensures room { result ≡ Ok Step.Applied → (h : History) (k : Carries self.old h) → HasRoom (IsNextVersion h) k.pages (unused_pages self.old) (root_in self.old) self.old.head.applied }
+        ensures room { result ≡ Ok Step.Applied → (h : History) (k : Carries self.old h) → HasRoom (IsNextVersion h) k.pages (unused_pages self.old) (root_in self.old) self.old.head.applied (NoneBlank self.old) }
         ensures high { IsHonest self.old → (pages : List (List ℕ)) → HasPages self.old pages → result ≡ Err ApplyError.TooHigh → HasRootLevel pages (root_in self.old) 7 }
         ensures erase { E.honest (erase_of self.old) ↔ E.honest (erase_of self.new) }
         ensures settings { settings_of self.new ≡ settings_of self.old }
@@ -135,8 +135,8 @@ impl<E: EraseDisk + Drop, O: OnceDisk + Drop> Archive<E, O> {
         ensures too_high { IsHonest self.old → (pages : List (List ℕ)) → HasPages self.old pages → result ≡ Err ApplyError.TooHigh → HasRootLevel pages (root_in self.old) 7 }
         ensures level_needed { IsHonest self.old → (h : History) → Holds self.old h → result ≡ Err ApplyError.TooHigh → (pages : List (List ℕ)) × HasPages self.old pages × LacksLevel (IsNextVersion h) pages (root_in self.old) }
         ensures full { IsHonest self.old → result ≡ Err ApplyError.OnceFull → NoneBlank self.new }
-        ensures room { result ≡ Ok Step.Applied → IsHonest self.old → (h : History) → Holds self.old h → (pages : List (List ℕ)) × HasPages self.old pages × HasRoom (IsNextVersion h) pages (unused_pages self.old) (root_in self.old) (sum_by (λ p. length p.item.changes) (applied h)) }
-        ensures block_needed { IsHonest self.old → (h : History) → Holds self.old h → result ≡ Err ApplyError.OnceFull → (pages : List (List ℕ)) × HasPages self.old pages × LacksBlock (IsNextVersion h) pages (root_in self.old) }
+        ensures room { result ≡ Ok Step.Applied → IsHonest self.old → (h : History) → Holds self.old h → (pages : List (List ℕ)) × HasPages self.old pages × HasRoom (IsNextVersion h) pages (unused_pages self.old) (root_in self.old) (sum_by (λ p. length p.item.changes) (applied h)) (NoneBlank self.old) }
+        ensures block_needed { IsHonest self.old → (h : History) → Holds self.old h → result ≡ Err ApplyError.OnceFull → (pages : List (List ℕ)) × HasPages self.old pages × NeedsBlock (IsNextVersion h) pages (root_in self.old) }
         ensures spends { IsHonest self.old → SpendsAtMost 2000 (once_state self.old) (once_state self.new) }
         ensures sound { IsHonest self.old → (h : History) → Holds self.old h → (page : ℕ) → result ≡ Err (ApplyError.BadNode page) → ⊥ }
         ensures honest { IsHonest self.old ↔ IsHonest self.new }

@@ -18,6 +18,7 @@ ghost use Rattle.route_history.specs.Kept.{AreVersions};
 ghost use Rattle.route_history.specs.Stamps.{stamp_of};
 ghost use Rattle.tsb_tree.specs.Opened.{HasRootLevel};
 ghost use Rattle.tsb_tree.specs.Refusals.{IsHonest};
+ghost use Rattle.tsb_tree.specs.Shelves.{HasNoneBlank};
 ghost use Rattle.archive_head.specs.declared.lane.Lane.{Lane};
 ghost use Rattle.intake.specs.Ring.{IsRing, Holds};
 ghost use Rattle.intake.specs.Calls.{OnlyReads};
@@ -26,7 +27,7 @@ ghost use Rattle.archive_pages.specs.Carried.{Bears};
 ghost use Rattle.archive_pages.specs.Changes.{next_change};
 ghost use Rattle.archive_pages.specs.Places.{ring_of, tree_low};
 ghost use Rattle.disk_archive.specs.Failures.{ReportsOne};
-ghost use Rattle.disk_archive.specs.Lacks.{HasRoom, IsNextVersion, LacksNeither, OneLacksNeither};
+ghost use Rattle.disk_archive.specs.Lacks.{HasRoom, IsNextVersion, LacksNone, OneLacksNone};
 ghost use Rattle.disk_archive.specs.Trees.{TreeLies};
 ghost use Rattle.disk_archive.specs.inner.Applications.{ApplyRefusal, FrontRefusal, KeepsBlocks, LackRefusal, LimitRefusal, MovesOn, TakesNext, TreeTakes};
 
@@ -137,7 +138,7 @@ fn take_version<P: Pages, O: OnceDisk + Drop>(
         → IfErr result (LackRefusal (λ v. v ≡ version_of entry.now) shown (P.homes pages.old - P.next pages.old) head.now.root) }
     ensures room { (start : Start) (shown : List (List ℕ)) (low : ℕ) (versions : List Version) → P.shows pages.old start shown → O.honest (disk_of shelf.old) (pen_of shelf.old)
         → TreeLies (O.block_count (disk_of shelf.old)) shown (settled_in (O.model (pen_of shelf.old))) low head.now.root head.now.fresh head.now.block (stamp_of head.now.last head.now.applied) versions
-        → OnOk result (LacksNeither (version_of entry.now) shown (P.homes pages.old - P.next pages.old) head.now.root) }
+        → OnOk result (LacksNone (version_of entry.now) shown (P.homes pages.old - P.next pages.old) head.now.root (HasNoneBlank O.OnceDisk shelf.old)) }
     ensures shows { (start : Start) (shown : List (List ℕ)) → P.shows pages.old start shown → (after : List (List ℕ)) × P.shows pages.new start after }
     ensures shelf { KeepsBlocks O.OnceDisk 2 shelf.old shelf.new (result ≡ Err ApplyError.OnceFull) }
     ensures homes { P.homes pages.new ≡ P.homes pages.old }
@@ -197,7 +198,7 @@ fn take_next<P: Pages, O: OnceDisk + Drop>(
         → IfErr result (LackRefusal (λ v. AreVersions head.now.applied (next_change head.now.begun (placed collector admission.now)) (v ∷ [])) shown (P.homes pages.old - P.next pages.old) head.now.root) }
     ensures room { (start : Start) (shown : List (List ℕ)) (low collector : ℕ) (versions : List Version) → P.shows pages.old start shown → O.honest (disk_of shelf.old) (pen_of shelf.old)
         → TreeLies (O.block_count (disk_of shelf.old)) shown (settled_in (O.model (pen_of shelf.old))) low head.now.root head.now.fresh head.now.block (stamp_of head.now.last head.now.applied) versions
-        → OnOk result (OneLacksNeither (λ v. AreVersions head.now.applied (next_change head.now.begun (placed collector admission.now)) (v ∷ [])) shown (P.homes pages.old - P.next pages.old) head.now.root) }
+        → OnOk result (OneLacksNone (λ v. AreVersions head.now.applied (next_change head.now.begun (placed collector admission.now)) (v ∷ [])) shown (P.homes pages.old - P.next pages.old) head.now.root (HasNoneBlank O.OnceDisk shelf.old)) }
     ensures shows { (start : Start) (shown : List (List ℕ)) → P.shows pages.old start shown → (after : List (List ℕ)) × P.shows pages.new start after }
     ensures shelf { KeepsBlocks O.OnceDisk 2 shelf.old shelf.new (result ≡ Err ApplyError.OnceFull) }
     ensures homes { P.homes pages.new ≡ P.homes pages.old }
@@ -257,7 +258,7 @@ pub(crate) fn plan_change<P: Pages, O: OnceDisk + Drop>(
         → IfErr result (LackRefusal (IsNextVersion h) shown (P.homes pages.old - P.next pages.old) head.old.root) }
     ensures room { (start : Start) (shown : List (List ℕ)) (h : History) (later : List (Placed Admitted)) → P.shows pages.old start shown → O.honest (disk_of shelf.old) (pen_of shelf.old)
         → Bears (TreeLies (O.block_count (disk_of shelf.old))) settings (settled_in (O.model (pen_of shelf.old))) head.old shown h → waiting h ≡ placed collector admission.now ∷ later
-        → OnOk result (HasRoom (IsNextVersion h) shown (P.homes pages.old - P.next pages.old) head.old.root head.old.applied) }
+        → OnOk result (HasRoom (IsNextVersion h) shown (P.homes pages.old - P.next pages.old) head.old.root head.old.applied (HasNoneBlank O.OnceDisk shelf.old)) }
     ensures shows { (start : Start) (shown : List (List ℕ)) → P.shows pages.old start shown → (after : List (List ℕ)) × P.shows pages.new start after }
     ensures shelf { KeepsBlocks O.OnceDisk 2 shelf.old shelf.new (result ≡ Err ApplyError.OnceFull) }
     ensures homes { P.homes pages.new ≡ P.homes pages.old }

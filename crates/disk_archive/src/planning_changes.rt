@@ -12,6 +12,7 @@ ghost use Rattle.sequencer.specs.First.{IsNext};
 ghost use Rattle.sequencer.specs.Lanes.{Releases};
 ghost use Rattle.archive_pages.specs.Carried.{Bears};
 ghost use Rattle.tsb_tree.specs.Opened.{HasRootLevel};
+ghost use Rattle.tsb_tree.specs.Shelves.{HasNoneBlank};
 ghost use Rattle.disk_archive.specs.Failures.{ReportsOne};
 ghost use Rattle.disk_archive.specs.Lacks.{HasRoom, IsNextVersion};
 ghost use Rattle.disk_archive.specs.Mirrors.{Mirrors};
@@ -155,7 +156,7 @@ fn plan_step<P: Pages, O: OnceDisk + Drop>(
         → IfErr result (LackRefusal (IsNextVersion h) r.pages (P.homes pages.old - P.next pages.old) plan.old.head.root) }
     ensures room { (start : Start) (h : History) → O.honest (disk_of shelf.old) (pen_of shelf.old)
         → (r : Reached (O.block_count (disk_of shelf.old)) settings (settled_in (O.model (pen_of shelf.old))) (P.shows pages.old start) sequencer.now plan.old h)
-        → OnOk result (HasRoom (IsNextVersion h) r.pages (P.homes pages.old - P.next pages.old) plan.old.head.root plan.old.head.applied) }
+        → OnOk result (HasRoom (IsNextVersion h) r.pages (P.homes pages.old - P.next pages.old) plan.old.head.root plan.old.head.applied (HasNoneBlank O.OnceDisk shelf.old)) }
     ensures shows { (start : Start) (shown : List (List ℕ)) → P.shows pages.old start shown → (after : List (List ℕ)) × P.shows pages.new start after }
     ensures shelf { KeepsBlocks O.OnceDisk 2 shelf.old shelf.new (result ≡ Err ApplyError.OnceFull) }
     ensures homes { P.homes pages.new ≡ P.homes pages.old }
@@ -348,7 +349,7 @@ pub(crate) fn plan_changes<P: Pages, O: OnceDisk + Drop>(
         → IfErr result (LackRefusal (IsNextVersion h) shown (P.homes pages.old - P.next pages.old) head.now.root) }
     ensures room { (start : Start) (shown : List (List ℕ)) (h : History) → P.shows pages.old start shown → O.honest (disk_of shelf.old) (pen_of shelf.old)
         → Bears (TreeLies (O.block_count (disk_of shelf.old))) settings (settled_in (O.model (pen_of shelf.old))) head.now shown h → Mirrors sequencer.now h
-        → OnOk result (HasRoom (IsNextVersion h) shown (P.homes pages.old - P.next pages.old) head.now.root head.now.applied) }
+        → OnOk result (HasRoom (IsNextVersion h) shown (P.homes pages.old - P.next pages.old) head.now.root head.now.applied (HasNoneBlank O.OnceDisk shelf.old)) }
     ensures shows { (start : Start) (shown : List (List ℕ)) → P.shows pages.old start shown → (after : List (List ℕ)) × P.shows pages.new start after }
     ensures shelf { KeepsBlocks O.OnceDisk 2000 shelf.old shelf.new (result ≡ Err ApplyError.OnceFull) }
     ensures homes { P.homes pages.new ≡ P.homes pages.old }

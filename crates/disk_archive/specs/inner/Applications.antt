@@ -31,7 +31,7 @@ use Rattle.disk_archive.specs.declared.stop.Stop.TheVariants as stops
 use Rattle.disk_archive.specs.declared.planning_changes.Front.{Front}
 use Rattle.disk_archive.specs.declared.planning_changes.Plan.{Plan}
 use Rattle.disk_archive.specs.declared.planning_changes.Application.{Application}
-use Rattle.disk_archive.specs.Lacks.{LacksBlock, LacksLevel, LacksPages}
+use Rattle.disk_archive.specs.Lacks.{NeedsBlock, LacksLevel, LacksPages}
 use Rattle.disk_archive.specs.Mirrors.{Mirrors}
 use Rattle.disk_archive.specs.Trees.{TreeLies}
 use Rattle.disk_archive.specs.Moves.{Moves}
@@ -93,7 +93,7 @@ LackRefusal is shown left root applies.NeedsRecovery = ⊤
 LackRefusal is shown left root applies.CounterFull = ⊤
 LackRefusal is shown left root applies.TooHigh = LacksLevel is shown root
 LackRefusal is shown left root applies.PagesFull = LacksPages is shown left root
-LackRefusal is shown left root applies.OnceFull = LacksBlock is shown root
+LackRefusal is shown left root applies.OnceFull = NeedsBlock is shown root
 LackRefusal is shown left root (applies.BadNode page) = ⊤
 LackRefusal is shown left root applies.Fault = ⊤
 LackRefusal is shown left root applies.OutOfMemory = ⊤

@@ -88,7 +88,7 @@ returns-clause-room g c start shown h later shows honest b here =
     let most = c.if-head.false in
     record {
       counted = omega (arith, view, most);
-      version = one_as _ _ shown _ _ (λ v is. next_version _ c.args.settings _ head shown h first later v b here is) (λ v is. version_next _ c.args.settings _ head shown h first later v b here is)
+      version = one_as _ _ shown _ _ _ (λ v is. next_version _ c.args.settings _ head shown h first later v b here is) (λ v is. version_next _ c.args.settings _ head shown h first later v b here is)
           (c.in_ok-place.ensures.room start shown _ c.args.collector b.versions shows honest b.tree);
     }
 

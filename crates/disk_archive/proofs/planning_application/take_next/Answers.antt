@@ -43,10 +43,10 @@ returns-in-Some-clause-lacks g c start shown low collector versions shows honest
 pub returns-in-Some-clause-room : goal.returns-in-Some-clause-room
 returns-in-Some-clause-room g c start shown low collector versions shows honest t =
     let is = if_some_at c.in_ok-next.next c.in-Some.entry _ c.in-Some.is c.in_ok-next.ensures.some collector in
-    ok_then c.take_version.result _ _ (λ neither. inr (version_of c.in-Some.entry, is, neither)) (c.take_version.ensures.room start shown low versions shows honest t)
+    ok_then c.take_version.result _ _ (λ lacks. inr (version_of c.in-Some.entry, is, lacks)) (c.take_version.ensures.room start shown low versions shows honest t)
 
 pub returns-in-None-clause-room : goal.returns-in-None-clause-room
-returns-in-None-clause-room g c start shown low collector versions shows honest t = none_versions _ shown _ _ _ (if_none_at c.in_ok-next.next _ c.in-None.is c.in_ok-next.ensures.none collector)
+returns-in-None-clause-room g c start shown low collector versions shows honest t = none_versions _ shown _ _ _ _ (if_none_at c.in_ok-next.next _ c.in-None.is c.in_ok-next.ensures.none collector)
 
 -- ---- how often both disks failed
 

@@ -1,4 +1,5 @@
 use Rattle.std.proofs.Common.{◌≡◌, ◌⊎◌, inl, inr, ◌+◌, ◌∷◌, ◌++◌, [], ℕ, length, min, refl, sym, ◌∙◌, ap, subst, arith, Err}
+use Rattle.std.proofs.lemmas.Bool.{false≢true}
 use Rattle.disk_models.specs.Once.{settled_in}
 use Rattle.once_store.specs.Shelves.{disk_of, next_of, pen_of}
 use Rattle.archive_head.specs.Head.{Contents}
@@ -12,6 +13,7 @@ use Rattle.tsb_tree.specs.declared.error.TreeError.TheVariants as trees
 use Rattle.tsb_tree.specs.Opened.{HasRootLevel, ShowsRoot}
 use Rattle.tsb_tree.specs.NoRoom.{AtRoot}
 use Rattle.tsb_tree.specs.Needs.{NeedsLevel, NeedsPages}
+use Rattle.tsb_tree.specs.Shelves.{HasNoneBlank}
 use Rattle.tsb_tree.specs.Refusals.{BlamesNone, InsertRefusal, ReadRefusal}
 use Rattle.disk_archive.specs.inner.Applications.{TreeTakes}
 use Rattle.disk_archive.proofs.Failing.{reports_both, reports_first, reports_none, reports_then, reports_as, tree_apart}
@@ -19,7 +21,7 @@ use Rattle.disk_archive.proofs.Faults.{done_not_told, one_told}
 use Rattle.disk_archive.proofs.Keeping.{joined_few}
 use Rattle.tsb_tree.specs.Outlived.{LeadsToOutdated}
 use Rattle.tsb_tree.proofs.Roots.{tree_root}
-use Rattle.disk_archive.proofs.Lacking.{lacks_by, lacks_neither}
+use Rattle.disk_archive.proofs.Lacking.{lacks_by, lacks_none}
 use Rattle.disk_archive.proofs.Taking.{shown_at, taken_at}
 use Rattle.disk_archive.proofs.planning_application.take_version.Goals as goal
 
@@ -181,9 +183,10 @@ returns-in-Ok-insert-clause-room g c start shown low versions shows honest t =
     let used = u.2 in
     let last = g.met.P.Pages.last c.insert.new.pages in
     let all = c.insert.ensures.homes in
-    lacks_neither v shown _ h.root c.in-Ok.place.level u.0 (subst (λ (r : ℕ). AtRoot (λ place. NeedsPages shown v place u.0) r c.in-Ok.place.level) here u.1) (omega (arith, used, last, all, homes, next)) c.in-Ok-insert.now.level
+    lacks_none v shown _ h.root c.in-Ok.place.level u.0 (subst (λ (r : ℕ). AtRoot (λ place. NeedsPages shown v place u.0) r c.in-Ok.place.level) here u.1) (HasNoneBlank O c.args.shelf.now) (omega (arith, used, last, all, homes, next)) c.in-Ok-insert.now.level
     (subst (λ (r : ℕ). HasRootLevel shown r c.in-Ok.place.level) root (c.in-Ok.ensures.level start shown shows)) i.few
     (λ needs. i.rises start shown versions tree (subst (λ (r : ℕ). AtRoot (NeedsLevel shown v) r c.in-Ok.place.level) (sym here) needs))
+    (λ none leads. false≢true (i.none_left start shown versions tree none (subst (λ (r : ℕ). AtRoot (LeadsToOutdated shown v) r c.in-Ok.place.level) (sym here) leads)))
 
 -- ---- how often both disks failed
 

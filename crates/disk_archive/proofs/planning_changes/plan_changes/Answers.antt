@@ -160,7 +160,7 @@ returns-in-Ok-clause-room g c start shown h shows honest b m =
     let was = c.in_ok-plan.ensures.reached count (g.O.OnceDisk.model (pen_of c.args.shelf.now)) start shown h shows b m in
     let r : Reached count c.args.settings settled (g.P.Pages.shows c.begin_plan.new.pages start) c.args.sequencer.now c.in_ok-plan.plan h =
     record { pages = shown; shown = c.begin_plan.ensures.reads start shown shows; bears = subst (λ (x : Contents). Bears (TreeLies count) c.args.settings settled x shown h) (sym head) b; mirrors = was.mirrors; first = was.first } in
-    room_at _ shown _ _ _ _ _ _ (let homes = c.begin_plan.ensures.homes in let next = c.begin_plan.ensures.next in omega (arith, homes, next)) (ap (λ (x : Contents). x.root) head) (ap (λ (x : Contents). x.applied) head)
+    room_at _ shown _ _ _ _ _ _ _ (let homes = c.begin_plan.ensures.homes in let next = c.begin_plan.ensures.next in omega (arith, homes, next)) (ap (λ (x : Contents). x.root) head) (ap (λ (x : Contents). x.applied) head)
     (c.in_ok-plan_step.ensures.room start h honest r)
 
 -- ---- a device failed after the first change

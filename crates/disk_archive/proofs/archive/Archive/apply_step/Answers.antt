@@ -96,6 +96,6 @@ returns-clause-block_needed g c honest h held told = ⊎_elim
 
 pub returns-clause-room : goal.returns-clause-room
 returns-clause-room g c told honest h held = ⊎_elim
-    (λ k. (k.pages, k.maps, room_at _ k.pages _ _ _ _ _ _ refl refl (k.bears.numbered ∙ changes_are (applied h)) (c.try_apply.ensures.room told h k)))
+    (λ k. (k.pages, k.maps, room_at _ k.pages _ _ _ _ _ _ _ refl refl (k.bears.numbered ∙ changes_are (applied h)) (c.try_apply.ensures.room told h k)))
     (λ w. absurd (cc (c.try_apply.ensures.told w.unusable, told)))
     (held honest)

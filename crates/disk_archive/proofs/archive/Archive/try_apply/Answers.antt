@@ -185,7 +185,7 @@ pub returns-clause-room : goal.returns-clause-room
 returns-clause-room g c told h k =
     let a = c.args.self.now in
     let s0 = c.in_ok-begin_from.ensures.shown k.honest.0 k.pages k.maps in
-    room_at _ k.pages _ _ _ _ _ _ (let homes = ap home_pages c.begin_from.ensures.same in let next = c.in_ok-begin_from.ensures.next in omega (arith, homes, next)) refl refl
+    room_at _ k.pages _ _ _ _ _ _ _ (let homes = ap home_pages c.begin_from.ensures.same in let next = c.in_ok-begin_from.ensures.next in omega (arith, homes, next)) refl refl
     (c.in_ok-head.ensures.room (start_of a h k) k.pages h s0 k.honest.1 k.bears k.mirrors)
 
 -- ---- how often both disks failed
