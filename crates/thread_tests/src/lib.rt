@@ -18,7 +18,10 @@ mod made;
 #[cfg(test)]
 mod mixing;
 #[cfg(test)]
+mod named_disk;
+#[cfg(test)]
 mod parts;
+mod playing;
 #[cfg(test)]
 mod reading;
 #[cfg(test)]
@@ -27,11 +30,15 @@ mod reopened;
 mod replay;
 #[cfg(test)]
 mod scenes;
+mod sharing;
 #[cfg(test)]
 mod signals;
+mod works;
 
+pub use sharing::{Played, share, share_new};
 #[cfg(test)]
 use std::process::Abort;
+pub use works::{Returned, Work};
 
 /// Ends a test that is wrong, with what was tried. Proofs learn nothing of it, which keeps them short.
 #[cfg(test)]

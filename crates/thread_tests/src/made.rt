@@ -32,8 +32,8 @@ pub(crate) const SECOND: u64 = 1_060;
 /// How many records are given of one prefix, one each second: with this many routes of 800 octets a leaf overflows three times.
 pub(crate) const RECORDS: u8 = 60;
 
-// The octets of an erasable disk: 265 pages before the home pages; the head, the rings, and 400 pages of the tree.
-const OCTETS: u64 = (265 + 1 + COLLECTORS as u64 * RING as u64 + 400) * 16_384;
+/// The octets of an erasable disk: 265 pages before the home pages; the head, the rings, and 400 pages of the tree.
+pub(crate) const OCTETS: u64 = (265 + 1 + COLLECTORS as u64 * RING as u64 + 400) * 16_384;
 
 /// The blocks of a write-once disk.
 pub(crate) const BLOCKS: u64 = 20_000;
@@ -110,7 +110,8 @@ pub(crate) fn moment_of(seconds: u64) -> Moment {
     Moment::new(seconds).unwrap_or(Moment::from(u32::MAX))
 }
 
-fn peer_of(collector: u8, number: u8) -> Peer {
+/// A peer of a collector.
+pub(crate) fn peer_of(collector: u8, number: u8) -> Peer {
     Peer {
         collector,
         address: Address::V4([192, 0, 2, number]),
@@ -123,12 +124,13 @@ fn draw_peer(chance: &mut Chance, collector: u8) -> Peer {
     peer_of(collector, chance.below(2).saturating_add(1))
 }
 
-fn prefix_of(number: u8) -> Prefix {
+/// One of the prefixes 10.0.0.0/16, 10.1.0.0/16 and so on.
+pub(crate) fn prefix_of(number: u8) -> Prefix {
     Prefix::containing(Address::V4([10, number, 0, 0]), 16)
 }
 
 /// A route of some 800 octets: a leaf has room for some twenty of them.
-fn route_of(alloc: Global, number: u8) -> Option<SharedRoute> {
+pub(crate) fn route_of(alloc: Global, number: u8) -> Option<SharedRoute> {
     let mut octets = Vec::new(alloc);
     octets.extend_from_slice(&ROUTE).ok()?;
     octets[12] = number;
@@ -201,6 +203,30 @@ pub(crate) fn history_of(from: u64, to: u64) -> Query {
         peer: peer_of(0, 1),
         prefix: prefix_of(0),
         skip: 0,
+    })
+}
+
+/// A record of the second collector: a peer of it announces 10.0.0.0/16, and withdraws it.
+pub(crate) fn withdrawal(alloc: Global, time: u64) -> Option<Vec<Admission>> {
+    let announced = Change::Announce(peer_of(1, 1), prefix_of(0), route_of(alloc, 1)?);
+    let mut changes = Vec::new(alloc);
+    changes.push(announced).ok()?;
+    changes
+        .push(Change::Withdraw(peer_of(1, 1), prefix_of(0)))
+        .ok()?;
+    let mut batch = Vec::new(alloc);
+    batch
+        .push(Admission::new(moment_of(time), changes).ok()?)
+        .ok()?;
+    Some(batch)
+}
+
+/// All routes of a moment.
+pub(crate) fn routes_at(seconds: u64) -> Query {
+    Query::Rows(RowsQuestion {
+        moment: moment_of(seconds),
+        select: Select::All,
+        after: None,
     })
 }
 
