@@ -92,6 +92,7 @@ impl fmt::Display for MarkAdvice {
 enum TextAdvice {
     Mark,
     Listen,
+    Http,
 }
 
 impl fmt::Display for TextAdvice {
@@ -101,6 +102,8 @@ impl fmt::Display for TextAdvice {
                 "--mark: a mark is seconds since 1970, 0 to 4294967296, or a timestamp as 2024-01-01T00:15:00Z",
             TextAdvice::Listen =>
                 "--listen: an IPv4 address, a colon and a port, 0 to 65535, as 127.0.0.1:17900",
+            TextAdvice::Http =>
+                "--http: an IPv4 address, a colon and a port, 0 to 65535, as 127.0.0.1:17980, and not those of --listen",
         })
     }
 }
@@ -110,6 +113,7 @@ pub fn advise_text<E: Write>(alloc: Global, error: &CommandError, err: &mut Outp
     match error {
         CommandError::BadMark => advise(alloc, &TextAdvice::Mark, err),
         CommandError::BadListen => advise(alloc, &TextAdvice::Listen, err),
+        CommandError::BadHttp => advise(alloc, &TextAdvice::Http, err),
         CommandError::Usage(_) | CommandError::OutOfMemory => {}
     }
 }

@@ -6,10 +6,11 @@ use service::{
     Question, Serving, command,
 };
 use std::alloc::Global;
+use std::net::SocketAddrV4;
 
 /// Words, with lines between them, and what they ask for: the folder a, and each further thing that they say, or what takes its
 /// place where they don't.
-const ACCEPTED: [(&str, &str); 52] = [
+const ACCEPTED: [(&str, &str); 55] = [
     // What isn't chosen.
     ("rha|create|a", "create a 1 4096 10000000 100000000"),
     (
@@ -112,6 +113,18 @@ const ACCEPTED: [(&str, &str); 52] = [
         "rha|serve|--read-only|a|--admin=s|--idle=1|--listen=127.0.0.1:0|--workers=1",
         "serve a 127.0.0.1:0 1 read-only closing admin s idle 1",
     ),
+    (
+        "rha|serve|a|--http|127.0.0.1:80|--listen=127.0.0.2:80|--workers=1",
+        "serve a 127.0.0.2:80 1 http 127.0.0.1:80",
+    ),
+    (
+        "rha|serve|a|--listen=127.0.0.1:0|--workers=1|--http=127.0.0.1:0|--idle=7",
+        "serve a 127.0.0.1:0 1 http 127.0.0.1:0 idle 7",
+    ),
+    (
+        "rha|serve|a|--listen=127.0.0.1:80|--workers=1|--http=127.0.0.1:80",
+        "no further address 1",
+    ),
     ("rha|check|a", "check a"),
     ("rha|check|", "check "),
     ("rha|check|--|a", "check a"),
@@ -153,7 +166,7 @@ const ACCEPTED: [(&str, &str); 52] = [
 ];
 
 /// Texts that are no address and port.
-const NO_LISTENS: [&str; 14] = [
+const NO_PLACES: [&str; 14] = [
     "",
     ":",
     "127.0.0.1",
@@ -303,13 +316,17 @@ impl Line {
         self.waits(asked.wait);
     }
 
-    fn serving(&mut self, asked: &Serving<'_>) {
-        let listen = asked.listen;
-        self.word(asked.folder);
-        match format!(in self.alloc; "{listen}") {
+    /// Adds an address and a port.
+    fn place(&mut self, place: SocketAddrV4) {
+        match format!(in self.alloc; "{place}") {
             Ok(text) => self.word(text.as_str()),
             Err(_) => self.is_whole = false,
         }
+    }
+
+    fn serving(&mut self, asked: &Serving<'_>) {
+        self.word(asked.folder);
+        self.place(asked.listen);
         self.number(u64::from(asked.workers));
         if asked.read_only {
             self.word("read-only");
@@ -318,6 +335,10 @@ impl Line {
             self.word("closing");
         }
         self.option("admin", asked.admin);
+        if let Some(http) = asked.http {
+            self.word("http");
+            self.place(http);
+        }
         if asked.idle != IDLE {
             self.word("idle");
             self.number(u64::from(asked.idle));
@@ -388,6 +409,7 @@ fn refusal_of(alloc: Global, error: &CommandError) -> Line {
         match error {
             CommandError::BadMark => "no mark",
             CommandError::BadListen => "no address",
+            CommandError::BadHttp => "no further address",
             CommandError::Usage(_) | CommandError::OutOfMemory => "not accepted",
         },
     );
@@ -421,16 +443,19 @@ fn words_of_commands_are_accepted(rt: HostRuntime) {
     }
 }
 
-/// Whether the text after `--listen` is refused, with status 1.
-fn is_no_listen(alloc: Global, listen: &str) -> Option<bool> {
-    let words = format!(in alloc; "rha|serve|a|--listen|{listen}|--workers|1").ok()?;
-    is_accepted(alloc, words.as_str(), "no address 1")
+/// Whether a text is refused after `--listen` and after `--http`, with status 1.
+fn is_no_place(alloc: Global, text: &str) -> Option<bool> {
+    let front = "rha|serve|a|--workers|1|--listen";
+    let listen = format!(in alloc; "{front}|{text}").ok()?;
+    let http = format!(in alloc; "{front}|127.0.0.1:80|--http|{text}").ok()?;
+    let is_refused = is_accepted(alloc, listen.as_str(), "no address 1")?;
+    Some(is_refused && is_accepted(alloc, http.as_str(), "no further address 1")?)
 }
 
 #[test]
 fn an_address_and_port_that_are_none_are_refused(rt: HostRuntime) {
-    for listen in &NO_LISTENS {
-        be(&rt, is_no_listen(rt.alloc(), listen) == Some(true), listen);
+    for text in &NO_PLACES {
+        be(&rt, is_no_place(rt.alloc(), text) == Some(true), text);
     }
 }
 

@@ -158,8 +158,8 @@ const MADE: Creation<'static> = Creation {
 };
 
 /// Where connections are taken.
-fn bound() -> SocketAddrV4 {
-    SocketAddrV4::new(Ipv4Addr::from_octets([192, 0, 2, 100]), 17_900)
+fn bound(port: u16) -> SocketAddrV4 {
+    SocketAddrV4::new(Ipv4Addr::from_octets([192, 0, 2, 100]), port)
 }
 
 /// What stands before a command.
@@ -169,6 +169,8 @@ enum Before {
     Made,
     /// Connections are taken.
     Listening,
+    /// So are those of HTTP.
+    Served,
 }
 
 /// Writes its line: the exit status.
@@ -181,7 +183,11 @@ fn tell_to<W: Write + Drop>(
     let mut refusals = Output::new(err);
     match before {
         Before::Made => tell_created(alloc, &MADE, out, &mut refusals),
-        Before::Listening => tell_listening(alloc, &bound(), out, &mut refusals),
+        Before::Served => {
+            let http = Some(bound(17_980));
+            tell_listening(alloc, &bound(17_900), http, out, &mut refusals)
+        }
+        Before::Listening => tell_listening(alloc, &bound(17_900), None, out, &mut refusals),
     }
 }
 
@@ -217,6 +223,9 @@ fn what_stands_before_a_command_is_shown(rt: HostRuntime) {
     be(&rt, is_made, "a new archive");
     let is_listening = is_shown(alloc, Before::Listening, "listening 192.0.2.100:17900\n");
     be(&rt, is_listening, "connections");
+    let line = "listening 192.0.2.100:17900 http 192.0.2.100:17980\n";
+    let is_served = is_shown(alloc, Before::Served, line);
+    be(&rt, is_served, "connections of HTTP");
     be(
         &rt,
         is_unwritten(alloc, Before::Made) == Some(true),

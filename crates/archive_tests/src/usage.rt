@@ -1,4 +1,4 @@
-//! What `clap` tells of a command line: help, the version, and why words aren't accepted.
+//! What `clap` prints of a command line: help, the version, and why words aren't accepted.
 
 use crate::be;
 use crate::commands::words_of;
@@ -6,7 +6,7 @@ use clap::error::ErrorKind;
 use service::{CommandError, command};
 use std::alloc::Global;
 
-/// Words of which `clap` tells something: the kind of its error, the exit status, and the text, whose end several share.
+/// Words of which `clap` prints something: the kind of its error, the exit status, and the text, whose end several share.
 struct Shown {
     /// With lines between them.
     words: &'static str,
@@ -25,7 +25,7 @@ Commands:
   load    Loads files of MRT records as a collector's
   ask     Answers a request line
   serve   Serves an archive on a socket, until a client asks it to stop
-  check   Reads through an archive, and tells the first damage
+  check   Reads through an archive, and reports the first damage
   info    Shows how far an archive has come, and how much room it has left
   dump    Writes the table of one moment
   peers   Counts the routes of each peer that has one at a moment
@@ -46,7 +46,7 @@ Example:
 
 `rha COMMAND --help` has the limits of a command, its defaults and its exit statuses.
 
-Exit status: 0 where all is done, 1 where something was refused or couldn't be written (told on standard
+Exit status: 0 where all is done, 1 where something was refused or couldn't be written (printed on standard
 error as `rha: NUMBER NAME` where it has no line of its own), 2 where the command line isn't accepted.
 ";
 
@@ -67,14 +67,14 @@ Options:
 Pages and blocks have 16384 octets each, and take room on the disk as they are used: unused ones take none,
 however many there are. What is loaded of a collector waits in its ring until it may be applied; a table dump
 of one moment waits there whole. There must be a page for each page of each ring and 3 more. Nothing is left
-behind where the archive can't be made. Prints `created COLLECTORS RING PAGES BLOCKS`.
+where the archive can't be made. Prints `created COLLECTORS RING PAGES BLOCKS`.
 
 The files have holes, which a copy has to keep: `cp -a --sparse=always`, `tar -cS`, `rsync -aS`.
 
 Example:
   rha create a --collectors 2
 
-Exit status: 0 where the archive is made; 1 where it is refused, told on standard error as
+Exit status: 0 where the archive is made; 1 where it is refused, printed on standard error as
 `rha: NUMBER NAME`; 2 where the command line isn't accepted.
 ";
 
@@ -145,10 +145,10 @@ The words are one request line:
   at T cover ADDRESS               every peer's route for each prefix that contains the address
   at T peer PEER                   all routes of the peer
   at T all                         all routes of all peers
-  history FROM TO PEER PREFIX      what the peer told of the prefix, FROM and TO included
+  history FROM TO PEER PREFIX      what the peer announced and withdrew, FROM and TO included
   watermark                        the settled watermark
   durable COLLECTOR                how many records of the collector are admitted
-The last four of `at` may end with `after PEER PREFIX`, which goes on behind that row, and `history` with
+The last four of `at` may end with `after PEER PREFIX`, which goes on after that row, and `history` with
 `skip N`, which leaves the first N events out: an answer has 256 rows or events at most. With --all each next line
 is asked, and the answer has all rows or events and one end, `E|COUNT`. With --human moments are dates, and
 communities are texts (65001:7); programs read the lines without it.
@@ -160,8 +160,8 @@ Examples:
   rha ask a --all at 2024-01-01T00:10:00Z cover 10.0.0.1
 
 Exit status: 0 where the line is answered; 1 where it is refused (`X|NUMBER|NAME`), or something else was
-refused or couldn't be written (told on standard error as `rha: NUMBER NAME`); 2 where the command line isn't
-accepted.
+refused or couldn't be written (printed on standard error as `rha: NUMBER NAME`); 2 where the command line
+isn't accepted.
 ";
 
 const SERVE_HELP: &str = "Serves an archive on a socket, until a client asks it to stop
@@ -178,16 +178,17 @@ Options:
       --read-only              Refuses feed, mark and stop there; implies --close-on-http
       --close-on-http          Ends a connection after a request of HTTP
       --admin <PATH>           A Unix socket to make, which takes every line, also feed, mark and stop
+      --http <ADDRESS:PORT>    A further IPv4 address and port, which answer HTTP alone, read-only
       --idle <SECONDS>         After how many seconds an idle connection is ended, 1 to 1000000 [default: 300]
   -h, --help                   Print help
 
-Prints `listening ADDRESS:PORT` as soon as connections are taken; the system chooses a free port where PORT
-is 0. No other command can open the archive meanwhile: what is to be loaded is fed through a connection. Each
-of N workers serves one connection to its end, and further ones wait: a client that stays connected keeps a
-worker.
+Prints `listening ADDRESS:PORT` as soon as connections are taken, and with --http after it ` http ADDRESS:PORT`;
+the system chooses a free port where PORT is 0. No other command can open the archive meanwhile: what is to be
+loaded is fed through a connection. Each of N workers serves one connection to its end, and further ones wait: a
+client that stays connected keeps a worker.
 
 A connection sends request lines (`rha ask --help`), of which `watermark` and `durable` wait for nobody, and:
-  mark COLLECTOR M                 raises the collector's mark, applies what may be applied, and tells S|SETTLED
+  mark COLLECTOR M                 raises the collector's mark, applies what may be applied, and replies S|SETTLED
   feed COLLECTOR N                 what follows is MRT, kept in batches of 1 to 1000 records; then it ends
   quit                             ok, and it ends
   stop                             ok, and the server ends once all connections have ended
@@ -199,17 +200,21 @@ workers of its own. With --close-on-http a line that ends in HTTP/1.0 or HTTP/1.
 page in a browser can't send lines by HTTP. --idle ends a connection that sends nothing, or doesn't read, for so
 long, since it keeps a worker.
 
+With --http N more workers answer requests of HTTP at that port, which can't be that of --listen: GET of
+/api/prefix and other questions, and of /api/info, as JSON, and of /metrics. Nothing can be changed there.
+
 Examples:
-  rha serve a --listen 127.0.0.1:17900 --workers 4 --read-only --admin a.sock
+  rha serve a --listen 127.0.0.1:17900 --workers 4 --read-only --admin a.sock --http 127.0.0.1:17980
   (echo feed 0 1000; cat updates.mrt) | nc -NU a.sock
   echo at 2024-01-01T00:10:00Z all | nc -N 127.0.0.1 17900
+  curl http://127.0.0.1:17980/api/info
 
-Exit status: 0 where a client stopped the server; 1 where the archive can't be opened, the address or PATH
-can't be listened on or something else was refused (told on standard error as `rha: NUMBER NAME`); 2 where the
-command line isn't accepted.
+Exit status: 0 where a client stopped the server; 1 where the archive can't be opened, an address or PATH
+can't be listened on or something else was refused (printed on standard error as `rha: NUMBER NAME`); 2 where
+the command line isn't accepted.
 ";
 
-const CHECK_HELP: &str = "Reads through an archive, and tells the first damage
+const CHECK_HELP: &str = "Reads through an archive, and reports the first damage
 
 Usage: rha check [OPTIONS] <DIR>
 
@@ -228,7 +233,7 @@ Example:
   rha check a
 
 Exit status: 0 where all could be read, and has as many changes as were applied; 1 where a block or a page
-isn't what may stand there, which standard error tells as `rha: 8 Damaged` or `rha: 9 BadNode`, or something
+isn't what may stand there, which standard error shows as `rha: 8 Damaged` or `rha: 9 BadNode`, or something
 else was refused or couldn't be written (`rha: NUMBER NAME`); 2 where the command line isn't accepted.
 ";
 
@@ -251,11 +256,11 @@ its mark, its records and how much of its ring is used. With --json, the same as
 Example:
   rha info a
 
-Exit status: 0 where the archive could be read; 1 where something was refused or couldn't be written (told on
+Exit status: 0 where the archive could be read; 1 where something was refused or couldn't be written (printed on
 standard error as `rha: NUMBER NAME`); 2 where the command line isn't accepted.
 ";
 
-/// What is told of a wrong use ends with a usage: of the program, of what a command requires, or of all that it takes.
+/// What is printed of a wrong use ends with a usage: of the program, of what a command requires, or of all that it takes.
 const USAGE_END: &str = "\n\nUsage: rha <COMMAND>\n\nFor more information, try '--help'.\n";
 
 const CREATE_END: &str = "\n\nUsage: rha create <DIR>\n\nFor more information, try '--help'.\n";
@@ -461,7 +466,7 @@ const WRONG: [Shown; 16] = [
     },
 ];
 
-/// An option whose number is beyond its limits, or is none, behind words that want it, and what is told of it.
+/// An option whose number is beyond its limits, or is none, after words that want it, and what is printed of it.
 const BEYOND: [(&str, &str); 20] = [
     (
         "rha|create|a|--collectors=0",
@@ -545,8 +550,8 @@ const BEYOND: [(&str, &str); 20] = [
     ),
 ];
 
-/// Whether `clap` tells of the words by an error of this kind, with this status and these three parts of a text.
-fn is_told(
+/// Whether `clap` refuses the words by an error of this kind, with this status and these three parts of a text.
+fn is_printed(
     alloc: Global,
     words: &str,
     kind: ErrorKind,
@@ -560,15 +565,18 @@ fn is_told(
         return Some(false);
     };
     let is_kind = match &error {
-        CommandError::Usage(told) => told.kind() == kind,
-        CommandError::BadMark | CommandError::BadListen | CommandError::OutOfMemory => false,
+        CommandError::Usage(usage) => usage.kind() == kind,
+        CommandError::BadMark
+        | CommandError::BadListen
+        | CommandError::BadHttp
+        | CommandError::OutOfMemory => false,
     };
     let shown = format!(in alloc; "{error}").ok()?;
-    let told = shown.as_str().strip_prefix(front)?.strip_suffix(end)?;
-    Some(is_kind && error.code() == code && told == text)
+    let middle = shown.as_str().strip_prefix(front)?.strip_suffix(end)?;
+    Some(is_kind && error.code() == code && middle == text)
 }
 
-/// Whether it is told as it has to be.
+/// Whether it is printed as it has to be.
 fn is_shown(alloc: Global, wanted: &Shown) -> bool {
     let Shown {
         words,
@@ -577,7 +585,7 @@ fn is_shown(alloc: Global, wanted: &Shown) -> bool {
         text,
         end,
     } = *wanted;
-    is_told(alloc, words, kind, code, "", text, end) == Some(true)
+    is_printed(alloc, words, kind, code, "", text, end) == Some(true)
 }
 
 #[test]
@@ -595,15 +603,15 @@ fn other_words_are_refused(rt: HostRuntime) {
 }
 
 /// Whether a number beyond its limits is refused so.
-fn is_beyond(alloc: Global, words: &str, told: &str) -> bool {
+fn is_beyond(alloc: Global, words: &str, text: &str) -> bool {
     let front = "error: invalid value ";
     let kind = ErrorKind::ValueValidation;
-    is_told(alloc, words, kind, 2, front, told, MORE_END) == Some(true)
+    is_printed(alloc, words, kind, 2, front, text, MORE_END) == Some(true)
 }
 
 #[test]
 fn numbers_beyond_their_limits_are_refused(rt: HostRuntime) {
-    for (words, told) in &BEYOND {
-        be(&rt, is_beyond(rt.alloc(), words, told), told);
+    for (words, text) in &BEYOND {
+        be(&rt, is_beyond(rt.alloc(), words, text), text);
     }
 }

@@ -1,5 +1,5 @@
 -- Files that are loaded one after another.
-use Rattle.std.proofs.Common.{◌≡◌, ◌∙◌, ◌<◌, ◌≤◌, ◌+◌, ℕ, zero, suc, Bool, true, false, List, [], ◌∷◌, ◌++◌, length, take, drop, set, get_or, map, Option, None, arith, refl, sym, ap, subst, append_assoc, inr}
+use Rattle.std.proofs.Common.{◌≡◌, ◌∙◌, ◌<◌, ◌≤◌, ◌+◌, ℕ, zero, suc, Bool, true, false, List, [], ◌∷◌, ◌++◌, length, take, drop, set, get_or, map, Option, None, arith, refl, sym, ap, subst, append_assoc}
 use Rattle.std.proofs.lemmas.List.{drop_more, take_more, take-append-drop, length-append}
 use Rattle.std.proofs.Math.Seq.{get_or-append_seam, set-append_seam}
 use Rattle.std.proofs.Math.ListN.{drop_of_length-le, get_or-map}
@@ -8,10 +8,8 @@ use Rattle.resolve.specs.declared.without_hop.WithoutHop.{WithoutHop}
 use Rattle.service.specs.Carried.{Carried}
 use Rattle.service.specs.Outputs.{OutputState}
 use Rattle.service.specs.Feeds.{MayGive, Sums, limits_for}
-use Rattle.service.specs.FeedTexts.{intake_in}
 use Rattle.service.specs.Loads.{IsLoaded, IsLoadEnd}
-use Rattle.service.specs.Resuming.{dropped_where}
-use Rattle.service.specs.FileLoads.{AreLoaded, AreWhole, FileState, IsFileEnd, IsLoadedTo, IsReported, IsWhole, mark_unless, refused_if, with_mark_at}
+use Rattle.service.specs.FileLoads.{AreWhole, FileState, IsFileEnd, IsLoadedTo, IsReported, IsWhole, mark_unless, refused_if, with_mark_at}
 use Rattle.service.specs.declared.faults.FeedCut.{FeedCut}
 use Rattle.service.specs.declared.limits.BatchLimits.{BatchLimits}
 use Rattle.service.specs.declared.report.LoadReport.{LoadReport}

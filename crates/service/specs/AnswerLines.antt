@@ -35,7 +35,7 @@ end_line rows = codes "E|" ++ decimal (length rows) ++ line_end
 abbrev pub more_line : Row → List ℕ
 more_line row = codes "M|" ++ place_text row.peer row.prefix ++ line_end
 
--- whether more rows follow, told with the last row, if there is one
+-- whether more rows follow, with the last row, if there is one
 abbrev pub ending : List Row → Bool → Option Row → List ℕ
 ending rows false last = end_line rows
 ending rows true None = end_line rows

@@ -1,4 +1,4 @@
--- What is told of a check of an archive.
+-- What is printed of a check of an archive.
 use Rattle.std.specs.Prelude.{◌≡◌, ◌⊎◌, true, false, ℕ, List, [], ◌∷◌, codes}
 use Rattle.route_meaning.specs.History.{History, settled}
 use Rattle.archive_calls.specs.Does.{IsUnchecked, applied_changes}
@@ -14,11 +14,11 @@ use Rattle.service.specs.declared.status.Status.TheVariants as statuses
 abbrev pub checked_line : ℕ → ℕ → List ℕ
 checked_line changes settled = numbers_line (codes "ok") (changes ∷ settled ∷ [])
 
--- how many changes of the history are applied was told, and its settled watermark
+-- how many changes of the history are applied was printed, and its settled watermark
 abbrev pub TellsCount : History → OutputState → OutputState → Type 0
 TellsCount h was now = Tells was now (checked_line (applied_changes h) (settled h))
 
--- standard error was told why the changes aren't counted, and standard output nothing
+-- standard error has why the changes aren't counted, and standard output nothing
 pub record TellsUnchecked (h : History) (was now err_was err_now : OutputState) : Type 0 where
   pub trouble : Trouble
   pub why : IsUnchecked h trouble
@@ -26,7 +26,7 @@ pub record TellsUnchecked (h : History) (was now err_was err_now : OutputState) 
   pub told : TellsError (of_trouble trouble) err_was err_now
 
 -- How a check ended, by its status. `Failed` is answered where not all could be written: where that was so before, nothing is done; else a
--- front of what should have been told was written, and standard error is told where a write to standard output failed.
+-- front of what should have been written was, and standard error says where a write to standard output failed.
 abbrev pub IsCheckEnd : History → Status → OutputState → OutputState → OutputState → OutputState → Type 0
 IsCheckEnd h statuses.Done was now err_was err_now = TellsCount h was now × (now.failed ≡ false) × (err_now.failed ≡ false) × (err_now ≡ err_was)
 IsCheckEnd h statuses.Refused was now err_was err_now = TellsUnchecked h was now err_was err_now × (now.failed ≡ false) × (err_now.failed ≡ false)

@@ -21,7 +21,8 @@ use Rattle.service.specs.declared.invocation.Listing.{Listing}
 use Rattle.service.specs.declared.invocation.Comparing.{Comparing}
 use Rattle.service.specs.declared.invocation.Invocation.{Invocation}
 use Rattle.service.specs.declared.invocation.Invocation.TheVariants.{Create, Load, Ask, Serve, Check, Info, Dump, Peers, Diff}
-use Rattle.service.specs.Listening.{IsListenText, IsNoListenText}
+use Rattle.std.specs.declared.net.socket_addr.SocketAddrV4.{SocketAddrV4}
+use Rattle.service.specs.Listening.{IsHttpIf, IsListenText, IsNoHttp, IsNoListenText}
 
 -- a word with this name, which has to be there
 abbrev pub word_rule : List ℕ → Rule
@@ -129,9 +130,9 @@ serving_by_workers = with_rule (with_rule (of_archive (codes "serve")) listen_ru
 abbrev pub serving_on_port : App
 serving_on_port = with_rule (with_rule serving_by_workers (flag_rule (codes "read-only"))) (flag_rule (codes "close-on-http"))
 
--- serve DIR --listen ADDRESS:PORT --workers N [--read-only] [--close-on-http] [--admin PATH] [--idle SECONDS]
+-- serve DIR --listen ADDRESS:PORT --workers N [--read-only] [--close-on-http] [--admin PATH] [--http ADDRESS:PORT] [--idle SECONDS]
 abbrev pub serving : App
-serving = with_rule (with_rule serving_on_port (text_rule (codes "admin"))) (number_or_rule (codes "idle") 1 1000000 (codes "300"))
+serving = with_rule (with_rule (with_rule serving_on_port (text_rule (codes "admin"))) (text_rule (codes "http"))) (number_or_rule (codes "idle") 1 1000000 (codes "300"))
 
 -- check DIR [--wait SECONDS]
 abbrev pub checking : App
@@ -179,7 +180,7 @@ pub record IsNumber (least most : ℕ) (text : Option (List ℕ)) (n : ℕ) : Ty
   pub high : n ≤ most
   pub written : (t : List ℕ) → text ≡ Some t → IsUnsignedIn least most t → n ≡ digits_value 10 (without_leading_plus t)
 
--- Whether an option without a text of its own is there, as clap tells it by a text.
+-- Whether an option without a text of its own is there, as clap says it by a text.
 pub record IsThere (text : Option (List ℕ)) (there : Bool) : Type 0 where
   pub given : text ≡ Some (codes "true") → there ≡ true
   pub left_out : text ≡ Some (codes "false") → there ≡ false
@@ -243,6 +244,7 @@ pub record IsServing (rows : List Row) (s : Serving) : Type 0 where
   pub read_only : IsThere (one_of (codes "read-only") rows) s.read_only
   pub close_on_http : IsThereOr s.read_only (one_of (codes "close-on-http") rows) s.close_on_http
   pub admin : option_map (λ t. t.now) s.admin ≡ first_of (codes "admin") rows
+  pub http : IsHttpIf s.listen (first_of (codes "http") rows) s.http
   pub idle : IsNumber 1 1000000 (first_of (codes "idle") rows) s.idle
 
 -- what is read of the arguments of `check`
@@ -299,6 +301,14 @@ IsInvocation words (Diff c) = (rows : List Row) × AreWordsOf (codes "diff") wor
 abbrev pub HasBadMark : List (List ℕ) → Type 0
 HasBadMark words = (rows : List Row) × AreWordsOf (codes "load") words rows × IsNoMark (first_of (codes "mark") rows)
 
--- the words are accepted as those of `serve`, but the text behind `--listen` is that of no address and port
+-- the words are accepted as those of `serve`, but the text after `--listen` is that of no address and port
 abbrev pub HasBadListen : List (List ℕ) → Type 0
 HasBadListen words = (rows : List Row) × AreWordsOf (codes "serve") words rows × IsNoListenText (word_in (codes "listen") rows)
+
+-- the text after `--http` is that of no address and port, or of those of `--listen`
+abbrev pub HasNoHttp : List Row → Type 0
+HasNoHttp rows = (listen : SocketAddrV4) × IsListenText (word_in (codes "listen") rows) listen × IsNoHttp listen (first_of (codes "http") rows)
+
+-- the words are accepted as those of `serve`, but the text after `--http` is none that can be listened on too
+abbrev pub HasBadHttp : List (List ℕ) → Type 0
+HasBadHttp words = (rows : List Row) × AreWordsOf (codes "serve") words rows × HasNoHttp rows

@@ -57,7 +57,7 @@ counts_of i records turns = record {
   skipped = capped (skips records);
 }
 
--- why the feed was cut short, if it was, told with the count of its whole records
+-- why the feed was cut short, if it was, with the count of its whole records
 abbrev pub cut_line : Option FeedCut → ℕ → List ℕ
 cut_line None records = []
 cut_line (Some why) records = refused_record_line (of_cut why) records

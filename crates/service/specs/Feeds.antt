@@ -39,7 +39,7 @@ pub record IsFeed (rule : WithoutHop) (c dropped : ℕ) (bytes rest : List ℕ) 
   pub told_are : map told items ≡ records
   pub means : MeansFrom rule c dropped records results
 
--- The octets that a reader gives in all, where it tells them beforehand, as memory does. A file tells nothing: any octets may be those that it gave.
+-- The octets that a reader gives in all, where they are known before, as those of memory are. Of a file nothing is known: any octets may be those that it gave.
 abbrev pub MayGive : Option (List ℕ) → List ℕ → Type 0
 MayGive None bytes = Unit {0}
 MayGive (Some all) bytes = bytes ≡ all
@@ -123,7 +123,7 @@ abbrev pub as_told : Bool → End → End
 as_told true end = ends.Refused stops.Outside
 as_told false end = end
 
--- What a feed that ended so tells of its reader, which had failed before it or not and has behind it or not, and of its writer: it was
+-- What a feed that ended so says of its reader, which had failed before it or not and has behind it or not, and of its writer: it was
 -- given up for what is outside only where one of them has failed, and where it ended otherwise, no read of it failed.
 pub record FitsFailures (end : End) (lost_was lost failed : Bool) : Type 0 where
   pub outside : end ≡ ends.Refused stops.Outside → (lost ≡ true) ⊎ (failed ≡ true)

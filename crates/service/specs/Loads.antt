@@ -86,7 +86,7 @@ IsUnloaded rule c dropped limit mark h bytes sums lost_was lost archive was now 
 IsUnloaded rule c dropped limit mark h bytes sums lost_was lost archive was now stops.MarkBack = IsMarkedBack rule c dropped limit mark h bytes sums archive was now × (lost ≡ lost_was)
 IsUnloaded rule c dropped limit mark h bytes sums lost_was lost archive was now (stops.Trouble trouble) = (set : Option ℕ) × ((set ≡ mark) ⊎ (set ≡ None)) × (past : History) × archive past × IsPartLoaded rule c dropped limit set h bytes sums lost_was lost past was now
 
--- something was refused, and told: the feed was cut short, or it was given up, or the load ended outside its feed
+-- something was refused, and reported: the feed was cut short, or it was given up, or the load ended outside its feed
 abbrev pub IsRefusedLoad : WithoutHop → ℕ → ℕ → BatchLimits → Option ℕ → History → List ℕ → Sums → Bool → Bool → Carried → OutputState → OutputState → OutputState → OutputState → Type 0
 IsRefusedLoad rule c dropped limit mark h bytes sums lost_was lost archive was now err_was err_now =
     ((why : FeedCut) × IsLoaded rule c dropped limit None h bytes (Some why) sums archive was now × (err_now ≡ err_was) × (lost ≡ lost_was))
@@ -94,7 +94,7 @@ IsRefusedLoad rule c dropped limit mark h bytes sums lost_was lost archive was n
     ⊎ ((why : LoadStop) × IsUnloaded rule c dropped limit mark h bytes sums lost_was lost archive was now why × TellsError (of_load why) err_was err_now))
 
 -- Not all lines could be written. The archive carries all the same what the feed gave, applied as far as may be, and the watermark was
--- told behind its lines as far as it could be; or the load ended outside its feed. Standard error is told of standard output.
+-- written after its lines as far as it could be; or the load ended outside its feed. Standard error says what failed of standard output.
 abbrev pub IsFailedLoad : WithoutHop → ℕ → ℕ → BatchLimits → Option ℕ → History → List ℕ → Sums → Bool → Bool → Carried → OutputState → OutputState → OutputState → OutputState → Type 0
 IsFailedLoad rule c dropped limit mark h bytes sums lost_was lost archive was now err_was err_now =
     ((mid : OutputState) × (past : History) × archive past × NothingToApply past × IsPartLoaded rule c dropped limit mark h bytes sums lost_was lost past was mid × Tells mid now (settled_line (settled past)) × TellsFailure now.failed err_was err_now)

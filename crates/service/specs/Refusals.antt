@@ -1,4 +1,4 @@
--- Refusals by number and name, and the lines that tell them. Each line ends in LF.
+-- Refusals by number and name, and their lines. Each line ends in LF.
 use Rattle.std.specs.Prelude.{◌≡◌, ◌⊎◌, ℕ, Bool, true, false, List, [], ◌∷◌, ◌++◌, codes, decimal}
 use Rattle.service.specs.Outputs.{OutputState, Tells}
 use Rattle.service.specs.declared.refusal.Refusal.{Refusal}
@@ -64,7 +64,7 @@ name_of refusals.Outside = codes "Outside"
 abbrev pub line_end : List ℕ
 line_end = 10 ∷ []
 
--- what the line of a refusal tells behind its name: the watermark of AboveWatermark, the block of Damaged, the page of BadNode
+-- what the line of a refusal has after its name: the watermark of AboveWatermark, the block of Damaged, the page of BadNode
 abbrev pub told_of : Refusal → List ℕ
 told_of (refusals.AboveWatermark settled) = codes "|" ++ decimal settled
 told_of (refusals.Damaged block) = codes "|" ++ decimal block
@@ -75,7 +75,7 @@ told_of _ = []
 abbrev pub refusal_head : Refusal → List ℕ
 refusal_head r = codes "X|" ++ decimal (number_of r) ++ codes "|" ++ name_of r
 
--- the same, and what is told behind it
+-- the same, and what comes after it
 abbrev pub refusal_line : Refusal → List ℕ
 refusal_line r = refusal_head r ++ told_of r ++ line_end
 
@@ -99,7 +99,7 @@ reason_line r why = error_head r ++ codes ": " ++ why ++ line_end
 abbrev pub TellsError : Refusal → OutputState → OutputState → Type 0
 TellsError r was now = Tells was now (error_line r) ⊎ ((why : List ℕ) × Tells was now (reason_line r why))
 
--- standard error is told that lines couldn't be written where it is so, and nothing where it isn't
+-- standard error says that lines couldn't be written where it is so, and nothing where it isn't
 pub record TellsFailure (failed : Bool) (err_was err_now : OutputState) : Type 0 where
   pub told : failed ≡ true → TellsError refusals.Outside err_was err_now
   pub quiet : failed ≡ false → err_now ≡ err_was

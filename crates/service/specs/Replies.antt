@@ -74,7 +74,7 @@ abbrev pub IsTold : History → List ℕ → List ℕ → Type 0
 IsTold h line text = IsReplyText h line text ⊎ ((why : Unanswered) × IsRefused h line why × (text ≡ refusal_line (of_unanswered why)))
 
 -- How a line was answered, by the status. `Failed` is answered where not all could be written: where that was so before, nothing is
--- done; else a front of what should have been told was written, and standard error is told where a write of it failed.
+-- done; else a front of what should have been written was, and standard error says where a write of it failed.
 abbrev pub IsAskEnd : History → List ℕ → Status → OutputState → OutputState → OutputState → OutputState → Type 0
 IsAskEnd h line statuses.Done was now err_was err_now = (text : List ℕ) × IsReplyText h line text × Tells was now text × (now.failed ≡ false) × (err_now.failed ≡ false) × (err_now ≡ err_was)
 IsAskEnd h line statuses.Refused was now err_was err_now = (why : Unanswered) × IsRefused h line why × Tells was now (refusal_line (of_unanswered why)) × (now.failed ≡ false) × (err_now.failed ≡ false) × (err_now ≡ err_was)

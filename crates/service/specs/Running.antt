@@ -1,5 +1,5 @@
 -- What the program does of a command, once its archive is made or open.
-use Rattle.std.specs.Prelude.{◌≡◌, ℕ, Bool, true, false, Option, List, [], ◌++◌, codes, decimal}
+use Rattle.std.specs.Prelude.{◌≡◌, ℕ, Bool, true, false, List, [], ◌++◌, codes, decimal}
 use Rattle.route_meaning.specs.History.{History}
 use Rattle.resolve.specs.declared.without_hop.WithoutHop.{WithoutHop}
 use Rattle.resolve.specs.declared.without_hop.WithoutHop.TheVariants.{Refused, LeftOut}
@@ -16,7 +16,7 @@ use Rattle.service.specs.declared.settings.LoadSettings.{LoadSettings}
 use Rattle.service.specs.declared.status.Status.{Status}
 
 -- A command ended so, and then what was buffered was written out. The exit status is that of the command, and 1 where not all could be
--- written. Where that failed before, standard error is told no more of it.
+-- written. Where that failed before, standard error says no more of it.
 pub record IsWrittenOut (ended : Status) (code : ℕ) (was now err_was err_now : OutputState) : Type 0 where
   pub flushed : Tells was now []
   pub sound : now.failed ≡ false → code ≡ code_of ended

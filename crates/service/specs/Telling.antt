@@ -1,4 +1,4 @@
--- What the program tells on standard error besides the lines of its command.
+-- What the program prints on standard error besides the lines of its command.
 use Rattle.std.specs.Prelude.{◌⊎◌, ◌++◌, ℕ, List}
 use Rattle.service.specs.Outputs.{OutputState, Tells}
 use Rattle.service.specs.Refusals.{error_line, reason_line}

@@ -1,11 +1,11 @@
--- What is done for the records of a feed, one after another: admissions are offered in batches, and refused records told.
+-- What is done for the records of a feed, one after another: admissions are offered in batches, and refused records reported.
 use Rattle.std.specs.Prelude.{ℕ, ◌≤◌, ltb, leb, suc, length, Bool, true, false, List, [], ◌∷◌, ◌++◌, Option, Some, None, Result, Ok, Err}
 use Rattle.route_model.specs.Admission.{Admitted}
 use Rattle.archive_calls.specs.Limits.{batch_octets}
 use Rattle.resolve.specs.declared.fault.ResolveFault.{ResolveFault}
 use Rattle.service.specs.declared.limits.BatchLimits.{BatchLimits}
 
--- a batch is offered, or the record at this place is told as refused; the first record has the place 0
+-- a batch is offered, or the record at this place is reported as refused; the first record has the place 0
 pub data Turn : Type 0 where
   Offer : (batch : List Admitted) → Turn
   Refuse : (place : ℕ) (fault : ResolveFault) → Turn

@@ -1,4 +1,4 @@
-//! The command line that the program takes, as `clap` is told of it.
+//! The command line that the program takes, as `clap` has it.
 
 ghost use Rattle.std.specs.Prelude.{◌≡◌, IfOk, false, codes};
 ghost use Rattle.clap.specs.Simple.{app_of};
@@ -23,10 +23,10 @@ pub(crate) const MIN_RING: u64 = 9;
 /// The most pages of a ring.
 pub(crate) const MAX_RING: u64 = 65_535;
 
-/// The most home pages, and the most blocks, that an archive may be told to have.
+/// The most home pages, and the most blocks, that may be asked for.
 pub(crate) const MAX_SIZE: u64 = 1_000_000_000;
 
-/// The most admissions that a batch of a feed may be told to have, and those that it has where nothing is told.
+/// The most admissions of a batch that may be asked for, and those that it has if nothing is asked for.
 pub(crate) const MAX_BATCH: u64 = 1000;
 
 /// The most seconds that a command may be asked to wait for an archive.
@@ -312,15 +312,17 @@ fn serving_on_port<'a>(alloc: Global) -> Result<Command<'a>, AllocError>
         .arg(flag(alloc, "close-on-http", close))
 }
 
-/// `serve DIR --listen ADDRESS:PORT --workers N [--read-only] [--close-on-http] [--admin PATH] [--idle SECONDS]`
+/// `serve DIR --listen ADDRESS:PORT --workers N [--read-only] [--close-on-http] [--admin PATH] [--http ADDRESS:PORT] [--idle SECONDS]`
 fn serving<'a>(alloc: Global) -> Result<Command<'a>, AllocError>
     ensures app { IfOk result (λ c. app_of c ≡ serving) }
     ensures own { IfOk result (λ c. (out-Command c).has_globals ≡ false) }
 {
     let admin = "A Unix socket to make, which takes every line, also feed, mark and stop";
+    let http = "A further IPv4 address and port, which answer HTTP alone, read-only";
     let idle = "After how many seconds an idle connection is ended, 1 to 1000000";
     serving_on_port(alloc)?
         .arg(text(alloc, "admin", "PATH", admin))?
+        .arg(text(alloc, "http", "ADDRESS:PORT", http))?
         .arg(number_or(alloc, "idle", "SECONDS", idle, 1, MAX_IDLE, "300"))
 }
 
@@ -329,7 +331,7 @@ fn checking<'a>(alloc: Global) -> Result<Command<'a>, AllocError>
     ensures app { IfOk result (λ c. app_of c ≡ checking) }
     ensures own { IfOk result (λ c. (out-Command c).has_globals ≡ false) }
 {
-    let about = "Reads through an archive, and tells the first damage";
+    let about = "Reads through an archive, and reports the first damage";
     of_archive(alloc, "check", about, help::CHECK)
 }
 

@@ -13,7 +13,7 @@ use std::alloc::Global;
 use std::io::Write;
 
 /// Writes what the archive replies to a request line: the lines of the reply, or the line of the refusal. Where these
-/// can't all be written, `err` is told so; where `out` had failed before, nothing is done.
+/// can't all be written, `err` says so; where `out` had failed before, nothing is done.
 pub fn ask<A: RouteArchive, W: Write, E: Write>(
     alloc: Global,
     archive: &mut A,

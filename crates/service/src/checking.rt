@@ -23,8 +23,8 @@ fn write_checked<W: Write>(out: &mut Output<W>, changes: u64, settled: Mark)
 }
 
 /// Has the archive read all that it keeps of what is applied, and writes `ok|CHANGES|SETTLED`: how many changes are applied, and the
-/// settled watermark. What can't be read, or isn't what it is to be, is told to `err`, and nothing is written to `out`. Where a line
-/// can't be written, `err` is told so; where `out` had failed before, nothing is done. No memory is needed but the archive's, and that of
+/// settled watermark. What can't be read, or isn't what it is to be, is printed to `err`, and nothing is written to `out`. Where a line
+/// can't be written, `err` says so; where `out` had failed before, nothing is done. No memory is needed but the archive's, and that of
 /// a reason, which is left out where there is none for it.
 pub fn check<A: RouteArchive, W: Write, E: Write>(
     alloc: Global,

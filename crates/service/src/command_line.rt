@@ -8,9 +8,9 @@ ghost use Rattle.clap.specs.Simple.{subcommand_rows_of};
 ghost use Rattle.clap.specs.Walk.{Row, rows_of, first_of, one_of, all_of};
 ghost use Rattle.clap.specs.Values.{kind_of};
 ghost use Rattle.clap.specs.declared.error.Error.{Error};
-ghost use Rattle.service.specs.CommandLines.{program, spaced, word_in, IsMarkIf, IsNoMark, IsNumber, IsThere, IsThereOr, IsCreation, IsLoading, IsQuestion, IsServing, IsChecking, IsExamining, IsDumping, IsListing, IsComparing, IsInvocation, HasBadMark, HasBadListen};
+ghost use Rattle.service.specs.CommandLines.{program, spaced, word_in, IsMarkIf, IsNoMark, IsNumber, IsThere, IsThereOr, IsCreation, IsLoading, IsQuestion, IsServing, IsChecking, IsExamining, IsDumping, IsListing, IsComparing, IsInvocation, HasBadMark, HasBadListen, HasBadHttp, HasNoHttp};
 ghost use Rattle.service.specs.Listening.{IsNoListenText};
-ghost use Rattle.service.specs.inner.Naming.{AsksFor, IsCommand, NamesNoListen, NamesNoMark};
+ghost use Rattle.service.specs.inner.Naming.{AsksFor, IsCommand, NamesNoHttp, NamesNoListen, NamesNoMark};
 
 use crate::arguments::{
     LAST_COLLECTOR, MAX_BATCH, MAX_COLLECTORS, MAX_IDLE, MAX_RING, MAX_SIZE, MAX_WAIT, MAX_WORKERS,
@@ -20,7 +20,7 @@ use crate::invocation::{
     Checking, CommandError, Comparing, Creation, Dumping, Examining, Invocation, Listing, Loading,
     Question, Serving,
 };
-use crate::listening::read_listen;
+use crate::listening::{read_http, read_listen};
 use clap::ArgMatches;
 use clap::error::ErrorKind;
 use route_model::Mark;
@@ -42,7 +42,7 @@ fn text_of<'a>(matches: &ArgMatches<'a>, name: &str) -> Option<&'a str>
     matches.get_str(name)
 }
 
-/// The number that the text behind an option writes, which `clap` has read. No clause of its says that the text is there
+/// The number that the text after an option writes, which `clap` has read. No clause of its says that the text is there
 /// and within the limits: else the least counts.
 fn number_in(text: Option<&str>, least: u64, most: u64) -> u64
     requires limits { least ≤ most }
@@ -57,7 +57,7 @@ fn number_in(text: Option<&str>, least: u64, most: u64) -> u64
     }
 }
 
-/// The number behind the option of this name.
+/// The number after the option of this name.
 fn number_of(matches: &ArgMatches<'_>, name: &str, least: u64, most: u64) -> u64
     requires limits { least ≤ most }
     ensures number { IsNumber least most (first_of name.now (rows_of (found_of matches.now))) result }
@@ -164,12 +164,26 @@ fn question_of<'a>(alloc: Global, matches: &ArgMatches<'a>) -> Result<Question<'
     })
 }
 
+/// Which text of `serve` isn't that of an address and port.
+#[derive(Clone, Copy)]
+enum BadAddress {
+    Listen,
+    /// Or it is that of `--listen`.
+    Http,
+}
+
 /// What the arguments of `serve` say.
-fn serving_of<'a>(matches: &ArgMatches<'a>) -> Result<Serving<'a>, BadText>
+fn serving_of<'a>(matches: &ArgMatches<'a>) -> Result<Serving<'a>, BadAddress>
     ensures found { IfOk result (IsServing (rows_of (found_of matches.now))) }
-    ensures none { OnErr result (IsNoListenText (word_in (codes "listen") (rows_of (found_of matches.now)))) }
+    ensures listen { result ≡ Err BadAddress.Listen → IsNoListenText (word_in (codes "listen") (rows_of (found_of matches.now))) }
+    ensures http { result ≡ Err BadAddress.Http → HasNoHttp (rows_of (found_of matches.now)) }
 {
-    let listen = read_listen(word_of(matches, "listen"))?;
+    let Ok(listen) = read_listen(word_of(matches, "listen")) else {
+        return Err(BadAddress::Listen);
+    };
+    let Ok(http) = read_http(listen, text_of(matches, "http")) else {
+        return Err(BadAddress::Http);
+    };
     let read_only = is_there(matches, "read-only");
     Ok(Serving {
         folder: word_of(matches, "DIR"),
@@ -179,6 +193,7 @@ fn serving_of<'a>(matches: &ArgMatches<'a>) -> Result<Serving<'a>, BadText>
         read_only,
         close_on_http: is_there_or(matches, read_only, "close-on-http"),
         admin: text_of(matches, "admin"),
+        http,
         idle: number_of(matches, "idle", 1, MAX_IDLE) as u32,
     })
 }
@@ -252,6 +267,7 @@ fn invocation_of<'a>(
     ensures used { (e : Error) → result ≡ Err (CommandError.Usage e) → ⊥ }
     ensures bad_mark { result ≡ Err CommandError.BadMark → NamesNoMark (subcommand_rows_of matches.now) }
     ensures bad_listen { result ≡ Err CommandError.BadListen → NamesNoListen (subcommand_rows_of matches.now) }
+    ensures bad_http { result ≡ Err CommandError.BadHttp → NamesNoHttp (subcommand_rows_of matches.now) }
 {
     if let Some(matches) = matches.subcommand_matches("create") {
         return Ok(Invocation::Create(creation_of(matches)));
@@ -274,7 +290,8 @@ fn invocation_of<'a>(
     if let Some(matches) = matches.subcommand_matches("serve") {
         return match serving_of(matches) {
             Ok(serving) => Ok(Invocation::Serve(serving)),
-            Err(BadText) => Err(CommandError::BadListen),
+            Err(BadAddress::Listen) => Err(CommandError::BadListen),
+            Err(BadAddress::Http) => Err(CommandError::BadHttp),
         };
     }
     if let Some(matches) = matches.subcommand_matches("check") {
@@ -314,7 +331,7 @@ fn usage(error: clap::Error) -> CommandError
 /// - `rha create DIR [--collectors N] [--ring P] [--pages N] [--blocks N]`
 /// - `rha load DIR --collector C [--batch N] [--mark M] [--resume] [--lose-entries] [--strict] FILE..`
 /// - `rha ask DIR [--all] [--human] WORD..`
-/// - `rha serve DIR --listen ADDRESS:PORT --workers N [--read-only] [--close-on-http] [--admin PATH] [--idle SECONDS]`
+/// - `rha serve DIR --listen ADDRESS:PORT --workers N [--read-only] [--close-on-http] [--admin PATH] [--http ADDRESS:PORT] [--idle SECONDS]`
 /// - `rha check DIR`
 /// - `rha info DIR [--json]`
 /// - `rha dump DIR [--at T] [--peer COLLECTOR ADDRESS AS] [--format FORM]`
@@ -332,12 +349,14 @@ fn usage(error: clap::Error) -> CommandError
 /// # Errors
 ///
 /// `Usage` where `clap` doesn't accept the words, or they ask for help. `BadMark` where M is the text of no mark,
-/// `BadListen` where ADDRESS:PORT is that of no address and port, and `OutOfMemory` where a growth of memory was refused.
+/// `BadListen` where ADDRESS:PORT is that of no address and port, `BadHttp` where that of `--http` is, or is that of `--listen` (and the
+/// port isn't 0), and `OutOfMemory` where a growth of memory was refused.
 pub fn command<'a, S: AsStr>(alloc: Global, words: &'a [S]) -> Result<Invocation<'a>, CommandError>
     ensures found { IfOk result (IsInvocation (map S.text words.now)) }
     ensures usage { (e : Error) → result ≡ Err (CommandError.Usage e) → IsAmong (kind_of e) (fault_of program (map S.text words.now)) }
     ensures bad_mark { result ≡ Err CommandError.BadMark → HasBadMark (map S.text words.now) }
     ensures bad_listen { result ≡ Err CommandError.BadListen → HasBadListen (map S.text words.now) }
+    ensures bad_http { result ≡ Err CommandError.BadHttp → HasBadHttp (map S.text words.now) }
 {
     let Ok(program) = program(alloc) else {
         return Err(CommandError::OutOfMemory);

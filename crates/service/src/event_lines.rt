@@ -1,4 +1,4 @@
-//! The lines of an answer that tells a history.
+//! The lines of an answer to a question of a history.
 
 ghost use Rattle.std.specs.Prelude.{◌≡◌, ◌++◌, OnOk, string_bytes};
 ghost use Rattle.service.specs.AnswerLines.{timed_text, change_line, events_ending, events_text};

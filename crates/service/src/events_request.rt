@@ -1,4 +1,4 @@
-//! Request lines that ask what a peer told of a prefix.
+//! Request lines that ask what a peer announced and withdrew of a prefix.
 
 ghost use Rattle.std.specs.Prelude.{ℕ, map, IfOk, OnErr};
 ghost use Rattle.route_meaning.specs.declared.question.EventsQuestion.{EventsQuestion};

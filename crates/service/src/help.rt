@@ -1,4 +1,4 @@
-//! What the help of the program and of its commands tells behind what `clap` shows.
+//! What the help of the program and of its commands has after what `clap` shows.
 
 /// Of the program.
 pub(crate) const PROGRAM: &str = "Example:
@@ -12,7 +12,7 @@ pub(crate) const PROGRAM: &str = "Example:
 
 `rha COMMAND --help` has the limits of a command, its defaults and its exit statuses.
 
-Exit status: 0 where all is done, 1 where something was refused or couldn't be written (told on standard
+Exit status: 0 where all is done, 1 where something was refused or couldn't be written (printed on standard
 error as `rha: NUMBER NAME` where it has no line of its own), 2 where the command line isn't accepted.";
 
 /// Of `create`.
@@ -20,14 +20,14 @@ pub(crate) const CREATE: &str =
     "Pages and blocks have 16384 octets each, and take room on the disk as they are used: unused ones take none,
 however many there are. What is loaded of a collector waits in its ring until it may be applied; a table dump
 of one moment waits there whole. There must be a page for each page of each ring and 3 more. Nothing is left
-behind where the archive can't be made. Prints `created COLLECTORS RING PAGES BLOCKS`.
+where the archive can't be made. Prints `created COLLECTORS RING PAGES BLOCKS`.
 
 The files have holes, which a copy has to keep: `cp -a --sparse=always`, `tar -cS`, `rsync -aS`.
 
 Example:
   rha create a --collectors 2
 
-Exit status: 0 where the archive is made; 1 where it is refused, told on standard error as
+Exit status: 0 where the archive is made; 1 where it is refused, printed on standard error as
 `rha: NUMBER NAME`; 2 where the command line isn't accepted.";
 
 /// Of `load`.
@@ -67,10 +67,10 @@ pub(crate) const ASK: &str = "The words are one request line:
   at T cover ADDRESS               every peer's route for each prefix that contains the address
   at T peer PEER                   all routes of the peer
   at T all                         all routes of all peers
-  history FROM TO PEER PREFIX      what the peer told of the prefix, FROM and TO included
+  history FROM TO PEER PREFIX      what the peer announced and withdrew, FROM and TO included
   watermark                        the settled watermark
   durable COLLECTOR                how many records of the collector are admitted
-The last four of `at` may end with `after PEER PREFIX`, which goes on behind that row, and `history` with
+The last four of `at` may end with `after PEER PREFIX`, which goes on after that row, and `history` with
 `skip N`, which leaves the first N events out: an answer has 256 rows or events at most. With --all each next line
 is asked, and the answer has all rows or events and one end, `E|COUNT`. With --human moments are dates, and
 communities are texts (65001:7); programs read the lines without it.
@@ -82,18 +82,18 @@ Examples:
   rha ask a --all at 2024-01-01T00:10:00Z cover 10.0.0.1
 
 Exit status: 0 where the line is answered; 1 where it is refused (`X|NUMBER|NAME`), or something else was
-refused or couldn't be written (told on standard error as `rha: NUMBER NAME`); 2 where the command line isn't
-accepted.";
+refused or couldn't be written (printed on standard error as `rha: NUMBER NAME`); 2 where the command line
+isn't accepted.";
 
 /// Of `serve`.
 pub(crate) const SERVE: &str =
-    "Prints `listening ADDRESS:PORT` as soon as connections are taken; the system chooses a free port where PORT
-is 0. No other command can open the archive meanwhile: what is to be loaded is fed through a connection. Each
-of N workers serves one connection to its end, and further ones wait: a client that stays connected keeps a
-worker.
+    "Prints `listening ADDRESS:PORT` as soon as connections are taken, and with --http after it ` http ADDRESS:PORT`;
+the system chooses a free port where PORT is 0. No other command can open the archive meanwhile: what is to be
+loaded is fed through a connection. Each of N workers serves one connection to its end, and further ones wait: a
+client that stays connected keeps a worker.
 
 A connection sends request lines (`rha ask --help`), of which `watermark` and `durable` wait for nobody, and:
-  mark COLLECTOR M                 raises the collector's mark, applies what may be applied, and tells S|SETTLED
+  mark COLLECTOR M                 raises the collector's mark, applies what may be applied, and replies S|SETTLED
   feed COLLECTOR N                 what follows is MRT, kept in batches of 1 to 1000 records; then it ends
   quit                             ok, and it ends
   stop                             ok, and the server ends once all connections have ended
@@ -105,14 +105,18 @@ workers of its own. With --close-on-http a line that ends in HTTP/1.0 or HTTP/1.
 page in a browser can't send lines by HTTP. --idle ends a connection that sends nothing, or doesn't read, for so
 long, since it keeps a worker.
 
+With --http N more workers answer requests of HTTP at that port, which can't be that of --listen: GET of
+/api/prefix and other questions, and of /api/info, as JSON, and of /metrics. Nothing can be changed there.
+
 Examples:
-  rha serve a --listen 127.0.0.1:17900 --workers 4 --read-only --admin a.sock
+  rha serve a --listen 127.0.0.1:17900 --workers 4 --read-only --admin a.sock --http 127.0.0.1:17980
   (echo feed 0 1000; cat updates.mrt) | nc -NU a.sock
   echo at 2024-01-01T00:10:00Z all | nc -N 127.0.0.1 17900
+  curl http://127.0.0.1:17980/api/info
 
-Exit status: 0 where a client stopped the server; 1 where the archive can't be opened, the address or PATH
-can't be listened on or something else was refused (told on standard error as `rha: NUMBER NAME`); 2 where the
-command line isn't accepted.";
+Exit status: 0 where a client stopped the server; 1 where the archive can't be opened, an address or PATH
+can't be listened on or something else was refused (printed on standard error as `rha: NUMBER NAME`); 2 where
+the command line isn't accepted.";
 
 /// Of `check`.
 pub(crate) const CHECK: &str =
@@ -124,7 +128,7 @@ Example:
   rha check a
 
 Exit status: 0 where all could be read, and has as many changes as were applied; 1 where a block or a page
-isn't what may stand there, which standard error tells as `rha: 8 Damaged` or `rha: 9 BadNode`, or something
+isn't what may stand there, which standard error shows as `rha: 8 Damaged` or `rha: 9 BadNode`, or something
 else was refused or couldn't be written (`rha: NUMBER NAME`); 2 where the command line isn't accepted.";
 
 /// Of `info`.
@@ -136,7 +140,7 @@ its mark, its records and how much of its ring is used. With --json, the same as
 Example:
   rha info a
 
-Exit status: 0 where the archive could be read; 1 where something was refused or couldn't be written (told on
+Exit status: 0 where the archive could be read; 1 where something was refused or couldn't be written (printed on
 standard error as `rha: NUMBER NAME`); 2 where the command line isn't accepted.";
 
 /// Of `dump`.

@@ -120,6 +120,8 @@ pub struct Serving<'a> {
     pub close_on_http: bool,
     /// The path of a Unix socket that takes every line.
     pub admin: Option<&'a str>,
+    /// Where HTTP is served; the system chooses the port where it is 0.
+    pub http: Option<SocketAddrV4>,
     /// After how many seconds a connection is ended that sends nothing, or doesn't read, 1 to 1000000.
     pub idle: u32,
 }
@@ -173,12 +175,15 @@ pub enum CommandError {
     /// The words aren't accepted, or they ask for help: `clap`'s text.
     #[error(transparent)]
     Usage(clap::Error),
-    /// The text behind `--mark` is that of no mark.
-    #[error("the text behind --mark is that of no mark")]
+    /// The text after `--mark` is that of no mark.
+    #[error("the text after --mark is that of no mark")]
     BadMark,
-    /// The text behind `--listen` is that of no IPv4 address and port.
-    #[error("the text behind --listen is that of no address and port")]
+    /// The text after `--listen` is that of no IPv4 address and port.
+    #[error("the text after --listen is that of no address and port")]
     BadListen,
+    /// The text after `--http` is that of no IPv4 address and port, or of those of `--listen`.
+    #[error("the text after --http is that of no address and port, or of those of --listen")]
+    BadHttp,
     /// A growth of memory was refused.
     #[error("out of memory")]
     OutOfMemory,
@@ -192,12 +197,16 @@ impl CommandError {
         ensures version { (e : Error) → self.now ≡ CommandError.Usage e → kind_of e ≡ ErrorKind.DisplayVersion → result ≡ 0 }
         ensures bad_mark { self.now ≡ CommandError.BadMark → result ≡ 1 }
         ensures bad_listen { self.now ≡ CommandError.BadListen → result ≡ 1 }
+        ensures bad_http { self.now ≡ CommandError.BadHttp → result ≡ 1 }
         ensures memory { self.now ≡ CommandError.OutOfMemory → result ≡ 1 }
     {
         match self {
             CommandError::Usage(error) if error.use_stderr() => 2,
             CommandError::Usage(_) => 0,
-            CommandError::BadMark | CommandError::BadListen | CommandError::OutOfMemory => 1,
+            CommandError::BadMark
+            | CommandError::BadListen
+            | CommandError::BadHttp
+            | CommandError::OutOfMemory => 1,
         }
     }
 }

@@ -1,4 +1,4 @@
-//! Requests and feeds as lines: what a feed, an answer and a refusal are told as, and what a request line asks.
+//! Requests and feeds as lines: how a feed, an answer and a refusal are written, and what a request line asks.
 #![tactic(auto)]
 
 mod answer_lines;

@@ -1,8 +1,8 @@
-//! Where a server takes connections: as the command line writes it, and as it is told.
+//! Where a server takes connections: as the command line writes it, and as it is printed.
 
-ghost use Rattle.std.specs.Prelude.{◌≡◌, OnErr, IfOk};
-ghost use Rattle.std.specs.Net.Text.{ipv4_text};
-ghost use Rattle.service.specs.Listening.{IsListenText, IsListeningTold, IsNoListenText, listening_line};
+ghost use Rattle.std.specs.Prelude.{◌≡◌, ◌↔◌, IsTrue, OnErr, IfOk, option_map};
+ghost use Rattle.std.specs.Net.Text.{ipv4_text, socket_v4_text};
+ghost use Rattle.service.specs.Listening.{AreSame, IsHttpIf, IsListenText, IsListeningTold, IsNoHttp, IsNoListenText, http_text, listening_line};
 ghost use Rattle.service.specs.Outputs.{Tells};
 
 use crate::output::Output;
@@ -28,6 +28,32 @@ pub(crate) fn read_listen(text: &str) -> Result<SocketAddrV4, BadText>
     Ok(SocketAddrV4::new(Ipv4Addr::from_octets(octets), port as u16))
 }
 
+/// Whether both can't be listened on: they are the same, and the system doesn't choose the ports.
+fn are_same(listen: SocketAddrV4, http: SocketAddrV4) -> bool
+    ensures { IsTrue result ↔ AreSame listen http }
+{
+    http == listen && listen.port() != 0
+}
+
+/// The address and port of HTTP that the text writes, if there is a text. They have to be others than those of `listen`, unless the
+/// port is 0.
+pub(crate) fn read_http(
+    listen: SocketAddrV4,
+    text: Option<&str>,
+) -> Result<Option<SocketAddrV4>, BadText>
+    ensures found { IfOk result (IsHttpIf listen (option_map (λ t. t.now) text.entry)) }
+    ensures none { OnErr result (IsNoHttp listen (option_map (λ t. t.now) text.entry)) }
+{
+    let Some(text) = text else {
+        return Ok(None);
+    };
+    let http = read_listen(text)?;
+    if are_same(listen, http) {
+        return Err(BadText);
+    }
+    Ok(Some(http))
+}
+
 /// Writes an IPv4 address: four numbers with dots between them.
 fn write_ipv4<W: Write>(out: &mut Output<W>, octets: [u8; 4])
     ensures text { Tells out.old out.new (ipv4_text octets) }
@@ -42,28 +68,48 @@ fn write_ipv4<W: Write>(out: &mut Output<W>, octets: [u8; 4])
     out.number(u64::from(d));
 }
 
+/// Writes an address and a port, with a colon between.
+fn write_place<W: Write>(out: &mut Output<W>, place: &SocketAddrV4)
+    ensures text { Tells out.old out.new (socket_v4_text place.now) }
+{
+    write_ipv4(out, place.ip().octets());
+    out.text(":");
+    out.number(u64::from(place.port()));
+}
+
+/// Writes where HTTP is served, if it is.
+fn write_http<W: Write>(out: &mut Output<W>, http: Option<SocketAddrV4>)
+    ensures text { Tells out.old out.new (http_text http) }
+{
+    let Some(place) = http else {
+        return;
+    };
+    out.text(" http ");
+    write_place(out, &place);
+}
+
 /// Writes where connections are taken.
-fn write_listening<W: Write>(out: &mut Output<W>, bound: &SocketAddrV4)
-    ensures line { Tells out.old out.new (listening_line bound.now) }
+fn write_listening<W: Write>(out: &mut Output<W>, bound: &SocketAddrV4, http: Option<SocketAddrV4>)
+    ensures line { Tells out.old out.new (listening_line bound.now http) }
 {
     out.text("listening ");
-    write_ipv4(out, bound.ip().octets());
-    out.text(":");
-    out.number(u64::from(bound.port()));
+    write_place(out, bound);
+    write_http(out, http);
     out.text("\n");
 }
 
-/// Tells where connections are taken: `listening ADDRESS:PORT`, and writes out what is buffered. The exit status of the
-/// program is 0, and 1 where not all could be written, which `err` is told.
+/// Prints where connections are taken, `listening ADDRESS:PORT`, and after ` http ` where those of HTTP are, if there are such. Then it
+/// writes out what is buffered. The exit status of the program is 0, or 1 if not all could be written, which `err` then says.
 pub fn tell_listening<W: Write, E: Write>(
     alloc: Global,
     bound: &SocketAddrV4,
+    http: Option<SocketAddrV4>,
     out: &mut Output<W>,
     err: &mut Output<E>,
 ) -> u8
-    ensures told { IsListeningTold bound.now result out.old out.new err.old err.new }
+    ensures told { IsListeningTold bound.now http result out.old out.new err.old err.new }
 {
-    write_listening(out, bound);
+    write_listening(out, bound, http);
     out.flush();
     if out.has_failed() {
         tell_unwritten(alloc, out, err);

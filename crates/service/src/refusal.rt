@@ -9,7 +9,7 @@ use route_model::Mark;
 use std::io::Write;
 use thiserror::Error;
 
-/// Why something isn't done. Each refusal has a number and a name, by which lines tell it.
+/// Why something isn't done. Each refusal has a number and a name, which its line has.
 #[derive(Clone, Copy, Debug, Error, PartialEq, Eq)]
 pub enum Refusal {
     /// A device failed.
@@ -167,7 +167,7 @@ fn write_head<W: Write>(out: &mut Output<W>, refusal: &Refusal)
     out.text(refusal.name());
 }
 
-/// The number that the line of a refusal tells behind its name, if it tells one.
+/// The number that the line of a refusal has after its name, if it has one.
 fn number_told(refusal: &Refusal) -> Option<u64>
     ensures some { IfSome result (λ number. told_of refusal.now ≡ codes "|" ++ decimal number) }
     ensures none { IfNone result (told_of refusal.now ≡ []) }
@@ -179,7 +179,7 @@ fn number_told(refusal: &Refusal) -> Option<u64>
     }
 }
 
-/// Writes what the line of a refusal tells behind its name.
+/// Writes what the line of a refusal has after its name.
 fn write_told<W: Write>(out: &mut Output<W>, refusal: &Refusal)
     ensures told { Tells out.old out.new (told_of refusal.now) }
 {
@@ -190,7 +190,7 @@ fn write_told<W: Write>(out: &mut Output<W>, refusal: &Refusal)
     out.number(number);
 }
 
-/// Writes the line of a refusal: `X|NUMBER|NAME`, and behind `AboveWatermark` a bar and the watermark, behind
+/// Writes the line of a refusal: `X|NUMBER|NAME`, and after `AboveWatermark` a bar and the watermark, after
 /// `Damaged` and `BadNode` a bar and the number of the block or page. No memory is needed.
 pub fn write_refusal<W: Write>(out: &mut Output<W>, refusal: &Refusal)
     ensures line { Tells out.old out.new (refusal_line refusal.now) }

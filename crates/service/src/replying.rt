@@ -62,7 +62,7 @@ fn number_text(alloc: Global, letter: &str, number: u64) -> Result<String, Alloc
     Ok(text)
 }
 
-/// Why a question isn't answered, as a line is told of it.
+/// Why a question isn't answered, as its line says it.
 fn unanswered(refusal: AskError) -> Unanswered
     ensures why { result ≡ of_ask refusal }
 {

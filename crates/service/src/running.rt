@@ -20,7 +20,7 @@ use resolve::WithoutHop;
 use std::alloc::Global;
 use std::io::{Read, Write};
 
-/// Writes out what is buffered: `Failed` where that fails, which `err` is told where nothing failed before.
+/// Writes out what is buffered: `Failed` where that fails, which `err` says where nothing failed before.
 fn write_out<W: Write, E: Write>(alloc: Global, out: &mut Output<W>, err: &mut Output<E>) -> Status
     ensures flushed { Tells out.old out.new [] }
     ensures done { out.new.failed ≡ false → result ≡ Status.Done }
@@ -143,8 +143,8 @@ fn write_created<W: Write>(out: &mut Output<W>, made: &Creation<'_>)
     out.text("\n");
 }
 
-/// Tells that an archive is made: `created COLLECTORS RING PAGES BLOCKS`, and writes out what is buffered. The exit status
-/// of the program is 0, and 1 where not all could be written, which `err` is told.
+/// Prints that an archive is made, `created COLLECTORS RING PAGES BLOCKS`, and writes out what is buffered. The exit status
+/// of the program is 0, and 1 where not all could be written, which `err` says.
 pub fn tell_created<W: Write, E: Write>(
     alloc: Global,
     made: &Creation<'_>,

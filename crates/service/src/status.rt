@@ -16,7 +16,7 @@ use std::io::Write;
 pub enum Status {
     /// All is done.
     Done,
-    /// Something was refused. A line tells it, unless that line couldn't be written.
+    /// Something was refused. A line says so, unless that line couldn't be written.
     Refused,
     /// Not all lines could be written.
     Failed,
@@ -35,7 +35,7 @@ impl Status {
 }
 
 /// The status of a command that has written its lines: `Failed` where not all of them could be written. Where that is
-/// so of `out`, `err` is told.
+/// so of `out`, `err` says it.
 pub fn told<W: Write, E: Write>(
     alloc: Global,
     status: Status,

@@ -1,4 +1,4 @@
-//! What the program tells on standard error besides the lines of its command, and the exit status that follows.
+//! What the program prints on standard error besides the lines of its command, and the exit status that follows.
 
 ghost use Rattle.std.specs.Prelude.{◌≡◌, ◌⊎◌, false, true};
 ghost use Rattle.clap.specs.Values.{kind_of};
@@ -62,7 +62,7 @@ pub fn tell_with<E: Write>(refusal: &Refusal, why: Option<String>, err: &mut Out
     1
 }
 
-/// Tells why the program doesn't come to its command. The exit status is 1.
+/// Prints why the program doesn't come to its command. The exit status is 1.
 pub fn tell_refusal<E: Write>(refusal: &Refusal, err: &mut Output<E>) -> u8
     ensures code { result ≡ 1 }
     ensures told { Tells err.old err.new (error_line refusal.now) }
@@ -71,7 +71,7 @@ pub fn tell_refusal<E: Write>(refusal: &Refusal, err: &mut Output<E>) -> u8
     1
 }
 
-/// Tells that there is no memory for what the program needs before its command. The exit status is 1.
+/// Prints that there is no memory for what the program needs before its command. The exit status is 1.
 pub fn tell_out_of_memory<E: Write>(err: &mut Output<E>) -> u8
     ensures code { result ≡ 1 }
     ensures told { Tells err.old err.new (error_line Refusal.OutOfMemory) }
@@ -106,7 +106,7 @@ pub(crate) fn tell_unwritten<W: Write, E: Write>(
     }
 }
 
-/// Tells why the command line asks for nothing, or shows the help or version that it asks for. The exit status is that
+/// Prints why the command line asks for nothing, or shows the help or version that it asks for. The exit status is that
 /// of the error, or 1 where help or version couldn't be shown.
 pub fn tell_usage<R: Print + Eprint, E: Write>(
     alloc: Global,
@@ -118,6 +118,7 @@ pub fn tell_usage<R: Print + Eprint, E: Write>(
     ensures shown { (e : Usage) → error.now ≡ CommandError.Usage e → (kind_of e ≡ UsageKind.DisplayHelp) ⊎ (kind_of e ≡ UsageKind.DisplayVersion) → ((result ≡ 0) × (err.new ≡ err.old)) ⊎ ((result ≡ 1) × TellsError Refusal.Outside err.old err.new) }
     ensures bad_mark { error.now ≡ CommandError.BadMark → (result ≡ 1) × Tells err.old err.new (error_line Refusal.BadText) }
     ensures bad_listen { error.now ≡ CommandError.BadListen → (result ≡ 1) × Tells err.old err.new (error_line Refusal.BadText) }
+    ensures bad_http { error.now ≡ CommandError.BadHttp → (result ≡ 1) × Tells err.old err.new (error_line Refusal.BadText) }
     ensures memory { error.now ≡ CommandError.OutOfMemory → (result ≡ 1) × Tells err.old err.new (error_line Refusal.OutOfMemory) }
 {
     match error {
@@ -129,7 +130,9 @@ pub fn tell_usage<R: Print + Eprint, E: Write>(
                 }
             }
         }
-        CommandError::BadMark | CommandError::BadListen => write_error(err, &Refusal::BadText),
+        CommandError::BadMark | CommandError::BadListen | CommandError::BadHttp => {
+            write_error(err, &Refusal::BadText)
+        }
         CommandError::OutOfMemory => write_error(err, &Refusal::OutOfMemory),
     }
     error.code()

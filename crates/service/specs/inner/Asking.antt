@@ -11,12 +11,12 @@ use Rattle.service.specs.declared.faults.Unanswered.TheVariants as whys
 use Rattle.service.specs.declared.request.Request.{Request}
 use Rattle.service.specs.declared.request.Request.TheVariants.{Question, Watermark, Durable}
 
--- why a question isn't answered, as a line is told of it
+-- why a question isn't answered, as its line says it
 abbrev pub of_ask : AskError → Unanswered
 of_ask (asks.AboveWatermark settled) = whys.AboveWatermark settled
 of_ask (asks.Trouble trouble) = whys.Trouble trouble
 
--- why a question isn't answered: its last moment isn't below the settled watermark, which is told, or the archive had a trouble
+-- why a question isn't answered: its last moment isn't below the settled watermark, which is printed, or the archive had a trouble
 abbrev pub IsUnanswered : History → Query → Unanswered → Type 0
 IsUnanswered h query whys.BadRequest = ⊥
 IsUnanswered h query (whys.AboveWatermark watermark) = (settled h ≤ last_moment query) × (watermark ≡ settled h)

@@ -1,7 +1,7 @@
 -- What the command that is named asks for. Contracts of private functions alone cite this file.
 use Rattle.std.specs.Prelude.{◌≡◌, ◌⊎◌, ℕ, List, Option, Some, codes}
 use Rattle.clap.specs.Walk.{Row, first_of}
-use Rattle.service.specs.CommandLines.{IsCreation, IsLoading, IsQuestion, IsServing, IsChecking, IsExamining, IsDumping, IsListing, IsComparing, IsNoMark, word_in}
+use Rattle.service.specs.CommandLines.{IsCreation, IsLoading, IsQuestion, IsServing, IsChecking, IsExamining, IsDumping, IsListing, IsComparing, IsNoMark, HasNoHttp, word_in}
 use Rattle.service.specs.Listening.{IsNoListenText}
 use Rattle.service.specs.declared.invocation.Invocation.{Invocation}
 use Rattle.service.specs.declared.invocation.Invocation.TheVariants.{Create, Load, Ask, Serve, Check, Info, Dump, Peers, Diff}
@@ -26,6 +26,10 @@ AsksFor named (Diff c) = (rows : List Row) × (named ≡ Some (codes "diff", row
 abbrev pub NamesNoMark : Option (List ℕ × List Row) → Type 0
 NamesNoMark named = (rows : List Row) × (named ≡ Some (codes "load", rows)) × IsNoMark (first_of (codes "mark") rows)
 
--- `serve` is named, and the text behind `--listen` is that of no address and port
+-- `serve` is named, and the text after `--listen` is that of no address and port
 abbrev pub NamesNoListen : Option (List ℕ × List Row) → Type 0
 NamesNoListen named = (rows : List Row) × (named ≡ Some (codes "serve", rows)) × IsNoListenText (word_in (codes "listen") rows)
+
+-- `serve` is named, and the text after `--http` is that of no address and port, or of those of `--listen`
+abbrev pub NamesNoHttp : Option (List ℕ × List Row) → Type 0
+NamesNoHttp named = (rows : List Row) × (named ≡ Some (codes "serve", rows)) × HasNoHttp rows

@@ -10,7 +10,7 @@ returns-then-has_failed g c =
     let failed = c.has_failed.ensures.failed in
     record {
       told = record {
-        wrote = subst (Tells c.args.out.now c.flush.new.self) (append-nil (listening_line c.args.bound.now)) wrote;
+        wrote = subst (Tells c.args.out.now c.flush.new.self) (append-nil (listening_line c.args.bound.now c.args.http)) wrote;
         sound = λ sound. absurd cc;
         failed = λ told. refl;
         told = record { told = λ told. c.tell_unwritten.ensures.told; quiet = λ sound. absurd cc };

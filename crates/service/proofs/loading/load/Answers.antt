@@ -1,9 +1,9 @@
-use Rattle.std.proofs.Common.{◌≡◌, ◌∙◌, ◌<◌, ◌+◌, ◌≢◌, ℕ, nat_eq, List, [], ◌∷◌, length, drop, set, get_or, map, arith, refl, sym, ap, subst, inl, inr}
+use Rattle.std.proofs.Common.{◌≡◌, ◌∙◌, ◌<◌, ◌+◌, ◌≢◌, ℕ, nat_eq, List, [], length, drop, map, arith, refl, sym, subst, inl, inr}
 use Rattle.std.proofs.lemmas.List.{length-map, length-set, map-set, nil_from_length}
 use Rattle.std.proofs.Math.Seq.{map-set_same}
 use Rattle.std.proofs.lemmas.Bool.{eqb-true, eqb-false}
 use Rattle.service.specs.FeedTexts.{intake_in}
-use Rattle.service.specs.FileLoads.{FileState, IsLoadedTo, with_mark_at}
+use Rattle.service.specs.FileLoads.{FileState, IsLoadedTo}
 use Rattle.service.specs.Resuming.{dropped_where}
 use Rattle.service.specs.declared.status.Status.TheVariants as statuses
 use Rattle.service.proofs.Files.{IsAt, at_first, at_next, done_next, ended_at, file_at, marked_by, next_file, no_files, none_after, none_loaded}

@@ -1,4 +1,4 @@
-use Rattle.std.proofs.Common.{◌≡◌, ◌<◌, ℕ, length, map}
+use Rattle.std.proofs.Common.{◌≡◌, ◌<◌, length, map}
 use Rattle.route_meaning.specs.History.{History}
 use Rattle.service.specs.FeedTexts.{intake_in}
 use Rattle.service.specs.Resuming.{dropped_where}

@@ -1,4 +1,4 @@
-use Rattle.std.proofs.Common.{List, map, subst}
+use Rattle.std.proofs.Common.{map, subst}
 use Rattle.service.specs.FileLoads.{AreLoaded}
 use Rattle.service.specs.declared.settings.LoadSettings.{LoadSettings}
 use Rattle.service.proofs.Statuses.{done_where_0}
