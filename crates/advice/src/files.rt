@@ -49,6 +49,12 @@ pub enum FileAdvice<'a> {
         refused: u64,
         records: u64,
     },
+    /// None of its records is kept, since some were skipped and no other one has a route.
+    Skipped {
+        file: &'a str,
+        skipped: u64,
+        records: u64,
+    },
     /// Entries of its RIB records were left out.
     LeftOut {
         file: &'a str,
@@ -103,6 +109,14 @@ impl fmt::Display for FileAdvice<'_> {
                 f,
                 "{file}: {refused} of {records} records were refused, as the X lines say"
             ),
+            FileAdvice::Skipped {
+                file,
+                skipped,
+                records,
+            } => write!(
+                f,
+                "{file}: {skipped} of {records} records were skipped, and none is kept: they are of types that aren't loaded, as TABLE_DUMP and those of ADD-PATH"
+            ),
             FileAdvice::LeftOut { file, count: 1 } => write!(
                 f,
                 "{file}: 1 entry without a next hop is left out: this file gives its peer no route to that prefix"
@@ -143,6 +157,22 @@ fn advice_if_late<'a>(
     }
 }
 
+/// Prints that nothing of a file is kept, some of whose records were skipped.
+fn advise_skipped<E: Write>(alloc: Global, file: &str, counts: &FeedCounts, err: &mut Output<E>) {
+    let (skipped, records) = (counts.skipped, counts.records);
+    if skipped > 0 && counts.admitted == 0 {
+        advise(
+            alloc,
+            &FileAdvice::Skipped {
+                file,
+                skipped,
+                records,
+            },
+            err,
+        );
+    }
+}
+
 /// Prints what a person may not expect of a file whose feed has these counts, if the collector's mark was this one before: that it isn't
 /// MRT, or that nothing of it, or not all, was taken.
 pub fn advise_file<E: Write>(
@@ -163,6 +193,7 @@ pub fn advise_file<E: Write>(
     if let Some(words) = advice_if_late(file, counts, mark) {
         advise(alloc, &words, err);
     }
+    advise_skipped(alloc, file, counts, err);
     if doubts.is_refused {
         let (refused, records) = (counts.refused, counts.records);
         advise(

@@ -37,7 +37,7 @@ struct Said {
     text: &'static str,
 }
 
-const SAID: [Said; 9] = [
+const SAID: [Said; 11] = [
     Said {
         packing: None,
         counts: FeedCounts {
@@ -125,6 +125,28 @@ const SAID: [Said; 9] = [
             skipped: 0,
         },
         text: "rha: a.mrt: 2 of 100 records were refused, as the X lines say\n",
+    },
+    Said {
+        packing: None,
+        counts: FeedCounts {
+            records: 51,
+            admitted: 0,
+            late: 0,
+            refused: 0,
+            skipped: 50,
+        },
+        text: "rha: a.mrt: 50 of 51 records were skipped, and none is kept: they are of types that aren't loaded, as TABLE_DUMP and those of ADD-PATH\n",
+    },
+    Said {
+        packing: None,
+        counts: FeedCounts {
+            records: 51,
+            admitted: 1,
+            late: 0,
+            refused: 0,
+            skipped: 50,
+        },
+        text: "",
     },
     Said {
         packing: None,
