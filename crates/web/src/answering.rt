@@ -1,0 +1,107 @@
+//! Targets, answered by a shared archive.
+
+ghost use Rattle.std.specs.Prelude.{◌≡◌, IsSome};
+ghost use Rattle.board.specs.Past.{Among};
+ghost use Rattle.query_threads.specs.Seeing.{Since};
+
+use crate::answers::{Answer, Form};
+use crate::rendering::body_of;
+use crate::replying::reply_to_line;
+use crate::standing::standing_of;
+use crate::target::{Asked, Question, asked_by};
+use board::{Named, Pass};
+use query_threads::{Gate, OnDisk, Reader, Shared, Store};
+use service::Refusal;
+use std::alloc::{AllocError, Global};
+use std::sync::Wait;
+use std::sync::atomic::{AtomicU64, Ordering};
+
+/// The answer with a body, if there was memory for that.
+fn answer_with(form: Form, lasts: bool, body: Option<String>) -> Answer {
+    match body {
+        Some(text) => Answer::of(form, lasts, text),
+        None => Answer::out_of_memory(),
+    }
+}
+
+/// How far the archive has come.
+fn answer_info<A: Store, N: Named + OnDisk<A::Disk>, G: Gate + Drop>(
+    alloc: Global,
+    shared: &Shared<A, N, G>,
+    pass: &mut Pass<N>,
+) -> Answer
+    ensures same { pass.new ≡ pass.old }
+{
+    match standing_of(alloc, shared, pass) {
+        Ok(standing) => answer_with(Form::Json, false, standing.json(alloc)),
+        Err(AllocError) => Answer::out_of_memory(),
+    }
+}
+
+/// The same in Prometheus' form, and how many questions were asked.
+fn answer_metrics<A: Store, N: Named + OnDisk<A::Disk>, G: Gate + Drop>(
+    alloc: Global,
+    shared: &Shared<A, N, G>,
+    pass: &mut Pass<N>,
+    numbers: &AtomicU64,
+) -> Answer
+    ensures same { pass.new ≡ pass.old }
+{
+    let questions = numbers.load(Ordering::SeqCst);
+    match standing_of(alloc, shared, pass) {
+        Ok(standing) => answer_with(
+            Form::Metrics,
+            false,
+            standing.metrics(alloc, questions).ok(),
+        ),
+        Err(AllocError) => Answer::out_of_memory(),
+    }
+}
+
+/// The reply to a question, in JSON.
+fn answer_question<A: Store, N: Named + OnDisk<A::Disk>, G: Gate + Drop>(
+    rt: &impl Wait,
+    alloc: Global,
+    shared: &Shared<A, N, G>,
+    pass: &mut Pass<N>,
+    reader: &mut Reader<A, N>,
+    numbers: &AtomicU64,
+    question: &Question,
+) -> Answer
+    requires reader { IsSome N.disk → Among reader.old pass.old.past.blocks }
+    ensures reader { IsSome N.disk → Among reader.new pass.new.past.blocks }
+    ensures since { Since pass.old pass.new }
+{
+    let line = question.line.as_str();
+    match reply_to_line(rt, alloc, shared, pass, reader, numbers, line) {
+        Ok(reply) => {
+            let body = body_of(alloc, &reply, question.first.as_str());
+            answer_with(Form::Json, true, body.ok())
+        }
+        Err(why) => Answer::to_refusal(alloc, &Refusal::from(why)),
+    }
+}
+
+/// What a target is answered: a path, and after a question mark the parameters of its question.
+pub fn answer_target<A: Store, N: Named + OnDisk<A::Disk>, G: Gate + Drop>(
+    rt: &impl Wait,
+    alloc: Global,
+    shared: &Shared<A, N, G>,
+    pass: &mut Pass<N>,
+    reader: &mut Reader<A, N>,
+    numbers: &AtomicU64,
+    target: &[u8],
+) -> Answer
+    requires reader { IsSome N.disk → Among reader.old pass.old.past.blocks }
+    ensures reader { IsSome N.disk → Among reader.new pass.new.past.blocks }
+    ensures since { Since pass.old pass.new }
+{
+    match asked_by(alloc, target) {
+        Ok(Asked::Info) => answer_info(alloc, shared, pass),
+        Ok(Asked::Metrics) => answer_metrics(alloc, shared, pass, numbers),
+        Ok(Asked::Question(question)) => {
+            answer_question(rt, alloc, shared, pass, reader, numbers, &question)
+        }
+        Err(fault) => Answer::to_fault(alloc, fault),
+    }
+}

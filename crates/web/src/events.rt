@@ -1,0 +1,65 @@
+//! Events as objects of JSON.
+
+use crate::dates::date_of;
+use crate::parameters::cut;
+use crate::routes::{RouteObject, route_object};
+use crate::rows::number_of;
+use serde::Serialize;
+use std::alloc::{AllocError, Global};
+
+/// What an object says of an event.
+#[derive(Debug, Drop, Serialize)]
+struct EventObject<'a> {
+    time: u64,
+    date: &'a str,
+    event: &'a str,
+    /// The route that was announced.
+    route: Option<RouteObject<'a>>,
+}
+
+fn text_of(alloc: Global, event: &EventObject<'_>) -> Option<String> {
+    serde_json::to_string(alloc, event).ok()
+}
+
+/// The route of an announcement; a withdrawal and an end of all routes have none.
+fn route_of<'a>(
+    alloc: Global,
+    letter: &str,
+    text: &'a str,
+) -> Result<Option<RouteObject<'a>>, AllocError> {
+    if letter == "A" {
+        match route_object(alloc, text) {
+            Ok(route) => Ok(Some(route)),
+            Err(why) => Err(why),
+        }
+    } else {
+        Ok(None)
+    }
+}
+
+/// What an event is called whose line begins with this letter.
+fn name_of(letter: &str) -> &'static str {
+    match letter {
+        "A" => "announce",
+        "W" => "withdraw",
+        _ => "down",
+    }
+}
+
+/// The object of an event, whose line has this letter, and this text after it.
+pub(crate) fn event_text(alloc: Global, letter: &str, text: &str) -> Result<String, AllocError> {
+    let (time, behind) = cut(text, '|');
+    let seconds = number_of(time);
+    let date = date_of(alloc, seconds)?;
+    let route = match route_of(alloc, letter, behind) {
+        Ok(route) => route,
+        Err(why) => return Err(why),
+    };
+    let event = EventObject {
+        time: seconds,
+        date: date.as_str(),
+        event: name_of(letter),
+        route,
+    };
+    text_of(alloc, &event).ok_or(AllocError)
+}

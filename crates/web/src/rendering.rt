@@ -1,0 +1,124 @@
+//! The lines of a reply as one object of JSON.
+//!
+//!     R|.. R|.. E|2     {"rows":[{..},{..}],"more":false}
+//!     A|.. M|256        {"events":[{..}],"more":true,"next":"/api/history?..&skip=256"}
+
+use crate::dates::date_of;
+use crate::events::event_text;
+use crate::parameters::cut;
+use crate::replying::Reply;
+use crate::rows::{place_of, row_text};
+use std::alloc::{AllocError, Global};
+
+/// The target of the rows after the row at this place.
+fn rows_after(alloc: Global, first: &str, text: &str) -> Result<String, AllocError> {
+    let place = place_of(text);
+    let (collector, peer) = (place.collector, place.peer);
+    let (as_number, prefix) = (place.as_number, place.prefix);
+    format!(in alloc;
+        "{first}&after_collector={collector}&after_peer={peer}&after_as={as_number}&after_prefix={prefix}"
+    )
+}
+
+/// A text in JSON.
+fn quoted(alloc: Global, text: &String) -> Option<String> {
+    serde_json::to_string(alloc, text).ok()
+}
+
+/// Writes the end of a body of which more follows.
+fn write_more(alloc: Global, body: &mut String, next: &String) -> Result<(), AllocError> {
+    let Some(next) = quoted(alloc, next) else {
+        return Err(AllocError);
+    };
+    body.push_str("],\"more\":true,\"next\":")?;
+    body.push_str(next.as_str())?;
+    body.push('}')
+}
+
+/// Writes an object, after a comma if it isn't the first.
+fn write_object(body: &mut String, object: &str) -> Result<(), AllocError> {
+    if !body.as_str().ends_with('[') {
+        body.push(',')?;
+    }
+    body.push_str(object)
+}
+
+/// What the lines of rows don't say: their moment, and the target that asks from the first row on.
+#[derive(Clone, Copy, Debug)]
+struct Page<'a> {
+    time: u64,
+    date: &'a str,
+    first: &'a str,
+}
+
+/// Writes what a line of rows is in the body.
+fn write_row_line(
+    alloc: Global,
+    body: &mut String,
+    page: Page<'_>,
+    line: &str,
+) -> Result<(), AllocError> {
+    let (letter, text) = cut(line, '|');
+    match letter {
+        "R" => {
+            let row = row_text(alloc, page.time, page.date, text)?;
+            write_object(body, row.as_str())
+        }
+        "M" => {
+            let next = rows_after(alloc, page.first, text)?;
+            write_more(alloc, body, &next)
+        }
+        _ => body.push_str("],\"more\":false}"),
+    }
+}
+
+/// Writes what a line of events is in the body.
+fn write_event_line(
+    alloc: Global,
+    body: &mut String,
+    first: &str,
+    line: &str,
+) -> Result<(), AllocError> {
+    let (letter, text) = cut(line, '|');
+    match letter {
+        "E" => body.push_str("],\"more\":false}"),
+        "M" => {
+            let next = format!(in alloc; "{first}&skip={text}")?;
+            write_more(alloc, body, &next)
+        }
+        _ => {
+            let event = event_text(alloc, letter, text)?;
+            write_object(body, event.as_str())
+        }
+    }
+}
+
+fn rows_body(alloc: Global, time: u64, lines: &str, first: &str) -> Result<String, AllocError> {
+    let date = date_of(alloc, time)?;
+    let page = Page {
+        time,
+        date: date.as_str(),
+        first,
+    };
+    let mut body = String::from_str(alloc, "{\"rows\":[")?;
+    for line in lines.lines() {
+        write_row_line(alloc, &mut body, page, line)?;
+    }
+    Ok(body)
+}
+
+fn events_body(alloc: Global, lines: &str, first: &str) -> Result<String, AllocError> {
+    let mut body = String::from_str(alloc, "{\"events\":[")?;
+    for line in lines.lines() {
+        write_event_line(alloc, &mut body, first, line)?;
+    }
+    Ok(body)
+}
+
+/// The body of an answer whose reply this is, to a question that `first` asks from its first row or event on.
+pub(crate) fn body_of(alloc: Global, reply: &Reply, first: &str) -> Result<String, AllocError> {
+    match reply.time {
+        Some(time) => rows_body(alloc, time, reply.lines.as_str(), first),
+        None => events_body(alloc, reply.lines.as_str(), first),
+    }
+}

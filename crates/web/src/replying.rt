@@ -1,0 +1,85 @@
+//! Lines that ask questions, and their replies.
+
+ghost use Rattle.std.specs.Prelude.{◌≡◌, IfOk, IfErr, IsSome, string_bytes};
+ghost use Rattle.interleaving_core.specs.declared.query.Query.{Query};
+ghost use Rattle.board.specs.Past.{Among};
+ghost use Rattle.query_threads.specs.Seeing.{Since};
+ghost use Rattle.web.specs.Asking.{AsksQuestion, IsReplyTo, IsUnansweredTo, IsUnread, time_of};
+
+use archive_calls::Trouble;
+use board::{Named, Pass};
+use interleaving_core::Query;
+use query_threads::{Gate, OnDisk, Reader, Shared, Store};
+use server::reply_to;
+use service::{Request, RequestError, Unanswered, read_request};
+use std::alloc::Global;
+use std::sync::Wait;
+use std::sync::atomic::{AtomicU64, Ordering};
+
+/// What is replied to a question.
+#[derive(Debug, Drop)]
+pub struct Reply {
+    /// The moment that is asked for, in seconds; none if the question is of a history.
+    pub time: Option<u64>,
+    pub lines: String,
+}
+
+/// The moment of a question of one moment.
+fn time_of(query: &Query) -> Option<u64>
+    ensures time { result ≡ time_of query.now }
+{
+    match query {
+        Query::Rows(question) => Some(question.moment.seconds()),
+        Query::Events(_) => None,
+    }
+}
+
+/// The question that a line asks.
+fn read_question(alloc: Global, line: &str) -> Result<Query, Unanswered>
+    ensures found { IfOk result (AsksQuestion line.now) }
+    ensures none { IfErr result (IsUnread line.now) }
+{
+    match read_request(alloc, line) {
+        Ok(Request::Question(query)) => Ok(query),
+        Ok(Request::Watermark) => Err(Unanswered::BadRequest),
+        Ok(Request::Durable(_)) => Err(Unanswered::BadRequest),
+        Err(RequestError::BadRequest) => Err(Unanswered::BadRequest),
+        Err(RequestError::OutOfMemory) => Err(Unanswered::Trouble(Trouble::OutOfMemory)),
+    }
+}
+
+/// What is replied to the question of a line, or why there is no reply. A line that asks no question is refused as no request.
+pub fn reply_to_line<A: Store, N: Named + OnDisk<A::Disk>, G: Gate + Drop>(
+    rt: &impl Wait,
+    alloc: Global,
+    shared: &Shared<A, N, G>,
+    pass: &mut Pass<N>,
+    reader: &mut Reader<A, N>,
+    numbers: &AtomicU64,
+    line: &str,
+) -> Result<Reply, Unanswered>
+    requires reader { IsSome N.disk → Among reader.old pass.old.past.blocks }
+    ensures reader { IsSome N.disk → Among reader.new pass.new.past.blocks }
+    ensures since { Since pass.old pass.new }
+    ensures replied { IfOk result (λ reply. (query : Query) × IsReplyTo (IsSome N.disk) pass.new line.now query reply.time (string_bytes reply.lines)) }
+    ensures refused { IfErr result (IsUnansweredTo (IsSome N.disk) shared.now.collectors pass.new line.now) }
+{
+    let query = match read_question(alloc, line) {
+        Ok(query) => query,
+        Err(why) => return Err(why),
+    };
+    let time = time_of(&query);
+    let number = numbers.fetch_add(1, Ordering::SeqCst).wrapping_add(1);
+    match reply_to(
+        rt,
+        alloc,
+        shared,
+        pass,
+        reader,
+        number,
+        Request::Question(query),
+    ) {
+        Ok(lines) => Ok(Reply { time, lines }),
+        Err(why) => Err(why),
+    }
+}

@@ -1,0 +1,167 @@
+//! What a target asks: a path and the parameters after it, made into a request line.
+//!
+//! A line is made of words that its path has. A parameter is one word at its place, so a client can't add words by one, and whether
+//! the words ask something is the line's reader to say.
+
+use crate::fault::Fault;
+use crate::parameters::{cut, parameters_in, write_value};
+use std::alloc::{AllocError, Global};
+
+/// The words of a line; one with a colon before it stands for the parameter of this name.
+#[derive(Clone, Copy, Debug)]
+struct Words {
+    /// Those that the line always has.
+    all: &'static str,
+    /// Those of a question that goes on after an answer, if one of their parameters is given.
+    further: &'static str,
+}
+
+/// Where the rows of an answer go on.
+const AFTER: &str = "after :after_collector :after_peer :after_as :after_prefix";
+
+/// Where its events do.
+const SKIP: &str = "skip :skip";
+
+fn asking(all: &'static str, further: &'static str) -> Option<Words> {
+    Some(Words { all, further })
+}
+
+/// The words of the lines that a path asks by.
+fn words_of(path: &str) -> Option<Words> {
+    match path {
+        "/api/route" => asking("at :at route :collector :peer :as :prefix", ""),
+        "/api/prefix" => asking("at :at prefix :prefix", AFTER),
+        "/api/cover" => asking("at :at cover :address", AFTER),
+        "/api/peer" => asking("at :at peer :collector :peer :as", AFTER),
+        "/api/history" => asking("history :from :to :collector :peer :as :prefix", SKIP),
+        _ => None,
+    }
+}
+
+/// A question: its line, and the target that asks it from its first row or event on.
+#[derive(Debug, Drop)]
+pub(crate) struct Question {
+    pub(crate) line: String,
+    pub(crate) first: String,
+}
+
+/// What a target asks.
+#[derive(Debug, Drop)]
+pub(crate) enum Asked {
+    /// How far the archive has come.
+    Info,
+    /// The same, in Prometheus' form.
+    Metrics,
+    Question(Question),
+}
+
+/// Whether a word stands for the parameter of this name.
+fn is_parameter(word: &str, name: &str) -> bool {
+    match word.strip_prefix(':') {
+        Some(its) => its == name,
+        None => false,
+    }
+}
+
+/// Whether a parameter of this name says where an answer goes on.
+fn is_further(words: Words, name: &str) -> bool {
+    for word in words.further.split(' ') {
+        if is_parameter(word, name) {
+            return true;
+        }
+    }
+    false
+}
+
+/// Whether a parameter says where the answer goes on.
+fn goes_on(words: Words, query: &str) -> bool {
+    for pair in query.split('&') {
+        let (name, _) = cut(pair, '=');
+        if is_further(words, name) {
+            return true;
+        }
+    }
+    false
+}
+
+/// Writes words with spaces between, and for parameters their values: how many of these there are.
+fn write_words(alloc: Global, out: &mut String, words: &str, query: &str) -> Result<usize, Fault> {
+    let mut values = 0usize;
+    for word in words.split(' ') {
+        if !out.is_empty() {
+            out.push(' ')?;
+        }
+        match word.strip_prefix(':') {
+            Some(name) => {
+                write_value(alloc, out, query, name)?;
+                values = values.saturating_add(1);
+            }
+            None => out.push_str(word)?,
+        }
+    }
+    Ok(values)
+}
+
+/// The line of a question. Each parameter is one word of it: there are no others, and none twice.
+fn line_of(alloc: Global, words: Words, query: &str) -> Result<String, Fault> {
+    let mut line = String::new(alloc);
+    let mut values = write_words(alloc, &mut line, words.all, query)?;
+    if goes_on(words, query) {
+        let more = write_words(alloc, &mut line, words.further, query)?;
+        values = values.saturating_add(more);
+    }
+    if values == parameters_in(query) {
+        Ok(line)
+    } else {
+        Err(Fault::BadQuery)
+    }
+}
+
+/// The path and the parameters, without those that say where an answer goes on.
+fn first_of(alloc: Global, path: &str, words: Words, query: &str) -> Result<String, AllocError> {
+    let mut first = String::from_str(alloc, path)?;
+    let mut mark = '?';
+    for pair in query.split('&') {
+        let (name, _) = cut(pair, '=');
+        if !is_further(words, name) {
+            first.push(mark)?;
+            first.push_str(pair)?;
+            mark = '&';
+        }
+    }
+    Ok(first)
+}
+
+fn question_of(alloc: Global, path: &str, query: &str) -> Result<Question, Fault> {
+    let Some(words) = words_of(path) else {
+        return Err(Fault::NoPath);
+    };
+    let line = line_of(alloc, words, query)?;
+    let first = first_of(alloc, path, words, query)?;
+    Ok(Question { line, first })
+}
+
+/// What is asked without parameters.
+fn alone(asked: Asked, query: &str) -> Result<Asked, Fault> {
+    if query.is_empty() {
+        Ok(asked)
+    } else {
+        Err(Fault::BadQuery)
+    }
+}
+
+/// What a target asks.
+pub(crate) fn asked_by(alloc: Global, target: &[u8]) -> Result<Asked, Fault> {
+    let Ok(text) = str::from_utf8(target) else {
+        return Err(Fault::BadQuery);
+    };
+    let (path, query) = cut(text, '?');
+    match path {
+        "/api/info" => alone(Asked::Info, query),
+        "/metrics" => alone(Asked::Metrics, query),
+        _ => match question_of(alloc, path, query) {
+            Ok(question) => Ok(Asked::Question(question)),
+            Err(fault) => Err(fault),
+        },
+    }
+}
