@@ -10,8 +10,8 @@
 //! `pages.rha`. `info` reads the head in the file of the pages, while it holds the archive: an opening brings all pages
 //! home and closes the slots, so the file has what the archive has.
 //!
-//!     serve:   open the archive   listen   make the socket of `--admin`   make all threads   print `listening`
-//!              take connections   remove the socket
+//!     serve:   open the archive   listen   listen for HTTP   make the socket of `--admin`   make all threads
+//!              print `listening`   take connections   remove the socket
 //!
 //! The program starts threads and makes that socket through a second handle (`host`), since the compiler gives a runtime's
 //! threads and sockets only to `main`. What a file that isn't MRT is, is printed after the load, by its first 16 octets, and only if nothing of it was

@@ -1,4 +1,5 @@
-//! The command `serve`: the archive of a folder is opened, shared by threads, and served on a port, and on the socket of `--admin`.
+//! The command `serve`: the archive of a folder is opened, shared by threads, and served on a port, on that of `--http`, and on the socket
+//! of `--admin`.
 
 ghost use Rattle.std.specs.Prelude.{◌≡◌, ◌≤◌};
 ghost use Rattle.board.specs.Opened.{name_of};
@@ -23,23 +24,32 @@ use std::sync::Wait;
 use std::thread::Threads;
 use std::time::Clock;
 
-/// Listens at an address, and returns where: at port 0 the system chooses one.
+/// A port that a server listens on.
+#[derive(Drop)]
+struct Bound {
+    listener: TcpListener,
+    /// Where it is: at port 0 the system chose one.
+    place: SocketAddrV4,
+}
+
+/// Listens at an address.
 fn bind<H: Net<Listener = TcpListener, Stream = TcpStream>>(
     host: &H,
     address: SocketAddrV4,
-) -> io::Result<(TcpListener, SocketAddrV4)> {
+) -> io::Result<Bound> {
     let listener = TcpListener::bind(host, address)?;
     let port = listener.local_addr()?.port();
-    Ok((listener, SocketAddrV4::new(*address.ip(), port)))
+    let place = SocketAddrV4::new(*address.ip(), port);
+    Ok(Bound { listener, place })
 }
 
-/// Listens at the address that is asked for, and returns where that is. None if it can't, and then standard error has the reason.
+/// Listens at an address that is asked for. None if it can't, and then standard error has the reason.
 fn listen<H: Net<Listener = TcpListener, Stream = TcpStream>, E: Write>(
     alloc: Global,
     host: &H,
     address: SocketAddrV4,
     err: &mut Output<E>,
-) -> Option<(TcpListener, SocketAddrV4)> {
+) -> Option<Bound> {
     let Ok(what) = format!(in alloc; "{address}") else {
         tell_out_of_memory(err);
         return None;
@@ -53,10 +63,32 @@ fn listen<H: Net<Listener = TcpListener, Stream = TcpStream>, E: Write>(
     }
 }
 
+/// Listens at the address of `--http`, if there is one. Returns the exit status if it can't, and then standard error has the reason.
+fn listen_web<H: Net<Listener = TcpListener, Stream = TcpStream>, E: Write>(
+    alloc: Global,
+    host: &H,
+    address: Option<SocketAddrV4>,
+    err: &mut Output<E>,
+) -> Result<Option<Bound>, u8> {
+    let Some(address) = address else {
+        return Ok(None);
+    };
+    match listen(alloc, host, address, err) {
+        Some(web) => Ok(Some(web)),
+        None => Err(1),
+    }
+}
+
 /// Prints where connections are taken. Returns the exit status of the program: 0 if that could be printed.
-fn announce<E: Write>(rt: &HostRuntime, bound: &SocketAddrV4, err: &mut Output<E>) -> u8 {
+fn announce<E: Write>(
+    rt: &HostRuntime,
+    bound: &Bound,
+    web: &Option<Bound>,
+    err: &mut Output<E>,
+) -> u8 {
     let mut out = Output::new(rt.stdout());
-    tell_listening(rt.alloc(), bound, &mut out, err)
+    let http = web.as_ref().map(|it| it.place);
+    tell_listening(rt.alloc(), &bound.place, http, &mut out, err)
 }
 
 /// Serves an archive at its doors, until a client stops the server. Where connections are taken is printed once they are. The socket of
@@ -71,7 +103,8 @@ fn serve_on<
     opened: Opened,
     store: FileStore,
     doors: &Doors<'_>,
-    bound: &SocketAddrV4,
+    bound: &Bound,
+    web: &Option<Bound>,
     asked: &Serving<'_>,
     err: &mut Output<E>,
 ) -> u8
@@ -81,7 +114,7 @@ fn serve_on<
     let alloc = rt.alloc();
     let mut code = 0;
     let ready = || {
-        code = announce(rt, bound, err);
+        code = announce(rt, bound, web, err);
         code == 0
     };
     let (store, ended) = serve_store::<FileStore, Unpromised<B>, NoGate, H, HostRuntime, _>(
@@ -102,24 +135,26 @@ fn serve_on<
     code.max(operator::remove(alloc, host, asked.admin, err))
 }
 
-/// Where a server takes connections: at a port, and at the socket of `--admin`, if there is one.
+/// Where a server takes connections: at a port, at that of `--http`, and at the socket of `--admin`, if there are such.
 fn doors_of<'a>(
-    listener: &'a TcpListener,
+    bound: &'a Bound,
+    web: &'a Option<Bound>,
     admin: &'a Option<UnixListener>,
     asked: &Serving<'_>,
 ) -> Doors<'a> {
     Doors {
-        listener,
+        listener: &bound.listener,
         port: Port {
             read_only: asked.read_only,
             closes_http: asked.close_on_http,
         },
         admin: admin.as_ref(),
+        web: web.as_ref().map(|it| &it.listener),
         idle: asked.idle,
     }
 }
 
-/// Serves an archive of so many collectors at the address that is asked for, and at the socket of `--admin`.
+/// Serves an archive of so many collectors at the addresses that are asked for, and at the socket of `--admin`.
 fn serve_at<
     H: Threads + Wait + Clock + Files + Net<Listener = TcpListener, Stream = TcpStream> + Sync,
     E: Write,
@@ -133,8 +168,12 @@ fn serve_at<
 ) -> u8
     requires some { 1 ≤ collectors }
 {
-    let Some((listener, bound)) = listen(rt.alloc(), host, asked.listen, err) else {
+    let Some(bound) = listen(rt.alloc(), host, asked.listen, err) else {
         return 1;
+    };
+    let web = match listen_web(rt.alloc(), host, asked.http, err) {
+        Ok(web) => web,
+        Err(code) => return code,
     };
     let admin = match operator::open(rt.alloc(), host, asked.admin, err) {
         Ok(admin) => admin,
@@ -144,8 +183,8 @@ fn serve_at<
         let code = tell_out_of_memory(err);
         return code.max(operator::remove(rt.alloc(), host, asked.admin, err));
     };
-    let doors = doors_of(&listener, &admin, asked);
-    serve_on::<Brand, H, E>(rt, host, opened, store, &doors, &bound, asked, err)
+    let doors = doors_of(&bound, &web, &admin, asked);
+    serve_on::<Brand, H, E>(rt, host, opened, store, &doors, &bound, &web, asked, err)
 }
 
 /// Serves the archive of a folder. It is opened before connections are taken.

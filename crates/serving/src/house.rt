@@ -12,6 +12,8 @@ pub(crate) struct Signals {
     pub(crate) failed: Warnings,
     /// Connections that couldn't be taken.
     pub(crate) untaken: Warnings,
+    /// All threads are made, and connections are taken.
+    is_open: AtomicBool,
     /// No connection is taken any more.
     is_stopping: AtomicBool,
     /// A worker was out of memory to serve with.
@@ -21,16 +23,27 @@ pub(crate) struct Signals {
 }
 
 impl Signals {
-    /// Of a server without workers, which takes connections.
+    /// Of a server without workers, which takes no connections yet.
     pub(crate) fn new() -> Signals {
         Signals {
             questions: AtomicU64::new(0),
             failed: Warnings::new(),
             untaken: Warnings::new(),
+            is_open: AtomicBool::new(false),
             is_stopping: AtomicBool::new(false),
             is_short: AtomicBool::new(false),
             places: AtomicU64::new(0),
         }
+    }
+
+    /// Begins the taking of connections.
+    pub(crate) fn open(&self) {
+        self.is_open.store(true, Ordering::SeqCst);
+    }
+
+    /// Whether the taking of connections has begun.
+    pub(crate) fn is_open(&self) -> bool {
+        self.is_open.load(Ordering::SeqCst)
     }
 
     /// Ends the taking of connections.

@@ -4,27 +4,26 @@ ghost use Rattle.std.specs.Prelude.{IsSome};
 ghost use Rattle.board.specs.Past.{Among};
 
 use crate::client::{Closing, serve_client};
-use crate::doors::Doors;
+use crate::doors::{Door, Doors, Serves};
 use crate::house::{Place, Signals};
 use crate::keeping::{keep_applying, keep_flushing};
 use crate::link::{Link, Peer};
 use crate::socket::{KeptSocket, Lapse};
-use crate::stopping::{let_go, stop_taking, take_admins};
+use crate::stopping::{let_go, stop_taking, take_admins, take_connections, wait_for_opening};
 use board::{Named, Pass};
 use crossbeam_channel::{Receiver, Sender};
 use line_reader::LineReader;
 use log::Log;
 use query_threads::{Gate, OnDisk, Reader, Shared, Store};
-use server::Port;
 use service::Output;
 use std::alloc::Global;
 use std::cell::Cell;
 use std::io;
 use std::io::{BufWriter, Error, ErrorKind};
 use std::net::Net;
-use std::os::unix::net::UnixListener;
 use std::sync::Wait;
 use std::time::{Clock, Duration};
+use web::{Others, serve_web};
 
 /// How many blocks a worker keeps in memory, 16 MiB in all: a question in the past reads the same few blocks again and again, and each that isn't kept
 /// is read and its digest computed anew.
@@ -36,10 +35,10 @@ const TURN: u64 = 1;
 /// What one thread of a server does, beside the one that takes connections.
 #[derive(Drop)]
 pub(crate) enum Job<'a, N: Named> {
-    /// It serves connections under a port.
-    Work(Receiver<Link>, Port, Pass<N>, Place<'a>),
-    /// It takes connections of the admin socket.
-    Admit(Sender<Link>, &'a UnixListener),
+    /// It serves connections.
+    Work(Receiver<Link>, Serves, Pass<N>, Place<'a>),
+    /// It takes connections.
+    Take(Sender<Link>, Door<'a>),
     /// It applies changes.
     Apply(Pass<N>),
     /// It writes pages home.
@@ -54,6 +53,18 @@ pub(crate) struct Desk<'a, R, L> {
     pub(crate) signals: &'a Signals,
     pub(crate) doors: &'a Doors<'a>,
     pub(crate) log: &'a L,
+}
+
+/// The connections that wait for the same workers.
+#[derive(Clone, Copy)]
+struct Waiting<'a> {
+    queue: &'a Receiver<Link>,
+}
+
+impl Others for Waiting<'_> {
+    fn wait(&self) -> bool {
+        !self.queue.is_empty()
+    }
 }
 
 /// A writer over the socket of a connection, each of whose calls waits for a second from now on.
@@ -72,14 +83,15 @@ fn serve_link<A: Store, N: Named + OnDisk<A::Disk>, G: Gate + Drop, R: Wait + Cl
     shared: &Shared<A, N, G>,
     pass: &mut Pass<N>,
     reader: &mut Reader<A, N>,
-    port: Port,
+    serves: Serves,
+    others: &Waiting<'_>,
     link: &Link,
     lapse: &Cell<Option<Lapse>>,
 ) -> Closing
     requires reader { IsSome N.disk → Among reader.old pass.old.past.blocks }
     ensures reader { IsSome N.disk → Among reader.new pass.new.past.blocks }
 {
-    let idle = desk.doors.idle;
+    let idle = serves.idle(desk.doors);
     let writer = match writer_of(
         desk.alloc,
         link,
@@ -91,19 +103,34 @@ fn serve_link<A: Store, N: Named + OnDisk<A::Disk>, G: Gate + Drop, R: Wait + Cl
             return Closing::Failed;
         }
     };
-    let mut lines = LineReader::new(KeptSocket::new(link, lapse, desk.signals, idle));
+    let mut socket = KeptSocket::new(link, lapse, desk.signals, idle);
     let mut out = Output::new(writer);
-    serve_client(
-        desk.rt,
-        desk.alloc,
-        shared,
-        port,
-        pass,
-        reader,
-        &desk.signals.questions,
-        &mut lines,
-        &mut out,
-    )
+    let (rt, alloc, numbers) = (desk.rt, desk.alloc, &desk.signals.questions);
+    match serves {
+        Serves::Lines(port) => {
+            let mut lines = LineReader::new(socket);
+            serve_client(
+                rt, alloc, shared, port, pass, reader, numbers, &mut lines, &mut out,
+            )
+        }
+        Serves::Web => {
+            let ending = serve_web(
+                rt,
+                alloc,
+                shared,
+                pass,
+                reader,
+                numbers,
+                others,
+                &mut socket,
+                &mut out,
+            );
+            match ending {
+                web::Ending::Done => Closing::Done,
+                web::Ending::Failed => Closing::Failed,
+            }
+        }
+    }
 }
 
 /// Closes a connection of this peer that ended so, and warns where its socket failed.
@@ -139,13 +166,14 @@ fn work<A: Store, N: Named + OnDisk<A::Disk>, G: Gate + Drop, R: Wait + Clock + 
     shared: &Shared<A, N, G>,
     pass: &mut Pass<N>,
     queue: &Receiver<Link>,
-    port: Port,
+    serves: Serves,
 ) {
     let Ok(mut reader) = Reader::new(desk.rt, desk.alloc, shared, BLOCKS) else {
         desk.signals.lack_memory();
         stop_taking(desk.rt, desk.doors, desk.signals);
         return;
     };
+    let others = Waiting { queue };
     for _ in desk.rt.forever() {
         let Ok(link) = queue.recv(desk.rt) else {
             return;
@@ -153,8 +181,30 @@ fn work<A: Store, N: Named + OnDisk<A::Disk>, G: Gate + Drop, R: Wait + Clock + 
         link.hurry();
         let peer = link.peer();
         let lapse = Cell::new(None);
-        let closing = serve_link(desk, shared, pass, &mut reader, port, &link, &lapse);
+        let closing = serve_link(
+            desk,
+            shared,
+            pass,
+            &mut reader,
+            serves,
+            &others,
+            &link,
+            &lapse,
+        );
         close_link(desk, closing, &link, peer, lapse.get());
+    }
+}
+
+/// Takes connections of a door from when the server opens until it is to stop.
+fn take<R: Wait + Clock, L: Log>(desk: &Desk<'_, R, L>, door: Door<'_>, queue: Sender<Link>) {
+    if !wait_for_opening(desk.rt, desk.signals) {
+        return;
+    }
+    match door {
+        Door::Web(listener) => {
+            take_connections(desk.rt, desk.log, listener, queue, desk.signals);
+        }
+        Door::Admin(listener) => take_admins(desk.rt, desk.log, listener, queue, desk.signals),
     }
 }
 
@@ -167,10 +217,10 @@ pub(crate) fn run_job<
     L: Log,
 >(desk: &Desk<'_, R, L>, shared: &Shared<A, N, G>, job: Job<'_, N>) {
     match job {
-        Job::Work(queue, port, mut pass, _place) => work(desk, shared, &mut pass, &queue, port),
-        Job::Admit(queue, listener) => {
-            take_admins(desk.rt, desk.log, listener, queue, desk.signals);
+        Job::Work(queue, serves, mut pass, _place) => {
+            work(desk, shared, &mut pass, &queue, serves)
         }
+        Job::Take(queue, door) => take(desk, door, queue),
         Job::Apply(mut pass) => {
             keep_applying(
                 desk.rt,

@@ -2,16 +2,19 @@
 //!
 //!     acceptor, the thread that calls   takes connections; 900 may wait for a worker, and further ones are closed
 //!     workers                           serve one connection each, to its end, under what the port takes
+//!     acceptor of HTTP                  the same of the connections of another port
+//!     its workers                       as many as the others; they read requests of HTTP (crate web) in place of lines
 //!     acceptor of the admin socket      the same of its connections, which may do all
 //!     its workers                       one for each collector, and two more
 //!     applier                           applies what may be applied; opens the archive again after a failure
 //!     flusher                           writes pages home
 //!
-//! The acceptor begins last: the others are started before it in a scope. If one can't be made, those that were end,
+//! The first acceptor begins last: the others are started before it in a scope. If one can't be made, those that were end,
 //! and `serve` returns `Threads` with no connection served. Once all are made `ready` is called, by which the program
-//! prints `listening`. The acceptor waits for connections alone: to stop it, the worker that was asked to sets a flag
-//! and makes a last connection, which nobody serves. (A listener that doesn't block would look for connections again
-//! and again.) The admin socket, whose file may be gone by then, is shut down instead, which ends its acceptor's wait.
+//! prints `listening`, and then a flag is set, without which no acceptor takes a connection. An acceptor waits for
+//! connections alone: to stop it, the worker that was asked to sets a flag and makes a last connection, which nobody
+//! serves. (A listener that doesn't block would look for connections again and again.) The admin socket, whose file may
+//! be gone by then, is shut down instead, which ends its acceptor's wait.
 //!
 //! The admin socket has workers of its own, so that a `stop` gets through whatever clients do on the other port: feeds
 //! of all collectors leave two of them.

@@ -5,7 +5,7 @@ ghost use Rattle.board.specs.Opened.{name_of};
 ghost use Rattle.board.specs.Past.{Past, GoesOnAs};
 ghost use Rattle.serving.specs.declared.serving.ServeError.TheVariants as serves;
 
-use crate::doors::{ADMIN, Doors};
+use crate::doors::{ADMIN, Door, Doors, Serves};
 use crate::house::Signals;
 use crate::jobs::{Desk, Job, run_job};
 use crate::keeping::flush_all;
@@ -15,10 +15,8 @@ use board::{Named, Opened, Pass};
 use crossbeam_channel::{Receiver, bounded};
 use log::Log;
 use query_threads::{Gate, OnDisk, Shared, Store, Trouble};
-use server::Port;
 use std::alloc::{AllocError, Global};
 use std::net::{Net, TcpListener, TcpStream};
-use std::os::unix::net::UnixListener;
 use std::sync::Wait;
 use std::thread;
 use std::thread::{Scope, Threads};
@@ -54,40 +52,40 @@ impl From<AllocError> for ServeError {
     }
 }
 
-/// Adds workers who serve connections of this queue under a port, each with a pass of its own.
+/// Adds workers who serve connections of this queue, each with a pass of its own.
 fn add_workers<'a, A: Store, N: Named + OnDisk<A::Disk>, G: Gate + Drop>(
     jobs: &mut Vec<Job<'a, N>>,
     shared: &Shared<A, N, G>,
     pass: &mut Pass<N>,
     signals: &'a Signals,
     queue: &Receiver<Link>,
-    port: Port,
+    serves: Serves,
     workers: u8,
 ) -> Result<(), AllocError> {
     for _ in 0..workers {
-        jobs.push(Job::Work(queue.clone()?, port, shared.split(pass), signals.place()))?;
+        jobs.push(Job::Work(queue.clone()?, serves, shared.split(pass), signals.place()))?;
     }
     Ok(())
 }
 
-/// Adds who takes connections of the admin socket and serves them.
-fn add_admin<'a, A: Store, N: Named + OnDisk<A::Disk>, G: Gate + Drop>(
+/// Adds who takes connections of a door, and the workers who serve them.
+fn add_door<'a, A: Store, N: Named + OnDisk<A::Disk>, G: Gate + Drop>(
     alloc: Global,
     jobs: &mut Vec<Job<'a, N>>,
     shared: &Shared<A, N, G>,
     pass: &mut Pass<N>,
     signals: &'a Signals,
-    listener: &'a UnixListener,
+    door: Door<'a>,
+    serves: Serves,
+    workers: u8,
 ) -> Result<(), AllocError> {
     let (sender, receiver) = bounded(alloc, QUEUE)?;
-    let workers = shared.collectors().saturating_add(SPARE);
-    add_workers(jobs, shared, pass, signals, &receiver, ADMIN, workers)?;
-    jobs.push(Job::Admit(sender, listener))?;
+    add_workers(jobs, shared, pass, signals, &receiver, serves, workers)?;
+    jobs.push(Job::Take(sender, door))?;
     Ok(())
 }
 
-/// What the threads of a server with `workers` workers do beside the calling one, which takes the connections of this queue. Who takes those of the
-/// admin socket comes last: a thread waits there for a connection, and no thread is started after one that can't be made.
+/// What the threads of a server with `workers` workers do beside the calling one, which takes the connections of this queue.
 fn jobs_of<'a, A: Store, N: Named + OnDisk<A::Disk>, G: Gate + Drop, R, L>(
     desk: &Desk<'a, R, L>,
     shared: &Shared<A, N, G>,
@@ -95,13 +93,38 @@ fn jobs_of<'a, A: Store, N: Named + OnDisk<A::Disk>, G: Gate + Drop, R, L>(
     queue: &Receiver<Link>,
     workers: u8,
 ) -> Result<Vec<Job<'a, N>>, AllocError> {
-    let mut jobs = Vec::new(desk.alloc);
+    let (alloc, signals) = (desk.alloc, desk.signals);
+    let mut jobs = Vec::new(alloc);
     jobs.push(Job::Apply(shared.split(pass)))?;
     jobs.push(Job::Flush(shared.split(pass)))?;
-    let port = desk.doors.port;
-    add_workers(&mut jobs, shared, pass, desk.signals, queue, port, workers)?;
+    let lines = Serves::Lines(desk.doors.port);
+    add_workers(&mut jobs, shared, pass, signals, queue, lines, workers)?;
+    if let Some(listener) = desk.doors.web {
+        let door = Door::Web(listener);
+        add_door(
+            alloc,
+            &mut jobs,
+            shared,
+            pass,
+            signals,
+            door,
+            Serves::Web,
+            workers,
+        )?;
+    }
     if let Some(listener) = desk.doors.admin {
-        add_admin(desk.alloc, &mut jobs, shared, pass, desk.signals, listener)?;
+        let door = Door::Admin(listener);
+        let all = shared.collectors().saturating_add(SPARE);
+        add_door(
+            alloc,
+            &mut jobs,
+            shared,
+            pass,
+            signals,
+            door,
+            Serves::Lines(ADMIN),
+            all,
+        )?;
     }
     Ok(jobs)
 }
@@ -156,13 +179,14 @@ fn run_threads<
         |scope| -> Result<(), ServeError>
             requires { F.IsAlwaysCallable ready }
         {
-            start_threads(scope, desk, shared, jobs)?;
-            if ready() {
+            let started = start_threads(scope, desk, shared, jobs);
+            if started.is_ok() && ready() {
+                desk.signals.open();
                 let listener = desk.doors.listener;
                 take_connections(desk.rt, desk.log, listener, sender, desk.signals);
             }
             stop_taking(desk.rt, desk.doors, desk.signals);
-            Ok(())
+            started
         },
     )
 }
@@ -212,7 +236,7 @@ fn hand_back<A: Store, N: Named + OnDisk<A::Disk>, G: Gate + Drop>(
 
 /// Serves an archive on a socket, with `workers` workers, until a connection asks it to stop. The calling thread takes connections and
 /// hands them to the workers, each of which serves one to its end before it takes the next; one more thread applies changes, and one
-/// flushes pages. An admin socket has an acceptor and workers of its own. Once all of these are made, `ready` is called: connections are
+/// flushes pages. An admin socket and a port of HTTP have an acceptor and workers of their own each. Once all of these are made, `ready` is called: connections are
 /// taken if it returns true. Where a thread can't be made it isn't called, and no connection is served. A connection is ended that sends
 /// nothing for `doors.idle` seconds, or takes nothing of its answers. One whose socket fails ends with a warning, `29 Outside`, of which
 /// there is no more than one a second. To stop, no connection is taken any more, those that are open are served until they end or send

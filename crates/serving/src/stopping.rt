@@ -14,7 +14,8 @@ use std::sync::Wait;
 use std::time::{Clock, Duration};
 use std::{io, thread};
 
-/// How many milliseconds no connection is taken after one that couldn't be, as where the process is out of descriptors.
+/// How many milliseconds no connection is taken after one that couldn't be, as where the process is out of descriptors; and pass between
+/// two looks whether connections are taken.
 const REST: u64 = 10;
 
 /// How many milliseconds each read waits for a client that was sent the last line.
@@ -42,6 +43,20 @@ fn hand_over(rt: &impl Wait, queue: &Sender<Link>, link: Link) -> bool {
         Ok(()) => true,
         Err(why) => !why.is_disconnected(),
     }
+}
+
+/// Waits until connections are taken. Returns false if they never are, as where a thread of the server can't be made.
+pub(crate) fn wait_for_opening<R: Wait + Clock>(rt: &R, signals: &Signals) -> bool {
+    for _ in rt.forever() {
+        if signals.is_stopping() {
+            return false;
+        }
+        if signals.is_open() {
+            return true;
+        }
+        thread::sleep(rt, Duration::from_millis(REST));
+    }
+    unreachable!()
 }
 
 /// Takes connections and hands them to workers, until the server is to stop. The queue ends with it.
@@ -119,6 +134,9 @@ pub(crate) fn stop_taking<R: Net>(rt: &R, doors: &Doors<'_>, signals: &Signals) 
     }
     signals.stop();
     wake(rt, doors.listener);
+    if let Some(web) = doors.web {
+        wake(rt, web);
+    }
     if let Some(admin) = doors.admin {
         wake_admin(admin);
     }
