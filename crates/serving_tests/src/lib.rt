@@ -1,5 +1,6 @@
 //! Tests of server, serving and load_progress: the lines of a connection, connections whose octets lie in memory, both ends of
-//! connections in one process, over the loopback interface, and the line that says how far a load has come.
+//! connections in one process, over the loopback interface and the admin socket, what ports take and how idle clients end, and
+//! the line that says how far a load has come.
 #![tactic(auto)]
 
 #[cfg(test)]
@@ -8,6 +9,8 @@ mod clients;
 mod commands;
 #[cfg(test)]
 mod conversations;
+#[cfg(test)]
+mod doors;
 #[cfg(test)]
 mod full;
 #[cfg(test)]
@@ -28,6 +31,8 @@ mod signals;
 mod sockets;
 #[cfg(test)]
 mod steps;
+#[cfg(test)]
+mod visits;
 #[cfg(test)]
 mod watched;
 

@@ -5,8 +5,8 @@ use crate::made::{Made, PLAIN};
 use crate::records::{EARLIER, FRONT, LATER, UPDATE};
 use crate::steps::Step;
 use crate::steps::Step::{
-    AskOften, AskUntil, Connect, GoAway, Hear, HearLast, Send, SendNoMore, SendOctets,
-    SendOctetsOften, SendOften,
+    AskOften, AskUntil, Connect, ConnectWeb, Drain, GoAway, Hear, HearLast, Send, SendNoMore,
+    SendOctets, SendOctetsOften, SendOften,
 };
 use query_threads::Trouble;
 
@@ -20,6 +20,7 @@ pub(crate) enum Scene {
     Open,
     Unmarked,
     Last,
+    Web,
     Blocks,
     Pages,
     Ring,
@@ -27,7 +28,7 @@ pub(crate) enum Scene {
     Applied,
 }
 
-pub(crate) const SCENES: [Scene; 12] = [
+pub(crate) const SCENES: [Scene; 13] = [
     Scene::Three,
     Scene::Long,
     Scene::Cut,
@@ -35,6 +36,7 @@ pub(crate) const SCENES: [Scene; 12] = [
     Scene::Open,
     Scene::Unmarked,
     Scene::Last,
+    Scene::Web,
     Scene::Blocks,
     Scene::Pages,
     Scene::Ring,
@@ -53,6 +55,7 @@ impl Scene {
             Scene::Open => "a connection that is open",
             Scene::Unmarked => "records without a mark",
             Scene::Last => "the last connection",
+            Scene::Web => "HTTP",
             Scene::Blocks => "no block is left",
             Scene::Pages => "no page is left",
             Scene::Ring => "a full ring",
@@ -75,7 +78,8 @@ impl Scene {
             | Scene::Slow
             | Scene::Open
             | Scene::Unmarked
-            | Scene::Last => PLAIN,
+            | Scene::Last
+            | Scene::Web => PLAIN,
         }
     }
 
@@ -92,6 +96,7 @@ impl Scene {
             | Scene::Open
             | Scene::Unmarked
             | Scene::Last
+            | Scene::Web
             | Scene::Ring
             | Scene::Offered => None,
         }
@@ -107,6 +112,7 @@ impl Scene {
             Scene::Open => &OPEN,
             Scene::Unmarked => &UNMARKED,
             Scene::Last => &LAST,
+            Scene::Web => &WEB,
             Scene::Blocks => &BLOCKS,
             Scene::Pages => &PAGES,
             Scene::Ring => &RING,
@@ -125,7 +131,7 @@ impl Scene {
             Scene::Slow => 300,
             Scene::Blocks => 702,
             Scene::Ring => 2077,
-            Scene::Long | Scene::Open => 0,
+            Scene::Long | Scene::Open | Scene::Web => 0,
         }
     }
 
@@ -138,6 +144,7 @@ impl Scene {
             | Scene::Open
             | Scene::Unmarked
             | Scene::Last
+            | Scene::Web
             | Scene::Blocks
             | Scene::Pages
             | Scene::Ring
@@ -155,7 +162,7 @@ pub(crate) const ANSWER: &str =
     "R|0|192.0.2.1|65001|10.0.0.0/8|65001 65002|IGP|192.0.2.1|||NAG||\nE|1\n";
 
 /// Asks what was recorded of 10.0.0.0/8 at 1704067200: for some hundred records some ten thousand octets are answered.
-const EVENTS: &str = "history 1704067200 1704067200 0 192.0.2.1 65001 10.0.0.0/8\n";
+pub(crate) const EVENTS: &str = "history 1704067200 1704067200 0 192.0.2.1 65001 10.0.0.0/8\n";
 
 /// A record is fed, asked for, and the server stopped, each by a connection of its own.
 static THREE: [Step; 15] = [
@@ -320,4 +327,23 @@ static LAST: [Step; 11] = [
     SendOctets(0, UPDATE),
     SendNoMore(0),
     HearLast(0, "B|0|101|101\nF|101|101|0|0|0\n"),
+];
+
+/// A request of HTTP is answered, and lines in the place of one change nothing: the mark is set, and the server stopped, by lines alone.
+static WEB: [Step; 12] = [
+    ConnectWeb,
+    Send(
+        0,
+        "GET /api/info HTTP/1.1\r\nHost: a\r\nConnection: close\r\n\r\n",
+    ),
+    Hear(0, "HTTP/1.1 200 OK\r\n"),
+    Drain(0),
+    ConnectWeb,
+    Send(1, "mark 0 4294967296\nstop\n\r\n\r\n"),
+    Hear(1, "HTTP/1.1 400 Bad Request\r\n"),
+    Drain(1),
+    Connect,
+    Send(2, "watermark\nmark 0 1704067201\nstop\n"),
+    Hear(2, "S|0\nS|1704067201\n"),
+    HearLast(2, "ok\n"),
 ];

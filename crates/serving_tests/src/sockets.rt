@@ -5,13 +5,13 @@ ghost use Rattle.board.specs.Opened.{name_of};
 
 use crate::be;
 use crate::made::{COLLECTORS, store_of};
-use crate::scenes::{SCENES, Scene};
-use crate::steps::count_right;
+use crate::scenes::SCENES;
+use crate::steps::{Place, count_right_at};
+use crate::visits::ALL;
 use board::{Named, Opened};
 use log::Log;
 use log::sink::Locked;
-use query_threads::{Flush, Gate, NoGate, Step, Store, Unpromised};
-use server::Port;
+use query_threads::{Flush, Gate, NoGate, Step, Store, Trouble, Unpromised};
 use serving::{Doors, serve};
 use shared_archive::MemStore;
 use std::alloc::Global;
@@ -26,7 +26,7 @@ use std::time::Clock;
 const WORKERS: u8 = 2;
 
 /// How many seconds a client may be idle: more than a question is held, or a client waits.
-const IDLE: u32 = 60;
+pub(crate) const IDLE: u32 = 60;
 
 /// Serves an archive behind these doors until a client stops the server. The archive that is handed back, if the server ended well.
 pub(crate) fn serve_behind<
@@ -63,6 +63,28 @@ pub(crate) fn serve_behind<
     Some(store)
 }
 
+/// Where a server with one port takes connections.
+fn doors_at(listener: &TcpListener) -> Doors<'_> {
+    Doors {
+        listener,
+        port: ALL,
+        admin: None,
+        web: None,
+        idle: IDLE,
+    }
+}
+
+/// Where a server with a port of HTTP beside it does.
+fn doors_with<'a>(listener: &'a TcpListener, web: &'a TcpListener) -> Doors<'a> {
+    Doors {
+        listener,
+        port: ALL,
+        admin: None,
+        web: Some(web),
+        idle: IDLE,
+    }
+}
+
 /// Serves an archive until a client stops the server. The archive that is handed back, if the server ended well.
 pub(crate) fn serve_store<
     A: Store + Drop + Send,
@@ -82,15 +104,7 @@ pub(crate) fn serve_store<
     requires named { name_of opened ≡ B.table }
     requires some { 1 ≤ opened.collectors }
 {
-    let doors = Doors {
-        listener,
-        port: Port {
-            read_only: false,
-            closes_http: false,
-        },
-        admin: None,
-        idle: IDLE,
-    };
+    let doors = doors_at(listener);
     serve_behind::<A, B, G, R, L>(rt, alloc, opened, store, gate, &doors, WORKERS, log)
 }
 
@@ -121,18 +135,19 @@ pub(crate) fn are_warnings(lines: &[u8], count: usize) -> bool {
     left == 0
 }
 
-/// Whether the archive has the scene's records, what may be applied is, and all pages are written home.
-fn is_whole(store: Option<MemStore>, scene: Scene) -> bool {
+/// Whether the archive has this many records, what may be applied is, and all pages are written home. The trouble is why the next change
+/// can't be applied, if one may be.
+pub(crate) fn is_whole(store: Option<MemStore>, trouble: Option<Trouble>, records: u64) -> bool {
     let Some(mut store) = store else {
         return false;
     };
-    let next = match scene.trouble() {
+    let next = match trouble {
         Some(trouble) => Err(trouble),
         None => Ok(Step::Idle),
     };
     store.apply_step() == next
         && store.flush_step() == Ok(Flush::Clean)
-        && store.admitted(0) == scene.records()
+        && store.admitted(0) == records
 }
 
 #[test]
@@ -141,22 +156,29 @@ fn clients_are_told_what_they_have_to_be(rt: HostRuntime) {
     for scene in &SCENES {
         let name = scene.name();
         let listener = TcpListener::bind(&rt, "127.0.0.1:0").expect(&rt, name);
-        let address = listener.local_addr().expect(&rt, name);
+        let web = TcpListener::bind(&rt, "127.0.0.1:0").expect(&rt, name);
+        let place = Place {
+            address: listener.local_addr().expect(&rt, name),
+            admin: None,
+            web: web.local_addr().ok(),
+        };
         let log = Locked::new(rt, Vec::new(alloc));
         let store = store_of(alloc, &scene.made()).expect(&rt, name);
         let steps = scene.steps();
-        let clients = thread::spawn(&rt, move || count_right(&rt, alloc, address, steps));
+        let clients = thread::spawn(&rt, move || count_right_at(&rt, alloc, &place, steps));
         let opened = Opened::new(alloc, COLLECTORS).expect(&rt, name);
-        let served = serve_store::<
+        let doors = doors_with(&listener, &web);
+        let served = serve_behind::<
             MemStore,
             Brand,
             NoGate,
             HostRuntime,
             Locked<HostRuntime, Vec<u8>>,
-        >(&rt, alloc, opened, store, NoGate, &listener, &log);
+        >(&rt, alloc, opened, store, NoGate, &doors, WORKERS, &log);
         let right = clients.expect(&rt, name).join(&rt);
         be(&rt, right == steps.len(), name);
         be(&rt, are_warnings(&log.into_inner(), scene.warnings()), name);
-        be(&rt, is_whole(served, *scene), name);
+        let is_whole = is_whole(served, scene.trouble(), scene.records());
+        be(&rt, is_whole, name);
     }
 }

@@ -1,7 +1,7 @@
 //! Clients of a server, which take one step after another over connections of their own.
 
 use std::alloc::Global;
-use std::io::{Read, Write, read_to_string};
+use std::io::{ErrorKind, Read, Write, read_to_string};
 use std::net::{Net, OpenStream, Shutdown, SocketAddr, TcpListener, TcpStream};
 use std::os::fd::OwnedFd;
 use std::os::unix::net as unix;
@@ -27,6 +27,8 @@ pub(crate) enum Step {
     Connect,
     /// It connects to the admin socket.
     ConnectAdmin,
+    /// It connects to the port of HTTP.
+    ConnectWeb,
     /// It sends a text.
     Send(usize, &'static str),
     /// It sends octets, given as hexadecimal digits.
@@ -43,7 +45,7 @@ pub(crate) enum Step {
     Hear(usize, &'static str),
     /// It receives this, and then its connection ends.
     HearLast(usize, &'static str),
-    /// It receives until its connection ends, whatever comes.
+    /// It receives until its connection ends, whatever comes before.
     Drain(usize),
     /// It sends a line until it receives this; what it receives before is as long.
     AskUntil(usize, &'static str, &'static str),
@@ -58,6 +60,7 @@ pub(crate) enum Step {
 pub(crate) struct Place {
     pub(crate) address: SocketAddr,
     pub(crate) admin: Option<unix::SocketAddr>,
+    pub(crate) web: Option<SocketAddr>,
 }
 
 /// The connections of clients.
@@ -121,11 +124,13 @@ impl Clients {
         Some(heard.as_str() == text)
     }
 
-    /// Receives until a connection ends, whatever comes.
-    fn drain(&self, alloc: Global, number: usize) -> Option<()> {
+    /// Receives until a connection ends or is reset, whatever comes before. Whether it does in time.
+    fn drains(&self, alloc: Global, number: usize) -> Option<bool> {
         let stream = self.stream(number)?;
-        let _ = read_to_string(alloc, &*stream);
-        Some(())
+        match read_to_string(alloc, &*stream) {
+            Ok(_) => Some(true),
+            Err(why) => Some(why.kind() == ErrorKind::ConnectionReset),
+        }
     }
 
     /// Lets a connection go.
@@ -210,6 +215,7 @@ fn take_step<R: Net<Listener = TcpListener, Stream = TcpStream> + Clock>(
     match step {
         Step::Connect => clients.connect(rt, place.address)?,
         Step::ConnectAdmin => clients.connect_admin(rt, &place.admin)?,
+        Step::ConnectWeb => clients.connect(rt, place.web?)?,
         Step::Send(number, text) => clients.send(*number, text.as_bytes())?,
         Step::SendOctets(number, digits) => {
             clients.send(*number, &octets(alloc, digits).ok()?)?;
@@ -230,7 +236,7 @@ fn take_step<R: Net<Listener = TcpListener, Stream = TcpStream> + Clock>(
             clients.go_away(*number)?;
             return is_right;
         }
-        Step::Drain(number) => clients.drain(alloc, *number)?,
+        Step::Drain(number) => return clients.drains(alloc, *number),
         Step::AskUntil(number, line, text) => {
             return ask_until(rt, alloc, clients, *number, line, text);
         }
@@ -281,7 +287,7 @@ pub(crate) fn count_right_at<R: Net<Listener = TcpListener, Stream = TcpStream> 
     steps.len()
 }
 
-/// The same with a server that has no admin socket.
+/// The same with a server that has one port.
 pub(crate) fn count_right<R: Net<Listener = TcpListener, Stream = TcpStream> + Clock>(
     rt: &R,
     alloc: Global,
@@ -291,6 +297,7 @@ pub(crate) fn count_right<R: Net<Listener = TcpListener, Stream = TcpStream> + C
     let place = Place {
         address,
         admin: None,
+        web: None,
     };
     count_right_at(rt, alloc, &place, steps)
 }

@@ -1,0 +1,6 @@
+use Rattle.board.specs.Opened.{name_of}
+use Rattle.serving_tests.proofs.doors.visited.Given as goal
+
+-- the board that was opened
+abbrev pub ghosts-serve_behind : goal.ghosts-serve_behind
+ghosts-serve_behind g a = record { table = name_of a.opened }
