@@ -17,7 +17,7 @@ _rha() {
   read -ra words <<<"$line"
   [ "${line: -1}" = " " ] || unset "words[-1]"
   case ${words[-1]} in
-    --collectors | --ring | --pages | --blocks | --collector | --batch | --mark | --listen | --workers | --idle | --wait | --at | --peer | --within)
+    --collectors | --ring | --pages | --blocks | --collector | --batch | --mark | --listen | --http | --workers | --idle | --wait | --at | --peer | --within)
       compopt +o default
       return
       ;;
@@ -30,7 +30,7 @@ _rha() {
     /*) offered="create load ask serve check info dump peers diff --help --version" ;;
     create/-*) offered="--collectors --ring --pages --blocks --help" ;;
     load/-*) offered="--wait --collector --batch --mark --resume --lose-entries --strict --help" ;;
-    serve/-*) offered="--wait --listen --workers --read-only --close-on-http --admin --idle --help" ;;
+    serve/-*) offered="--wait --listen --workers --read-only --close-on-http --admin --http --idle --help" ;;
     ask/-*) offered="--wait --all --human --help" ;;
     check/-*) offered="--wait --help" ;;
     dump/-*) offered="--wait --at --peer --format --help" ;;

@@ -58,6 +58,7 @@ complete -c rha -n '__rha_is serve' -x -l workers -d 'How many connections are s
 complete -c rha -n '__rha_is serve' -l read-only -d 'Refuse feed, mark and stop there'
 complete -c rha -n '__rha_is serve' -l close-on-http -d 'End a connection after a request of HTTP'
 complete -c rha -n '__rha_is serve' -r -F -l admin -d 'A Unix socket to make, which takes every line'
+complete -c rha -n '__rha_is serve' -x -l http -d 'IPv4 address and port that answers HTTP alone'
 complete -c rha -n '__rha_is serve' -x -l idle -d 'Seconds after which an idle connection is ended, 1 to 1000000'
 complete -c rha -n '__rha_is serve' -a '(__fish_complete_directories)'
 
