@@ -63,16 +63,16 @@ pub trait Store {
     type Disk;
 
     /// Blocks that a reader keeps.
-    type Reader: Drop + Send;
+    type Reader: Drop;
 
     /// A look that found blocks settled.
-    type Seen: Drop + Send;
+    type Seen: Drop;
 
     /// What is left to read of blocks for a turn.
-    type Errand: Drop + Send;
+    type Errand: Drop;
 
     /// A question in progress.
-    type Cursor: Drop + Send;
+    type Cursor: Drop;
 
     /// What is stored stands for this past; after a failed write or sync, what is found when it is opened again stands
     /// for one that this begins.

@@ -18,7 +18,7 @@ use Rattle.disk_archive.proofs.Reaching.{advances, at_hand}
 use Rattle.disk_archive.proofs.planning_changes.plan_step.Goals as goal
 
 pub plan_change-requires-clause-fits : goal.plan_change-requires-clause-fits
-plan_change-requires-clause-fits g c ls outlives lane at =
+plan_change-requires-clause-fits g c lane at =
     let front = c.args.plan.now.front in
     let hand = c.requires.fits.hand c.requires.hand in
     subst (λ (x : Admitted). CanPop c.args.settings front.collector lane x) (sym c.admission-admission.ensures) (hand.fits lane at)

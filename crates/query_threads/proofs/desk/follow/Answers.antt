@@ -14,7 +14,7 @@ advance-requires g c =
     }
 
 pub catch_up-requires-clause-words : goal.catch_up-requires-clause-words
-catch_up-requires-clause-words g c = λ _ _. c.requires.words ∙ ap (λ (n : ℕ). n + 1) (sym (as_many c.args.writer.now.past c.advance.new.writer.past c.advance.ensures.goes_on))
+catch_up-requires-clause-words g c = c.requires.words ∙ ap (λ (n : ℕ). n + 1) (sym (as_many c.args.writer.now.past c.advance.new.writer.past c.advance.ensures.goes_on))
 
 pub returns-clause-words : goal.returns-clause-words
 returns-clause-words g c =

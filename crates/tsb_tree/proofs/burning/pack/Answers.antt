@@ -5,8 +5,8 @@ use Rattle.tsb_tree.proofs.Rooms.{room_of}
 use Rattle.tsb_tree.proofs.Shelving.{err_shelf, ok_shelf}
 use Rattle.tsb_tree.proofs.burning.pack.Goals as goal
 
-pub migrate_column-requires-clause-past : goal.migrate_column-requires-clause-past
-migrate_column-requires-clause-past g c κs within = whole_past c.args.whole.now c.new.result c.deref.result.now (omega (arith, c.new.ensures.number)) c.deref.ensures.value c.requires.whole c.requires.many c.requires.end
+pub migrate_column-requires : goal.migrate_column-requires
+migrate_column-requires g c = record { past = whole_past c.args.whole.now c.new.result c.deref.result.now (omega (arith, c.new.ensures.number)) c.deref.ensures.value c.requires.whole c.requires.many c.requires.end }
 
 pub returns-in_err-part-clause-shelf : goal.returns-in_err-part-clause-shelf
 returns-in_err-part-clause-shelf g c =

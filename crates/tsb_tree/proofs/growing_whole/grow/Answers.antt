@@ -27,7 +27,7 @@ returns-in_default-clause-only g c v h =
     taken_only c.args.whole.now c.take.new.whole (version_of c.args.entry.now) c.in_ok-take.ensures.taken v h
 
 pub split_by_time-requires-clause-whole : goal.split_by_time-requires-clause-whole
-split_by_time-requires-clause-whole g c κs within =
+split_by_time-requires-clause-whole g c =
     taken_whole c.args.whole.now c.take.new.whole (version_of c.args.entry.now) c.in_ok-take.ensures.taken c.requires.whole c.requires.low c.requires.high c.requires.small
 
 pub returns-in-Ok-clause-most : goal.returns-in-Ok-clause-most

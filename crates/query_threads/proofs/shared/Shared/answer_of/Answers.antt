@@ -63,8 +63,8 @@ loop-preserved-in-Again g c =
           g.met.A.Store.stays c.turn.new.cursor p.history h (c.turn.ensures.right named) later low here;
     }
 
-pub finish-requires-clause-fits : goal.finish-requires-clause-fits
-finish-requires-clause-fits g c = λ _ _. subst (λ t. TurnGives (λ e. g.A.Store.fits e.0 c.turn.new.cursor) ⊤ (λ _. ⊤) t) c.in-Historical.is c.in_ok-turn.ensures.fits
+pub finish-requires : goal.finish-requires
+finish-requires g c = record { fits = subst (λ t. TurnGives (λ e. g.A.Store.fits e.0 c.turn.new.cursor) ⊤ (λ _. ⊤) t) c.in-Historical.is c.in_ok-turn.ensures.fits }
 
 pub returns-in_err-finish-in-Historical-clause-reader : goal.returns-in_err-finish-in-Historical-clause-reader
 returns-in_err-finish-in-Historical-clause-reader g c named =

@@ -2,9 +2,9 @@ use Rattle.std.proofs.Common.{◌≡◌, ◌<◌, [], rules, arith}
 use Rattle.tsb_node.specs.Saying.{column_said}
 use Rattle.tree_tests.proofs.migration.columns.migrated.Goals as goal
 
-pub migrate_column-requires-clause-past : goal.migrate_column-requires-clause-past
-migrate_column-requires-clause-past c lifetimes =
+pub migrate_column-requires : goal.migrate_column-requires
+migrate_column-requires c =
     let said = c.in-Ok.said in
     let below : said.current.start < c.stamp_of.result = search rules in
     let some : said.parts.items ≡ [] → ⊥ = λ e. search rules in
-    rw c.deref.ensures.value (c.columns_have_whole_pasts.ensures.whole (column_said said) c.in-Ok.ensures.column.valid some (omega (arith, below, c.stamp_of.ensures)))
+    record { past = rw c.deref.ensures.value (c.columns_have_whole_pasts.ensures.whole (column_said said) c.in-Ok.ensures.column.valid some (omega (arith, below, c.stamp_of.ensures))) }
