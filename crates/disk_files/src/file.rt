@@ -1,8 +1,8 @@
 //! A file, as the disks use it.
 
-ghost use Rattle.std.specs.Prelude.{◌≡◌, ◌↔◌, ◌≤◌, ℕ, length, take, true, IfOk, IsTrue, OnOk};
+ghost use Rattle.std.specs.Prelude.{◌≡◌, ◌↔◌, ◌≤◌, ℕ, length, take, true, IfOk, IsTrue, OnErr, OnOk};
 ghost use Rattle.disk_models.specs.Octets.{octets};
-ghost use Rattle.disk_models.specs.Erase.{DiskState, Lingers, Stays, Syncs, WritesWithin};
+ghost use Rattle.disk_models.specs.Erase.{DiskState, IsSound, Lingers, Stays, Syncs, WritesWithin};
 
 use crate::failure::{Call, Reason};
 use std::io;
@@ -103,11 +103,12 @@ pub trait OctetFile {
         ensures octets { follows self.old → IfOk result (λ n. octets (model self.new).octet at n ≡ take n from.now) }
         ensures within { follows self.old → WritesWithin at (length from.now) (model self.old) (model self.new) };
 
-    /// Brings what was written to the device.
+    /// Brings what was written to the device. One that fails settles nothing.
     fn sync(&mut self) -> io::Result<()>
         ensures follows { follows self.old ↔ follows self.new }
         ensures syncs { follows self.old → OnOk result (Syncs (model self.old) (model self.new)) }
-        ensures lingers { follows self.old → Lingers (model self.old) (model self.new) };
+        ensures lingers { follows self.old → Lingers (model self.old) (model self.new) }
+        ensures nothing_settled { follows self.old → OnErr result ((i : ℕ) → (model self.old).unsynced i → (model self.new).unsynced i) };
 
     /// The same file, opened once more for a reader.
     fn twin(&self) -> io::Result<Self>
@@ -116,4 +117,7 @@ pub trait OctetFile {
 
     /// Notes why a disk over it fails, for whoever asks later. By itself a file keeps nothing.
     fn note(&self, _call: Call, _reason: Reason) {}
+
+    /// What a crash at this very moment may leave is what it may leave now.
+    ghost sound: { (file : Self) → follows file → IsSound (model file) };
 }

@@ -62,6 +62,8 @@ impl OctetFile for NotedFile {
 
     ghost is_held = { λ _ _. Unit {0} };
 
+    ghost sound = { λ _ never. absurd never };
+
     fn facts(&self) -> io::Result<FileFacts> {
         self.file.facts()
     }

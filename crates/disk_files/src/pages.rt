@@ -5,7 +5,6 @@ ghost use Rattle.disk_models.specs.Octets.{octets};
 ghost use Rattle.disk_models.specs.Erase.{Counts, Lingers, Stays, Syncs, WritesWithin};
 ghost use Rattle.disk_files.specs.Files.{FileLingers, FileStays, IsReady};
 ghost use Rattle.disk_files.specs.Sizes.{ArePages};
-ghost use Rattle.disk_files.specs.Nothing.{no_octets};
 ghost use Rattle.disk_files.specs.Refusals.{ArePagesUnopened, IsUnmade, IsUnopened};
 
 use crate::error::{FileError, Part};
@@ -23,7 +22,7 @@ use std::fs::File;
 use std::rt::Files;
 use std::sync::Arc;
 
-/// An erasable disk over a file.
+/// An erasable disk over a file. It is honest where its file follows its model, and then it is what the file is.
 ///
 /// After a write or a sync that failed each call fails, until the disk is opened again or renewed: what the system gives then may
 /// never have reached the device. One whose file is shared is only read: a write fails, and writes nothing.
@@ -63,6 +62,7 @@ impl<F: OctetFile> FileErase<F> {
         ensures size { IfOk result (λ disk. size_of disk ≡ size) }
         ensures new { IfOk result (IsNewErase Access.Alone) }
         ensures whole { F.follows file → IfOk result (λ disk. F.octet_count (file_of disk) ≡ size) }
+        ensures follows { IfOk result (λ disk. F.follows file ↔ F.follows (file_of disk)) }
         ensures ready { IfOk result (λ disk. IsReady F.OctetFile Access.Alone file (file_of disk)) }
         ensures empty { F.follows file → IsOk result → F.octet_count file ≡ 0 }
         ensures kept { F.follows file → F.octet_count file ≢ 0 → FileStays F.OctetFile file (file_left result) }
@@ -206,11 +206,11 @@ impl<F: OctetFile> EraseDisk for FileErase<F> {
 
     ghost fault_count = { λ disk. disk.faults };
 
-    ghost honest = { λ _. ⊥ };
+    ghost honest = { λ disk. F.follows disk.file };
 
-    ghost model = { λ _. no_octets };
+    ghost model = { λ disk. F.model disk.file };
 
-    ghost sound = { λ _ never. absurd never };
+    ghost sound = { λ disk follows. F.sound disk.file follows };
 
     fn size(&self) -> u64 {
         self.size
@@ -220,7 +220,7 @@ impl<F: OctetFile> EraseDisk for FileErase<F> {
         self.faults
     }
 
-    /// Beside the trait's clauses: it fails where the disk is broken, and what it reads of a file that follows its model.
+    /// Beside the trait's clauses: it fails where the disk is broken.
     fn read(&mut self, at: u64, into: &mut [u8]) -> Result<(), Fault>
         requires { at + length into.old ≤ size_of self.old }
         ensures size { size_of self.new ≡ size_of self.old }
@@ -242,8 +242,8 @@ impl<F: OctetFile> EraseDisk for FileErase<F> {
         }
     }
 
-    /// Beside the trait's clauses: where it fails the disk is broken, and fails from then on. What it writes to a file that
-    /// follows its model, and that it writes nothing to one that was cut, or to one that is shared, which is noted.
+    /// Beside the trait's clauses: where it fails the disk is broken, and fails from then on. It writes nothing to a file that was cut, or
+    /// to one that is shared, which is noted.
     fn write_at(&mut self, at: u64, from: &[u8]) -> Result<(), Fault>
         requires { at + length from.now ≤ size_of self.old }
         ensures size { size_of self.new ≡ size_of self.old }
@@ -271,8 +271,7 @@ impl<F: OctetFile> EraseDisk for FileErase<F> {
         }
     }
 
-    /// Beside the trait's clauses: where it fails the disk is broken, and fails from then on. What it does with a file that
-    /// follows its model, and that it fails where it was cut.
+    /// Beside the trait's clauses: where it fails the disk is broken, and fails from then on. A file that was cut isn't synced.
     #[tactic(auto, using(crate::proofs::Leaving::lingers_none))]
     fn sync(&mut self) -> Result<(), Fault>
         ensures size { size_of self.new ≡ size_of self.old }
@@ -284,7 +283,8 @@ impl<F: OctetFile> EraseDisk for FileErase<F> {
         ensures follows { F.follows (file_of self.old) ↔ F.follows (file_of self.new) }
         ensures syncs { F.follows (file_of self.old) → OnOk result (Syncs (F.model (file_of self.old)) (F.model (file_of self.new))) }
         ensures lingers { F.follows (file_of self.old) → Lingers (F.model (file_of self.old)) (F.model (file_of self.new)) }
-        ensures cut { F.follows (file_of self.old) → F.octet_count (file_of self.old) < size_of self.old → IsErr result }
+        ensures nothing_settled { F.follows (file_of self.old) → OnErr result ((i : ℕ) → (F.model (file_of self.old)).unsynced i → (F.model (file_of self.new)).unsynced i) }
+        ensures cut { F.follows (file_of self.old) → F.octet_count (file_of self.old) < size_of self.old → IsErr result × (file_of self.new ≡ file_of self.old) }
     {
         if self.is_broken {
             return Err(self.fault());

@@ -68,6 +68,8 @@ impl OctetFile for File {
 
     ghost is_held = { λ _ _. Unit {0} };
 
+    ghost sound = { λ _ never. absurd never };
+
     fn facts(&self) -> io::Result<FileFacts> {
         let metadata = self.metadata()?;
         Ok(FileFacts {

@@ -1,6 +1,6 @@
 //! Octets are read and written whole.
 
-ghost use Rattle.std.specs.Prelude.{◌≡◌, ◌↔◌, ◌≤◌, ◌<◌, ◌+◌, ◌^◌, length, take, true, IfOk, IsErr, OnOk};
+ghost use Rattle.std.specs.Prelude.{◌≡◌, ◌↔◌, ◌≤◌, ◌<◌, ◌+◌, ◌^◌, length, take, true, ℕ, IfOk, IsErr, OnErr, OnOk};
 ghost use Rattle.disk_models.specs.Octets.{octets};
 ghost use Rattle.disk_models.specs.Erase.{Lingers, Stays, Syncs, WritesWithin};
 
@@ -109,16 +109,18 @@ pub(crate) fn write_whole<F: OctetFile>(
     Err(Fault)
 }
 
-/// Brings what was written to the device, of a file of this size. One that is shorter is a failure.
+/// Brings what was written to the device, of a file of this size. One that is shorter is a failure, and isn't synced: a failure settles
+/// nothing.
 pub(crate) fn sync_whole<F: OctetFile>(file: &mut F, size: u64) -> Result<(), Fault>
     ensures follows { F.follows file.old ↔ F.follows file.new }
     ensures syncs { F.follows file.old → OnOk result (Syncs (F.model file.old) (F.model file.new)) }
     ensures lingers { F.follows file.old → Lingers (F.model file.old) (F.model file.new) }
-    ensures cut { F.follows file.old → F.octet_count file.old < size → IsErr result }
+    ensures nothing_settled { F.follows file.old → OnErr result ((i : ℕ) → (F.model file.old).unsynced i → (F.model file.new).unsynced i) }
+    ensures cut { F.follows file.old → F.octet_count file.old < size → IsErr result × (file.new ≡ file.old) }
 {
-    let whole = look_at_size(file, size, Call::Sync);
+    look_at_size(file, size, Call::Sync)?;
     match file.sync() {
-        Ok(()) => whole,
+        Ok(()) => Ok(()),
         Err(e) => Err(fault(file, Call::Sync, Reason::of(&e))),
     }
 }

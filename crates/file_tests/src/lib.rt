@@ -1,5 +1,5 @@
-//! Tests of the disks over files: real folders, files that are cut, held or made by another, and files that do less than
-//! they are asked for.
+//! Tests of the disks over files: real folders, files that are cut, held or made by another, files that do less than they are asked for,
+//! and files in memory that follow their model.
 #![tactic(auto)]
 
 #[cfg(test)]
@@ -8,6 +8,8 @@ mod answers;
 mod blocks;
 #[cfg(test)]
 mod folders;
+#[cfg(test)]
+mod kept;
 #[cfg(test)]
 mod layers;
 #[cfg(test)]

@@ -73,6 +73,8 @@ impl OctetFile for SlowFile {
 
     ghost is_held = { λ _ _. Unit {0} };
 
+    ghost sound = { λ _ never. absurd never };
+
     fn facts(&self) -> io::Result<FileFacts> {
         Ok(FileFacts {
             is_regular: self.wrong != Wrong::IsIrregular,
