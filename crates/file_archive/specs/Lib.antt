@@ -1,5 +1,3 @@
-pub mod Refusals
-pub mod FileArchives
 pub mod Disks
 pub mod Slots
 pub mod Faults

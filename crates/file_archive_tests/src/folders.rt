@@ -54,7 +54,7 @@ pub(crate) fn create(
     pages: u64,
     blocks: u64,
 ) -> Result<FileArchive, CreateFault> {
-    FileArchive::create(rt.alloc(), rt, folder, SETTINGS, pages, blocks)
+    file_archive::create(rt.alloc(), rt, folder, SETTINGS, pages, blocks)
 }
 
 /// Whether such an archive is created, and let go.

@@ -6,7 +6,7 @@ use crate::session::{AMSTERDAM, Command, run};
 use archive_calls::{RouteArchive, Trouble};
 use disk_archive::OpenError;
 use disk_files::{Access, FileErase, FileError, FileOnce, Part};
-use file_archive::{FileArchive, FileDisks, OpenFault};
+use file_archive::{FileDisks, OpenFault};
 use service::Status;
 use std::fs;
 use std::fs::OpenOptions;
@@ -34,7 +34,7 @@ fn given(rt: &HostRuntime, folder: &str) -> Option<Status> {
 
 /// What a check of an archive tells.
 fn checked(rt: &HostRuntime, folder: &str) -> Option<Result<u64, Trouble>> {
-    let mut archive = FileArchive::open(rt.alloc(), rt, folder).ok()?;
+    let mut archive = file_archive::open(rt.alloc(), rt, folder).ok()?;
     Some(archive.check())
 }
 
@@ -53,7 +53,7 @@ enum Refusal {
 
 /// Why the archive of a folder isn't opened, if it isn't.
 fn why_refused(rt: &HostRuntime, folder: &str) -> Refusal {
-    match FileArchive::open(rt.alloc(), rt, folder) {
+    match file_archive::open(rt.alloc(), rt, folder) {
         Ok(_) => Refusal::None,
         Err(OpenFault::File(FileError::InUse(Part::Pages))) => Refusal::InUse,
         Err(OpenFault::File(FileError::Missing(Part::Pages))) => Refusal::NoPages,
@@ -185,7 +185,7 @@ enum End {
 /// How it ends. Whoever opens it lets it go again.
 fn end_of(rt: &HostRuntime, folder: &str, access: Access) -> End {
     let opened = match FileDisks::open(rt.alloc(), rt, folder, access) {
-        Ok(disks) => FileArchive::on(rt.alloc(), disks),
+        Ok(disks) => disks.into_archive(rt.alloc()),
         Err(why) => Err(OpenFault::File(why)),
     };
     match opened {

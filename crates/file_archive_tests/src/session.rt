@@ -5,7 +5,6 @@ use crate::be;
 use crate::folders::{new_name, remove};
 use archive_calls::RouteArchive;
 use archive_pages::Settings;
-use file_archive::FileArchive;
 use load_progress::{Counts, Meter, WatchedArchive};
 use route_model::Mark;
 use service::{FeedSettings, FileLoad, LoadSettings, Output, Status, WithoutHop, ask, check, load};
@@ -127,7 +126,7 @@ pub(crate) fn run<A: RouteArchive>(
 
 /// Whether a command over the archive of a folder is well and writes just these lines.
 fn goes_well(rt: &HostRuntime, folder: &str, command: &Command, lines: &str) -> Option<bool> {
-    let mut archive = FileArchive::open(rt.alloc(), rt, folder).ok()?;
+    let mut archive = file_archive::open(rt.alloc(), rt, folder).ok()?;
     let mut out = Vec::new(rt.alloc());
     let status = run(rt.alloc(), &mut archive, command, &mut out)?;
     Some(status == Status::Done && out.as_slice() == lines.as_bytes())
@@ -140,13 +139,13 @@ fn made(rt: &HostRuntime, name: &str) -> Option<String> {
         collectors: 2,
         ring: 16,
     };
-    FileArchive::create(rt.alloc(), rt, folder.as_str(), settings, 64, 64).ok()?;
+    file_archive::create(rt.alloc(), rt, folder.as_str(), settings, 64, 64).ok()?;
     Some(folder)
 }
 
 /// How many changes are applied of the archive of a folder.
 fn applied(rt: &HostRuntime, folder: &str) -> Option<u64> {
-    let archive = FileArchive::open(rt.alloc(), rt, folder).ok()?;
+    let archive = file_archive::open(rt.alloc(), rt, folder).ok()?;
     Some(archive.applied())
 }
 
@@ -173,7 +172,7 @@ fn are_counts(counts: Counts, records: u64, applied: u64) -> bool {
 fn is_counted(rt: &HostRuntime, folder: &str) -> Option<bool> {
     let none: Option<&HostRuntime> = None;
     let meter = Meter::new(none);
-    let archive = FileArchive::open(rt.alloc(), rt, folder).ok()?;
+    let archive = file_archive::open(rt.alloc(), rt, folder).ok()?;
     let mut archive = WatchedArchive::new(archive, &meter);
     let mut out = Vec::new(rt.alloc());
     give(rt.alloc(), &mut archive, 0, AMSTERDAM, &mut out)?;

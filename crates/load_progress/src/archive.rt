@@ -1,11 +1,10 @@
-//! An archive in files whose calls are counted.
+//! An archive whose calls are counted.
 
-ghost use Rattle.file_archive.specs.FileArchives.{GoesOnWith, limit_of, right_of};
 ghost use Rattle.load_progress.specs.Watched.{watched};
 
+use crate::applied::Applied;
 use crate::meter::Meter;
 use archive_calls::{AdmitError, AskError, Flush, MarkError, RouteArchive, Step, Trouble};
-use file_archive::FileArchive;
 use interleaving_core::{Answer, BatchReply, Query, Resume};
 use route_model::{Admission, Mark};
 use std::alloc::Global;
@@ -14,20 +13,20 @@ use std::time::Clock;
 
 /// Does as the archive in it, and counts the records that it is offered and the changes that it applies.
 #[derive(Drop)]
-pub struct WatchedArchive<'a, T> {
-    archive: FileArchive,
+pub struct WatchedArchive<'a, A, T> {
+    archive: A,
     before: u64,
     meter: &'a Meter<'a, T>,
 }
 
-impl<'a, T: Eprint + Clock> WatchedArchive<'a, T> {
+impl<'a, A: Applied, T: Eprint + Clock> WatchedArchive<'a, A, T> {
     ghost use Rattle.std.specs.Prelude.{◌≡◌};
 
     /// Watches an archive.
-    pub fn new(archive: FileArchive, meter: &'a Meter<'a, T>) -> WatchedArchive<'a, T>
+    pub fn new(archive: A, meter: &'a Meter<'a, T>) -> WatchedArchive<'a, A, T>
         ensures same { watched result ≡ archive }
     {
-        let before = archive.applied();
+        let before = archive.applied_count();
         WatchedArchive {
             archive,
             before,
@@ -36,18 +35,18 @@ impl<'a, T: Eprint + Clock> WatchedArchive<'a, T> {
     }
 
     fn count_applied(&self) {
-        let applied = self.archive.applied();
+        let applied = self.archive.applied_count();
         self.meter
             .count_applied(applied.saturating_sub(self.before));
     }
 }
 
-impl<'a, T: Eprint + Clock> RouteArchive for WatchedArchive<'a, T> {
-    ghost carries = { λ it h. GoesOnWith (watched it) h };
+impl<'a, A: RouteArchive + Applied, T: Eprint + Clock> RouteArchive for WatchedArchive<'a, A, T> {
+    ghost carries = { λ it h. A.carries (watched it) h };
 
-    ghost most = { λ it. limit_of (watched it) };
+    ghost most = { λ it. A.most (watched it) };
 
-    ghost right = { λ it h goes_on. right_of (watched it) h goes_on };
+    ghost right = { λ it h carried. A.right (watched it) h carried };
 
     fn collectors(&self) -> u8 {
         self.archive.collectors()

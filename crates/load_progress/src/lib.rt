@@ -3,19 +3,20 @@
 //!
 //! Octets are counted as they are read. Records are counted by batch, once the archive has admitted it: it is offered
 //! nothing else, so peer tables and records that are refused or skipped don't count. Changes applied are the archive's
-//! count now less that before the load. The archive that is wrapped is the one in files, since no trait returns how many
-//! changes are applied.
+//! count now less that before the load, so any archive is wrapped that returns how many are applied ([`Applied`]).
 //!
 //! Standard output may be the same terminal, so the line is removed before anything is written there too. The line comes
 //! back with the next count, if 200 ms have passed since it was last written.
 #![tactic(auto)]
 
+mod applied;
 mod archive;
 mod counts;
 mod meter;
 mod reader;
 mod writer;
 
+pub use applied::Applied;
 pub use archive::WatchedArchive;
 pub use counts::Counts;
 pub use meter::Meter;
