@@ -9,3 +9,4 @@ pub mod OneTable
 pub mod OneMeaning
 pub mod LeavingOut
 pub mod api
+pub mod Known

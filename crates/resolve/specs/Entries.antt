@@ -19,6 +19,7 @@ use Rattle.bgp_update.specs.Entries.{IsEntryRoute}
 use Rattle.bgp_update.specs.declared.fault.MessageFault.{MessageFault}
 use Rattle.bgp_update.specs.declared.fault.MessageFault.TheVariants as messages
 use Rattle.mrt_records.specs.declared.entries.RibEntry.{RibEntry}
+use Rattle.resolve.specs.declared.entries.KnownRoute.{KnownRoute}
 use Rattle.bgp_update.specs.declared.reading.PathAttributes.{PathAttributes}
 use Rattle.resolve.specs.Changes.{peer_of_neighbor}
 use Rattle.resolve.specs.declared.fault.ResolveFault.{ResolveFault}
@@ -116,3 +117,13 @@ RouteRead rule family octets (Ok None) = LeavesOut rule octets
 RouteRead rule family octets (Err messages.Malformed) = (LeavesOut rule octets → ⊥) × ((a : PathAttributes) (route : Route) → AreAttributes widths.Four octets a → IsEntryRoute family a route → ⊥)
 RouteRead rule family octets (Err messages.RouteTooLarge) = (a : PathAttributes) × (route : Route) × AreAttributes widths.Four octets a × IsEntryRoute family a route × (3072 < length (route_octets route))
 RouteRead rule family octets (Err messages.OutOfMemory) = Unit {0}
+
+-- the known attributes give the known route
+abbrev pub IsKnown : WithoutHop → Family → Option KnownRoute → Type 0
+IsKnown rule family None = Unit {0}
+IsKnown rule family (Some known) = RouteRead rule family known.attributes.now (Ok (Some known.route))
+
+-- these are the known attributes, and this is the known route
+abbrev pub Gave : Option KnownRoute → List ℕ → Route → Type 0
+Gave None octets route = ⊥
+Gave (Some known) octets route = (known.attributes.now ≡ octets) × (route ≡ known.route)

@@ -1,9 +1,9 @@
 //! What the entries of RIB records announce (RFC 6396 section 4.3.4).
 
-ghost use Rattle.std.specs.Prelude.{◌≡◌, ◌++◌, ◌↔◌, IsTrue, OnOk};
+ghost use Rattle.std.specs.Prelude.{◌≡◌, ◌++◌, ◌↔◌, IsTrue, IfOk, IfSome, OnOk};
 ghost use Rattle.std.specs.Option.{option_to_list};
 ghost use Rattle.resolve.specs.Changes.{peer_of_neighbor};
-ghost use Rattle.resolve.specs.Entries.{family_of, EntryGives, EntriesGive, entry_shown, HasNoHop, IsWithoutHop, RouteRead};
+ghost use Rattle.resolve.specs.Entries.{family_of, EntryGives, EntriesGive, entry_shown, HasNoHop, IsWithoutHop, RouteRead, IsKnown, Gave};
 
 use crate::fault::ResolveFault;
 use crate::messages::add;
@@ -67,25 +67,63 @@ fn route_of(
     Ok(Some(route))
 }
 
-/// The announcement of an entry, none where it is left out.
-fn change_of(
+/// A route that was read, and the attributes that gave it: the next entry often has the same ones.
+#[derive(Drop)]
+struct KnownRoute<'a> {
+    attributes: &'a [u8],
+    route: SharedRoute,
+}
+
+/// The known route, where these attributes gave it.
+fn known_route(
+    known: &Option<KnownRoute<'_>>,
+    attributes: &[u8],
+) -> Result<Option<SharedRoute>, AllocError>
+    ensures { IfOk result (λ o. IfSome o (λ route. Gave known.now attributes.now route)) }
+{
+    let Some(known) = known else {
+        return Ok(None);
+    };
+    // Others mostly end in another octet, which is quick to see.
+    if known.attributes.last() != attributes.last() {
+        return Ok(None);
+    }
+    if known.attributes != attributes {
+        return Ok(None);
+    }
+    Ok(Some(known.route.share()?))
+}
+
+/// The announcement of an entry, none where it is left out. Its route is known from then on.
+fn change_of<'a>(
     alloc: Global,
     rule: WithoutHop,
     collector: u8,
     peers: &[Neighbor],
     prefix: &Prefix,
-    entry: &RibEntry<'_>,
+    entry: &RibEntry<'a>,
+    known: &mut Option<KnownRoute<'a>>,
 ) -> Result<Option<Change>, ResolveFault>
-    ensures { EntryGives rule collector peers.now prefix.now (entry_shown entry.now) result }
+    requires { IsKnown rule (family_of prefix.now.address) known.old }
+    ensures gives { EntryGives rule collector peers.now prefix.now (entry_shown entry.now) result }
+    ensures known { IsKnown rule (family_of prefix.now.address) known.new }
 {
     let Some(neighbor) = peers.get(entry.peer_index as usize) else {
         return Err(ResolveFault::BadPeerIndex);
     };
+    let peer = peer_of_neighbor(collector, neighbor);
+    if let Some(shared) = known_route(known, entry.attributes)? {
+        return Ok(Some(Change::Announce(peer, *prefix, shared)));
+    }
     let Some(route) = route_of(alloc, rule, prefix, entry.attributes)? else {
         return Ok(None);
     };
     let route = SharedRoute::new(alloc, route)?;
-    Ok(Some(Change::Announce(peer_of_neighbor(collector, neighbor), *prefix, route)))
+    *known = Some(KnownRoute {
+        attributes: entry.attributes,
+        route: route.share()?,
+    });
+    Ok(Some(Change::Announce(peer, *prefix, route)))
 }
 
 /// Adds the change, where there is one.
@@ -110,9 +148,10 @@ pub(crate) fn entry_changes(
     ensures { EntriesGive rule collector peers.now prefix.now entries.now result }
 {
     let mut changes = Vec::with_capacity(alloc, entries.len())?;
+    let mut known = None;
     let mut index = 0;
     while let Some(entry) = entries.get(index) {
-        let change = change_of(alloc, rule, collector, peers, prefix, &entry)?;
+        let change = change_of(alloc, rule, collector, peers, prefix, &entry, &mut known)?;
         add_some(&mut changes, change)?;
         index += 1;
     }
