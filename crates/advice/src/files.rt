@@ -2,6 +2,7 @@
 
 ghost use Rattle.std.specs.Prelude.{◌≡◌, ◌<◌, None, IfSome};
 
+use crate::loaded::Loaded;
 use crate::packed::Packing;
 use crate::saying::advise;
 use archive_facts::Date;
@@ -43,11 +44,12 @@ pub enum FileAdvice<'a> {
         late: u64,
         records: u64,
     },
-    /// Many of its records were refused.
+    /// Many of its records were refused. Where entries without a next hop aren't left out, this may be of them.
     Refused {
         file: &'a str,
         refused: u64,
         records: u64,
+        lose_entries: bool,
     },
     /// None of its records is kept, since some were skipped and no other one has a route.
     Skipped {
@@ -105,9 +107,19 @@ impl fmt::Display for FileAdvice<'_> {
                 file,
                 refused,
                 records,
+                lose_entries: true,
             } => write!(
                 f,
                 "{file}: {refused} of {records} records were refused, as the X lines say"
+            ),
+            FileAdvice::Refused {
+                file,
+                refused,
+                records,
+                lose_entries: false,
+            } => write!(
+                f,
+                "{file}: {refused} of {records} records were refused, as the X lines say; if it is a table with entries that have no next hop, as BIRD writes them, --lose-entries loads the others of their records"
             ),
             FileAdvice::Skipped {
                 file,
@@ -157,53 +169,63 @@ fn advice_if_late<'a>(
     }
 }
 
-/// Prints that nothing of a file is kept, some of whose records were skipped.
+/// Prints that nothing of a file is kept, since records of it were skipped.
 fn advise_skipped<E: Write>(alloc: Global, file: &str, counts: &FeedCounts, err: &mut Output<E>) {
     let (skipped, records) = (counts.skipped, counts.records);
-    if skipped > 0 && counts.admitted == 0 {
-        advise(
-            alloc,
-            &FileAdvice::Skipped {
-                file,
-                skipped,
-                records,
-            },
-            err,
-        );
-    }
+    advise(
+        alloc,
+        &FileAdvice::Skipped {
+            file,
+            skipped,
+            records,
+        },
+        err,
+    );
 }
 
-/// Prints what a person may not expect of a file whose feed has these counts, if the collector's mark was this one before: that it isn't
-/// MRT, or that nothing of it, or not all, was taken.
-pub fn advise_file<E: Write>(
+/// Prints that many records of a file were refused.
+fn advise_refused<E: Write>(
     alloc: Global,
-    file: &str,
-    packing: Option<Packing>,
+    loaded: &Loaded<'_>,
     counts: &FeedCounts,
-    mark: Option<Mark>,
     err: &mut Output<E>,
 ) {
-    if let (Some(packing), 0) = (packing, counts.admitted) {
+    let (refused, records) = (counts.refused, counts.records);
+    advise(
+        alloc,
+        &FileAdvice::Refused {
+            file: loaded.file,
+            refused,
+            records,
+            lose_entries: loaded.lose_entries,
+        },
+        err,
+    );
+}
+
+/// Prints what a person may not expect of a file whose feed has these counts: that it isn't MRT, or that nothing of it, or not all, was
+/// taken.
+pub fn advise_file<E: Write>(
+    alloc: Global,
+    loaded: &Loaded<'_>,
+    counts: &FeedCounts,
+    err: &mut Output<E>,
+) {
+    let file = loaded.file;
+    if let (Some(packing), 0) = (loaded.packing, counts.admitted) {
         return advise(alloc, &FileAdvice::Packed { file, packing }, err);
     }
-    let doubts = doubts_of(counts);
+    let doubts = doubts_of(counts, loaded.report.dropped);
     if doubts.is_empty {
         advise(alloc, &FileAdvice::Empty { file }, err);
     }
-    if let Some(words) = advice_if_late(file, counts, mark) {
+    if let Some(words) = advice_if_late(file, counts, loaded.report.before) {
         advise(alloc, &words, err);
     }
-    advise_skipped(alloc, file, counts, err);
+    if doubts.is_skipped {
+        advise_skipped(alloc, file, counts, err);
+    }
     if doubts.is_refused {
-        let (refused, records) = (counts.refused, counts.records);
-        advise(
-            alloc,
-            &FileAdvice::Refused {
-                file,
-                refused,
-                records,
-            },
-            err,
-        );
+        advise_refused(alloc, loaded, counts, err);
     }
 }

@@ -4,6 +4,7 @@
 mod files;
 mod forms;
 mod limits;
+mod loaded;
 mod loads;
 mod locks;
 mod marks;
@@ -18,7 +19,8 @@ mod unread;
 pub use files::{FileAdvice, STDIN, advise_file};
 pub use forms::Form;
 pub use limits::LimitAdvice;
-pub use loads::{Loaded, advise_load};
+pub use loaded::Loaded;
+pub use loads::advise_load;
 pub use locks::{Holder, holder_of};
 pub use marks::{MarkAdvice, advise_text};
 pub use noted::{FirstOctets, NotedReader};

@@ -2,29 +2,14 @@
 
 use crate::files::{FileAdvice, advise_file};
 use crate::limits::LimitAdvice;
+use crate::loaded::Loaded;
 use crate::marks::MarkAdvice;
-use crate::packed::Packing;
 use crate::saying::advise;
 use archive_calls::RouteArchive;
 use archive_facts::Sizes;
-use route_model::Mark;
 use service::{LoadReport, Output, Refusal, is_far};
 use std::alloc::Global;
 use std::io::Write;
-
-/// A load that has ended.
-#[derive(Clone, Copy, Debug)]
-pub struct Loaded<'a> {
-    pub file: &'a str,
-    /// What the file is, if it isn't MRT.
-    pub packing: Option<Packing>,
-    pub collector: u8,
-    /// The mark that was to be set after it.
-    pub mark: Option<Mark>,
-    pub report: LoadReport,
-    /// None if they can't be read.
-    pub sizes: Option<Sizes>,
-}
 
 /// Prints how large a full archive is, and what helps.
 fn advise_full<E: Write>(
@@ -133,14 +118,7 @@ pub fn advise_load<A: RouteArchive, E: Write>(
     err: &mut Output<E>,
 ) {
     if let Some(counts) = &loaded.report.counts {
-        advise_file(
-            alloc,
-            loaded.file,
-            loaded.packing,
-            counts,
-            loaded.report.before,
-            err,
-        );
+        advise_file(alloc, loaded, counts, err);
         advise_cut(alloc, loaded, err);
         advise_held(alloc, loaded, err);
     }

@@ -1,9 +1,9 @@
 //! What is said of files that are loaded.
 
 use crate::be;
-use advice::{FileAdvice, Packing, advise, advise_file, packing_of};
+use advice::{FileAdvice, Loaded, Packing, advise, advise_file, packing_of};
 use route_model::Mark;
-use service::{FeedCounts, Output};
+use service::{FeedCounts, LoadReport, Output};
 use std::alloc::Global;
 
 /// First octets, and what they are of.
@@ -30,16 +30,20 @@ fn octets_that_are_none_of_mrt_are_known(rt: HostRuntime) {
     }
 }
 
-/// A feed's counts, what its file's octets are, and what is said.
+/// A feed's counts, what its file's octets are, whether entries without a next hop were left out, how many admissions were dropped, and what is said.
 struct Said {
     packing: Option<Packing>,
+    lose_entries: bool,
+    dropped: u64,
     counts: FeedCounts,
     text: &'static str,
 }
 
-const SAID: [Said; 11] = [
+const SAID: [Said; 13] = [
     Said {
         packing: None,
+        lose_entries: false,
+        dropped: 0,
         counts: FeedCounts {
             records: 100,
             admitted: 99,
@@ -51,6 +55,8 @@ const SAID: [Said; 11] = [
     },
     Said {
         packing: Some(Packing::Text),
+        lose_entries: false,
+        dropped: 0,
         counts: FeedCounts {
             records: 6,
             admitted: 6,
@@ -62,6 +68,8 @@ const SAID: [Said; 11] = [
     },
     Said {
         packing: Some(Packing::Bzip2),
+        lose_entries: false,
+        dropped: 0,
         counts: FeedCounts {
             records: 0,
             admitted: 0,
@@ -73,6 +81,8 @@ const SAID: [Said; 11] = [
     },
     Said {
         packing: Some(Packing::Text),
+        lose_entries: false,
+        dropped: 0,
         counts: FeedCounts {
             records: 3,
             admitted: 0,
@@ -84,6 +94,8 @@ const SAID: [Said; 11] = [
     },
     Said {
         packing: None,
+        lose_entries: false,
+        dropped: 0,
         counts: FeedCounts {
             records: 0,
             admitted: 0,
@@ -95,6 +107,8 @@ const SAID: [Said; 11] = [
     },
     Said {
         packing: None,
+        lose_entries: false,
+        dropped: 0,
         counts: FeedCounts {
             records: 6,
             admitted: 0,
@@ -106,6 +120,8 @@ const SAID: [Said; 11] = [
     },
     Said {
         packing: None,
+        lose_entries: false,
+        dropped: 0,
         counts: FeedCounts {
             records: 100,
             admitted: 1,
@@ -117,6 +133,21 @@ const SAID: [Said; 11] = [
     },
     Said {
         packing: None,
+        lose_entries: false,
+        dropped: 0,
+        counts: FeedCounts {
+            records: 100,
+            admitted: 98,
+            late: 0,
+            refused: 2,
+            skipped: 0,
+        },
+        text: "rha: a.mrt: 2 of 100 records were refused, as the X lines say; if it is a table with entries that have no next hop, as BIRD writes them, --lose-entries loads the others of their records\n",
+    },
+    Said {
+        packing: None,
+        lose_entries: true,
+        dropped: 0,
         counts: FeedCounts {
             records: 100,
             admitted: 98,
@@ -128,6 +159,8 @@ const SAID: [Said; 11] = [
     },
     Said {
         packing: None,
+        lose_entries: false,
+        dropped: 0,
         counts: FeedCounts {
             records: 51,
             admitted: 0,
@@ -139,6 +172,21 @@ const SAID: [Said; 11] = [
     },
     Said {
         packing: None,
+        lose_entries: false,
+        dropped: 1,
+        counts: FeedCounts {
+            records: 51,
+            admitted: 0,
+            late: 0,
+            refused: 0,
+            skipped: 50,
+        },
+        text: "",
+    },
+    Said {
+        packing: None,
+        lose_entries: false,
+        dropped: 0,
         counts: FeedCounts {
             records: 51,
             admitted: 1,
@@ -150,6 +198,8 @@ const SAID: [Said; 11] = [
     },
     Said {
         packing: None,
+        lose_entries: false,
+        dropped: 0,
         counts: FeedCounts {
             records: 8,
             admitted: 0,
@@ -157,22 +207,37 @@ const SAID: [Said; 11] = [
             refused: 7,
             skipped: 0,
         },
-        text: "rha: a.mrt: 1 of 8 records are late, and none is kept: they are older than the collector's mark 2024-01-01T00:15:00Z (1704068100)\nrha: a.mrt: 7 of 8 records were refused, as the X lines say\n",
+        text: "rha: a.mrt: 1 of 8 records are late, and none is kept: they are older than the collector's mark 2024-01-01T00:15:00Z (1704068100)\nrha: a.mrt: 7 of 8 records were refused, as the X lines say; if it is a table with entries that have no next hop, as BIRD writes them, --lose-entries loads the others of their records\n",
     },
 ];
+
+/// The load of a file after the mark 1704068100, of whose admissions so many were dropped.
+fn loaded(packing: Option<Packing>, lose_entries: bool, dropped: u64) -> Loaded<'static> {
+    Loaded {
+        file: "a.mrt",
+        packing,
+        collector: 0,
+        lose_entries,
+        mark: None,
+        report: LoadReport {
+            is_begun: true,
+            before: Mark::new(1_704_068_100),
+            counts: None,
+            left_out: 0,
+            dropped,
+            present: None,
+            is_held: false,
+            refusal: None,
+        },
+        sizes: None,
+    }
+}
 
 /// Whether this is said of a file.
 fn is_said(alloc: Global, said: &Said) -> bool {
     let mut text: Vec<u8> = Vec::new(alloc);
-    let mark = Mark::new(1_704_068_100);
-    advise_file(
-        alloc,
-        "a.mrt",
-        said.packing,
-        &said.counts,
-        mark,
-        &mut Output::new(&mut text),
-    );
+    let loaded = loaded(said.packing, said.lose_entries, said.dropped);
+    advise_file(alloc, &loaded, &said.counts, &mut Output::new(&mut text));
     text.as_slice() == said.text.as_bytes()
 }
 

@@ -1,11 +1,11 @@
 //! An archive on whose disks some octets are others.
 
-use crate::disks::{JOURNAL, PAGE};
+use crate::disks::{JOURNAL, MemArchive, PAGE};
 use crate::gathered::octets_of;
 use disk_archive::Archive;
+use disk_calls::NoReasons;
 use disk_memory::{Burn, MemErase, MemOnce, MemPen};
 use disk_models::{Block, EraseDisk, OnceDisk};
-use memory_archive::MemArchive;
 use once_store::seal;
 use std::alloc::Global;
 use std::sync::Arc;
@@ -106,7 +106,7 @@ fn burn(disk: &MemOnce, pen: &mut MemPen, number: u64, block: &Block) -> Option<
 /// The archive on these disks.
 fn opened(alloc: Global, erase: MemErase, once: MemOnce, pen: MemPen) -> Option<MemArchive> {
     match Archive::open(alloc, erase, Arc::new(alloc, once).ok()?, pen) {
-        Ok(archive) => Some(MemArchive { archive }),
+        Ok(archive) => Some(MemArchive::new(archive, NoReasons)),
         Err(_) => None,
     }
 }
@@ -114,8 +114,7 @@ fn opened(alloc: Global, erase: MemErase, once: MemOnce, pen: MemPen) -> Option<
 /// The same archive, opened again on disks on which the octets that a text says are others.
 pub(crate) fn damaged(alloc: Global, archive: MemArchive, text: &str) -> Option<MemArchive> {
     let damage = Damage::read(alloc, text)?;
-    let MemArchive { archive } = archive;
-    let (mut erase, once, from) = archive.into_disks();
+    let (mut erase, once, from) = archive.into_archive().into_disks();
     let (disk, mut pen) = MemOnce::new(alloc, once.blocks());
     if damage.place == Place::Page {
         damage.change_page(&mut erase)?;

@@ -2,8 +2,8 @@
 
 use archive_pages::Settings;
 use disk_archive::Archive;
+use disk_calls::{DiskArchive, NoReasons};
 use disk_memory::{MemErase, MemOnce};
-use memory_archive::MemArchive;
 use std::alloc::Global;
 use std::sync::Arc;
 
@@ -15,6 +15,9 @@ pub(crate) const JOURNAL: u64 = 265;
 
 // The most home pages of an archive here.
 const MOST_PAGES: u64 = 65_536;
+
+/// An archive on disks in memory, as commands use it.
+pub(crate) type MemArchive = DiskArchive<MemErase, MemOnce>;
 
 /// How an archive is created, as `rha create` has it.
 #[derive(Clone, Copy)]
@@ -38,17 +41,16 @@ pub(crate) fn created(alloc: Global, made: &Made) -> Option<MemArchive> {
     let (once, pen) = MemOnce::new(alloc, made.blocks);
     let once = Arc::new(alloc, once).ok()?;
     match Archive::create(alloc, erase, once, pen, settings) {
-        Ok(archive) => Some(MemArchive { archive }),
+        Ok(archive) => Some(MemArchive::new(archive, NoReasons)),
         Err(_) => None,
     }
 }
 
 /// The same archive: its disks are given up, and opened again.
 pub(crate) fn reopened(alloc: Global, archive: MemArchive) -> Option<MemArchive> {
-    let MemArchive { archive } = archive;
-    let (erase, once, pen) = archive.into_disks();
+    let (erase, once, pen) = archive.into_archive().into_disks();
     match Archive::open(alloc, erase, once, pen) {
-        Ok(archive) => Some(MemArchive { archive }),
+        Ok(archive) => Some(MemArchive::new(archive, NoReasons)),
         Err(_) => None,
     }
 }

@@ -1,7 +1,7 @@
 //! Scripts that are played: each command line of the program over an archive on disks in memory that is opened anew for it.
 
 use crate::damaged::damaged;
-use crate::disks::{created, reopened};
+use crate::disks::{MemArchive, created, reopened};
 use crate::files::file_of;
 use crate::gathered::Gathered;
 use crate::scripts::Script;
@@ -15,7 +15,6 @@ use crate::scripts::table_dumps::TABLES;
 use crate::scripts::updates::UPDATES;
 use crate::scripts::whole::WHOLE_TABLES;
 use crate::{be, be_at};
-use memory_archive::MemArchive;
 use service::{
     Comparing, Dumping, FileLoad, Invocation, Listing, Loading, Output, Question, check_archive,
     command, load_files,
@@ -344,7 +343,7 @@ fn loads_of_several_files_are_played(rt: HostRuntime) {
     let count = play_all(&rt, rt.alloc(), &SEVERAL, WHOLE);
     be(
         &rt,
-        count.scripts == 9 && count.commands == 16,
+        count.scripts == 10 && count.commands == 18,
         "several files",
     );
 }

@@ -101,9 +101,9 @@ read to its end: what the collector gives later isn't of earlier moments. After 
 second after T. A mark can't be set back. A FILE may be a pipe; - is standard input.
 Each FILE is a feed of its own, with its own lines. One that can't be read or ends inside a record ends the load, as
 other refusals do: no mark is set, and standard error shows which FILEs were not read.
-With --strict the load ends so, too, at a FILE without a record, one whose records came late and none is kept, or one
-of which more than one record in a hundred is refused; and a mark isn't set that is more than a day after the
-collector's last record. Without it standard error warns of these.
+With --strict the load ends so, too, at a FILE without a record, one whose records came late or were skipped and none
+is kept, or one of which more than one record in a hundred is refused; and a mark isn't set that is more than a day
+after the collector's last record. Without it standard error warns of these.
 With --resume, the FILEs are all that the collector ever gave, from its beginning, in this order: as many of their
 first records as were offered before are left out, so a load that was broken off goes on.
 With --lose-entries, an entry of a table dump that has no next hop is left out, and the others of its record are
@@ -249,9 +249,10 @@ Options:
       --json            Prints one object of JSON, for programs
   -h, --help            Print help
 
-Prints lines for a person: the settled watermark, the time of the last change that is applied, how many pages and
-blocks are used of how many, how many slots of the journal were open before this command, and of each collector
-its mark, its records and how much of its ring is used. With --json, the same as one object in one line.
+Prints lines for a person: the settled watermark, how many changes are applied and the times of the first and the
+last one, how many pages and blocks are used of how many, how many slots of the journal were open before this
+command, and of each collector its mark, its records and how much of its ring is used. With --json, the same as one
+object in one line.
 
 Example:
   rha info a

@@ -39,7 +39,7 @@ pub record IsDone (how : LoadSettings) (most dropped left : ℕ) (h : History) (
   pub ended : IsFileEnd how most dropped left h bytes lost_was lost statuses.Done report (λ g. g ≡ next) was now err_was err_was
 
 done_with : (held : Bool) (plain status : Status) (how : LoadSettings) (most dropped left : ℕ) (h : History) (bytes : List ℕ) (sums : Sums) (lost_was lost : Bool) (report : LoadReport) (archive : Carried) (was now err_was err_now : OutputState)
-    → status ≡ statuses.Done → status ≡ refused_if held plain → report.is_held ≡ held → left ≡ sums.left → IsReported how sums report
+    → status ≡ statuses.Done → status ≡ refused_if held plain → report.is_held ≡ held → left ≡ sums.left → IsReported how dropped sums report
     → IsLoadEnd how.feed.rule how.feed.collector dropped (limits_for how.feed most) (mark_unless held how.mark) h bytes sums lost_was lost plain archive was now err_was err_now
     → IsDone how most dropped left h bytes lost_was lost report archive was now err_was err_now
 unfolding only

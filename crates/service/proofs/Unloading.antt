@@ -221,23 +221,23 @@ reader_lost lost mid sound (inr other) = absurd cc
 same_stop : (why : FeedStop) → ◌≡◌ {A = End} (ends.Refused why) (ends.Refused reasons.Outside) → why ≡ reasons.Outside
 same_stop why e = cc
 
-by_mark : (strict held : Bool) (mark : Option ℕ) (rule : WithoutHop) (c dropped : ℕ) (limit : BatchLimits) (h : History) (bytes : List ℕ) (cut : Option FeedCut) (sums : Sums) (fed : Carried) (was mid : OutputState)
+by_mark : (strict held : Bool) (mark : Option ℕ) (less : ℕ) (rule : WithoutHop) (c dropped : ℕ) (limit : BatchLimits) (h : History) (bytes : List ℕ) (cut : Option FeedCut) (sums : Sums) (fed : Carried) (was mid : OutputState)
     → IsFed rule c dropped limit h bytes cut sums fed was mid
-    → ((g : History) → fed g → IsTrue held ↔ IsHeld strict mark sums.counts (intake_in g.intakes c).mark) → IsTrue held ↔ IsHeld strict mark sums.counts sums.mark
-by_mark strict held mark rule c dropped limit h bytes cut sums fed was mid f holds =
+    → ((g : History) → fed g → IsTrue held ↔ IsHeld strict mark sums.counts less (intake_in g.intakes c).mark) → IsTrue held ↔ IsHeld strict mark sums.counts less sums.mark
+by_mark strict held mark less rule c dropped limit h bytes cut sums fed was mid f holds =
     let w = f.carried in
-    subst (λ (n : ℕ). IsTrue held ↔ IsHeld strict mark sums.counts n) (ap (λ (is : List Intake). (intake_in is c).mark) w.are ∙ sym f.summed.marks) (holds w.now w.carried)
+    subst (λ (n : ℕ). IsTrue held ↔ IsHeld strict mark sums.counts less n) (ap (λ (is : List Intake). (intake_in is c).mark) w.are ∙ sym f.summed.marks) (holds w.now w.carried)
 
--- whether a load is held back is weighed by the counts of its feed and by the collector's mark after it
-pub weighed : (end : End) (strict held : Bool) (mark : Option ℕ) (rule : WithoutHop) (c dropped : ℕ) (limit : BatchLimits) (h : History) (bytes : List ℕ) (sums : Sums) (fed : Carried) (was mid : OutputState)
+-- whether a load is held back is weighed by the counts of its feed, by how many admissions were dropped, and by the collector's mark after it
+pub weighed : (end : End) (strict held : Bool) (mark : Option ℕ) (less : ℕ) (rule : WithoutHop) (c dropped : ℕ) (limit : BatchLimits) (h : History) (bytes : List ℕ) (sums : Sums) (fed : Carried) (was mid : OutputState)
     → IsEnd rule c dropped limit h bytes end sums fed was mid
-    → ((g : History) → fed g → IsTrue held ↔ IsHeld strict mark sums.counts (intake_in g.intakes c).mark) → IsTrue held ↔ IsHeld strict mark sums.counts sums.mark
-weighed ends.Well strict held mark rule c dropped limit h bytes sums fed was mid f holds = by_mark strict held mark rule c dropped limit h bytes None sums fed was mid f holds
-weighed ends.Cut strict held mark rule c dropped limit h bytes sums fed was mid f holds = by_mark strict held mark rule c dropped limit h bytes (Some f.0) sums fed was mid f.1 holds
-weighed (ends.Refused why) strict held mark rule c dropped limit h bytes sums fed was mid g holds =
+    → ((g : History) → fed g → IsTrue held ↔ IsHeld strict mark sums.counts less (intake_in g.intakes c).mark) → IsTrue held ↔ IsHeld strict mark sums.counts less sums.mark
+weighed ends.Well strict held mark less rule c dropped limit h bytes sums fed was mid f holds = by_mark strict held mark less rule c dropped limit h bytes None sums fed was mid f holds
+weighed ends.Cut strict held mark less rule c dropped limit h bytes sums fed was mid f holds = by_mark strict held mark less rule c dropped limit h bytes (Some f.0) sums fed was mid f.1 holds
+weighed (ends.Refused why) strict held mark less rule c dropped limit h bytes sums fed was mid g holds =
     let w = g.carried in
-    subst (λ (t : Option FeedCounts). IsTrue held ↔ IsHeld strict mark t sums.mark) (sym g.uncounted)
-    (subst (λ (t : Option FeedCounts). IsTrue held ↔ IsHeld strict mark t (intake_in w.now.intakes c).mark) g.uncounted (holds w.now w.carried))
+    subst (λ (t : Option FeedCounts). IsTrue held ↔ IsHeld strict mark t less sums.mark) (sym g.uncounted)
+    (subst (λ (t : Option FeedCounts). IsTrue held ↔ IsHeld strict mark t less (intake_in w.now.intakes c).mark) g.uncounted (holds w.now w.carried))
 
 -- a load came to its end, and all was told
 whole_load : (end : End) (rule : WithoutHop) (c dropped : ℕ) (limit : BatchLimits) (mark : Option ℕ) (h : History) (bytes : List ℕ) (sums : Sums) (lost_was lost : Bool) (fed archive : Carried) (was mid now err_was : OutputState)

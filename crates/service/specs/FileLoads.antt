@@ -1,5 +1,5 @@
 -- What an archive carries once files are loaded, one after another.
-use Rattle.std.specs.Prelude.{◌≡◌, ◌⊎◌, ◌↔◌, ℕ, Bool, true, false, IsTrue, List, [], ◌∷◌, ◌++◌, Option, None}
+use Rattle.std.specs.Prelude.{◌≡◌, ◌⊎◌, ◌↔◌, ◌-◌, ℕ, Bool, true, false, IsTrue, List, [], ◌∷◌, ◌++◌, Option, None}
 use Rattle.route_meaning.specs.History.{History}
 use Rattle.service.specs.Carried.{Carried}
 use Rattle.service.specs.Doubts.{IsHeld}
@@ -35,19 +35,21 @@ abbrev pub with_mark_at : List FileState → LoadSettings → LoadSettings
 with_mark_at [] how = how
 with_mark_at (file ∷ later) how = record how { mark = None }
 
--- The report of a load whose feed has these sums: what became of its records, how many of their entries were left out, and that the load is held back exactly where it has to be.
-pub record IsReported (how : LoadSettings) (sums : Sums) (report : LoadReport) : Type 0 where
+-- The report of a load whose feed has these sums, where `dropped` admissions were to be dropped before it: what became of its records, how many of their entries were left out, how many
+-- admissions were dropped, and that the load is held back exactly where it has to be.
+pub record IsReported (how : LoadSettings) (dropped : ℕ) (sums : Sums) (report : LoadReport) : Type 0 where
   pub begun : report.is_begun ≡ true
   pub counts : report.counts ≡ sums.counts
   pub left_out : report.left_out ≡ sums.left_out
-  pub held : IsTrue report.is_held ↔ IsHeld how.strict how.mark sums.counts sums.mark
+  pub drops : report.dropped ≡ dropped - sums.left
+  pub held : IsTrue report.is_held ↔ IsHeld how.strict how.mark sums.counts report.dropped sums.mark
 
 -- How the load of a file of these octets ended, `dropped` of whose first admissions are dropped: as one that isn't strict; but where it is held back, no mark
 -- was set, and it is refused. `left` admissions are dropped of the next file.
 pub record IsFileEnd (how : LoadSettings) (most dropped left : ℕ) (h : History) (bytes : List ℕ) (lost_was lost : Bool) (status : Status) (report : LoadReport) (archive : Carried) (was now err_was err_now : OutputState) : Type 0 where
   pub sums : Sums
   pub drops : left ≡ sums.left
-  pub reported : IsReported how sums report
+  pub reported : IsReported how dropped sums report
   pub plain : Status
   pub status_is : status ≡ refused_if report.is_held plain
   pub ended : IsLoadEnd how.feed.rule how.feed.collector dropped (limits_for how.feed most) (mark_unless report.is_held how.mark) h bytes sums lost_was lost plain archive was now err_was err_now

@@ -1,7 +1,7 @@
 //! What a feed's counts, and a mark, let a person doubt.
 
 ghost use Rattle.std.specs.Prelude.{◌≡◌, ◌<◌, ◌*◌, ◌↔◌, ℕ, Option, IsTrue, option_map};
-ghost use Rattle.service.specs.Doubts.{IsFar, IsHeld};
+ghost use Rattle.service.specs.Doubts.{IsDoubtful, IsFar, IsHeld, IsSkipped};
 
 use crate::feed_lines::FeedCounts;
 use route_model::Mark;
@@ -18,20 +18,39 @@ pub struct FeedDoubt {
     pub is_late: bool,
     /// More than one record in a hundred was refused.
     pub is_refused: bool,
+    /// Records were skipped, and nothing of the feed is kept.
+    pub is_skipped: bool,
 }
 
-/// What these counts let a person doubt.
-pub fn doubts_of(counts: &FeedCounts) -> FeedDoubt
+/// Whether records of a feed were skipped and nothing of it is kept, of whose admissions so many were dropped since they were kept before.
+fn is_skipped(counts: &FeedCounts, dropped: u64) -> bool
+    ensures skipped { IsTrue result ↔ IsSkipped counts.now dropped }
+{
+    counts.skipped > 0 && counts.admitted == 0 && dropped == 0
+}
+
+/// What these counts let a person doubt of a feed, of whose admissions so many were dropped.
+pub fn doubts_of(counts: &FeedCounts, dropped: u64) -> FeedDoubt
     ensures empty { IsTrue result.is_empty ↔ (counts.now.records ≡ 0) }
     ensures late { IsTrue result.is_late ↔ ((0 < counts.now.late) × (counts.now.admitted ≡ 0)) }
     ensures refused { IsTrue result.is_refused ↔ (counts.now.records < 100 * counts.now.refused) }
+    ensures skipped { IsTrue result.is_skipped ↔ IsSkipped counts.now dropped }
 {
     let hundredfold = 100 * u128::from(counts.refused);
     FeedDoubt {
         is_empty: counts.records == 0,
         is_late: counts.late > 0 && counts.admitted == 0,
         is_refused: hundredfold > u128::from(counts.records),
+        is_skipped: is_skipped(counts, dropped),
     }
+}
+
+/// Whether a feed of these counts, of whose admissions so many were dropped, is in doubt.
+fn is_doubtful(counts: &FeedCounts, dropped: u64) -> bool
+    ensures doubtful { IsTrue result ↔ IsDoubtful counts.now dropped }
+{
+    let doubts = doubts_of(counts, dropped);
+    doubts.is_empty || doubts.is_late || doubts.is_refused || doubts.is_skipped
 }
 
 /// Whether the mark lies more than a day after this one, in seconds.
@@ -44,19 +63,19 @@ pub fn is_far(mark: Option<Mark>, present: u64) -> bool
     }
 }
 
-/// Whether a load is held back: it is strict, and its feed, which came to its end with these counts, is in doubt, or its mark is, which is
-/// set where the collector's is at `present` seconds.
+/// Whether a load is held back: it is strict, and its feed, which came to its end with these counts and of whose admissions so many were
+/// dropped, is in doubt, or its mark is, which is set where the collector's is at `present` seconds.
 pub(crate) fn is_held(
     is_strict: bool,
     mark: Option<Mark>,
     counts: &Option<FeedCounts>,
+    dropped: u64,
     present: u64,
 ) -> bool
-    ensures held { IsTrue result ↔ IsHeld is_strict mark counts.now present }
+    ensures held { IsTrue result ↔ IsHeld is_strict mark counts.now dropped present }
 {
     let Some(counts) = counts else {
         return false;
     };
-    let doubts = doubts_of(counts);
-    is_strict && (doubts.is_empty || doubts.is_late || doubts.is_refused || is_far(mark, present))
+    is_strict && (is_doubtful(counts, dropped) || is_far(mark, present))
 }

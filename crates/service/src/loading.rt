@@ -173,6 +173,7 @@ fn load_one<A: RouteArchive, R: Read, W: Write, E: Write>(
         return told(alloc, Status::Refused, out, err);
     }
     report.before = archive.resume(collector).map(|it| it.mark);
+    let to_drop = *dropping;
     let end = feed(
         alloc,
         archive,
@@ -184,9 +185,11 @@ fn load_one<A: RouteArchive, R: Read, W: Write, E: Write>(
         &mut report.left_out,
     );
     report.refusal = refusal_of(end);
+    let dropped = to_drop.saturating_sub(*dropping);
+    report.dropped = dropped;
     let present = present_mark(archive, collector);
     report.present = present_after(end, present);
-    let held = is_held(how.strict, how.mark, &report.counts, present);
+    let held = is_held(how.strict, how.mark, &report.counts, dropped, present);
     report.is_held = held;
     let mark = mark_unless(held, how.mark);
     match settle(archive, collector, mark_after(end, mark)) {

@@ -19,6 +19,8 @@ pub struct LoadReport {
     pub counts: Option<FeedCounts>,
     /// How many entries of its RIB records were left out, where the feed wrote its counts.
     pub left_out: u64,
+    /// How many admissions of the file were dropped, since they were offered before.
+    pub dropped: u64,
     /// The collector's mark after the feed, in seconds, from which `--mark` would raise it; where the feed ended well.
     pub present: Option<u64>,
     /// Whether the load was held back: it is strict, and the feed or the mark is in doubt.
@@ -33,6 +35,7 @@ impl LoadReport {
         ensures begun { result.is_begun ≡ is_begun }
         ensures counts { result.counts ≡ None }
         ensures left_out { result.left_out ≡ 0 }
+        ensures dropped { result.dropped ≡ 0 }
         ensures held { result.is_held ≡ false }
     {
         LoadReport {
@@ -40,6 +43,7 @@ impl LoadReport {
             before: None,
             counts: None,
             left_out: 0,
+            dropped: 0,
             present: None,
             is_held: false,
             refusal: None,

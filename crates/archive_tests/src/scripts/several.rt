@@ -2,7 +2,7 @@
 
 use crate::scripts::{PLAIN, Script};
 
-pub(crate) const SEVERAL: [Script; 9] = [
+pub(crate) const SEVERAL: [Script; 10] = [
     Script {
         name: "files are loaded in their order, and the mark is set after the last",
         made: PLAIN,
@@ -125,6 +125,24 @@ $ rha load a --collector 0 --strict --mark 1704067201 99*update+prefix-of-33-bit
 X|15|Malformed|99
 B|1|100|100
 F|100|99|0|1|0
+S|1704067201
+",
+    },
+    Script {
+        name: "a strict load ends at a file of which all is skipped, unless it was kept before",
+        made: PLAIN,
+        shown: "$ rha load a --collector 0 --strict --mark 1704067201 update+skipped peer-table+skipped empty
+B|0|1|1
+F|2|1|0|0|1
+S|1704067200
+F|2|0|0|0|1
+S|1704067200
+status 1
+$ rha load a --collector 0 --strict --resume --mark 1704067201 update+skipped empty
+F|2|0|0|0|1
+S|1704067200
+B|1|2|2
+F|1|1|0|0|0
 S|1704067201
 ",
     },

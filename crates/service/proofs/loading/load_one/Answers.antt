@@ -34,7 +34,8 @@ returns-then-collector-collectors g c = record {
             begun = c.new.ensures.begun;
             counts = c.new.ensures.counts;
             left_out = c.new.ensures.left_out;
-            held = subst (λ (b : Bool). IsTrue b ↔ IsHeld how.strict how.mark None 0) (sym c.new.ensures.held) (λ e. absurd cc, λ e. absurd e);
+            drops = let none = c.new.ensures.dropped in omega (arith, none);
+            held = subst (λ (b : Bool). IsTrue b ↔ IsHeld how.strict how.mark None 0 0) (sym c.new.ensures.held) (λ e. absurd cc, λ e. absurd e);
           };
           plain = c.told.result;
           status_is = ap (λ (b : Bool). refused_if b c.told.result) (sym c.new.ensures.held);
@@ -58,6 +59,7 @@ returns-in-Ok g c = record {
       let here : IsCollector h k = omega (arith, count, some) in
       let fed = c.feed-end.ensures.ended h carried in
       let held = c.is_held-held.result in
+      let less = c.saturating_sub-dropped.result in
       let sums : Sums = record { counts = c.feed-end.new.counts; left_out = c.feed-end.new.left_out; left = c.feed-end.new.dropping; mark = fed.4 } in (
         fed.0,
         fed.1,
@@ -68,8 +70,9 @@ returns-in-Ok g c = record {
             begun = c.new.ensures.begun;
             counts = refl;
             left_out = refl;
-            held = weighed fed.2 how.strict held how.mark how.feed.rule k c.args.dropping.now limit h fed.0 sums (g.A.RouteArchive.carries c.feed-end.new.archive) c.args.out.now c.feed-end.new.out fed.5
-                (λ past stands. subst (λ (n : ℕ). IsTrue held ↔ IsHeld how.strict how.mark c.feed-end.new.counts n) (c.present_mark-present.ensures.present past stands) c.is_held-held.ensures.held);
+            drops = c.saturating_sub-dropped.ensures;
+            held = weighed fed.2 how.strict held how.mark less how.feed.rule k c.args.dropping.now limit h fed.0 sums (g.A.RouteArchive.carries c.feed-end.new.archive) c.args.out.now c.feed-end.new.out fed.5
+                (λ past stands. subst (λ (n : ℕ). IsTrue held ↔ IsHeld how.strict how.mark c.feed-end.new.counts less n) (c.present_mark-present.ensures.present past stands) c.is_held-held.ensures.held);
           };
           plain = c.told-in-Ok.result;
           status_is = c.refused_if.ensures.status;
@@ -98,6 +101,7 @@ returns-in-Err g c = record {
       let here : IsCollector h k = omega (arith, count, some) in
       let fed = c.feed-end.ensures.ended h carried in
       let held = c.is_held-held.result in
+      let less = c.saturating_sub-dropped.result in
       let sums : Sums = record { counts = c.feed-end.new.counts; left_out = c.feed-end.new.left_out; left = c.feed-end.new.dropping; mark = fed.4 } in (
         fed.0,
         fed.1,
@@ -108,8 +112,9 @@ returns-in-Err g c = record {
             begun = c.new.ensures.begun;
             counts = refl;
             left_out = refl;
-            held = weighed fed.2 how.strict held how.mark rule k c.args.dropping.now limit h fed.0 sums (g.A.RouteArchive.carries c.feed-end.new.archive) c.args.out.now c.feed-end.new.out fed.5
-                (λ past stands. subst (λ (n : ℕ). IsTrue held ↔ IsHeld how.strict how.mark c.feed-end.new.counts n) (c.present_mark-present.ensures.present past stands) c.is_held-held.ensures.held);
+            drops = c.saturating_sub-dropped.ensures;
+            held = weighed fed.2 how.strict held how.mark less rule k c.args.dropping.now limit h fed.0 sums (g.A.RouteArchive.carries c.feed-end.new.archive) c.args.out.now c.feed-end.new.out fed.5
+                (λ past stands. subst (λ (n : ℕ). IsTrue held ↔ IsHeld how.strict how.mark c.feed-end.new.counts less n) (c.present_mark-present.ensures.present past stands) c.is_held-held.ensures.held);
           };
           plain = c.told-in-Err.result;
           status_is = c.refused_if-in-Err.ensures.status;
