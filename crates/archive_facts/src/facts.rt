@@ -1,10 +1,11 @@
 //! How far an archive has come, and how much room it has left.
 
-ghost use Rattle.std.specs.Prelude.{◌≡◌, IfOk, length};
+ghost use Rattle.std.specs.Prelude.{◌≡◌, IfOk};
+ghost use Rattle.archive_facts.specs.Facts.{AreFacts, shown_at, shown_from};
 
 use crate::identity::Sizes;
 use crate::slots::{PAGE, SLOTS};
-use archive_head::Head;
+use archive_head::{Head, Lane as HeadLane};
 use route_model::Mark;
 use serde::Serialize;
 use std::alloc::{AllocError, Global};
@@ -19,7 +20,7 @@ pub struct Use {
 /// What is known of a collector.
 #[derive(Clone, Copy, Debug, PartialEq, Eq, Serialize)]
 pub struct Lane {
-    pub collector: u8,
+    pub collector: u64,
     pub mark: u64,
     pub offered: u64,
     pub admitted: u64,
@@ -43,6 +44,33 @@ pub struct Facts {
     pub collectors: Vec<Lane>,
 }
 
+/// What is shown of the collector of this number, whose ring has so many octets.
+fn lane_of(collector: u64, ring: u64, kept: &HeadLane) -> Lane
+    ensures lane { result ≡ shown_at ring collector kept.now }
+{
+    Lane {
+        collector,
+        mark: kept.mark.seconds(),
+        offered: kept.offered,
+        admitted: kept.admitted,
+        ring: Use {
+            used: kept.used,
+            of: ring,
+        },
+    }
+}
+
+/// What is shown of all collectors, whose rings have so many octets each.
+fn lanes_of(alloc: Global, ring: u64, lanes: &[HeadLane]) -> Result<Vec<Lane>, AllocError>
+    ensures lanes { IfOk result (λ shown. shown.items ≡ shown_from ring 0 lanes.now) }
+{
+    let mut shown = Vec::with_capacity(alloc, lanes.len())?;
+    for (place, kept) in lanes.iter().enumerate() {
+        shown.push(lane_of(place as u64, ring, kept))?;
+    }
+    Ok(shown)
+}
+
 impl Facts {
     /// The facts as one line of JSON. Memory alone refuses it.
     pub fn json(&self, alloc: Global) -> Option<String> {
@@ -51,7 +79,8 @@ impl Facts {
         Some(text)
     }
 
-    /// What the head of an archive of these sizes says, what is settled, and the time of the first change, if there is one.
+    /// The facts about an archive of these sizes with this head; what is settled, the time of the first change, if there is one, and how
+    /// many slots were open are as given. Memory alone refuses them.
     pub fn of(
         alloc: Global,
         version: &'static str,
@@ -59,30 +88,12 @@ impl Facts {
         head: &Head,
         settled: Mark,
         first: Option<u64>,
-        open: u64,
+        opened: u64,
     ) -> Result<Facts, AllocError>
-        ensures settled { IfOk result (λ facts. facts.settled ≡ settled) }
-        ensures first { IfOk result (λ facts. facts.first ≡ first) }
-        ensures changes { IfOk result (λ facts. facts.changes ≡ head.now.applied) }
-        ensures pages { IfOk result (λ facts. facts.pages ≡ record { used = head.now.fresh; of = sizes.pages }) }
-        ensures blocks { IfOk result (λ facts. facts.blocks ≡ record { used = head.now.block; of = sizes.blocks }) }
+        ensures facts { IfOk result (λ facts. AreFacts version.now sizes head.now settled first opened facts) }
     {
         let ring = u64::from(sizes.ring) * PAGE;
-        let mut collectors = Vec::with_capacity(alloc, head.lanes.len())?;
-        let mut collector = 0;
-        for lane in &head.lanes {
-            collectors.push(Lane {
-                collector,
-                mark: lane.mark.seconds(),
-                offered: lane.offered,
-                admitted: lane.admitted,
-                ring: Use {
-                    used: lane.used,
-                    of: ring,
-                },
-            })?;
-            collector = collector.saturating_add(1);
-        }
+        let collectors = lanes_of(alloc, ring, &head.lanes)?;
         Ok(Facts {
             version,
             settled: settled.seconds(),
@@ -98,7 +109,7 @@ impl Facts {
                 of: sizes.blocks,
             },
             slots: Use {
-                used: open,
+                used: opened,
                 of: SLOTS,
             },
             collectors,
