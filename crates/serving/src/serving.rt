@@ -143,7 +143,13 @@ fn start_threads<
     desk: &'s Desk<'s, R, L>,
     shared: &'s Shared<A, N, G>,
     jobs: Vec<Job<'s, N>>,
-) -> Result<(), ServeError> {
+) -> Result<(), ServeError>
+where
+    A::Reader: Send,
+    A::Seen: Send,
+    A::Errand: Send,
+    A::Cursor: Send,
+{
     // A scope's `spawn` reports that a thread can't be made; `map_vec` would then run the jobs one after another.
     for job in jobs {
         if scope.spawn(move || run_job(desk, shared, job)).is_err() {
@@ -168,6 +174,11 @@ fn run_threads<
     workers: u8,
     ready: F,
 ) -> Result<(), ServeError>
+where
+    A::Reader: Send,
+    A::Seen: Send,
+    A::Errand: Send,
+    A::Cursor: Send,
     requires { F.IsAlwaysCallable ready }
 {
     let (sender, receiver) = bounded(desk.alloc, QUEUE)?;
@@ -206,6 +217,11 @@ fn serve_shared<
     workers: u8,
     ready: F,
 ) -> Result<(), ServeError>
+where
+    A::Reader: Send,
+    A::Seen: Send,
+    A::Errand: Send,
+    A::Cursor: Send,
     requires { F.IsAlwaysCallable ready }
 {
     let ran = run_threads(desk, shared, pass, workers, ready);
@@ -259,6 +275,11 @@ pub fn serve<
     log: &L,
     ready: F,
 ) -> (A, Result<(), ServeError>)
+where
+    A::Reader: Send,
+    A::Seen: Send,
+    A::Errand: Send,
+    A::Cursor: Send,
     requires named { name_of opened ≡ N.table }
     requires some { 1 ≤ opened.collectors }
     requires disk { IsSome N.disk → N.disk ≡ Some (A.disk_of archive) }

@@ -45,6 +45,11 @@ pub(crate) fn serve_behind<
     workers: u8,
     log: &L,
 ) -> Option<A>
+where
+    A::Reader: Send,
+    A::Seen: Send,
+    A::Errand: Send,
+    A::Cursor: Send,
     requires named { name_of opened ≡ B.table }
     requires some { 1 ≤ opened.collectors }
 {
@@ -101,6 +106,11 @@ pub(crate) fn serve_store<
     listener: &TcpListener,
     log: &L,
 ) -> Option<A>
+where
+    A::Reader: Send,
+    A::Seen: Send,
+    A::Errand: Send,
+    A::Cursor: Send,
     requires named { name_of opened ≡ B.table }
     requires some { 1 ≤ opened.collectors }
 {

@@ -1,6 +1,6 @@
 //! Targets, answered by a shared archive.
 
-ghost use Rattle.std.specs.Prelude.{◌≡◌, IsSome};
+ghost use Rattle.std.specs.Prelude.{◌≡◌, IsSome, codes};
 ghost use Rattle.board.specs.Past.{Among};
 ghost use Rattle.query_threads.specs.Seeing.{Since};
 
@@ -8,7 +8,7 @@ use crate::answers::{Answer, Form};
 use crate::rendering::body_of;
 use crate::replying::reply_to_line;
 use crate::standing::standing_of;
-use crate::target::{Asked, Question, asked_by};
+use crate::target::{Asked, Question, asked_by, is_page};
 use board::{Named, Pass};
 use query_threads::{Gate, OnDisk, Reader, Shared, Store};
 use service::Refusal;
@@ -17,9 +17,9 @@ use std::sync::Wait;
 use std::sync::atomic::{AtomicU64, Ordering};
 
 /// The answer with a body, if there was memory for that.
-fn answer_with(form: Form, lasts: bool, body: Option<String>) -> Answer {
+fn answer_with(form: Form, body: Option<String>) -> Answer {
     match body {
-        Some(text) => Answer::of(form, lasts, text),
+        Some(text) => Answer::of(form, text),
         None => Answer::out_of_memory(),
     }
 }
@@ -33,7 +33,7 @@ fn answer_info<A: Store, N: Named + OnDisk<A::Disk>, G: Gate + Drop>(
     ensures same { pass.new ≡ pass.old }
 {
     match standing_of(alloc, shared, pass) {
-        Ok(standing) => answer_with(Form::Json, false, standing.json(alloc)),
+        Ok(standing) => answer_with(Form::Json, standing.json(alloc)),
         Err(AllocError) => Answer::out_of_memory(),
     }
 }
@@ -49,11 +49,7 @@ fn answer_metrics<A: Store, N: Named + OnDisk<A::Disk>, G: Gate + Drop>(
 {
     let questions = numbers.load(Ordering::SeqCst);
     match standing_of(alloc, shared, pass) {
-        Ok(standing) => answer_with(
-            Form::Metrics,
-            false,
-            standing.metrics(alloc, questions).ok(),
-        ),
+        Ok(standing) => answer_with(Form::Metrics, standing.metrics(alloc, questions).ok()),
         Err(AllocError) => Answer::out_of_memory(),
     }
 }
@@ -75,15 +71,15 @@ fn answer_question<A: Store, N: Named + OnDisk<A::Disk>, G: Gate + Drop>(
     let line = question.line.as_str();
     match reply_to_line(rt, alloc, shared, pass, reader, numbers, line) {
         Ok(reply) => {
-            let body = body_of(alloc, &reply, question.first.as_str());
-            answer_with(Form::Json, true, body.ok())
+            let body = body_of(alloc, &reply, question);
+            answer_with(Form::Json, body.ok())
         }
         Err(why) => Answer::to_refusal(alloc, &Refusal::from(why)),
     }
 }
 
-/// What a target is answered: a path, and after a question mark the parameters of its question.
-pub fn answer_target<A: Store, N: Named + OnDisk<A::Disk>, G: Gate + Drop>(
+/// What a target is answered that isn't the page's.
+fn answer_asked<A: Store, N: Named + OnDisk<A::Disk>, G: Gate + Drop>(
     rt: &impl Wait,
     alloc: Global,
     shared: &Shared<A, N, G>,
@@ -103,5 +99,29 @@ pub fn answer_target<A: Store, N: Named + OnDisk<A::Disk>, G: Gate + Drop>(
             answer_question(rt, alloc, shared, pass, reader, numbers, &question)
         }
         Err(fault) => Answer::to_fault(alloc, fault),
+    }
+}
+
+/// What a target is answered: a path, and after a question mark the parameters of its question. The one of / is answered by the page, and asks
+/// the archive nothing.
+pub fn answer_target<A: Store, N: Named + OnDisk<A::Disk>, G: Gate + Drop>(
+    rt: &impl Wait,
+    alloc: Global,
+    shared: &Shared<A, N, G>,
+    pass: &mut Pass<N>,
+    reader: &mut Reader<A, N>,
+    numbers: &AtomicU64,
+    target: &[u8],
+) -> Answer
+    requires reader { IsSome N.disk → Among reader.old pass.old.past.blocks }
+    ensures reader { IsSome N.disk → Among reader.new pass.new.past.blocks }
+    ensures since { Since pass.old pass.new }
+    ensures page { target.now ≡ codes "/" → result.form ≡ Form.Page }
+    ensures unasked { target.now ≡ codes "/" → pass.new ≡ pass.old }
+{
+    if is_page(target) {
+        Answer::page()
+    } else {
+        answer_asked(rt, alloc, shared, pass, reader, numbers, target)
     }
 }

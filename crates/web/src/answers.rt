@@ -1,6 +1,9 @@
 //! What a request is answered.
 
+ghost use Rattle.std.specs.Prelude.{◌≡◌};
+
 use crate::fault::Fault;
+use crate::page::page_text;
 use crate::refusals::{advice_on, block_of, page_of, settled_of, status_of};
 use crate::status::Status;
 use serde::Serialize;
@@ -13,12 +16,16 @@ pub enum Form {
     Json,
     /// Prometheus' text form 0.0.4.
     Metrics,
+    /// The page for people.
+    Page,
 }
 
 /// Where the text of a body is.
 #[derive(Debug, Drop)]
 enum Body {
     Text(String),
+    /// The page. It needs no memory.
+    Page,
     /// That memory was refused. It needs none.
     OutOfMemory,
 }
@@ -28,8 +35,6 @@ enum Body {
 pub struct Answer {
     pub status: Status,
     pub form: Form,
-    /// It will never be another one: it is an answer below the watermark.
-    pub lasts: bool,
     body: Body,
 }
 
@@ -90,12 +95,22 @@ fn refusal_body(refusal: &Refusal) -> ErrorBody {
 
 impl Answer {
     /// An answer with this body.
-    pub(crate) fn of(form: Form, lasts: bool, text: String) -> Answer {
+    pub(crate) fn of(form: Form, text: String) -> Answer {
         Answer {
             status: Status::Done,
             form,
-            lasts,
             body: Body::Text(text),
+        }
+    }
+
+    /// The page.
+    pub(crate) fn page() -> Answer
+        ensures page { result.form ≡ Form.Page }
+    {
+        Answer {
+            status: Status::Done,
+            form: Form::Page,
+            body: Body::Page,
         }
     }
 
@@ -104,7 +119,6 @@ impl Answer {
         Answer {
             status: Status::Unavailable,
             form: Form::Json,
-            lasts: false,
             body: Body::OutOfMemory,
         }
     }
@@ -115,7 +129,6 @@ impl Answer {
             Some(text) => Answer {
                 status,
                 form: Form::Json,
-                lasts: false,
                 body: Body::Text(text),
             },
             None => Answer::out_of_memory(),
@@ -142,6 +155,7 @@ impl Answer {
     pub fn body(&self) -> &str {
         match &self.body {
             Body::Text(text) => text.as_str(),
+            Body::Page => page_text(),
             Body::OutOfMemory => OUT_OF_MEMORY,
         }
     }

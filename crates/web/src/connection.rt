@@ -8,7 +8,7 @@ use crate::answering::answer_target;
 use crate::answers::Answer;
 use crate::buffer::Buffer;
 use crate::fault::Fault;
-use crate::head::head_of;
+use crate::head::{head_of, wants_body};
 use crate::writing::write_answer;
 use board::{Named, Pass};
 use query_threads::{Gate, OnDisk, Reader, Shared, Store};
@@ -45,9 +45,9 @@ enum Next {
 }
 
 /// Writes why a request isn't answered, which ends the connection: what comes after it may be no request.
-fn refuse<W: Write>(alloc: Global, out: &mut Output<W>, fault: Fault) {
+fn refuse<W: Write>(alloc: Global, out: &mut Output<W>, fault: Fault, has_body: bool) {
     let answer = Answer::to_fault(alloc, fault);
-    write_answer(out, &answer, true, true);
+    write_answer(out, &answer, has_body, true);
 }
 
 /// Answers the request at the front of the octets, once its head is whole. While others wait, the connection ends then.
@@ -66,17 +66,18 @@ fn answer_first<A: Store, N: Named + OnDisk<A::Disk>, G: Gate + Drop, W: Write, 
     ensures reader { IsSome N.disk → Among reader.new pass.new.past.blocks }
     ensures since { Since pass.old pass.new }
 {
+    let has_body = wants_body(octets);
     let head = match head_of(octets) {
         Ok(Some(head)) => head,
         Ok(None) => return Next::More,
         Err(fault) => {
-            refuse(alloc, out, fault);
+            refuse(alloc, out, fault, has_body);
             return Next::End;
         }
     };
     let given = answer_target(rt, alloc, shared, pass, reader, numbers, head.target);
     let ends = head.ends || others.wait();
-    write_answer(out, &given, head.wants_body, ends);
+    write_answer(out, &given, has_body, ends);
     if ends || out.has_failed() {
         Next::End
     } else {

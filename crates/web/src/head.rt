@@ -14,8 +14,6 @@ pub(crate) struct Head<'a> {
     pub(crate) target: &'a [u8],
     /// How many octets it has.
     pub(crate) len: usize,
-    /// The answer has a body, as one to GET.
-    pub(crate) wants_body: bool,
     /// The connection ends after the answer.
     pub(crate) ends: bool,
 }
@@ -30,6 +28,14 @@ struct Fields {
 /// The octets of a span. httparse's lie in the octets that it was given.
 fn part(octets: &[u8], span: Span) -> &[u8] {
     match octets.get(span.start..span.end) {
+        Some(its) => its,
+        None => &[],
+    }
+}
+
+/// The octets from a place on.
+fn part_after(octets: &[u8], place: usize) -> &[u8] {
+    match octets.get(place..) {
         Some(its) => its,
         None => &[],
     }
@@ -71,20 +77,30 @@ fn fields_of(octets: &[u8], spans: &[HeaderSpan], count: usize) -> Fields {
     fields
 }
 
+/// Whether the answer to the request at the front of the octets has a body: one to HEAD has none, also where its head is refused. Empty lines
+/// before a request are passed over.
+pub(crate) fn wants_body(octets: &[u8]) -> bool {
+    for (place, octet) in octets.iter().enumerate() {
+        if !matches!(*octet, b'\r' | b'\n') {
+            return !part_after(octets, place).starts_with(b"HEAD ");
+        }
+    }
+    true
+}
+
 /// The head at these spans, if its request may be answered.
 fn checked<'a>(octets: &'a [u8], spans: &RequestSpans, fields: Fields) -> Result<Head<'a>, Fault> {
-    let wants_body = match part(octets, spans.method) {
-        b"GET" => true,
-        b"HEAD" => false,
+    match part(octets, spans.method) {
+        b"GET" => {}
+        b"HEAD" => {}
         _ => return Err(Fault::OtherMethod),
-    };
+    }
     if fields.has_body {
         return Err(Fault::HasBody);
     }
     Ok(Head {
         target: part(octets, spans.path),
         len: spans.len,
-        wants_body,
         ends: fields.closes || spans.version == 0,
     })
 }

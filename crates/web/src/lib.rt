@@ -8,7 +8,8 @@
 //!
 //! A target is made into the request line that asks the same, and that line is read and replied to as any other, so
 //! there is one grammar of questions, and the theorems on replies hold here too (`reply_to_line`). A parameter is one
-//! word of its line. How lines become JSON is tested.
+//! word of its line. How lines become JSON is tested. The target / is that of a page for people, a constant text with
+//! a script that asks the other paths.
 //!
 //! Nothing changes the archive here. A request that can't be answered for its head alone, as one with a body or of
 //! another method, ends its connection: what follows such a head is never read as a request, so a web page can't make
@@ -24,6 +25,7 @@ mod dates;
 mod events;
 mod fault;
 mod head;
+mod page;
 mod parameters;
 mod refusals;
 mod rendering;

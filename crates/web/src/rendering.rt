@@ -1,13 +1,15 @@
 //! The lines of a reply as one object of JSON.
 //!
 //!     R|.. R|.. E|2     {"rows":[{..},{..}],"more":false}
+//!     R|.. R|.. E|2     {"peers":[{..}],"more":false}, of a question for peers
 //!     A|.. M|256        {"events":[{..}],"more":true,"next":"/api/history?..&skip=256"}
 
 use crate::dates::date_of;
 use crate::events::event_text;
 use crate::parameters::cut;
 use crate::replying::Reply;
-use crate::rows::{place_of, row_text};
+use crate::rows::{peer_text, place_of, row_text};
+use crate::target::{Question, Shows};
 use std::alloc::{AllocError, Global};
 
 /// The target of the rows after the row at this place.
@@ -18,6 +20,13 @@ fn rows_after(alloc: Global, first: &str, text: &str) -> Result<String, AllocErr
     format!(in alloc;
         "{first}&after_collector={collector}&after_peer={peer}&after_as={as_number}&after_prefix={prefix}"
     )
+}
+
+/// The target of the peers after that of the row at this place.
+fn peers_after(alloc: Global, first: &str, text: &str) -> Result<String, AllocError> {
+    let place = place_of(text);
+    let (collector, peer, as_number) = (place.collector, place.peer, place.as_number);
+    format!(in alloc; "{first}&after_collector={collector}&after_peer={peer}&after_as={as_number}")
 }
 
 /// A text in JSON.
@@ -72,6 +81,31 @@ fn write_row_line(
     }
 }
 
+/// Writes what a line of rows is in a body of peers. Rows come by peer, so a peer that is written is that of the row before.
+fn write_peer_line(
+    alloc: Global,
+    body: &mut String,
+    first: &str,
+    line: &str,
+) -> Result<(), AllocError> {
+    let (letter, text) = cut(line, '|');
+    match letter {
+        "R" => {
+            let peer = peer_text(alloc, text)?;
+            if body.as_str().ends_with(peer.as_str()) {
+                Ok(())
+            } else {
+                write_object(body, peer.as_str())
+            }
+        }
+        "M" => {
+            let next = peers_after(alloc, first, text)?;
+            write_more(alloc, body, &next)
+        }
+        _ => body.push_str("],\"more\":false}"),
+    }
+}
+
 /// Writes what a line of events is in the body.
 fn write_event_line(
     alloc: Global,
@@ -107,6 +141,14 @@ fn rows_body(alloc: Global, time: u64, lines: &str, first: &str) -> Result<Strin
     Ok(body)
 }
 
+fn peers_body(alloc: Global, lines: &str, first: &str) -> Result<String, AllocError> {
+    let mut body = String::from_str(alloc, "{\"peers\":[")?;
+    for line in lines.lines() {
+        write_peer_line(alloc, &mut body, first, line)?;
+    }
+    Ok(body)
+}
+
 fn events_body(alloc: Global, lines: &str, first: &str) -> Result<String, AllocError> {
     let mut body = String::from_str(alloc, "{\"events\":[")?;
     for line in lines.lines() {
@@ -115,10 +157,18 @@ fn events_body(alloc: Global, lines: &str, first: &str) -> Result<String, AllocE
     Ok(body)
 }
 
-/// The body of an answer whose reply this is, to a question that `first` asks from its first row or event on.
-pub(crate) fn body_of(alloc: Global, reply: &Reply, first: &str) -> Result<String, AllocError> {
+/// The body of an answer to a question, whose reply this is.
+pub(crate) fn body_of(
+    alloc: Global,
+    reply: &Reply,
+    question: &Question,
+) -> Result<String, AllocError> {
+    let (lines, first) = (reply.lines.as_str(), question.first.as_str());
     match reply.time {
-        Some(time) => rows_body(alloc, time, reply.lines.as_str(), first),
-        None => events_body(alloc, reply.lines.as_str(), first),
+        Some(time) => match question.shows {
+            Shows::Rows => rows_body(alloc, time, lines, first),
+            Shows::Peers => peers_body(alloc, lines, first),
+        },
+        None => events_body(alloc, lines, first),
     }
 }

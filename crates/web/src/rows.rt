@@ -19,6 +19,14 @@ struct RowObject<'a> {
     route: RouteObject<'a>,
 }
 
+/// What an object says of a peer.
+#[derive(Debug, Drop, Serialize)]
+struct PeerObject<'a> {
+    collector: u64,
+    peer: &'a str,
+    as_number: u64,
+}
+
 /// What a line says of the place of a row, and the text after that.
 #[derive(Clone, Copy, Debug)]
 pub(crate) struct Place<'a> {
@@ -51,6 +59,21 @@ pub(crate) fn number_of(text: &str) -> u64 {
 
 fn text_of(alloc: Global, row: &RowObject<'_>) -> Option<String> {
     serde_json::to_string(alloc, row).ok()
+}
+
+fn peer_object(alloc: Global, peer: &PeerObject<'_>) -> Option<String> {
+    serde_json::to_string(alloc, peer).ok()
+}
+
+/// The object of the peer of a row, whose line has this text after `R|`.
+pub(crate) fn peer_text(alloc: Global, text: &str) -> Result<String, AllocError> {
+    let place = place_of(text);
+    let peer = PeerObject {
+        collector: number_of(place.collector),
+        peer: place.peer,
+        as_number: number_of(place.as_number),
+    };
+    peer_object(alloc, &peer).ok_or(AllocError)
 }
 
 /// The object of a row at this time, whose line has this text after `R|`.

@@ -3,9 +3,20 @@
 //! A line is made of words that its path has. A parameter is one word at its place, so a client can't add words by one, and whether
 //! the words ask something is the line's reader to say.
 
+ghost use Rattle.std.specs.Prelude.{◌≡◌, ◌↔◌, IsTrue, codes};
+
 use crate::fault::Fault;
 use crate::parameters::{cut, parameters_in, write_value};
 use std::alloc::{AllocError, Global};
+
+/// What an answer shows of the rows of a reply.
+#[derive(Clone, Copy, Debug, PartialEq, Eq)]
+pub(crate) enum Shows {
+    /// Each row.
+    Rows,
+    /// Each peer that has one.
+    Peers,
+}
 
 /// The words of a line; one with a colon before it stands for the parameter of this name.
 #[derive(Clone, Copy, Debug)]
@@ -14,6 +25,7 @@ struct Words {
     all: &'static str,
     /// Those of a question that goes on after an answer, if one of their parameters is given.
     further: &'static str,
+    shows: Shows,
 }
 
 /// Where the rows of an answer go on.
@@ -22,8 +34,25 @@ const AFTER: &str = "after :after_collector :after_peer :after_as :after_prefix"
 /// Where its events do.
 const SKIP: &str = "skip :skip";
 
+/// Where the peers of an answer go on: after the last prefix of all that a peer can have.
+const AFTER_PEER: &str =
+    "after :after_collector :after_peer :after_as ffff:ffff:ffff:ffff:ffff:ffff:ffff:ffff/128";
+
 fn asking(all: &'static str, further: &'static str) -> Option<Words> {
-    Some(Words { all, further })
+    Some(Words {
+        all,
+        further,
+        shows: Shows::Rows,
+    })
+}
+
+/// The words of the lines that ask for peers.
+fn asking_peers() -> Option<Words> {
+    Some(Words {
+        all: "at :at all",
+        further: AFTER_PEER,
+        shows: Shows::Peers,
+    })
 }
 
 /// The words of the lines that a path asks by.
@@ -33,6 +62,7 @@ fn words_of(path: &str) -> Option<Words> {
         "/api/prefix" => asking("at :at prefix :prefix", AFTER),
         "/api/cover" => asking("at :at cover :address", AFTER),
         "/api/peer" => asking("at :at peer :collector :peer :as", AFTER),
+        "/api/peers" => asking_peers(),
         "/api/history" => asking("history :from :to :collector :peer :as :prefix", SKIP),
         _ => None,
     }
@@ -43,6 +73,7 @@ fn words_of(path: &str) -> Option<Words> {
 pub(crate) struct Question {
     pub(crate) line: String,
     pub(crate) first: String,
+    pub(crate) shows: Shows,
 }
 
 /// What a target asks.
@@ -138,7 +169,11 @@ fn question_of(alloc: Global, path: &str, query: &str) -> Result<Question, Fault
     };
     let line = line_of(alloc, words, query)?;
     let first = first_of(alloc, path, words, query)?;
-    Ok(Question { line, first })
+    Ok(Question {
+        line,
+        first,
+        shows: words.shows,
+    })
 }
 
 /// What is asked without parameters.
@@ -150,7 +185,14 @@ fn alone(asked: Asked, query: &str) -> Result<Asked, Fault> {
     }
 }
 
-/// What a target asks.
+/// Whether a target is that of the page.
+pub(crate) fn is_page(target: &[u8]) -> bool
+    ensures page { IsTrue result ↔ (target.now ≡ codes "/") }
+{
+    target == b"/".as_slice()
+}
+
+/// What a target asks that isn't the page's.
 pub(crate) fn asked_by(alloc: Global, target: &[u8]) -> Result<Asked, Fault> {
     let Ok(text) = str::from_utf8(target) else {
         return Err(Fault::BadQuery);

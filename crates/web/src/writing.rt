@@ -1,6 +1,7 @@
 //! Answers, written.
 
 use crate::answers::{Answer, Form};
+use crate::page::policy;
 use crate::status::Status;
 use service::Output;
 use std::io::Write;
@@ -10,19 +11,12 @@ fn type_of(form: Form) -> &'static str {
     match form {
         Form::Json => "application/json",
         Form::Metrics => "text/plain; version=0.0.4; charset=utf-8",
+        Form::Page => "text/html; charset=utf-8",
     }
 }
 
-/// The value of `Cache-Control`.
-fn caching(lasts: bool) -> &'static str {
-    if lasts {
-        "public, max-age=31536000, immutable"
-    } else {
-        "no-store"
-    }
-}
-
-/// Writes the head of an answer, after which the connection ends or not.
+/// Writes the head of an answer, after which the connection ends or not. No answer is to be stored: a settled one stays the same, but another
+/// archive may be served at its address later.
 fn write_head<W: Write>(out: &mut Output<W>, answer: &Answer, ends: bool) {
     out.text("HTTP/1.1 ");
     out.text(answer.status.text());
@@ -30,9 +24,12 @@ fn write_head<W: Write>(out: &mut Output<W>, answer: &Answer, ends: bool) {
     out.text(type_of(answer.form));
     out.text("\r\nContent-Length: ");
     out.number(answer.body().len() as u64);
-    out.text("\r\nCache-Control: ");
-    out.text(caching(answer.lasts));
-    out.text("\r\nX-Content-Type-Options: nosniff\r\n");
+    out.text("\r\nCache-Control: no-store\r\nX-Content-Type-Options: nosniff\r\n");
+    if answer.form == Form::Page {
+        out.text("Content-Security-Policy: ");
+        out.text(policy());
+        out.text("\r\n");
+    }
     if answer.status == Status::OtherMethod {
         out.text("Allow: GET, HEAD\r\n");
     }

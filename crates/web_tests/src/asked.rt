@@ -10,7 +10,7 @@ pub(crate) struct Conversation {
 }
 
 /// Connections to one archive, one after another, each of which ends as its client or a request wants it.
-pub(crate) const CONVERSATIONS: [Conversation; 29] = [
+pub(crate) const CONVERSATIONS: [Conversation; 33] = [
     Conversation {
         sent: b"GET /api/info HTTP/1.1\r\nHost: x\r\n\r\n",
         answers: 1,
@@ -46,7 +46,7 @@ pub(crate) const CONVERSATIONS: [Conversation; 29] = [
         answers: 2,
         each: "HTTP/1.1 ",
         parts: [
-            "HTTP/1.1 200 OK\r\nContent-Type: application/json\r\nContent-Length: 353\r\nCache-Control: public, max-age=31536000, immutable\r\nX-Content-Type-Options: nosniff\r\n\r\n{\"rows\":[{\"time\":1704067200,\"date\":\"2024-01-01T00:00:00Z\",\"collector\":0,\"peer\":\"192.0.2.1\",\"as_number\":65001,\"prefix\":\"10.0.0.0/8\",\"path\":\"65001 65002\",\"origin\":\"IGP\",\"next_hop\":\"192.0.2.1\",\"med\":null,\"local_pref\":null,\"atomic_aggregate\":false,\"aggregator\":\"\",\"communities\":[],\"extended_communities\":[],\"large_communities\":[],\"others\":\"\"}],\"more\":false}",
+            "HTTP/1.1 200 OK\r\nContent-Type: application/json\r\nContent-Length: 353\r\nCache-Control: no-store\r\nX-Content-Type-Options: nosniff\r\n\r\n{\"rows\":[{\"time\":1704067200,\"date\":\"2024-01-01T00:00:00Z\",\"collector\":0,\"peer\":\"192.0.2.1\",\"as_number\":65001,\"prefix\":\"10.0.0.0/8\",\"path\":\"65001 65002\",\"origin\":\"IGP\",\"next_hop\":\"192.0.2.1\",\"med\":null,\"local_pref\":null,\"atomic_aggregate\":false,\"aggregator\":\"\",\"communities\":[],\"extended_communities\":[],\"large_communities\":[],\"others\":\"\"}],\"more\":false}",
             "HTTP/1.1 200 OK\r\nContent-Type: text/plain; version=0.0.4; charset=utf-8\r\nContent-Length: 433\r\nCache-Control: no-store\r\nX-Content-Type-Options: nosniff\r\n\r\n# HELP rha_settled_seconds The settled watermark, in seconds since 1970.\n# TYPE rha_settled_seconds gauge\nrha_settled_seconds 1704067202\n# HELP rha_admitted_records_total Records of a collector that are admitted.\n# TYPE rha_admitted_records_total counter\nrha_admitted_records_total{collector=\"0\"} 4\n# HELP rha_questions_total Questions that were asked since the server began.\n# TYPE rha_questions_total counter\nrha_questions_total 1\n",
             "",
         ],
@@ -90,6 +90,42 @@ pub(crate) const CONVERSATIONS: [Conversation; 29] = [
         ],
     },
     Conversation {
+        sent: b"GET /api/peers?at=1704067200 HTTP/1.1\r\nHost: x\r\n\r\n",
+        answers: 1,
+        each: "HTTP/1.1 ",
+        parts: [
+            "{\"peers\":[{\"collector\":0,\"peer\":\"192.0.2.1\",\"as_number\":65001}],\"more\":true,\"next\":\"/api/peers?at=1704067200&after_collector=0&after_peer=192.0.2.1&after_as=65001\"}",
+            "",
+            "",
+        ],
+    },
+    Conversation {
+        sent: b"GET /api/peers?at=1704067200&after_collector=0&after_peer=192.0.2.1&after_as=65001 HTTP/1.1\r\nHost: x\r\n\r\n",
+        answers: 1,
+        each: "HTTP/1.1 ",
+        parts: ["{\"peers\":[],\"more\":false}", "", ""],
+    },
+    Conversation {
+        sent: b"GET / HTTP/1.1\r\nHost: x\r\n\r\n",
+        answers: 1,
+        each: "HTTP/1.1 ",
+        parts: [
+            "HTTP/1.1 200 OK\r\nContent-Type: text/html; charset=utf-8\r\nContent-Length: ",
+            "\r\nCache-Control: no-store\r\nX-Content-Type-Options: nosniff\r\nContent-Security-Policy: default-src 'none'; script-src 'sha256-",
+            "; frame-ancestors 'none'\r\n\r\n<!doctype html>\n",
+        ],
+    },
+    Conversation {
+        sent: b"HEAD / HTTP/1.1\r\nHost: x\r\n\r\nGET /api/info HTTP/1.1\r\nHost: x\r\n\r\n",
+        answers: 2,
+        each: "HTTP/1.1 ",
+        parts: [
+            "; frame-ancestors 'none'\r\n\r\nHTTP/1.1 200 OK\r\nContent-Type: application/json\r\n",
+            "",
+            "",
+        ],
+    },
+    Conversation {
         sent: b"GET /api/history?from=0&to=1704067201&collector=0&peer=192.0.2.1&as=65001&prefix=10.0.0.0/8 HTTP/1.1\r\nHost: x\r\n\r\n",
         answers: 1,
         each: "HTTP/1.1 ",
@@ -120,7 +156,7 @@ pub(crate) const CONVERSATIONS: [Conversation; 29] = [
         ],
     },
     Conversation {
-        sent: b"GET / HTTP/1.1\r\nHost: x\r\n\r\nGET /api/all?at=0 HTTP/1.1\r\nHost: x\r\n\r\nGET /api/prefix/?at=0&prefix=10.0.0.0/8 HTTP/1.1\r\nHost: x\r\n\r\nGET http://x/api/info HTTP/1.1\r\nHost: x\r\n\r\nGET /api/Info HTTP/1.1\r\nHost: x\r\n\r\n",
+        sent: b"GET /? HTTP/1.1\r\nHost: x\r\n\r\nGET /api/all?at=0 HTTP/1.1\r\nHost: x\r\n\r\nGET /api/prefix/?at=0&prefix=10.0.0.0/8 HTTP/1.1\r\nHost: x\r\n\r\nGET http://x/api/info HTTP/1.1\r\nHost: x\r\n\r\nGET /api/Info HTTP/1.1\r\nHost: x\r\n\r\n",
         answers: 5,
         each: "HTTP/1.1 404 Not Found\r\n",
         parts: [

@@ -6,7 +6,7 @@ ghost use Rattle.board.specs.Opened.{name_of};
 use crate::asked::{CONVERSATIONS, Conversation};
 use crate::be;
 use crate::made::{COLLECTORS, Stage, empty_store, give};
-use crate::pages::{ALL, answers_awaited, answers_head, count_of, ending_of, follow};
+use crate::pages::{ALL, answers_awaited, answers_head, count_of, ending_of, follow, refuses_head};
 use crate::playing::{Client, play};
 use board::{Named, Opened, Pass};
 use query_threads::{NoGate, Shared, Unpromised};
@@ -66,6 +66,11 @@ fn wrong_places<B: Named>(
     Some(places)
 }
 
+/// HEAD requests that are refused for their heads.
+const WITH_BODY: &[u8] = b"HEAD /api/info HTTP/1.1\r\nContent-Length: 5\r\n\r\n";
+
+const NOT_HTTP: &[u8] = b"\r\nHEAD /api/info HTTP/2.0\r\n\r\n";
+
 /// What isn't as it should be; none if all is.
 fn wrong_of<B: Named>(
     rt: &impl Wait,
@@ -81,6 +86,12 @@ fn wrong_of<B: Named>(
     }
     if answers_head(rt, alloc, stage, first, 8193, "HTTP/1.1 431") != Some(true) {
         return Some("a head of 8193 octets");
+    }
+    if refuses_head(rt, alloc, stage, first, WITH_BODY) != Some(true) {
+        return Some("a HEAD with a body");
+    }
+    if refuses_head(rt, alloc, stage, first, NOT_HTTP) != Some(true) {
+        return Some("a HEAD of another version");
     }
     if answers_awaited(rt, alloc, stage, first) != Some(true) {
         return Some("a client for whose worker others wait");

@@ -98,6 +98,25 @@ pub(crate) fn answers_head<B: Named>(
     Some(request.len() == len && played.received.as_slice().starts_with(status.as_bytes()))
 }
 
+/// Whether a HEAD that is refused for its head has an answer without a body.
+pub(crate) fn refuses_head<B: Named>(
+    rt: &impl Wait,
+    alloc: Global,
+    stage: &Stage<B>,
+    first: &mut Pass<Unpromised<B>>,
+    octets: &[u8],
+) -> Option<bool> {
+    let client = Client {
+        octets,
+        piece: 1000,
+        is_lost: false,
+        is_awaited: false,
+    };
+    let played = play(rt, alloc, stage, first, client, usize::MAX)?;
+    let text = str::from_utf8(played.received.as_slice()).ok()?;
+    Some(text.starts_with("HTTP/1.1 400") && text.ends_with("\r\n\r\n"))
+}
+
 /// Whether one of two requests is answered, and ends the connection, where others wait for its worker.
 pub(crate) fn answers_awaited<B: Named>(
     rt: &impl Wait,
