@@ -11,7 +11,7 @@ use advice::{LimitAdvice, advise, advise_question};
 use archive_pages::Settings;
 use disk_archive::CreateError;
 use disk_files::{Call, FileError};
-use file_archive::{CreateFault, FileArchive};
+use file_archive::CreateFault;
 use service::{
     Checking, Creation, Output, Question, check_archive, tell_created, tell_out_of_memory,
 };
@@ -51,7 +51,7 @@ pub(crate) fn create<E: Write>(rt: &HostRuntime, asked: &Creation<'_>, err: &mut
         ring: asked.ring,
     };
     let (folder, pages, blocks) = (asked.folder, asked.pages, asked.blocks);
-    match FileArchive::create(alloc, rt, folder, settings, pages, blocks) {
+    match file_archive::create(alloc, rt, folder, settings, pages, blocks) {
         Ok(_) => {
             let mut out = Output::new(buffer);
             tell_created(alloc, asked, &mut out, err)

@@ -77,7 +77,7 @@ pub(crate) fn load<'a, E: Write>(
             return code;
         }
     }
-    match FileArchive::on(alloc, disks) {
+    match disks.into_archive(alloc) {
         Ok(archive) => load_into(rt, archive, asked, sources, &noted, err),
         Err(fault) => tell_unopened(rt, asked.folder, fault, err),
     }
@@ -132,6 +132,7 @@ fn advise_loaded<A: RouteArchive, R: Read, E: Write>(
             file: name,
             packing: it.first.packing(),
             collector: asked.collector,
+            lose_entries: asked.lose_entries,
             mark,
             report: file.report,
             sizes: sizes_of(rt, asked.folder),

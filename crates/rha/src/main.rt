@@ -52,7 +52,7 @@ use std::sync::Wait;
 use std::thread::Threads;
 use std::time::Clock;
 
-/// `rha help COMMAND` asks for what `rha COMMAND --help` does, and `rha help` for what `rha --help` does.
+/// `rha help COMMAND` asks for what `rha COMMAND --help` does, and `rha help` and `rha help help` for what `rha --help` does.
 fn put_help_last(alloc: Global, words: &mut Vec<String>) -> Result<(), AllocError> {
     if words.len() < 2 || words[1].as_str() != "help" {
         return Ok(());
@@ -61,6 +61,9 @@ fn put_help_last(alloc: Global, words: &mut Vec<String>) -> Result<(), AllocErro
     option.push_str("--help")?;
     words.push(option)?;
     words.remove(1);
+    if words[1].as_str() == "help" {
+        words.remove(1);
+    }
     Ok(())
 }
 

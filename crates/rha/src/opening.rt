@@ -86,7 +86,7 @@ pub(crate) fn open<E: Write>(
     wait: u64,
     err: &mut Output<E>,
 ) -> Option<FileArchive> {
-    let opened = within(rt, wait, || FileArchive::open(rt.alloc(), rt, folder));
+    let opened = within(rt, wait, || file_archive::open(rt.alloc(), rt, folder));
     tell_closed(rt, folder, opened, err)
 }
 
@@ -110,7 +110,7 @@ fn open_as(
     if first == First::Slots {
         disks.check_slots()?;
     }
-    FileArchive::on(alloc, disks)
+    disks.into_archive(alloc)
 }
 
 /// The archive of a folder, for a command that only reads it. Others may read it meanwhile; if something that a command that was cut

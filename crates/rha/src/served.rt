@@ -195,7 +195,7 @@ pub(crate) fn serve<
     let Some(archive) = open(rt, asked.folder, asked.wait, err) else {
         return 1;
     };
-    let Ok(failures) = archive.failures().clone() else {
+    let Ok(failures) = archive.reasons().failures.clone() else {
         return tell_out_of_memory(err);
     };
     let archive = archive.into_archive();
