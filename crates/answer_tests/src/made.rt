@@ -2,8 +2,8 @@
 
 use archive_pages::Settings;
 use disk_archive::Archive;
+use disk_calls::{DiskArchive, NoReasons};
 use disk_memory::{MemErase, MemOnce};
-use memory_archive::MemArchive;
 use once_store::ShelfReader;
 use route_model::Mark;
 use service::{FeedSettings, FileLoad, LoadSettings, Output, Status, WithoutHop, load};
@@ -22,6 +22,9 @@ pub(crate) const BLOCKS: u64 = 2_048;
 pub(crate) type Made = Archive<MemErase, MemOnce>;
 
 pub(crate) type Reader = ShelfReader<MemOnce>;
+
+/// An archive as a load uses it.
+type MemArchive = DiskArchive<MemErase, MemOnce>;
 
 /// An archive of this many collectors, each with a ring of nine pages.
 pub(crate) fn made(alloc: Global, collectors: u8) -> Option<Made> {
@@ -68,7 +71,7 @@ fn load_into(alloc: Global, archive: &mut MemArchive, octets: &[u8]) -> Status {
 /// An archive of one collector into which these octets are loaded, with the mark 1704067201.
 fn loaded_into(alloc: Global, octets: &[u8]) -> Option<MemArchive> {
     let archive = made(alloc, 1)?;
-    let mut archive = MemArchive { archive };
+    let mut archive = MemArchive::new(archive, NoReasons);
     match load_into(alloc, &mut archive, octets) {
         Status::Done => Some(archive),
         Status::Refused | Status::Failed => None,
@@ -77,6 +80,5 @@ fn loaded_into(alloc: Global, octets: &[u8]) -> Option<MemArchive> {
 
 /// The same without its calls for feeds and questions.
 pub(crate) fn loaded(alloc: Global, octets: &[u8]) -> Option<Made> {
-    let MemArchive { archive } = loaded_into(alloc, octets)?;
-    Some(archive)
+    Some(loaded_into(alloc, octets)?.into_archive())
 }

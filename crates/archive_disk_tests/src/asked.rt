@@ -1,7 +1,7 @@
 //! Lines that are asked of an archive.
 
+use crate::made::MemArchive;
 use interleaving_core::Query;
-use memory_archive::MemArchive;
 use service::{Output, Request, ask, read_request};
 use std::alloc::Global;
 

@@ -7,10 +7,10 @@ use crate::disks::{
     Both, IN_TURN, KINDS, failed_write, given_up, opened, opened_behind, reopened, torn,
 };
 use crate::given::{Given, SETTINGS, give_second, has_records, leaves, one_given};
-use crate::made::{Made, apply, give, large, made, mark_at, set_mark, vectors};
+use crate::made::{Made, MemArchive, apply, give, large, made, mark_at, set_mark, vectors};
 use disk_archive::{AdmitError, ApplyError, FlushError, MarkError};
+use disk_calls::NoReasons;
 use disk_memory::{Failure, OnceFailure};
-use memory_archive::MemArchive;
 use route_model::Admission;
 use std::alloc::Global;
 
@@ -229,7 +229,7 @@ fn is_right(alloc: Global, archive: Made, changes: u32) -> bool {
         )
     };
     let is_settled = archive.settled() == mark_at(settled);
-    let mut archive = MemArchive { archive };
+    let mut archive = MemArchive::new(archive, NoReasons);
     let first = "at 1704067200 prefix 10.0.0.0/8";
     is_settled
         && is_answered(alloc, &mut archive, line, &history(alloc, changes))

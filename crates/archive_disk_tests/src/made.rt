@@ -2,6 +2,7 @@
 
 use archive_pages::Settings;
 use disk_archive::{Archive, CreateError, Flush, Step};
+use disk_calls::DiskArchive;
 use disk_memory::{Failure, MemErase, MemOnce, OnceFailure};
 use disk_models::EraseDisk;
 use interleaving_core::Resume;
@@ -41,6 +42,9 @@ pub(crate) fn disks_of(alloc: Global, homes: u64) -> Disks {
 }
 
 pub(crate) type Made = Archive<MemErase, MemOnce>;
+
+/// It as feeds and questions use it.
+pub(crate) type MemArchive = DiskArchive<MemErase, MemOnce>;
 
 /// What creating an archive on these disks returns. None where there can't be such disks, or no memory.
 pub(crate) fn made_on(

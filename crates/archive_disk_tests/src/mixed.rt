@@ -4,12 +4,12 @@ use crate::asked::answer;
 use crate::be;
 use crate::disks::{Both, CRASHES, Calls, given_up, open, opened};
 use crate::drawn::{Chance, draw_call, draw_failure, draw_once_failure};
-use crate::made::{Disks, Made, disks_of, made_on, octets_of, one};
+use crate::made::{Disks, Made, MemArchive, disks_of, made_on, octets_of, one};
 use crate::model::Model;
 use crate::told::{State, Told, make, state_of};
 use archive_pages::Settings;
+use disk_calls::NoReasons;
 use interleaving_core::Step;
-use memory_archive::MemArchive;
 use route_model::octets::u64_at;
 use std::alloc::Global;
 use std::process::Abort;
@@ -31,7 +31,7 @@ fn created(alloc: Global) -> Option<MemArchive> {
         ..disks_of(alloc, 235)
     };
     let archive = made_on(alloc, disks, settings)?.ok()?;
-    Some(MemArchive { archive })
+    Some(MemArchive::new(archive, NoReasons))
 }
 
 /// What an opening that nothing stops finds: the archive, how many changes are applied according to the head on its home page, and how many calls
@@ -58,7 +58,7 @@ fn witness_on(alloc: Global, left: &Both) -> Option<Witness> {
     let applied = applied_on(alloc, &mut disks)?;
     let archive = opened(alloc, disks)?;
     Some(Witness {
-        disk: MemArchive { archive },
+        disk: MemArchive::new(archive, NoReasons),
         applied,
         opening,
     })
@@ -120,7 +120,7 @@ fn find(alloc: Global, chance: &mut Chance, disks: &Both) -> Option<Found> {
         archive,
         was_stopped,
     } = reopened(alloc, chance, opening, left)?;
-    let disk = MemArchive { archive };
+    let disk = MemArchive::new(archive, NoReasons);
     Some(Found {
         state: state_of(&disk, applied),
         disk,
@@ -190,7 +190,7 @@ impl Stops {
 
 // Whether the archive is what the model is after a call that wasn't stopped.
 fn goes_on(model: &mut Model, disk: &MemArchive, step: Step, told: Told) -> bool {
-    let applied = disk.archive.applied();
+    let applied = disk.applied();
     model.does(step, told, applied) && model.state() == Some(state_of(disk, applied))
 }
 
@@ -210,7 +210,7 @@ fn goes_on_alike(
     found: &mut Found,
 ) -> Option<bool> {
     let settled = found.state.settled.seconds();
-    if !model.crash()? || found.disk.archive.applied() != found.state.applied {
+    if !model.crash()? || found.disk.applied() != found.state.applied {
         return Some(false);
     }
     answers_alike(alloc, chance, model, &mut found.witness, settled)
@@ -261,7 +261,7 @@ impl Run {
 
     // All crashes: the archive to go on with.
     fn crash(&mut self, disk: MemArchive, told: Told, stopped: Option<Step>) -> Option<MemArchive> {
-        let disks = given_up(disk.archive);
+        let disks = given_up(disk.into_archive());
         self.stops.count(told, &disks);
         let Found {
             disk,

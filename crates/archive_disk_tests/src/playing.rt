@@ -4,15 +4,15 @@ use crate::asked::answers_as;
 use crate::be;
 use crate::disks::reopened;
 use crate::made::{
-    Made, apply_all, empties, empty_at, flush_all, made, mark_at, two_changes, vectors,
+    Made, MemArchive, apply_all, empties, empty_at, flush_all, made, mark_at, two_changes, vectors,
 };
 use crate::model::Model;
 use crate::scripts::SCRIPTS;
 use crate::told::{Told, make};
 use archive_calls::RouteArchive;
 use archive_pages::Settings;
+use disk_calls::NoReasons;
 use interleaving_core::Step;
-use memory_archive::MemArchive;
 use route_model::{Admission, Moment};
 use sequencer::Late;
 use std::alloc::Global;
@@ -141,7 +141,7 @@ impl Stage {
         let archive = made(alloc, settings)?;
         Some(Stage {
             alloc,
-            disk: MemArchive { archive },
+            disk: MemArchive::new(archive, NoReasons),
             model: Model::new(alloc, script.collectors)?,
         })
     }
@@ -149,10 +149,10 @@ impl Stage {
     // The same, where the archive is given up and opened again.
     fn reopened(self) -> Option<Stage> {
         let Stage { alloc, disk, model } = self;
-        let archive = reopened(alloc, disk.archive)?;
+        let archive = reopened(alloc, disk.into_archive())?;
         Some(Stage {
             alloc,
-            disk: MemArchive { archive },
+            disk: MemArchive::new(archive, NoReasons),
             model,
         })
     }

@@ -1,9 +1,9 @@
 //! What an archive's calls and the pure machine's steps return, and the state that an archive shows.
 
+use crate::made::MemArchive;
 use archive_calls as calls;
 use archive_calls::{AdmitError, MarkError, RouteArchive, Trouble};
 use interleaving_core::{BatchReply, Reply, Resume, Step};
-use memory_archive::MemArchive;
 use route_model::{Admission, Mark};
 
 /// What a call or a step returns.

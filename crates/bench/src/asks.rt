@@ -3,7 +3,6 @@
 use crate::reading::more;
 use anyhow::{Context, Result, bail};
 use archive_calls::RouteArchive;
-use file_archive::FileArchive;
 use service::reply;
 use std::alloc::Global;
 use std::fs;
@@ -155,7 +154,7 @@ fn print_asked(rt: &HostRuntime, kind: &str, asked: &mut Asked) -> Result<()> {
 /// Where the archive isn't opened, the file can't be read or a question is refused.
 pub fn print_asks(rt: &HostRuntime, folder: &str, file: &str) -> Result<()> {
     let questions = fs::read_to_string(rt, file).context("the questions can't be read")?;
-    let mut archive = FileArchive::open(rt.alloc(), rt, folder).context(
+    let mut archive = file_archive::open(rt.alloc(), rt, folder).context(
         "the archive isn't opened",
     )?;
     for kind in KINDS {

@@ -26,10 +26,10 @@ pub(crate) struct Script {
     pub(crate) batches: &'static [&'static [Record]],
     /// What is done then, so that records wait and slots of the journal are open.
     pub(crate) before: &'static [Act],
-    /// The life, once the archive is opened.
-    pub(crate) life: &'static [Act],
-    /// What follows each life, whether it was stopped or not: a block is burnt in it.
-    pub(crate) after: &'static [Act],
+    /// The life, once the archive is opened, and what follows it, whether it was stopped or not: a block is burnt in that.
+    pub(crate) acts: &'static [Act],
+    /// How many of these acts are the life.
+    pub(crate) life: usize,
 }
 
 /// Three columns: of the prefixes 0 to 3 of peer 1, whose every second change burns a block then, up to 648, as many as one page of a column
@@ -74,7 +74,7 @@ pub(crate) const LONG: Script = Script {
     loads: &LOADS,
     batches: &[&FIRST, &SECOND, &LATE, &MIXED, &LAST, &NEXT],
     before: &[Act::Admit(0, 0), Act::Admit(1, 1), Act::Mark(1, 9_013)],
-    life: &[
+    acts: &[
         Act::Apply,
         Act::Flush,
         Act::Admit(1, 2),
@@ -92,13 +92,13 @@ pub(crate) const LONG: Script = Script {
         Act::Apply,
         Act::Flush,
         Act::Flush,
-    ],
-    after: &[
+        // What follows.
         Act::Admit(0, 5),
         Act::Mark(0, 9_060),
         Act::Mark(1, 9_060),
         Act::Apply,
     ],
+    life: 17,
 };
 
 /// Five keys, which fill the only leaf.
@@ -122,7 +122,7 @@ pub(crate) const RISING: Script = Script {
     loads: &FIVE,
     batches: &[&SIXTH, &SEVENTH, &FOUR],
     before: &[Act::Admit(0, 0), Act::Mark(1, 9_012)],
-    life: &[
+    acts: &[
         Act::Mark(0, 9_012),
         Act::Apply,
         Act::Admit(1, 1),
@@ -130,13 +130,13 @@ pub(crate) const RISING: Script = Script {
         Act::Mark(1, 9_020),
         Act::Apply,
         Act::Flush,
-    ],
-    after: &[
+        // What follows.
         Act::Admit(0, 2),
         Act::Mark(0, 9_060),
         Act::Mark(1, 9_060),
         Act::Apply,
     ],
+    life: 7,
 };
 
 /// Questions of each kind: of what was applied long before, in the last blocks, and at the end.

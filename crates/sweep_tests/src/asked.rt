@@ -3,11 +3,11 @@
 use crate::records::{peer_of, prefix_of};
 use disk_archive::AskError;
 use interleaving_core::{Answer, Query, Reply};
-use route_meaning::{Event, EventsAnswer, EventsQuestion, Row, RowsAnswer, RowsQuestion, Select};
+use route_meaning::{Event, EventsQuestion, Row, RowsQuestion, Select};
 use route_model::{Address, Change, Moment};
 
 /// The kinds of questions.
-#[derive(Clone, Copy, PartialEq, Eq)]
+#[derive(Clone, Copy)]
 pub(crate) enum Kind {
     Route,
     ByPrefix,
@@ -21,34 +21,37 @@ pub(crate) enum Kind {
 /// A question: its kind, the moment, a peer and a prefix.
 pub(crate) type Asked = (Kind, u32, u8, u8);
 
-fn select_of(kind: Kind, peer: u8, prefix: u8) -> Select {
-    match kind {
-        Kind::Route => Select::Route(peer_of(peer), prefix_of(prefix)),
-        Kind::ByPrefix => Select::ByPrefix(prefix_of(prefix)),
-        Kind::Covering => Select::Covering(Address::V4([10, prefix, 1, 1])),
-        Kind::PeerTable => Select::PeerTable(peer_of(peer)),
-        Kind::All | Kind::Events => Select::All,
-    }
+/// The question of these routes at a moment.
+pub(crate) fn rows_at(seconds: u32, select: Select) -> Query {
+    Query::Rows(RowsQuestion {
+        moment: Moment::from(seconds),
+        select,
+        after: None,
+    })
+}
+
+fn events_up_to(seconds: u32, peer: u8, prefix: u8) -> Query {
+    Query::Events(EventsQuestion {
+        from: Moment::from(seconds.saturating_sub(30)),
+        to: Moment::from(seconds),
+        peer: peer_of(peer),
+        prefix: prefix_of(prefix),
+        skip: 0,
+    })
 }
 
 /// The question, as both are asked it.
 pub(crate) fn query_of(asked: &Asked) -> Query {
     let (kind, seconds, peer, prefix) = *asked;
-    let moment = Moment::from(seconds);
-    if kind == Kind::Events {
-        return Query::Events(EventsQuestion {
-            from: Moment::from(seconds.saturating_sub(30)),
-            to: moment,
-            peer: peer_of(peer),
-            prefix: prefix_of(prefix),
-            skip: 0,
-        });
-    }
-    Query::Rows(RowsQuestion {
-        moment,
-        select: select_of(kind, peer, prefix),
-        after: None,
-    })
+    let select = match kind {
+        Kind::Route => Select::Route(peer_of(peer), prefix_of(prefix)),
+        Kind::ByPrefix => Select::ByPrefix(prefix_of(prefix)),
+        Kind::Covering => Select::Covering(Address::V4([10, prefix, 1, 1])),
+        Kind::PeerTable => Select::PeerTable(peer_of(peer)),
+        Kind::All => Select::All,
+        Kind::Events => return events_up_to(seconds, peer, prefix),
+    };
+    rows_at(seconds, select)
 }
 
 fn same_change(one: &Change, other: &Change) -> bool {
@@ -68,37 +71,40 @@ fn same_row(one: &Row, other: &Row) -> bool {
         && one.route.spelling() == other.route.spelling()
 }
 
-fn same_rows(one: &RowsAnswer, other: &RowsAnswer) -> bool {
-    one.more == other.more
-        && one.rows.len() == other.rows.len()
-        && one
-            .rows
-            .iter()
-            .zip(other.rows.iter())
-            .all(|(row, same)| same_row(row, same))
+fn same_rows(one: &[Row], other: &[Row]) -> bool {
+    for (row, same) in one.iter().zip(other.iter()) {
+        if !same_row(row, same) {
+            return false;
+        }
+    }
+    one.len() == other.len()
 }
 
-fn same_event(one: &Event, other: &Event) -> bool {
-    one.time == other.time && same_change(&one.change, &other.change)
+fn same_events(one: &[Event], other: &[Event]) -> bool {
+    for (event, same) in one.iter().zip(other.iter()) {
+        if event.time != same.time || !same_change(&event.change, &same.change) {
+            return false;
+        }
+    }
+    one.len() == other.len()
 }
 
-fn same_events(one: &EventsAnswer, other: &EventsAnswer) -> bool {
-    one.more == other.more
-        && one.events.len() == other.events.len()
-        && one
-            .events
-            .iter()
-            .zip(other.events.iter())
-            .all(|(event, same)| same_event(event, same))
+fn same_answer(one: &Answer, other: &Answer) -> bool {
+    match (one, other) {
+        (Answer::Rows(one), Answer::Rows(other)) => {
+            one.more == other.more && same_rows(&one.rows, &other.rows)
+        }
+        (Answer::Events(one), Answer::Events(other)) => {
+            one.more == other.more && same_events(&one.events, &other.events)
+        }
+        _ => false,
+    }
 }
 
 /// Whether an archive answers a question as the pure machine does.
 pub(crate) fn same(answer: &Result<Answer, AskError>, wanted: &Reply) -> bool {
     match (answer, wanted) {
-        (Ok(Answer::Rows(rows)), Reply::Done(Answer::Rows(same))) => same_rows(rows, same),
-        (Ok(Answer::Events(events)), Reply::Done(Answer::Events(same))) => {
-            same_events(events, same)
-        }
+        (Ok(answer), Reply::Done(same)) => same_answer(answer, same),
         (Err(AskError::AboveWatermark(mark)), Reply::AboveWatermark(same)) => *mark == *same,
         _ => false,
     }

@@ -1,108 +1,120 @@
 //! A block of which one octet is another: what reads it is refused, again and again, and all else is answered.
 
-use crate::acts::{ASKED, LONG};
-use crate::asked::{query_of, same};
+use crate::acts::LONG;
 use crate::be_at;
 use crate::disks::{Both, Played, given_up, opened};
 use crate::laid::laid_anew;
+use crate::played::{Outcome, ask, ask_with, check};
+use crate::pure::{Answered, NOW};
 use crate::stage::{Stage, prepare};
 use crate::stops::play_from;
-use disk_archive::{AskError, CheckError};
 use disk_memory::{Burn, MemOnce, MemPen};
 use disk_models::{Block, OnceDisk};
-use interleaving_core::{Answer, Query, Reply};
 use once_store::ShelfReader;
 use std::alloc::Global;
 use std::process::Abort;
 use std::sync::Arc;
 
 /// A block as it was, but for one octet where it has this number.
-fn spoiled(alloc: Global, was: &Burn, number: u64) -> Option<Block> {
-    let mut block = Block::from_slice(alloc, was.block().octets()).ok()?;
+fn spoiled(rt: &impl Abort, alloc: Global, was: &Burn, number: u64) -> Block {
+    let mut block = Block::from_slice(alloc, was.block().octets()).expect(rt, "memory");
     if was.number() == number {
         let at = (number % 16_384) as usize;
         let octet = was.block().octets()[at] ^ 0x40;
         block.put(at, &[octet]);
     }
-    Some(block)
+    block
 }
 
-/// Burns a block that is blank.
-fn burn(disk: &MemOnce, pen: &mut MemPen, number: u64, block: &Block) -> Option<()> {
+/// Burns a block that is blank. Returns whether it did.
+fn burn(disk: &MemOnce, pen: &mut MemPen, number: u64, block: &Block) -> bool {
     if number >= disk.blocks() {
-        return None;
+        return false;
     }
     match disk.blank(pen, number) {
-        Ok(true) => disk.burn(pen, number, block).ok(),
-        _ => None,
+        Ok(true) => disk.burn(pen, number, block).is_ok(),
+        _ => false,
     }
+}
+
+/// Burns the same blocks, but for one octet of that of this number.
+fn burn_all(
+    rt: &impl Abort,
+    alloc: Global,
+    disk: &MemOnce,
+    pen: &mut MemPen,
+    burns: &[Burn],
+    number: u64,
+) {
+    for was in burns {
+        let block = spoiled(rt, alloc, was, number);
+        let is_burnt = burn(disk, pen, was.number(), &block);
+        be_at(rt, is_burnt, "a burn", was.number());
+    }
+    disk.settle(pen).expect(rt, "a settle");
 }
 
 /// The same disks, but for one octet of the block of this number.
-fn with_spoiled(alloc: Global, disks: &Both, number: u64) -> Option<Both> {
+fn with_spoiled(rt: &impl Abort, alloc: Global, disks: &Both, number: u64) -> Both {
+    let erase = disks.erase.copy().expect(rt, "memory");
     let (once, mut pen) = MemOnce::new(alloc, disks.once.blocks());
-    for was in disks.pen.settled() {
-        let block = spoiled(alloc, was, number)?;
-        burn(&once, &mut pen, was.number(), &block)?;
-    }
-    once.settle(&mut pen).ok()?;
-    let erase = disks.erase.copy().ok()?;
-    let once = Arc::new(alloc, once).ok()?;
-    Some(Both { erase, once, pen })
+    burn_all(rt, alloc, &once, &mut pen, disks.pen.settled(), number);
+    let once = Arc::new(alloc, once).expect(rt, "memory");
+    Both { erase, once, pen }
 }
 
-/// Whether a question is refused as damage of the block of this number. None where it's neither that nor answered as ever.
-fn is_refused(answer: &Result<Answer, AskError>, wanted: &Reply, number: u64) -> Option<bool> {
-    match answer {
-        Err(AskError::Damaged(block)) if *block == number => Some(true),
-        _ if same(answer, wanted) => Some(false),
-        _ => None,
-    }
+/// Whether a question is refused as damage of the block of this number. Else it's answered as ever.
+fn is_refused(rt: &impl Abort, outcome: Outcome, number: u64) -> bool {
+    let is_refused = outcome == Outcome::Damaged(number);
+    let is_either = is_refused || outcome == Outcome::Done;
+    be_at(rt, is_either, "a question", number);
+    is_refused
 }
 
-/// The same by a reader that keeps the blocks which it reads.
-fn is_refused_with(
+/// Whether a question is refused, alone and twice by a reader.
+fn refuses(
+    rt: &impl Abort,
     archive: &mut Played,
     reader: &mut ShelfReader<MemOnce>,
-    query: &Query,
-    wanted: &Reply,
+    asked: &Answered,
     number: u64,
-) -> Option<bool> {
-    let answer = archive.answer_with(reader, *query);
-    is_refused(&answer, wanted, number)
+) -> bool {
+    let alone = ask(archive, &asked.query, &asked.reply);
+    let first = ask_with(archive, reader, &asked.query, &asked.reply);
+    let again = ask_with(archive, reader, &asked.query, &asked.reply);
+    let is_same = first == alone && again == alone;
+    be_at(rt, is_same, "a question by a reader", number);
+    is_refused(rt, alone, number)
 }
 
-/// How many questions the damage of a block refuses, alone and twice by a reader. A check finds it.
-fn refusals(rt: &impl Abort, stage: &Stage, disks: &Both, number: u64) -> u64 {
-    let disks = with_spoiled(stage.alloc, disks, number).expect(rt, "disks");
-    let mut archive = opened(stage.alloc, disks).expect(rt, "an archive");
+/// How many of these questions the damage of a block refuses.
+fn refused_of(rt: &impl Abort, archive: &mut Played, asked: &[Answered], number: u64) -> u64 {
     let mut reader = archive.reader(64).expect(rt, "a reader");
-    let known = stage.known.last().expect(rt, "a state");
     let mut refused: u64 = 0;
-    for (asked, wanted) in ASKED.iter().zip(known.answers.iter()) {
-        let query = query_of(asked);
-        let alone = is_refused(&archive.answer(query), wanted, number).expect(rt, "a question");
-        let first = is_refused_with(&mut archive, &mut reader, &query, wanted, number);
-        let again = is_refused_with(&mut archive, &mut reader, &query, wanted, number);
-        be_at(
-            rt,
-            first == Some(alone) && again == Some(alone),
-            "a question by a reader",
-            number,
-        );
-        refused = refused.saturating_add(u64::from(alone));
+    for one in asked {
+        let is_refused = refuses(rt, archive, &mut reader, one, number);
+        refused = refused.saturating_add(u64::from(is_refused));
     }
-    let is_found = archive.check() == Err(CheckError::Damaged(number));
+    refused
+}
+
+/// How many questions the damage of a block refuses. A check finds it.
+fn refusals(rt: &impl Abort, stage: &Stage, disks: &Both, number: u64) -> u64 {
+    let disks = with_spoiled(rt, stage.alloc, disks, number);
+    let mut archive = opened(rt, stage.alloc, disks);
+    let known = stage.known.last().expect(rt, "a state");
+    let asked = known.answers.get(..NOW).unwrap_or(&[]);
+    let refused = refused_of(rt, &mut archive, asked, number);
+    let is_found = check(&mut archive, 0) == Outcome::Damaged(number);
     be_at(rt, is_found, "a check", number);
     refused
 }
 
 /// The disks after the life, of which no page waits to go home.
 fn ended(rt: &impl Abort, stage: &Stage) -> Both {
-    let disks = stage.disks.copy().expect(rt, "disks");
-    let mut archive = opened(stage.alloc, disks).expect(rt, "an archive");
+    let mut archive = opened(rt, stage.alloc, stage.disks.copy(rt));
     be_at(rt, play_from(stage, &mut archive, 0), "a life", 0);
-    laid_anew(stage.alloc, given_up(archive)).expect(rt, "disks")
+    laid_anew(rt, stage.alloc, given_up(archive))
 }
 
 /// A block, and how many questions its damage refuses.
@@ -164,15 +176,11 @@ const REFUSED: [Refused; 12] = [
 
 #[test]
 fn damage_of_a_block_refuses_what_reads_it(rt: HostRuntime) {
-    let stage = prepare(rt.alloc(), &LONG).expect(&rt, "a stage");
+    let stage = prepare(&rt, rt.alloc(), &LONG);
     let disks = ended(&rt, &stage);
     for refused in &REFUSED {
         let questions = refusals(&rt, &stage, &disks, refused.block);
-        be_at(
-            &rt,
-            questions == refused.questions,
-            "refused questions",
-            questions,
-        );
+        let is_so = questions == refused.questions;
+        be_at(&rt, is_so, "refused questions", questions);
     }
 }

@@ -1,8 +1,10 @@
 //! Both disks below an archive: copied, cut off at a call, torn by a crash, and opened.
 
+use crate::be;
 use disk_archive::{Archive, OpenError, Refused};
 use disk_memory::{MemErase, MemOnce, MemPen, Torn, crash_all};
 use std::alloc::Global;
+use std::process::Abort;
 use std::sync::Arc;
 
 pub(crate) type Played = Archive<MemErase, MemOnce>;
@@ -16,7 +18,7 @@ pub(crate) struct Both {
 }
 
 /// One of both.
-#[derive(Clone, Copy, PartialEq, Eq)]
+#[derive(Clone, Copy)]
 pub(crate) enum Disk {
     Erasable,
     Once,
@@ -40,11 +42,11 @@ pub(crate) fn torn(kind: u64) -> Torn {
 
 impl Both {
     /// The same disks once more. No failure is to come.
-    pub(crate) fn copy(&self) -> Option<Both> {
-        let erase = self.erase.copy().ok()?;
-        let (_, pen) = self.once.copy(&self.pen).ok()?;
-        let once = self.once.clone().ok()?;
-        Some(Both { erase, once, pen })
+    pub(crate) fn copy(&self, rt: &impl Abort) -> Both {
+        let erase = self.erase.copy().expect(rt, "memory");
+        let (_, pen) = self.once.copy(&self.pen).expect(rt, "memory");
+        let once = self.once.clone().expect(rt, "memory");
+        Both { erase, once, pen }
     }
 
     /// Cuts one of them off at its k-th call that writes, the first one being 1.
@@ -56,18 +58,21 @@ impl Both {
     }
 
     /// The disks after a stop of this way now. A crash tears all that it may change in one way.
-    pub(crate) fn stop(&self, way: u64) -> Option<Both> {
+    pub(crate) fn stop(&self, rt: &impl Abort, way: u64) -> Both {
         if way < KINDS {
-            self.crash(way)
+            self.crash(rt, way)
         } else {
-            self.copy()
+            self.copy(rt)
         }
     }
 
-    fn crash(&self, kind: u64) -> Option<Both> {
-        let (erase, _, pen) = crash_all(&self.erase, &self.once, &self.pen, &torn(kind)).ok()?;
-        let once = self.once.clone().ok()?;
-        Some(Both { erase, once, pen })
+    fn crash(&self, rt: &impl Abort, kind: u64) -> Both {
+        let torn = torn(kind);
+        let (erase, _, pen) = crash_all(&self.erase, &self.once, &self.pen, &torn).expect(
+            rt, "memory",
+        );
+        let once = self.once.clone().expect(rt, "memory");
+        Both { erase, once, pen }
     }
 }
 
@@ -84,41 +89,37 @@ pub(crate) struct Handed {
     pub(crate) error: OpenError,
 }
 
+fn handed_back(refused: Refused<MemErase, MemOnce, OpenError>) -> Handed {
+    let Refused {
+        erase,
+        once,
+        pen,
+        error,
+    } = refused;
+    Handed {
+        disks: Both { erase, once, pen },
+        error,
+    }
+}
+
 /// What opening these disks returns. It takes no memory but the archive's.
 pub(crate) fn try_open(alloc: Global, disks: Both) -> Result<Played, Handed> {
-    let Both { erase, once, pen } = disks;
-    match Archive::open(alloc, erase, once, pen) {
+    match Archive::open(alloc, disks.erase, disks.once, disks.pen) {
         Ok(archive) => Ok(archive),
-        Err(
-            Refused {
-                erase,
-                once,
-                pen,
-                error,
-            },
-        ) => Err(Handed {
-            disks: Both { erase, once, pen },
-            error,
-        }),
+        Err(refused) => Err(handed_back(refused)),
     }
-}
-
-/// The archive on these disks, or the disks where one of them failed. None where they are refused for another reason.
-pub(crate) fn open(alloc: Global, disks: Both) -> Option<Result<Played, Both>> {
-    match try_open(alloc, disks) {
-        Ok(archive) => Some(Ok(archive)),
-        Err(handed) => handed_back(handed),
-    }
-}
-
-fn handed_back(handed: Handed) -> Option<Result<Played, Both>> {
-    if handed.error != OpenError::Fault {
-        return None;
-    }
-    Some(Err(handed.disks))
 }
 
 /// The archive on these disks.
-pub(crate) fn opened(alloc: Global, disks: Both) -> Option<Played> {
-    try_open(alloc, disks).ok()
+pub(crate) fn opened(rt: &impl Abort, alloc: Global, disks: Both) -> Played {
+    match try_open(alloc, disks) {
+        Ok(archive) => archive,
+        Err(_) => panic!(rt; "the disks are refused"),
+    }
+}
+
+/// The disks of an opening that was refused because one of them failed.
+pub(crate) fn failed(rt: &impl Abort, handed: Handed) -> Both {
+    be(rt, handed.error == OpenError::Fault, "a disk failed");
+    handed.disks
 }

@@ -4,9 +4,10 @@ use crate::disks::{Both, KINDS, torn};
 use disk_memory::{Failure, MemOnce, OnceFailure};
 use disk_models::{EraseDisk, OnceDisk};
 use std::alloc::Global;
+use std::process::Abort;
 
 /// The calls of both disks.
-#[derive(Clone, Copy, PartialEq, Eq)]
+#[derive(Clone, Copy)]
 pub(crate) enum Device {
     Read,
     Write,
@@ -21,51 +22,31 @@ pub(crate) enum Device {
     ReadBlock,
 }
 
-impl Device {
-    /// How many ways there are in which such a call fails: a write and a burn leave what each kind of torn range has.
-    pub(crate) fn ways(self) -> u64 {
-        match self {
-            Device::Write | Device::Burn => KINDS,
-            _ => 1,
-        }
-    }
-
-    /// Whether the archive must be opened again after such a failure.
-    pub(crate) fn is_of_pages(self) -> bool {
-        self == Device::Write || self == Device::Sync
-    }
-
-    fn erase_failure(self, number: u64) -> Option<Failure> {
-        match self {
-            Device::Read => Some(Failure::Read(number)),
-            Device::Write => Some(Failure::Write(number / KINDS, torn(number % KINDS))),
-            Device::Sync => Some(Failure::Sync(number)),
-            _ => None,
-        }
-    }
-
-    fn once_failure(self, number: u64) -> Option<OnceFailure> {
-        match self {
-            Device::Blank => Some(OnceFailure::Blank(number)),
-            Device::Burn => Some(OnceFailure::Burn(number / KINDS, torn(number % KINDS))),
-            Device::Settle => Some(OnceFailure::Settle(number)),
-            Device::Look => Some(OnceFailure::Look(number)),
-            Device::ReadBlock => Some(OnceFailure::Read(number)),
-            _ => None,
-        }
-    }
-}
-
 impl Both {
-    /// Has a call fail: its number among those of its kind, from 0 on, times the ways, and which of these.
-    pub(crate) fn fail(&mut self, alloc: Global, call: Device, number: u64) -> Option<()> {
-        if let Some(failure) = call.erase_failure(number) {
-            self.erase.set_script(vec![in alloc; failure].ok()?);
+    fn fail_erase(&mut self, rt: &impl Abort, alloc: Global, failure: Failure) {
+        let script = vec![in alloc; failure].expect(rt, "memory");
+        self.erase.set_script(script);
+    }
+
+    fn fail_once(&mut self, rt: &impl Abort, alloc: Global, failure: OnceFailure) {
+        let script = vec![in alloc; failure].expect(rt, "memory");
+        self.pen.set_script(script);
+    }
+
+    /// Has a call fail: its number among those of its kind, from 0 on; a write and a burn leave what each kind of torn range has, so
+    /// their numbers are times the kinds, and which of these.
+    pub(crate) fn fail(&mut self, rt: &impl Abort, alloc: Global, call: Device, number: u64) {
+        let (write, kind) = (number / KINDS, number % KINDS);
+        match call {
+            Device::Read => self.fail_erase(rt, alloc, Failure::Read(number)),
+            Device::Write => self.fail_erase(rt, alloc, Failure::Write(write, torn(kind))),
+            Device::Sync => self.fail_erase(rt, alloc, Failure::Sync(number)),
+            Device::Blank => self.fail_once(rt, alloc, OnceFailure::Blank(number)),
+            Device::Burn => self.fail_once(rt, alloc, OnceFailure::Burn(write, torn(kind))),
+            Device::Settle => self.fail_once(rt, alloc, OnceFailure::Settle(number)),
+            Device::Look => self.fail_once(rt, alloc, OnceFailure::Look(number)),
+            Device::ReadBlock => self.fail_once(rt, alloc, OnceFailure::Read(number)),
         }
-        if let Some(failure) = call.once_failure(number) {
-            self.pen.set_script(vec![in alloc; failure].ok()?);
-        }
-        Some(())
     }
 
     /// How often a disk failed.

@@ -1,13 +1,14 @@
 //! Each call of a disk in a life fails once, alone, dealt out over some tests.
 
-use crate::acts::{ASKED, LONG, RISING};
-use crate::asked::query_of;
+use crate::acts::{LONG, RISING, Script};
 use crate::be_at;
 use crate::disks::opened;
 use crate::failing::Device;
-use crate::played::{Outcome, ask, check};
+use crate::played::{Outcome, check};
+use crate::pure::NOW;
 use crate::refused::{Refusal, Trial, end, live};
 use crate::stage::{Stage, prepare};
+use std::alloc::Global;
 use std::process::Abort;
 
 /// Failures of calls of one kind, from one on and before another one, and how many of them come in a life.
@@ -18,69 +19,62 @@ struct Deal {
     failures: u64,
 }
 
+/// The archive must be opened again after a failure of a write or a sync.
 fn refusal_of(call: Device) -> Refusal {
-    if call.is_of_pages() {
-        Refusal::Pages
-    } else {
-        Refusal::Device
+    match call {
+        Device::Write | Device::Sync => Refusal::Pages,
+        _ => Refusal::Device,
     }
 }
 
-/// A life in which this failure may come. Each that comes is returned by a call.
-fn fail(rt: &impl Abort, stage: &Stage, call: Device, number: u64) -> Trial {
+/// A life in which this failure may come. Each that comes is returned by a call. Returns how many came.
+fn fail(rt: &impl Abort, stage: &Stage, call: Device, number: u64) -> u64 {
     let mut trial = Trial::new(refusal_of(call), number);
-    let mut disks = stage.disks.copy().expect(rt, "disks");
-    disks
-        .fail(stage.alloc, call, number)
-        .expect(rt, "a failure");
+    let mut disks = stage.disks.copy(rt);
+    disks.fail(rt, stage.alloc, call, number);
     let disks = live(rt, &mut trial, stage, disks);
-    be_at(
-        rt,
-        disks.faults() == trial.refused,
-        "a failure is returned",
-        number,
-    );
+    let is_returned = disks.faults() == trial.refused;
+    be_at(rt, is_returned, "a failure is returned", number);
     end(rt, &trial, stage, &disks);
-    trial
+    trial.refused
 }
 
 /// Each failure of a deal, of which there are as many as it says.
 fn sweep(rt: &impl Abort, stage: &Stage, deal: &Deal) {
     let mut failures: u64 = 0;
     for number in deal.from..deal.to {
-        let trial = fail(rt, stage, deal.call, number);
-        failures = failures.saturating_add(trial.refused);
+        let came = fail(rt, stage, deal.call, number);
+        failures = failures.saturating_add(came);
     }
     be_at(rt, failures == deal.failures, "failures", failures);
 }
 
 /// Each of these deals of a life.
-fn sweep_all(rt: &impl Abort, stage: &Stage, deals: &[Deal]) {
+fn sweep_all(rt: &impl Abort, alloc: Global, life: &Script, deals: &[Deal]) {
+    let stage = prepare(rt, alloc, life);
     for deal in deals {
-        sweep(rt, stage, deal);
+        sweep(rt, &stage, deal);
     }
 }
 
 fn is_fault(rt: &impl Abort, outcome: Outcome, number: u64) -> u64 {
-    let is_either = outcome == Outcome::Done || outcome == Outcome::Fault;
+    let is_fault = outcome == Outcome::Fault;
+    let is_either = is_fault || outcome == Outcome::Done;
     be_at(rt, is_either, "an answer where a block isn't read", number);
-    u64::from(outcome == Outcome::Fault)
+    u64::from(is_fault)
 }
 
 /// How many questions, and whether a check, are refused where each read of a block that has this number in its question fails.
 fn refused_reads(rt: &impl Abort, stage: &Stage, number: u64) -> u64 {
-    let mut disks = stage.disks.copy().expect(rt, "disks");
-    disks
-        .fail(stage.alloc, Device::ReadBlock, number)
-        .expect(rt, "a failure");
-    let mut archive = opened(stage.alloc, disks).expect(rt, "an archive");
-    let known = stage.known.first().expect(rt, "a state");
+    let mut disks = stage.disks.copy(rt);
+    disks.fail(rt, stage.alloc, Device::ReadBlock, number);
+    let mut archive = opened(rt, stage.alloc, disks);
     let mut refused: u64 = 0;
-    for (asked, wanted) in ASKED.iter().zip(known.answers.iter()) {
-        let outcome = ask(&mut archive, &query_of(asked), wanted);
+    for turn in 0..NOW {
+        let outcome = stage.ask(&mut archive, 0, turn);
         refused = refused.saturating_add(is_fault(rt, outcome, number));
     }
-    let outcome = check(&mut archive, known.state.applied);
+    let outcome = check(&mut archive, stage.applied_at(0));
     refused.saturating_add(is_fault(rt, outcome, number))
 }
 
@@ -191,31 +185,27 @@ const READS: [u64; 3] = [5, 2, 2];
 
 #[test]
 fn all_calls_but_writes_fail_once(rt: HostRuntime) {
-    let stage = prepare(rt.alloc(), &LONG).expect(&rt, "a stage");
-    sweep_all(&rt, &stage, &CALLS);
+    sweep_all(&rt, rt.alloc(), &LONG, &CALLS);
 }
 
 #[test]
 fn writes_fail_once(rt: HostRuntime) {
-    let stage = prepare(rt.alloc(), &LONG).expect(&rt, "a stage");
-    sweep_all(&rt, &stage, &WRITES);
+    sweep_all(&rt, rt.alloc(), &LONG, &WRITES);
 }
 
 #[test]
 fn later_writes_fail_once(rt: HostRuntime) {
-    let stage = prepare(rt.alloc(), &LONG).expect(&rt, "a stage");
-    sweep_all(&rt, &stage, &LATER_WRITES);
+    sweep_all(&rt, rt.alloc(), &LONG, &LATER_WRITES);
 }
 
 #[test]
 fn calls_fail_once_where_the_root_rises(rt: HostRuntime) {
-    let stage = prepare(rt.alloc(), &RISING).expect(&rt, "a stage");
-    sweep_all(&rt, &stage, &RISE);
+    sweep_all(&rt, rt.alloc(), &RISING, &RISE);
 }
 
 #[test]
 fn reads_of_blocks_fail(rt: HostRuntime) {
-    let stage = prepare(rt.alloc(), &LONG).expect(&rt, "a stage");
+    let stage = prepare(&rt, rt.alloc(), &LONG);
     for (number, wanted) in READS.iter().enumerate() {
         let refused = refused_reads(&rt, &stage, number as u64);
         be_at(&rt, refused == *wanted, "refused questions", refused);

@@ -6,12 +6,14 @@ use crate::be;
 use crate::disks::{Both, given_up, opened};
 use crate::laid::octets_of;
 use crate::loads::PAGE;
-use crate::played::checked;
-use crate::stage::{Stage, does_all, prepare};
+use crate::played::{Outcome, check};
+use crate::pure::{Answered, NOW};
+use crate::stage::{Stage, prepare};
+use crate::stops::play;
 use disk_memory::{Burn, Call};
-use interleaving_core::Reply;
 use route_model::octets::u64_at;
 use std::alloc::Global;
+use std::process::Abort;
 
 /// What happens in a life: its calls that write, what is burnt, and what becomes of pages and slots.
 #[derive(Clone, Copy, PartialEq, Eq)]
@@ -30,8 +32,6 @@ struct Happened {
     closed: usize,
     /// Records that are late.
     late: u64,
-    /// Changes that a check counts then.
-    changes: Option<u64>,
 }
 
 const LONG_LIFE: Happened = Happened {
@@ -43,7 +43,6 @@ const LONG_LIFE: Happened = Happened {
     levels: 0,
     closed: 11,
     late: 1,
-    changes: Some(1_323),
 };
 
 const RISING_LIFE: Happened = Happened {
@@ -55,44 +54,36 @@ const RISING_LIFE: Happened = Happened {
     levels: 1,
     closed: 2,
     late: 0,
-    changes: Some(7),
 };
 
-/// The disks after the life, and how many changes a check counts then.
-#[derive(Drop)]
-struct Lived {
-    disks: Both,
-    changes: Option<u64>,
+/// Changes that a check counts at the end of each life.
+const LONG_CHANGES: u64 = 1_323;
+
+const RISING_CHANGES: u64 = 7;
+
+/// The disks after the life, where a check counts this many changes.
+fn live(rt: &impl Abort, stage: &Stage, changes: u64) -> Both {
+    let mut archive = opened(rt, stage.alloc, stage.disks.copy(rt));
+    let is_done = play(stage, &mut archive) == stage.script.life;
+    let is_counted = is_done && check(&mut archive, changes) == Outcome::Done;
+    be(rt, is_counted, "a life, and its changes");
+    given_up(archive)
 }
 
-fn live(stage: &Stage) -> Option<Lived> {
-    let mut archive = opened(stage.alloc, stage.disks.copy()?)?;
-    if !does_all(&mut archive, &stage.batches, stage.script.life) {
-        return None;
+/// How many blocks begin so.
+fn count_blocks(burns: &[Burn], front: &[u8]) -> usize {
+    let mut count: usize = 0;
+    for burn in burns {
+        let is_one = burn.block().octets().starts_with(front);
+        count = count.saturating_add(usize::from(is_one));
     }
-    let changes = checked(&mut archive);
-    Some(Lived {
-        disks: given_up(archive),
-        changes,
-    })
+    count
 }
 
-/// Whether a block is a column of 648 parts.
-fn is_column(burn: &Burn) -> bool {
-    burn.block().octets().starts_with(&[2, 0, 1, 0, 2, 0x88])
-}
+/// A column of 648 parts.
+const COLUMN: [u8; 6] = [2, 0, 1, 0, 2, 0x88];
 
-fn is_leaf(burn: &Burn) -> bool {
-    burn.block().octets().starts_with(&[1, 0, 0, 0])
-}
-
-fn count_columns(burns: &[Burn]) -> usize {
-    burns.iter().filter(|burn| is_column(burn)).count()
-}
-
-fn count_leaves(burns: &[Burn]) -> usize {
-    burns.iter().filter(|burn| is_leaf(burn)).count()
-}
+const LEAF: [u8; 4] = [1, 0, 0, 0];
 
 /// Whether a call closes a slot: it writes a commit flag, and not that of an open slot.
 fn closes(call: &Call) -> bool {
@@ -109,7 +100,11 @@ fn closes(call: &Call) -> bool {
 }
 
 fn count_closed(calls: &[Call]) -> usize {
-    calls.iter().filter(|call| closes(call)).count()
+    let mut count: usize = 0;
+    for call in calls {
+        count = count.saturating_add(usize::from(closes(call)));
+    }
+    count
 }
 
 /// What the head has once all pages are home: the first page that was never used, and the level of the root.
@@ -119,101 +114,98 @@ struct Tree {
     level: u8,
 }
 
-fn tree_of(alloc: Global, disks: Both) -> Option<Tree> {
-    let mut disks = given_up(opened(alloc, disks)?);
-    let head = octets_of(alloc, &mut disks.erase, 265)?;
-    if head.len() < 48 {
-        return None;
+/// The level that a page of the tree has.
+fn level_of(octets: &[u8]) -> u8 {
+    match octets.get(2) {
+        Some(level) => *level,
+        None => u8::MAX,
     }
-    let root = octets_of(
-        alloc,
-        &mut disks.erase,
-        u64_at(&head, 40).saturating_add(265),
-    )?;
-    Some(Tree {
+}
+
+fn tree_of(rt: &impl Abort, alloc: Global, disks: &Both) -> Tree {
+    let mut disks = given_up(opened(rt, alloc, disks.copy(rt)));
+    let head = octets_of(rt, alloc, &mut disks.erase, 265);
+    if head.len() < 48 {
+        panic!(rt; "a head");
+    }
+    let root = u64_at(&head, 40).saturating_add(265);
+    let page = octets_of(rt, alloc, &mut disks.erase, root);
+    Tree {
         next: u64_at(&head, 24),
-        level: root.get(2).copied()?,
-    })
+        level: level_of(&page),
+    }
 }
 
 /// How many records of collector 1 were late.
-fn late(stage: &Stage) -> Option<u64> {
+fn late(stage: &Stage) -> u64 {
     let Some(known) = stage.known.last() else {
-        return None;
+        return u64::MAX;
     };
-    let Some(resume) = &known.state.second else {
-        return None;
-    };
-    resume.offered.checked_sub(resume.admitted)
-}
-
-/// What the calls of both disks are.
-fn happened_on(lived: &Lived, calls: usize, burns: usize, tree: &Tree, late: u64) -> Happened {
-    let calls = lived.disks.erase.calls().get(calls..).unwrap_or(&[]);
-    let burns = lived.disks.pen.settled().get(burns..).unwrap_or(&[]);
-    Happened {
-        writes_and_syncs: calls.len(),
-        burns: burns.len(),
-        leaf_blocks: count_leaves(burns),
-        column_blocks: count_columns(burns),
-        new_pages: tree.next,
-        levels: tree.level,
-        closed: count_closed(calls),
-        late,
-        changes: lived.changes,
+    match &known.state.second {
+        Some(resume) => resume.offered.wrapping_sub(resume.admitted),
+        None => u64::MAX,
     }
 }
 
 /// How many pages are used, and how many levels there are, that weren't before.
-fn grown(stage: &Stage, lived: &Lived) -> Option<Tree> {
-    let before = tree_of(stage.alloc, stage.disks.copy()?)?;
-    let after = tree_of(stage.alloc, lived.disks.copy()?)?;
-    Some(Tree {
-        next: after.next.checked_sub(before.next)?,
-        level: after.level.checked_sub(before.level)?,
-    })
+fn grown(rt: &impl Abort, stage: &Stage, lived: &Both) -> Tree {
+    let before = tree_of(rt, stage.alloc, &stage.disks);
+    let after = tree_of(rt, stage.alloc, lived);
+    Tree {
+        next: after.next.wrapping_sub(before.next),
+        level: after.level.wrapping_sub(before.level),
+    }
 }
 
-/// What happens in a life.
-fn what_happens(stage: &Stage) -> Option<Happened> {
-    let lived = live(stage)?;
-    let tree = grown(stage, &lived)?;
+/// What happens in a life, after which the disks are these.
+fn what_happens(rt: &impl Abort, stage: &Stage, lived: &Both) -> Happened {
+    let grown = grown(rt, stage, lived);
     let calls = stage.disks.erase.calls().len();
     let burns = stage.disks.pen.settled().len();
-    Some(happened_on(&lived, calls, burns, &tree, late(stage)?))
+    let calls = lived.erase.calls().get(calls..).unwrap_or(&[]);
+    let burns = lived.pen.settled().get(burns..).unwrap_or(&[]);
+    Happened {
+        writes_and_syncs: calls.len(),
+        burns: burns.len(),
+        leaf_blocks: count_blocks(burns, &LEAF),
+        column_blocks: count_blocks(burns, &COLUMN),
+        new_pages: grown.next,
+        levels: grown.level,
+        closed: count_closed(calls),
+        late: late(stage),
+    }
+}
+
+/// This happens in a life.
+fn happens(rt: &impl Abort, stage: &Stage, changes: u64, wanted: &Happened) {
+    let lived = live(rt, stage, changes);
+    let happened = what_happens(rt, stage, &lived);
+    be(rt, happened == *wanted, "what happens");
 }
 
 /// How many rows or events each question of [`crate::acts::ASKED`] has at the end of the life.
 const ROWS: [usize; 14] = [1, 1, 3, 2, 1, 3, 4, 5, 10, 12, 9, 10, 1, 2];
 
-fn counts_as(reply: &Reply, rows: &usize) -> bool {
-    count_of(reply) == *rows
-}
-
-/// Whether each question has that number of rows or events at the end.
-fn are_answered(stage: &Stage) -> bool {
-    let Some(known) = stage.known.last() else {
-        return false;
-    };
-    known.answers.len() == ROWS.len()
-        && known
-            .answers
-            .iter()
-            .zip(ROWS.iter())
-            .all(|(reply, rows)| counts_as(reply, rows))
+/// Whether each question has that number of rows or events.
+fn are_counted(answers: &[Answered]) -> bool {
+    for (answered, rows) in answers.iter().zip(ROWS.iter()) {
+        if count_of(&answered.reply) != *rows {
+            return false;
+        }
+    }
+    answers.len() == NOW + 1
 }
 
 #[test]
 fn a_life_has_splits_of_each_kind_and_a_checkpoint(rt: HostRuntime) {
-    let stage = prepare(rt.alloc(), &LONG).expect(&rt, "a stage");
-    let happened = what_happens(&stage);
-    be(&rt, happened == Some(LONG_LIFE), "what happens");
-    be(&rt, are_answered(&stage), "rows and events");
+    let stage = prepare(&rt, rt.alloc(), &LONG);
+    happens(&rt, &stage, LONG_CHANGES, &LONG_LIFE);
+    let known = stage.known.last().expect(&rt, "a state");
+    be(&rt, are_counted(&known.answers), "rows and events");
 }
 
 #[test]
 fn a_life_has_a_root_that_rises(rt: HostRuntime) {
-    let stage = prepare(rt.alloc(), &RISING).expect(&rt, "a stage");
-    let happened = what_happens(&stage);
-    be(&rt, happened == Some(RISING_LIFE), "what happens");
+    let stage = prepare(&rt, rt.alloc(), &RISING);
+    happens(&rt, &stage, RISING_CHANGES, &RISING_LIFE);
 }

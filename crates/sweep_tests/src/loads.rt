@@ -1,16 +1,18 @@
 //! Two disks are prepared.
 
 use crate::acts::{Load, Script};
+use crate::be;
 use crate::disks::{Both, Played, given_up};
 use crate::laid::laid_anew;
 use crate::played::{Outcome, apply_all, flush_all, give, set_mark, state_of};
 use crate::pure::Pure;
-use crate::records::{Record, batch_of};
+use crate::records::{Record, put};
 use archive_pages::Settings;
 use disk_archive::Archive;
 use disk_memory::{MemErase, MemOnce};
 use route_model::Admission;
 use std::alloc::Global;
+use std::process::Abort;
 use std::sync::Arc;
 
 /// The octets of a page.
@@ -30,18 +32,14 @@ const SETTINGS: Settings = Settings {
     ring: 9,
 };
 
-/// An archive, and the pure machine that did the same.
-#[derive(Drop)]
-pub(crate) struct Loaded {
-    pub(crate) disks: Both,
-    pub(crate) pure: Pure,
-}
-
-fn created(alloc: Global) -> Option<Played> {
+fn created(rt: &impl Abort, alloc: Global) -> Played {
     let erase = MemErase::new(alloc, (265 + HOMES) * PAGE);
     let (once, pen) = MemOnce::new(alloc, BLOCKS);
-    let once = Arc::new(alloc, once).ok()?;
-    Archive::create(alloc, erase, once, pen, SETTINGS).ok()
+    let once = Arc::new(alloc, once).expect(rt, "memory");
+    match Archive::create(alloc, erase, once, pen, SETTINGS) {
+        Ok(archive) => archive,
+        Err(_) => panic!(rt; "an archive"),
+    }
 }
 
 /// The record of this number.
@@ -56,13 +54,27 @@ fn record_of(load: &Load, number: u32) -> Record {
     )
 }
 
-/// The records from a number on, as many as a batch has.
-fn records_of(alloc: Global, load: &Load, from: u32) -> Option<Vec<Record>> {
-    let mut records = Vec::new(alloc);
-    for number in from..load.5.min(from.saturating_add(MOST)) {
-        records.push(record_of(load, number)).ok()?;
+/// The batch of the records from a number on and before another one.
+fn batch_of_load(
+    rt: &impl Abort,
+    alloc: Global,
+    load: &Load,
+    from: u32,
+    end: u32,
+) -> Vec<Admission> {
+    let mut batch = Vec::new(alloc);
+    for number in from..end {
+        put(rt, alloc, &mut batch, &record_of(load, number));
     }
-    Some(records)
+    batch
+}
+
+/// Both take the mark of both collectors.
+fn raise(archive: &mut Played, pure: &mut Pure, mark: u32) -> bool {
+    set_mark(archive, 0, mark) == Outcome::Done
+        && set_mark(archive, 1, mark) == Outcome::Done
+        && pure.set_mark(0, mark)
+        && pure.set_mark(1, mark)
 }
 
 /// Both take the batch, and apply it.
@@ -80,56 +92,23 @@ fn take(
         && pure.apply_until(state_of(archive).applied)
 }
 
-fn raise(archive: &mut Played, pure: &mut Pure, mark: u32) -> bool {
-    set_mark(archive, 0, mark) == Outcome::Done
-        && set_mark(archive, 1, mark) == Outcome::Done
-        && pure.set_mark(0, mark)
-        && pure.set_mark(1, mark)
-}
-
-/// Both take the records of a load from a number on, as many as a batch has.
-fn take_some(
-    alloc: Global,
-    archive: &mut Played,
-    pure: &mut Pure,
-    load: &Load,
-    from: u32,
-) -> Option<bool> {
-    let records = records_of(alloc, load, from)?;
-    let batch = batch_of(alloc, &records)?;
-    let end = load.5.min(from.saturating_add(MOST));
-    let mark = load.4.saturating_add(end);
-    Some(take(archive, pure, load.0, &batch, mark))
-}
-
-/// Both take the records of a load.
-fn take_all(alloc: Global, archive: &mut Played, pure: &mut Pure, load: &Load) -> bool {
+/// Both take the records of a load, as many at a time as a batch has.
+fn take_all(rt: &impl Abort, alloc: Global, archive: &mut Played, pure: &mut Pure, load: &Load) {
     for turn in 0..load.5.div_ceil(MOST) {
         let from = turn.saturating_mul(MOST);
-        if take_some(alloc, archive, pure, load, from) != Some(true) {
-            return false;
-        }
+        let end = load.5.min(from.saturating_add(MOST));
+        let batch = batch_of_load(rt, alloc, load, from, end);
+        let is_taken = take(archive, pure, load.0, &batch, load.4.saturating_add(end));
+        be(rt, is_taken, "a load");
     }
-    true
-}
-
-/// Both take all loads.
-fn load_all(alloc: Global, archive: &mut Played, pure: &mut Pure, loads: &[Load]) -> bool {
-    for load in loads {
-        if !take_all(alloc, archive, pure, load) {
-            return false;
-        }
-    }
-    flush_all(archive)
 }
 
 /// The disks with all loads, of which no page waits to go home.
-pub(crate) fn load_disks(alloc: Global, script: &Script) -> Option<Loaded> {
-    let mut archive = created(alloc)?;
-    let mut pure = Pure::new(alloc)?;
-    if !load_all(alloc, &mut archive, &mut pure, script.loads) {
-        return None;
+pub(crate) fn load_disks(rt: &impl Abort, alloc: Global, script: &Script, pure: &mut Pure) -> Both {
+    let mut archive = created(rt, alloc);
+    for load in script.loads {
+        take_all(rt, alloc, &mut archive, pure, load);
     }
-    let disks = laid_anew(alloc, given_up(archive))?;
-    Some(Loaded { disks, pure })
+    be(rt, flush_all(&mut archive), "all pages are home");
+    laid_anew(rt, alloc, given_up(archive))
 }

@@ -15,22 +15,18 @@ const LAST: usize = 70_003;
 /// Takes memory of this size, and gives it back.
 fn take(rt: &impl Abort, alloc: Global, size: usize) {
     let octets = vec![in alloc; 1u8; size].expect(rt, "memory");
-    let count = octets.iter().filter(|octet| **octet == 1).count();
-    be(rt, count == size, "octets");
+    be(rt, octets.ends_with(&[1]), "octets");
 }
 
 #[test]
 fn a_life_answers_the_same_where_memory_is_refused(rt: HostRuntime) {
-    let stage = prepare(rt.alloc(), &RISING).expect(&rt, "a stage");
-    let disks = stage.disks.copy().expect(&rt, "disks");
+    let stage = prepare(&rt, rt.alloc(), &RISING);
+    let disks = stage.disks.copy(&rt);
     let mut trial = Trial::new(Refusal::Memory, 0);
     take(&rt, rt.alloc(), FIRST);
     let disks = live(&rt, &mut trial, &stage, disks);
     take(&rt, rt.alloc(), LAST);
-    be(
-        &rt,
-        disks.faults() <= trial.refused,
-        "a failure is returned",
-    );
+    let is_returned = disks.faults() <= trial.refused;
+    be(&rt, is_returned, "a failure is returned");
     end(&rt, &trial, &stage, &disks);
 }

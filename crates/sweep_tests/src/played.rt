@@ -1,4 +1,4 @@
-//! Calls of an archive, of which nothing more is known than what they answer.
+//! Calls of an archive, each made here alone, of which nothing more is known than what they come to.
 
 use crate::asked::same;
 use crate::disks::Played;
@@ -6,7 +6,9 @@ use crate::records::mark_at;
 use disk_archive::{
     AdmitError, ApplyError, AskError, CheckError, Flush, FlushError, MarkError, OpenError, Step,
 };
+use disk_memory::MemOnce;
 use interleaving_core::{Answer, Query, Reply, Resume};
+use once_store::ShelfReader;
 use route_model::{Admission, Mark};
 
 /// What a call came to.
@@ -14,12 +16,31 @@ use route_model::{Admission, Mark};
 pub(crate) enum Outcome {
     /// It did, or returned, what it has to where nothing is refused.
     Done,
+    /// Nothing is left to be done.
+    Idle,
     /// A device failed.
     Fault,
     OutOfMemory,
     NeedsRecovery,
+    /// The block of this number is damaged.
+    Damaged(u64),
     /// Another refusal, or another answer.
     Other,
+}
+
+impl Outcome {
+    /// Whether a call did what it has to, if there was anything to do.
+    pub(crate) fn is_done(self) -> bool {
+        matches!(self, Outcome::Done | Outcome::Idle)
+    }
+
+    /// Whether neither a device failed nor memory, and the archive needn't be opened again.
+    pub(crate) fn is_no_failure(self) -> bool {
+        !matches!(
+            self,
+            Outcome::Fault | Outcome::OutOfMemory | Outcome::NeedsRecovery
+        )
+    }
 }
 
 /// The state of an archive, beside its answers.
@@ -31,14 +52,29 @@ pub(crate) struct State {
     pub(crate) applied: u64,
 }
 
+fn of_admit(error: AdmitError) -> Outcome {
+    match error {
+        AdmitError::Fault => Outcome::Fault,
+        AdmitError::OutOfMemory => Outcome::OutOfMemory,
+        AdmitError::NeedsRecovery => Outcome::NeedsRecovery,
+        _ => Outcome::Other,
+    }
+}
+
 /// Gives a batch of a collector: done where it is acknowledged, and its receipt ends where the collector goes on.
 pub(crate) fn give(archive: &mut Played, collector: u8, batch: &[Admission]) -> Outcome {
     match archive.admit(collector, batch) {
         Ok(reply) => given(archive, collector, reply.receipt.to),
-        Err(AdmitError::Fault) => Outcome::Fault,
-        Err(AdmitError::OutOfMemory) => Outcome::OutOfMemory,
-        Err(AdmitError::NeedsRecovery) => Outcome::NeedsRecovery,
-        Err(_) => Outcome::Other,
+        Err(error) => of_admit(error),
+    }
+}
+
+fn of_mark(error: MarkError) -> Outcome {
+    match error {
+        MarkError::Fault => Outcome::Fault,
+        MarkError::OutOfMemory => Outcome::OutOfMemory,
+        MarkError::NeedsRecovery => Outcome::NeedsRecovery,
+        _ => Outcome::Other,
     }
 }
 
@@ -46,28 +82,32 @@ pub(crate) fn give(archive: &mut Played, collector: u8, batch: &[Admission]) -> 
 pub(crate) fn set_mark(archive: &mut Played, collector: u8, seconds: u32) -> Outcome {
     match archive.mark(collector, mark_at(seconds)) {
         Ok(()) => Outcome::Done,
-        Err(MarkError::Fault) => Outcome::Fault,
-        Err(MarkError::OutOfMemory) => Outcome::OutOfMemory,
-        Err(MarkError::NeedsRecovery) => Outcome::NeedsRecovery,
-        Err(_) => Outcome::Other,
+        Err(error) => of_mark(error),
+    }
+}
+
+fn of_apply(error: ApplyError) -> Outcome {
+    match error {
+        ApplyError::Fault => Outcome::Fault,
+        ApplyError::OutOfMemory => Outcome::OutOfMemory,
+        ApplyError::NeedsRecovery => Outcome::NeedsRecovery,
+        _ => Outcome::Other,
     }
 }
 
 /// Makes a step of applying.
 pub(crate) fn apply(archive: &mut Played) -> Outcome {
     match archive.apply_step() {
-        Ok(_) => Outcome::Done,
-        Err(ApplyError::Fault) => Outcome::Fault,
-        Err(ApplyError::OutOfMemory) => Outcome::OutOfMemory,
-        Err(ApplyError::NeedsRecovery) => Outcome::NeedsRecovery,
-        Err(_) => Outcome::Other,
+        Ok(Step::Applied) => Outcome::Done,
+        Ok(Step::Idle) => Outcome::Idle,
+        Err(error) => of_apply(error),
     }
 }
 
 /// Makes steps of applying until nothing may be applied.
 pub(crate) fn apply_all(archive: &mut Played) -> bool {
     for _ in 0..1_000 {
-        if archive.apply_step() == Ok(Step::Idle) {
+        if apply(archive) == Outcome::Idle {
             return true;
         }
     }
@@ -77,7 +117,8 @@ pub(crate) fn apply_all(archive: &mut Played) -> bool {
 /// Makes a step of flushing.
 pub(crate) fn flush(archive: &mut Played) -> Outcome {
     match archive.flush_step() {
-        Ok(_) => Outcome::Done,
+        Ok(Flush::Flushed) => Outcome::Done,
+        Ok(Flush::Clean) => Outcome::Idle,
         Err(FlushError::Fault) => Outcome::Fault,
         Err(FlushError::NeedsRecovery) => Outcome::NeedsRecovery,
     }
@@ -86,7 +127,7 @@ pub(crate) fn flush(archive: &mut Played) -> Outcome {
 /// Makes steps of flushing until no page waits to go home.
 pub(crate) fn flush_all(archive: &mut Played) -> bool {
     for _ in 0..1_000 {
-        if archive.flush_step() == Ok(Flush::Clean) {
+        if flush(archive) == Outcome::Idle {
             return true;
         }
     }
@@ -117,11 +158,12 @@ pub(crate) fn state_of(archive: &Played) -> State {
     }
 }
 
-fn of_ask(error: &AskError) -> Outcome {
+fn of_ask(error: AskError) -> Outcome {
     match error {
         AskError::Fault => Outcome::Fault,
         AskError::OutOfMemory => Outcome::OutOfMemory,
         AskError::NeedsRecovery => Outcome::NeedsRecovery,
+        AskError::Damaged(block) => Outcome::Damaged(block),
         _ => Outcome::Other,
     }
 }
@@ -133,7 +175,7 @@ fn of_answer(answer: &Result<Answer, AskError>, wanted: &Reply) -> Outcome {
     }
     match answer {
         Ok(_) => Outcome::Other,
-        Err(error) => of_ask(error),
+        Err(error) => of_ask(*error),
     }
 }
 
@@ -143,9 +185,15 @@ pub(crate) fn ask(archive: &mut Played, query: &Query, wanted: &Reply) -> Outcom
     of_answer(&answer, wanted)
 }
 
-/// Whether a question is answered so.
-pub(crate) fn answers(archive: &mut Played, query: &Query, wanted: &Reply) -> bool {
-    ask(archive, query, wanted) == Outcome::Done
+/// The same by a reader that keeps the blocks which it reads.
+pub(crate) fn ask_with(
+    archive: &mut Played,
+    reader: &mut ShelfReader<MemOnce>,
+    query: &Query,
+    wanted: &Reply,
+) -> Outcome {
+    let answer = archive.answer_with(reader, *query);
+    of_answer(&answer, wanted)
 }
 
 /// Makes the first turn of a question.
@@ -153,23 +201,26 @@ pub(crate) fn begin_asking(archive: &mut Played, query: &Query) -> Outcome {
     let mut cursor = archive.start(*query);
     match archive.descend(&mut cursor) {
         Ok(_) => Outcome::Done,
-        Err(error) => of_ask(&error),
+        Err(error) => of_ask(error),
     }
 }
 
-/// How many changes a check counts. None where it finds a page or a block that isn't what may stand there.
-pub(crate) fn checked(archive: &mut Played) -> Option<u64> {
-    archive.check().ok()
+fn of_check(error: CheckError) -> Outcome {
+    match error {
+        CheckError::Fault => Outcome::Fault,
+        CheckError::OutOfMemory => Outcome::OutOfMemory,
+        CheckError::NeedsRecovery => Outcome::NeedsRecovery,
+        CheckError::Damaged(block) => Outcome::Damaged(block),
+        CheckError::BadNode(_) => Outcome::Other,
+    }
 }
 
 /// Checks the archive: done where this many changes are counted.
 pub(crate) fn check(archive: &mut Played, changes: u64) -> Outcome {
     match archive.check() {
         Ok(count) if count == changes => Outcome::Done,
-        Err(CheckError::Fault) => Outcome::Fault,
-        Err(CheckError::OutOfMemory) => Outcome::OutOfMemory,
-        Err(CheckError::NeedsRecovery) => Outcome::NeedsRecovery,
-        _ => Outcome::Other,
+        Ok(_) => Outcome::Other,
+        Err(error) => of_check(error),
     }
 }
 

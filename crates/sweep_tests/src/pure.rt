@@ -1,20 +1,30 @@
 //! The pure machine beside an archive: its states, and its answers in each.
 
 use crate::acts::ASKED;
-use crate::asked::query_of;
+use crate::asked::{query_of, rows_at};
 use crate::played::State;
 use crate::records::mark_at;
 use interleaving_core::{Machine, Query, Reach, Reply};
-use route_meaning::{RowsQuestion, Select};
-use route_model::{Admission, Mark, Moment};
+use route_meaning::Select;
+use route_model::{Admission, Mark};
 use std::alloc::Global;
+use std::process::Abort;
 
-/// A state that an archive may be in, what each question returns then, and all routes at the last moment that is settled.
+/// A question, and what it returns.
+#[derive(Drop)]
+pub(crate) struct Answered {
+    pub(crate) query: Query,
+    pub(crate) reply: Reply,
+}
+
+/// The number of the question of now, after those of [`ASKED`]: all routes at the last moment that is settled.
+pub(crate) const NOW: usize = 14;
+
+/// A state that an archive may be in, and what each question returns then.
 #[derive(Drop)]
 pub(crate) struct Known {
     pub(crate) state: State,
-    pub(crate) answers: Vec<Reply>,
-    pub(crate) now: Reply,
+    pub(crate) answers: Vec<Answered>,
 }
 
 /// The pure machine, and how many changes it applied, where each record has one.
@@ -25,35 +35,19 @@ pub(crate) struct Pure {
     applied: u64,
 }
 
-/// The settled watermark, where a reply has it.
-fn settled_in(reply: &Reply) -> Option<Mark> {
-    match reply {
-        Reply::AboveWatermark(settled) => Some(*settled),
-        _ => None,
-    }
-}
-
-/// The question of all routes at a moment.
-fn all_at(seconds: u32) -> Query {
-    Query::Rows(RowsQuestion {
-        moment: Moment::from(seconds),
-        select: Select::All,
-        after: None,
-    })
-}
-
 /// The question of all routes at the last moment that is settled in a state.
-pub(crate) fn last_moment(state: &State) -> Query {
-    all_at(state.settled.seconds().saturating_sub(1).min(9_999) as u32)
+fn last_moment(state: &State) -> Query {
+    let seconds = state.settled.seconds().saturating_sub(1).min(9_999);
+    rows_at(seconds as u32, Select::All)
 }
 
 impl Pure {
-    pub(crate) fn new(alloc: Global) -> Option<Pure> {
-        Some(Pure {
+    pub(crate) fn new(rt: &impl Abort, alloc: Global) -> Pure {
+        Pure {
             alloc,
-            machine: Machine::created(alloc, 2).ok()?,
+            machine: Machine::created(alloc, 2).expect(rt, "memory"),
             applied: 0,
-        })
+        }
     }
 
     /// How many changes are applied.
@@ -77,9 +71,7 @@ impl Pure {
     /// Applies the next change, where one may be.
     pub(crate) fn apply(&mut self) -> bool {
         let is_applied = matches!(self.machine.apply(0), Ok(Reply::Applied));
-        if is_applied {
-            self.applied = self.applied.saturating_add(1);
-        }
+        self.applied = self.applied.saturating_add(u64::from(is_applied));
         is_applied
     }
 
@@ -93,39 +85,46 @@ impl Pure {
         self.applied == applied
     }
 
-    fn reply_to(&mut self, query: &Query) -> Option<Reply> {
+    fn reply_to(&mut self, rt: &impl Abort, query: &Query) -> Reply {
         match self.machine.begin(*query) {
-            Ok(Reply::Begun(number)) => self.machine.turn(number, Reach::End).ok(),
-            _ => None,
+            Ok(Reply::Begun(number)) => {
+                self.machine.turn(number, Reach::End).expect(rt, "memory")
+            }
+            _ => panic!(rt; "a question"),
         }
     }
 
     /// The settled watermark: a question of the last moment of all returns it.
-    fn settled(&mut self) -> Option<Mark> {
-        settled_in(&self.reply_to(&all_at(u32::MAX))?)
+    fn settled(&mut self, rt: &impl Abort) -> Mark {
+        match self.reply_to(rt, &rows_at(u32::MAX, Select::All)) {
+            Reply::AboveWatermark(settled) => settled,
+            _ => panic!(rt; "the watermark"),
+        }
     }
 
-    fn state(&mut self) -> Option<State> {
-        Some(State {
+    fn state(&mut self, rt: &impl Abort) -> State {
+        State {
             first: self.machine.resume(0),
             second: self.machine.resume(1),
-            settled: self.settled()?,
+            settled: self.settled(rt),
             applied: self.applied,
-        })
+        }
+    }
+
+    /// Asks a question, and remembers what it returns.
+    fn ask(&mut self, rt: &impl Abort, answers: &mut Vec<Answered>, query: Query) {
+        let reply = self.reply_to(rt, &query);
+        answers.push(Answered { query, reply }).expect(rt, "memory");
     }
 
     /// Its state and its answers now.
-    pub(crate) fn known(&mut self) -> Option<Known> {
-        let state = self.state()?;
+    pub(crate) fn known(&mut self, rt: &impl Abort) -> Known {
+        let state = self.state(rt);
         let mut answers = Vec::new(self.alloc);
         for asked in &ASKED {
-            answers.push(self.reply_to(&query_of(asked))?).ok()?;
+            self.ask(rt, &mut answers, query_of(asked));
         }
-        let now = self.reply_to(&last_moment(&state))?;
-        Some(Known {
-            state,
-            answers,
-            now,
-        })
+        self.ask(rt, &mut answers, last_moment(&state));
+        Known { state, answers }
     }
 }

@@ -2,16 +2,35 @@
 
 use route_model::{Address, Admission, Change, Mark, Moment, Peer, Prefix, Route, SharedRoute};
 use std::alloc::Global;
+use std::process::Abort;
 
 /// A record of one change: its time, a peer and a prefix, and the route that is announced. Route 0 is a withdrawal, and 255 the end of
 /// the session.
 pub(crate) type Record = (u32, u8, u8, u8);
 
-/// A route by 65001 and 65002, with an attribute of type 99 that has 3,035 octets.
-const FRONT: [u8; 25] = [
-    0, 0, 1, 2, 2, 0, 0, 0xFD, 0xE9, 0, 0, 0xFD, 0xEA, 4, 0xC0, 0, 2, 1, 0, 0, 1, 99, 0xC0, 0x0B,
-    0xDB,
-];
+/// The front of a route: by 65001 and 65002, with an attribute of type 99, and how many octets all has.
+struct Front {
+    octets: &'static [u8],
+    length: usize,
+}
+
+/// A route whose attribute has 3,035 octets.
+const LARGE: Front = Front {
+    octets: &[
+        0, 0, 1, 2, 2, 0, 0, 0xFD, 0xE9, 0, 0, 0xFD, 0xEA, 4, 0xC0, 0, 2, 1, 0, 0, 1, 99, 0xC0,
+        0x0B, 0xDB,
+    ],
+    length: 3_060,
+};
+
+/// The route for the smallest key of all, whose attribute has 1,375.
+const SMALL: Front = Front {
+    octets: &[
+        0, 0, 1, 2, 2, 0, 0, 0xFD, 0xE9, 0, 0, 0xFD, 0xEA, 4, 0xC0, 0, 2, 1, 0, 0, 1, 99, 0xC0,
+        0x05, 0x5F,
+    ],
+    length: 1_400,
+};
 
 pub(crate) fn mark_at(seconds: u32) -> Mark {
     Mark::at(Moment::from(seconds))
@@ -30,52 +49,54 @@ pub(crate) fn prefix_of(number: u8) -> Prefix {
     Prefix::containing(Address::V4([10, number, 0, 0]), 16)
 }
 
-/// The route of this number: 3,060 octets.
-fn large_route(alloc: Global, number: u8) -> Option<SharedRoute> {
-    let mut octets = FRONT.to_vec(alloc).ok()?;
-    octets.resize(3_060, number).ok()?;
-    route_of(alloc, &octets)
+/// The route of this number.
+fn route_of(rt: &impl Abort, alloc: Global, front: &Front, number: u8) -> SharedRoute {
+    let mut octets = front.octets.to_vec(alloc).expect(rt, "memory");
+    octets.resize(front.length, number).expect(rt, "memory");
+    match Route::decode(alloc, &octets) {
+        Ok(Some(route)) => SharedRoute::new(alloc, route).expect(rt, "memory"),
+        _ => panic!(rt; "a route"),
+    }
 }
 
-/// The route of this number for the smallest key of all: 1,400 octets.
-fn small_route(alloc: Global, number: u8) -> Option<SharedRoute> {
-    let mut octets = FRONT.to_vec(alloc).ok()?;
-    octets[23] = 0x05;
-    octets[24] = 0x5F;
-    octets.resize(1_400, number).ok()?;
-    route_of(alloc, &octets)
+/// The route that a peer announces for a prefix.
+fn announced(rt: &impl Abort, alloc: Global, peer: u8, prefix: u8, number: u8) -> SharedRoute {
+    if peer == 1 && prefix == 0 {
+        return route_of(rt, alloc, &SMALL, number);
+    }
+    route_of(rt, alloc, &LARGE, number)
 }
 
-fn route_of(alloc: Global, octets: &[u8]) -> Option<SharedRoute> {
-    let route = Route::decode(alloc, octets).ok()??;
-    SharedRoute::new(alloc, route).ok()
+fn change_of(rt: &impl Abort, alloc: Global, record: &Record) -> Change {
+    let (_, peer, prefix, route) = *record;
+    match route {
+        0 => Change::Withdraw(peer_of(peer), prefix_of(prefix)),
+        255 => Change::Down(peer_of(peer)),
+        number => Change::Announce(
+            peer_of(peer),
+            prefix_of(prefix),
+            announced(rt, alloc, peer, prefix, number),
+        ),
+    }
 }
 
-fn change_of(alloc: Global, peer: u8, prefix: u8, route: u8) -> Option<Change> {
-    let is_smallest = peer == 1 && prefix == 0;
-    let peer = peer_of(peer);
-    let prefix = prefix_of(prefix);
-    Some(match route {
-        0 => Change::Withdraw(peer, prefix),
-        255 => Change::Down(peer),
-        number if is_smallest => Change::Announce(peer, prefix, small_route(alloc, number)?),
-        number => Change::Announce(peer, prefix, large_route(alloc, number)?),
-    })
-}
-
-/// The admission of a record.
-pub(crate) fn admission_of(alloc: Global, record: &Record) -> Option<Admission> {
-    let (time, peer, prefix, route) = *record;
+/// Puts a record into a batch.
+pub(crate) fn put(rt: &impl Abort, alloc: Global, batch: &mut Vec<Admission>, record: &Record) {
     let mut changes = Vec::new(alloc);
-    changes.push(change_of(alloc, peer, prefix, route)?).ok()?;
-    Admission::new(Moment::from(time), changes).ok()
+    changes
+        .push(change_of(rt, alloc, record))
+        .expect(rt, "memory");
+    let admission = Admission::new(Moment::from(record.0), changes);
+    batch
+        .push(admission.ok().expect(rt, "an admission"))
+        .expect(rt, "memory");
 }
 
 /// The batch of these records.
-pub(crate) fn batch_of(alloc: Global, records: &[Record]) -> Option<Vec<Admission>> {
+pub(crate) fn batch_of(rt: &impl Abort, alloc: Global, records: &[Record]) -> Vec<Admission> {
     let mut batch = Vec::new(alloc);
     for record in records {
-        batch.push(admission_of(alloc, record)?).ok()?;
+        put(rt, alloc, &mut batch, record);
     }
-    Some(batch)
+    batch
 }

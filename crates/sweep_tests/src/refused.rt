@@ -1,18 +1,16 @@
 //! A life in which one call of a disk, or one growth of memory, is refused, and which goes on.
 
-use crate::acts::ASKED;
-use crate::asked::query_of;
+use crate::acts::Act;
 use crate::be_at;
 use crate::disks::{Both, Played, given_up, opened, try_open};
-use crate::played::{Outcome, apply, ask, begin_asking, check, flush, of_open, set_mark, state_of};
-use crate::pure::last_moment;
+use crate::played::{Outcome, apply, check, flush, of_open, set_mark, state_of};
+use crate::pure::NOW;
 use crate::stage::{Stage, call};
-use crate::stops::{is_at, is_state};
-use disk_memory::Burn;
+use crate::stops::numbered;
 use std::process::Abort;
 
 /// What is refused in a life.
-#[derive(Clone, Copy, PartialEq, Eq)]
+#[derive(Clone, Copy)]
 pub(crate) enum Refusal {
     /// A write or a sync of pages.
     Pages,
@@ -39,13 +37,8 @@ impl Trial {
         }
     }
 
-    /// Whether a call may be refused so.
-    fn may_refuse(&self, outcome: Outcome) -> bool {
-        match outcome {
-            Outcome::Fault => true,
-            Outcome::OutOfMemory => self.refusal == Refusal::Memory,
-            _ => false,
-        }
+    fn is_of_memory(&self) -> bool {
+        matches!(self.refusal, Refusal::Memory)
     }
 
     /// Whether the archive must be opened again, or needn't be, after this refusal.
@@ -65,8 +58,10 @@ impl Trial {
     /// Counts a refusal: it's the only one, and of what may be refused.
     fn refuse(&mut self, rt: &impl Abort, outcome: Outcome) {
         self.refused = self.refused.saturating_add(1);
-        self.be(rt, self.may_refuse(outcome), "what was refused");
-        self.be(rt, self.refused == 1, "one refusal");
+        let may_be = outcome == Outcome::Fault
+            || outcome == Outcome::OutOfMemory && self.is_of_memory();
+        let is_one = self.refused == 1 && may_be;
+        self.be(rt, is_one, "one refusal, of what may be refused");
     }
 }
 
@@ -76,7 +71,7 @@ fn begin(rt: &impl Abort, trial: &mut Trial, stage: &Stage, disks: Both) -> Play
         Ok(archive) => archive,
         Err(handed) => {
             trial.refuse(rt, of_open(handed.error));
-            opened(stage.alloc, handed.disks).expect(rt, "an archive")
+            opened(rt, stage.alloc, handed.disks)
         }
     }
 }
@@ -88,7 +83,7 @@ fn is_down(archive: &mut Played) -> bool {
 
 /// Whether each call that changes something is refused until the archive is opened again.
 fn does_nothing(stage: &Stage, archive: &mut Played) -> bool {
-    stage.gives(archive) == Outcome::NeedsRecovery
+    call(archive, &stage.batches, &Act::Admit(0, 0)) == Outcome::NeedsRecovery
         && set_mark(archive, 0, 9_999) == Outcome::NeedsRecovery
         && apply(archive) == Outcome::NeedsRecovery
         && flush(archive) == Outcome::NeedsRecovery
@@ -96,115 +91,85 @@ fn does_nothing(stage: &Stage, archive: &mut Played) -> bool {
 
 /// Whether nothing is answered until then.
 fn answers_nothing(stage: &Stage, archive: &mut Played, place: usize) -> bool {
-    let Some(known) = stage.known.get(place) else {
-        return false;
-    };
-    let query = last_moment(&known.state);
-    ask(archive, &query, &known.now) == Outcome::NeedsRecovery
-        && begin_asking(archive, &query) == Outcome::NeedsRecovery
+    stage.ask(archive, place, NOW) == Outcome::NeedsRecovery
+        && stage.begin_asking(archive, place) == Outcome::NeedsRecovery
         && check(archive, 0) == Outcome::NeedsRecovery
 }
 
 /// Whether an archive is in the state before an act.
 fn is_before(stage: &Stage, archive: &Played, number: usize) -> bool {
-    is_state(stage, stage.place_at(number), &state_of(archive))
+    stage.is_state(archive, stage.place_at(number))
 }
 
-/// Whether it's in the state after it.
-fn is_after(stage: &Stage, archive: &Played, number: usize) -> bool {
-    is_before(stage, archive, number.saturating_add(1))
+/// Makes an act again, which isn't refused then: the archive is as before the next one.
+fn make_again(rt: &impl Abort, trial: &Trial, stage: &Stage, archive: &mut Played, number: usize) {
+    let is_done = stage.make(archive, number).is_done();
+    let is_next = is_before(stage, archive, number.saturating_add(1));
+    trial.be(rt, is_done && is_next, "an act is made again");
 }
 
-/// Whether it's in a state between both.
-fn is_between(stage: &Stage, archive: &Played, number: usize) -> bool {
-    let state = state_of(archive);
-    let from = stage.place_at(number).saturating_add(1);
-    for place in from..stage.place_at(number.saturating_add(1)) {
-        if is_state(stage, place, &state) {
-            return true;
-        }
-    }
-    false
-}
-
-/// Makes an act.
-fn make(stage: &Stage, archive: &mut Played, number: usize) -> Outcome {
-    match stage.act(number) {
-        Some(act) => call(archive, &stage.batches, &act),
-        None => Outcome::Other,
-    }
-}
-
-/// Makes an act again, which isn't refused then.
-fn make_again(
-    rt: &impl Abort,
-    trial: &mut Trial,
-    stage: &Stage,
-    archive: &mut Played,
-    number: usize,
-) {
-    let outcome = make(stage, archive, number);
-    let is_done = outcome == Outcome::Done && is_after(stage, archive, number);
-    trial.be(rt, is_done, "an act is made again");
+/// Makes an act again where the archive is as before it, and answers so.
+fn make_undone(rt: &impl Abort, trial: &Trial, stage: &Stage, archive: &mut Played, number: usize) {
+    let is_there = stage.is_at(archive, stage.place_at(number));
+    trial.be(rt, is_there, "what was answered is answered");
+    make_again(rt, trial, stage, archive, number);
 }
 
 /// An archive that must be opened again returns the state of before, and does nothing. Once it's opened it is as before the act or as after
 /// it, and the act is made again where it isn't there.
 fn open_again(
     rt: &impl Abort,
-    trial: &mut Trial,
+    trial: &Trial,
     stage: &Stage,
     mut archive: Played,
     number: usize,
 ) -> Played {
-    let before = stage.place_at(number);
-    trial.be(rt, does_nothing(stage, &mut archive), "it does nothing");
-    trial.be(
-        rt,
-        answers_nothing(stage, &mut archive, before),
-        "it answers nothing",
-    );
-    trial.be(
-        rt,
-        is_before(stage, &archive, number),
-        "it returns what it was",
-    );
-    let mut archive = opened(stage.alloc, given_up(archive)).expect(rt, "an archive");
-    let after = stage.place_at(number.saturating_add(1));
-    if !is_at(stage, &mut archive, after) {
-        trial.be(rt, is_at(stage, &mut archive, before), "all or nothing");
-        make_again(rt, trial, stage, &mut archive, number);
+    let is_idle = does_nothing(stage, &mut archive)
+        && answers_nothing(stage, &mut archive, stage.place_at(number))
+        && is_before(stage, &archive, number);
+    trial.be(rt, is_idle, "it does and answers nothing");
+    let mut archive = opened(rt, stage.alloc, given_up(archive));
+    if !stage.is_at(&mut archive, stage.place_at(number.saturating_add(1))) {
+        make_undone(rt, trial, stage, &mut archive, number);
     }
     archive
 }
 
-/// After an act that was refused so the archive returns the state of before, and the act is made again.
-fn recover(
+/// An act that was refused so changed nothing. Returns whether the archive must be opened again.
+fn refuse_act(
     rt: &impl Abort,
     trial: &mut Trial,
     stage: &Stage,
-    mut archive: Played,
+    archive: &mut Played,
     number: usize,
     outcome: Outcome,
-) -> Played {
+) -> bool {
     trial.refuse(rt, outcome);
-    trial.be(rt, is_before(stage, &archive, number), "nothing changed");
-    let is_down = is_down(&mut archive);
-    trial.be(
-        rt,
-        trial.may_leave(outcome, is_down),
-        "whether it must be opened again",
-    );
+    trial.be(rt, is_before(stage, archive, number), "nothing changed");
+    let is_down = is_down(archive);
+    let may_leave = trial.may_leave(outcome, is_down);
+    trial.be(rt, may_leave, "whether it must be opened again");
+    is_down
+}
+
+/// The archive after an act that was refused, and is made again.
+fn recover(
+    rt: &impl Abort,
+    trial: &Trial,
+    stage: &Stage,
+    mut archive: Played,
+    number: usize,
+    is_down: bool,
+) -> Played {
     if is_down {
         return open_again(rt, trial, stage, archive, number);
     }
-    let is_there = is_at(stage, &mut archive, stage.place_at(number));
-    trial.be(rt, is_there, "what was answered is answered");
-    make_again(rt, trial, stage, &mut archive, number);
+    make_undone(rt, trial, stage, &mut archive, number);
     archive
 }
 
-/// Makes the rest of an act that was done: where memory was refused, an application may have been of fewer changes.
+/// Makes the rest of an act that was done: where memory was refused, an application may have been of fewer changes, which leaves a state
+/// between both.
 fn make_rest(
     rt: &impl Abort,
     trial: &mut Trial,
@@ -212,9 +177,12 @@ fn make_rest(
     archive: &mut Played,
     number: usize,
 ) {
-    if !is_after(stage, archive, number) {
+    let after = stage.place_at(number.saturating_add(1));
+    if !stage.is_state(archive, after) {
+        let from = stage.place_at(number).saturating_add(1);
+        let found = stage.find(archive, from, after);
         trial.refuse(rt, Outcome::OutOfMemory);
-        trial.be(rt, is_between(stage, archive, number), "fewer changes");
+        trial.be(rt, found.is_some(), "fewer changes");
         make_again(rt, trial, stage, archive, number);
     }
 }
@@ -227,53 +195,42 @@ fn live_on(
     mut archive: Played,
     number: usize,
 ) -> Played {
-    let outcome = make(stage, &mut archive, number);
-    if outcome != Outcome::Done {
-        return recover(rt, trial, stage, archive, number, outcome);
+    let outcome = stage.make(&mut archive, number);
+    if !outcome.is_done() {
+        let is_down = refuse_act(rt, trial, stage, &mut archive, number, outcome);
+        return recover(rt, trial, stage, archive, number, is_down);
     }
     make_rest(rt, trial, stage, &mut archive, number);
     archive
 }
 
-/// Asks a question in its turn: done where it's answered as at a place.
-fn ask_at(stage: &Stage, archive: &mut Played, place: usize, turn: usize) -> Outcome {
-    let number = turn % 14;
-    let Some(known) = stage.known.get(place) else {
-        return Outcome::Other;
-    };
-    match (ASKED.get(number), known.answers.get(number)) {
-        (Some(asked), Some(wanted)) => ask(archive, &query_of(asked), wanted),
-        _ => Outcome::Other,
-    }
-}
-
-/// A question is answered as at a place; where it's refused, then the next time.
+/// A question of this number is answered as at a place; where it's refused, then the next time.
 fn asks(
     rt: &impl Abort,
     trial: &mut Trial,
     stage: &Stage,
     archive: &mut Played,
     place: usize,
-    turn: usize,
+    number: usize,
 ) {
-    let outcome = ask_at(stage, archive, place, turn);
+    let outcome = stage.ask(archive, place, number);
     if outcome != Outcome::Done {
         trial.refuse(rt, outcome);
-        let is_answered = !is_down(archive) && ask_at(stage, archive, place, turn) == Outcome::Done;
+        let is_answered = !is_down(archive) && stage.ask(archive, place, number) == Outcome::Done;
         trial.be(rt, is_answered, "a question is answered");
     }
 }
 
 /// Each question is.
 fn asks_all(rt: &impl Abort, trial: &mut Trial, stage: &Stage, archive: &mut Played, place: usize) {
-    for turn in 0..ASKED.len() {
-        asks(rt, trial, stage, archive, place, turn);
+    for number in 0..NOW {
+        asks(rt, trial, stage, archive, place, number);
     }
 }
 
 /// A check counts all changes; where it's refused, then the next time.
 fn checks(rt: &impl Abort, trial: &mut Trial, archive: &mut Played) {
-    let changes = archive.applied();
+    let changes = state_of(archive).applied;
     let outcome = check(archive, changes);
     if outcome != Outcome::Done {
         trial.refuse(rt, outcome);
@@ -282,38 +239,32 @@ fn checks(rt: &impl Abort, trial: &mut Trial, archive: &mut Played) {
     }
 }
 
+/// The archive after all acts, in which something may be refused.
+fn live_all(rt: &impl Abort, trial: &mut Trial, stage: &Stage, mut archive: Played) -> Played {
+    for number in 0..stage.script.acts.len() {
+        archive = live_on(rt, trial, stage, archive, number);
+        let after = stage.place_at(number.saturating_add(1));
+        asks(rt, trial, stage, &mut archive, after, number % NOW);
+    }
+    archive
+}
+
 /// The disks after a life on these in which something may be refused. Each answer is what it has to be.
 pub(crate) fn live(rt: &impl Abort, trial: &mut Trial, stage: &Stage, disks: Both) -> Both {
     let mut archive = begin(rt, trial, stage, disks);
     asks_all(rt, trial, stage, &mut archive, 0);
-    for number in 0..stage.acts() {
-        archive = live_on(rt, trial, stage, archive, number);
-        let after = stage.place_at(number.saturating_add(1));
-        asks(rt, trial, stage, &mut archive, after, number);
-    }
+    let mut archive = live_all(rt, trial, stage, archive);
     asks_all(rt, trial, stage, &mut archive, stage.last_place());
-    if stage.has_few_blocks() {
+    // A check reads all blocks.
+    if stage.disks.pen.settled().len() < 100 {
         checks(rt, trial, &mut archive);
     }
     given_up(archive)
 }
 
-/// The number after these burns, where they are of a block after another, from this one on. Blocks may be passed over only where it's said.
-fn numbered(burns: &[Burn], from: u64, may_skip: bool) -> Option<u64> {
-    let mut next = from;
-    for burn in burns {
-        let is_next = burn.number() == next || may_skip && burn.number() > next;
-        if !is_next {
-            return None;
-        }
-        next = burn.number().saturating_add(1);
-    }
-    Some(next)
-}
-
 /// Whether each block was tried once, one after another. A disk that was refused memory for a burn leaves its block blank, and it's given up.
 fn are_in_turn(trial: &Trial, disks: &Both) -> bool {
-    let may_skip = trial.refusal == Refusal::Memory;
+    let may_skip = trial.is_of_memory();
     match numbered(disks.pen.settled(), 0, may_skip) {
         Some(next) => numbered(disks.pen.waiting(), next, may_skip).is_some(),
         None => false,
@@ -322,12 +273,8 @@ fn are_in_turn(trial: &Trial, disks: &Both) -> bool {
 
 /// A crash after the life leaves the end of one in which nothing is refused.
 pub(crate) fn end(rt: &impl Abort, trial: &Trial, stage: &Stage, disks: &Both) {
-    let left = disks.stop(0).expect(rt, "disks");
-    let mut archive = opened(stage.alloc, left).expect(rt, "an archive");
     trial.be(rt, are_in_turn(trial, disks), "blocks in turn");
-    trial.be(
-        rt,
-        is_at(stage, &mut archive, stage.last_place()),
-        "the end",
-    );
+    let mut archive = opened(rt, stage.alloc, disks.stop(rt, 0));
+    let is_at_end = stage.is_at(&mut archive, stage.last_place());
+    trial.be(rt, is_at_end, "the end");
 }

@@ -1,13 +1,15 @@
 //! What all stops begin with: the prepared disks, and what is known of a life that is never stopped.
 
 use crate::acts::{Act, Script};
+use crate::be;
 use crate::disks::{Both, Played, given_up, opened};
-use crate::loads::{Loaded, load_disks};
-use crate::played::{Outcome, apply, flush, give, set_mark, state_of};
-use crate::pure::{Known, Pure};
+use crate::loads::load_disks;
+use crate::played::{Outcome, apply, ask, begin_asking, flush, give, set_mark, state_of};
+use crate::pure::{Known, NOW, Pure};
 use crate::records::{Record, batch_of};
 use route_model::Admission;
 use std::alloc::Global;
+use std::process::Abort;
 
 /// The records of a batch.
 #[derive(Drop)]
@@ -28,13 +30,13 @@ pub(crate) struct Stage {
     pub(crate) places: Vec<usize>,
 }
 
-fn batches(alloc: Global, all: &[&[Record]]) -> Option<Vec<Batch>> {
+fn batches(rt: &impl Abort, alloc: Global, all: &[&[Record]]) -> Vec<Batch> {
     let mut batches = Vec::new(alloc);
     for records in all {
-        let records = batch_of(alloc, records)?;
-        batches.push(Batch { records }).ok()?;
+        let records = batch_of(rt, alloc, records);
+        batches.push(Batch { records }).expect(rt, "memory");
     }
-    Some(batches)
+    batches
 }
 
 /// The archive makes a call of a life.
@@ -50,15 +52,10 @@ pub(crate) fn call(archive: &mut Played, batches: &[Batch], act: &Act) -> Outcom
     }
 }
 
-/// The same, and whether nothing stopped it.
-pub(crate) fn does(archive: &mut Played, batches: &[Batch], act: &Act) -> bool {
-    call(archive, batches, act) == Outcome::Done
-}
-
-/// The archive makes these calls.
+/// The archive makes these calls, and nothing stops it.
 pub(crate) fn does_all(archive: &mut Played, batches: &[Batch], acts: &[Act]) -> bool {
     for act in acts {
-        if !does(archive, batches, act) {
+        if !call(archive, batches, act).is_done() {
             return false;
         }
     }
@@ -77,39 +74,35 @@ fn follows(pure: &mut Pure, batches: &[Batch], act: &Act) -> bool {
     }
 }
 
-/// Both make the calls before the life.
-fn begin(archive: &mut Played, pure: &mut Pure, batches: &[Batch], acts: &[Act]) -> bool {
-    for act in acts {
-        if !does(archive, batches, act) || !follows(pure, batches, act) {
-            return false;
-        }
+/// Both make a call.
+fn both_do(rt: &impl Abort, archive: &mut Played, pure: &mut Pure, batches: &[Batch], act: &Act) {
+    let is_done = call(archive, batches, act).is_done() && follows(pure, batches, act);
+    be(rt, is_done, "an act of both");
+}
+
+/// The disks on which records wait and slots are open.
+fn begun(
+    rt: &impl Abort,
+    alloc: Global,
+    script: &Script,
+    pure: &mut Pure,
+    batches: &[Batch],
+) -> Both {
+    let disks = load_disks(rt, alloc, script, pure);
+    let mut archive = opened(rt, alloc, disks);
+    for act in script.before {
+        both_do(rt, &mut archive, pure, batches, act);
     }
-    true
+    given_up(archive)
 }
 
 impl Stage {
-    /// How many acts there are, with those after the life.
-    pub(crate) fn acts(&self) -> usize {
-        self.places.len().saturating_sub(1)
-    }
-
-    /// The act of this number.
-    pub(crate) fn act(&self, number: usize) -> Option<Act> {
-        let (life, after) = (self.script.life, self.script.after);
-        match life.get(number) {
-            Some(act) => Some(*act),
-            None => after.get(number.saturating_sub(life.len())).copied(),
+    /// The archive makes the act of this number.
+    pub(crate) fn make(&self, archive: &mut Played, number: usize) -> Outcome {
+        match self.script.acts.get(number) {
+            Some(act) => call(archive, &self.batches, act),
+            None => Outcome::Other,
         }
-    }
-
-    /// An archive takes the first batch.
-    pub(crate) fn gives(&self, archive: &mut Played) -> Outcome {
-        call(archive, &self.batches, &Act::Admit(0, 0))
-    }
-
-    /// Whether a check, which reads all blocks, takes little time.
-    pub(crate) fn has_few_blocks(&self) -> bool {
-        self.disks.pen.settled().len() < 100
     }
 
     /// The place of the state at the end.
@@ -119,7 +112,10 @@ impl Stage {
 
     /// The place of the state before the act of this number.
     pub(crate) fn place_at(&self, act: usize) -> usize {
-        self.places.get(act).copied().unwrap_or(0)
+        match self.places.get(act) {
+            Some(place) => *place,
+            None => 0,
+        }
     }
 
     /// How many changes are applied before the act of this number.
@@ -130,88 +126,114 @@ impl Stage {
         }
     }
 
-    /// Remembers the state of the pure machine now.
-    fn know(&mut self, pure: &mut Pure) -> Option<()> {
-        let known = pure.known()?;
-        self.known.push(known).ok()
+    /// Whether an archive is in the state at a place.
+    pub(crate) fn is_state(&self, archive: &Played, place: usize) -> bool {
+        match self.known.get(place) {
+            Some(known) => known.state == state_of(archive),
+            None => false,
+        }
     }
 
-    /// Remembers where the state before the next act stands.
-    fn note_place(&mut self) -> Option<()> {
-        let place = self.last_place();
-        self.places.push(place).ok()
+    /// The first of these places at which the state is that of an archive.
+    pub(crate) fn find(&self, archive: &Played, from: usize, to: usize) -> Option<usize> {
+        for place in from..to.saturating_add(1) {
+            if self.is_state(archive, place) {
+                return Some(place);
+            }
+        }
+        None
+    }
+
+    /// Asks the question of this number: done where it's answered as at a place.
+    pub(crate) fn ask(&self, archive: &mut Played, place: usize, number: usize) -> Outcome {
+        let Some(known) = self.known.get(place) else {
+            return Outcome::Other;
+        };
+        match known.answers.get(number) {
+            Some(asked) => ask(archive, &asked.query, &asked.reply),
+            None => Outcome::Other,
+        }
+    }
+
+    /// Makes the first turn of the question of now at a place.
+    pub(crate) fn begin_asking(&self, archive: &mut Played, place: usize) -> Outcome {
+        let Some(known) = self.known.get(place) else {
+            return Outcome::Other;
+        };
+        match known.answers.get(NOW) {
+            Some(asked) => begin_asking(archive, &asked.query),
+            None => Outcome::Other,
+        }
+    }
+
+    /// Whether an archive is in the state at a place, and answers each question so, that of now among them.
+    pub(crate) fn is_at(&self, archive: &mut Played, place: usize) -> bool {
+        for number in 0..NOW + 1 {
+            if self.ask(archive, place, number) != Outcome::Done {
+                return false;
+            }
+        }
+        self.is_state(archive, place)
+    }
+
+    /// Remembers the state of the pure machine now.
+    fn know(&mut self, rt: &impl Abort, pure: &mut Pure) {
+        let known = pure.known(rt);
+        self.known.push(known).expect(rt, "memory");
     }
 
     /// Remembers a state for each change, until this number is applied.
-    fn know_changes(&mut self, pure: &mut Pure, applied: u64) -> Option<()> {
+    fn know_changes(&mut self, rt: &impl Abort, pure: &mut Pure, applied: u64) {
         for _ in 0..1_000 {
             if pure.applied() >= applied {
-                break;
+                return;
             }
-            if !pure.apply() {
-                return None;
-            }
-            self.know(pure)?;
+            be(rt, pure.apply(), "a change");
+            self.know(rt, pure);
         }
-        Some(())
     }
 
-    /// Both make a call of the life, and all states are remembered.
-    fn make(&mut self, archive: &mut Played, pure: &mut Pure, act: &Act) -> Option<()> {
-        if !does(archive, &self.batches, act) || !follows(pure, &self.batches, act) {
-            return None;
-        }
+    /// Both make a call of the life, and all states are remembered, and which place the last one has.
+    fn make_both(&mut self, rt: &impl Abort, archive: &mut Played, pure: &mut Pure, act: &Act) {
+        both_do(rt, archive, pure, &self.batches, act);
         match act {
-            Act::Apply => self.know_changes(pure, state_of(archive).applied)?,
-            _ => self.know(pure)?,
+            Act::Apply => self.know_changes(rt, pure, state_of(archive).applied),
+            _ => self.know(rt, pure),
         }
-        self.note_place()
-    }
-
-    fn make_all(&mut self, archive: &mut Played, pure: &mut Pure, acts: &[Act]) -> Option<()> {
-        for act in acts {
-            self.make(archive, pure, act)?;
-        }
-        Some(())
+        let place = self.last_place();
+        self.places.push(place).expect(rt, "memory");
     }
 
     /// Both make the life and what follows it.
-    fn make_life(&mut self, archive: &mut Played, pure: &mut Pure) -> Option<()> {
-        self.know(pure)?;
-        self.note_place()?;
-        let (life, after) = (self.script.life, self.script.after);
-        self.make_all(archive, pure, life)?;
-        self.make_all(archive, pure, after)
+    fn make_life(&mut self, rt: &impl Abort, pure: &mut Pure) {
+        let mut archive = opened(rt, self.alloc, self.disks.copy(rt));
+        self.know(rt, pure);
+        self.places.push(0).expect(rt, "memory");
+        let acts = self.script.acts;
+        for act in acts {
+            self.make_both(rt, &mut archive, pure, act);
+        }
     }
 }
 
 /// The stage whose life is to be made.
-fn bare(alloc: Global, script: &Script, disks: Both) -> Option<Stage> {
-    Some(Stage {
+fn bare(rt: &impl Abort, alloc: Global, script: &Script, pure: &mut Pure) -> Stage {
+    let batches = batches(rt, alloc, script.batches);
+    let disks = begun(rt, alloc, script, pure, &batches);
+    Stage {
         alloc,
         script: *script,
         disks,
-        batches: batches(alloc, script.batches)?,
+        batches,
         known: Vec::new(alloc),
         places: Vec::new(alloc),
-    })
-}
-
-/// The disks on which records wait and slots are open.
-fn begun(alloc: Global, script: &Script, disks: Both, pure: &mut Pure) -> Option<Stage> {
-    let mut archive = opened(alloc, disks)?;
-    let batches = batches(alloc, script.batches)?;
-    if !begin(&mut archive, pure, &batches, script.before) {
-        return None;
     }
-    bare(alloc, script, given_up(archive))
 }
 
 /// The stage for all stops of a life.
-pub(crate) fn prepare(alloc: Global, script: &Script) -> Option<Stage> {
-    let Loaded { disks, mut pure } = load_disks(alloc, script)?;
-    let mut stage = begun(alloc, script, disks, &mut pure)?;
-    let mut archive = opened(alloc, stage.disks.copy()?)?;
-    stage.make_life(&mut archive, &mut pure)?;
-    Some(stage)
+pub(crate) fn prepare(rt: &impl Abort, alloc: Global, script: &Script) -> Stage {
+    let mut pure = Pure::new(rt, alloc);
+    let mut stage = bare(rt, alloc, script, &mut pure);
+    stage.make_life(rt, &mut pure);
+    stage
 }

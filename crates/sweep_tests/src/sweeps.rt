@@ -1,10 +1,10 @@
 //! All stops, dealt out over some tests.
 
 use crate::acts::{LONG, RISING, Script};
+use crate::be;
 use crate::disks::{Disk, WAYS};
 use crate::stage::prepare;
-use crate::stops::{Stop, Tally, goes_on};
-use crate::{be, be_at};
+use crate::stops::{Stop, go_on};
 use std::alloc::Global;
 use std::process::Abort;
 
@@ -20,26 +20,19 @@ struct Deal {
 
 /// Each stop of a deal goes on, and there are as many as it says.
 fn sweep(rt: &impl Abort, alloc: Global, deal: &Deal) {
-    let stage = prepare(alloc, &deal.life).expect(rt, "a stage");
-    let mut tally = Tally {
-        lives: 0,
-        openings: 0,
-    };
+    let stage = prepare(rt, alloc, &deal.life);
+    let mut lives: u64 = 0;
+    let mut openings: u64 = 0;
     for number in deal.from.saturating_mul(WAYS)..deal.to.saturating_mul(WAYS) {
         let stop = Stop {
             disk: deal.disk,
             k: number / WAYS,
             way: number % WAYS,
         };
-        let goes_on = goes_on(&stage, &stop, &mut tally);
-        be_at(
-            rt,
-            goes_on == Some(true),
-            "five times a call, and a way",
-            number,
-        );
+        openings = openings.saturating_add(go_on(rt, &stage, &stop));
+        lives = lives.saturating_add(1);
     }
-    let is_counted = tally.lives == deal.lives && tally.openings == deal.openings;
+    let is_counted = lives == deal.lives && openings == deal.openings;
     be(rt, is_counted, "the stops are counted");
 }
 
