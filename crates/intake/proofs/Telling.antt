@@ -244,7 +244,7 @@ tells_one pages ring at times others t u = elim (cases_lt (length times) (length
 pub breaks_none : (pages : List (List ℕ)) (ring : Ring) (at : ℕ) (times : List ℕ) → BreaksAt pages ring at → TellsTimes pages ring ring.used times → ⊥
 breaks_none pages ring at times b u = elim (cases_lt (length times) (length b.times)) [
   | inl lt ↦ let r = both_tell pages ring ring.used at times b.times u b.before (omega arith) in behind r.0 r.1
-  | inr ge ↦ let r = both_tell pages ring at ring.used b.times times b.before u (omega arith) in beyond r.0 r.1
+  | inr ge ↦ let r = both_tell pages ring at ring.used b.times times b.before u (omega arith) in further r.0 r.1
 ]
   where
     behind : (rest : List Outline) → b.before.entries ≡ u.entries ++ rest → ⊥
@@ -256,14 +256,14 @@ breaks_none pages ring at times b u = elim (cases_lt (length times) (length b.ti
         let lt = b.inside in
         absurd (omega arith)
 
-    beyond : (rest : List Outline) → u.entries ≡ b.before.entries ++ rest → ⊥
-    beyond [] e =
+    further : (rest : List Outline) → u.entries ≡ b.before.entries ++ rest → ⊥
+    further [] e =
         let x = ap length (ap (flat_map outlined) (e ∙ append-nil b.before.entries)) in
         let p = b.before.place in
         let q = u.place in
         let lt = b.inside in
         absurd (omega arith)
-    beyond (o ∷ rest) e =
+    further (o ∷ rest) e =
         let os = b.before.entries in
         let again : u.entries ≡ (os ++ o ∷ []) ++ rest = e ∙ sym (append_assoc os (o ∷ []) rest) in
         let all : flat_map outlined u.entries ≡ flat_map outlined (os ++ o ∷ []) ++ flat_map outlined rest = ap (flat_map outlined) again ∙ flat_map-append outlined (os ++ o ∷ []) rest in

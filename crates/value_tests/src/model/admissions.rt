@@ -1,6 +1,6 @@
 //! Admissions.
 
-use super::routes::{ROUTE, encoded as spelled, route, shared};
+use super::routes::{ROUTE, encoded as octets_of_route, route, shared};
 use super::small::peer;
 use crate::be;
 use route_model::{Address, Admission, AdmissionError, Change, Moment, Peer, Prefix};
@@ -291,7 +291,7 @@ fn routes_have_at_most_3072_octets(rt: HostRuntime) {
 /// The spelling of a route that is one octet too large.
 fn large_route(rt: &impl Abort, alloc: Global) -> Vec<u8> {
     let large = route(rt, alloc, &[65001], 3052);
-    spelled(rt, alloc, &large)
+    octets_of_route(rt, alloc, &large)
 }
 
 /// The vector with this spelling of 3,073 octets in place of its route's.
